@@ -1,0 +1,21 @@
+//! The words that every layer shares: keys and their names, moments, operations of records, owned bytes.
+//!
+//! Layer: the lowest; it stands on the kit's `sha1` alone.
+//! For the layers above: [`name_of`], [`head_key`] and [`number_of`] are exactly the SHA-1 names that the
+//! definitions give, [`name_ok`] is exactly the test of a directory entry's name, and [`Bytes`] is the list of
+//! its bytes. Definitions: `specs/Naming.antt`.
+#![tactic(auto)]
+
+pub mod bytes;
+pub mod key;
+pub mod memory;
+pub mod naming;
+pub mod operation;
+#[cfg(test)]
+mod tests;
+
+pub use bytes::Bytes;
+pub use key::{Key, PubKey};
+pub use memory::Memory;
+pub use naming::{head_key, name_of, name_ok, number_of};
+pub use operation::{Change, Kind, Moment, Op};
