@@ -1,0 +1,25 @@
+//! Where bytes come from and go to: sources and sinks, which count their faults.
+//!
+//! Layer: above `ivy_base`, below everything that reads or writes.
+//! For the layers above: a [`Source`] and a [`Sink`] tell each byte that moves as an equation on what is left and on
+//! what is held, and an `Err` comes only where the count of faults rose; the count never falls. [`write_all`] carries
+//! this to whole pieces. In memory ([`MemSource`], [`MemSink`]) all bytes are known, and exactly the planned calls
+//! fail. Over std's readers and writers ([`StdSource`], [`StdSink`]) no bytes are known, and only the bounds and the
+//! causes are. Definitions: `specs/Known.antt` (bytes that may be known), `specs/Causes.antt` (faults and their
+//! causes), `specs/States.antt` (what is in memory).
+#![tactic(auto)]
+
+mod fault;
+mod memory;
+mod plan;
+mod sink;
+mod source;
+mod standard;
+#[cfg(test)]
+mod tests;
+
+pub use fault::{Failed, SinkFault};
+pub use memory::{MemSink, MemSource};
+pub use sink::{Sink, write_all};
+pub use source::Source;
+pub use standard::{StdSink, StdSource};
