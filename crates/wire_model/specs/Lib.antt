@@ -1,0 +1,4 @@
+pub mod Xdr
+pub mod Rpc
+pub mod OneReading
+pub mod Laws
