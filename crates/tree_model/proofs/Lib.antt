@@ -1,0 +1,9 @@
+pub mod Examples
+pub mod Keys
+pub mod Same
+pub mod Names
+pub mod Made
+pub mod Sound
+pub mod Applied
+pub mod Climb
+pub mod Parents
