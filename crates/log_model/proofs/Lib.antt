@@ -1,0 +1,11 @@
+pub mod Opening
+pub mod ClosedPart
+pub mod Chains
+pub mod Vectors
+pub mod Weights
+pub mod Lists
+pub mod Owners
+pub mod Part
+pub mod Sets
+pub mod Later
+pub mod Numbers
