@@ -1,0 +1,10 @@
+pub mod Checks
+pub mod Objects
+pub mod Answers
+pub mod Pages
+pub mod Reading
+pub mod Changing
+pub mod Results
+pub mod Arguments
+pub mod Replies
+pub mod Laws
