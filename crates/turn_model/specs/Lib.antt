@@ -1,0 +1,5 @@
+pub mod Turn
+pub mod Known
+pub mod Basis
+pub mod Candidates
+pub mod OneLog
