@@ -1,0 +1,11 @@
+use Rattle.std.proofs.Common.{◌≡◌, ◌+◌, ◌≤◌, ◌++◌, take}
+use Rattle.std.specs.List.{flat_map, sum_by}
+use Rattle.nfs_model.specs.Results.{listed_entry_plus}
+use Rattle.nfs3_replies.specs.Room.{entry_plus_room}
+use Rattle.nfs3_replies.proofs.pages.put_entries_plus.Given as goal
+
+abbrev pub invariant-loop-entry : goal.invariant-loop-entry
+invariant-loop-entry l = record {
+  written : l.out.written ≡ l.initial.out.written ++ flat_map listed_entry_plus (take l.entry-index l.entries);
+  spare : l.initial.out.spare ≤ l.out.spare + sum_by entry_plus_room (take l.entry-index l.entries);
+}
