@@ -1,0 +1,24 @@
+use Rattle.std.proofs.Common.{◌≡◌, false, sym, ◌∙◌}
+use Rattle.tree_model.specs.Tree.{same_key}
+use Rattle.tree_model.proofs.Parents.{height_above, inside_above, inside_empty, inside_nothing}
+use Rattle.fs_tree.proofs.tree.Tree.is_inside.Goals as goal
+
+pub climb-smaller : goal.climb-smaller
+climb-smaller c = let up = c.in-Some.ensures.parent in height_above c.args.self.now c.parent.ensures.sound c.climb.at (c.in-Some.above, up.0) c.climb.invariant.directory up.1
+
+pub climb-preserved : goal.climb-preserved
+climb-preserved c =
+    let up = c.in-Some.ensures.parent in
+    let other : same_key c.climb.at c.args.dir.now ≡ false = cc in
+    record {
+      directory = c.parent.ensures.sound.in_directories (c.in-Some.above, up.0) c.climb.at up.1;
+      same = sym (inside_above c.args.self.now c.parent.ensures.sound c.climb.at c.args.dir.now (c.in-Some.above, up.0) c.climb.invariant.directory up.1 other) ∙ c.climb.invariant.same;
+    }
+
+pub returns-in-None : goal.returns-in-None
+returns-in-None c =
+    let other : same_key c.climb.at c.args.dir.now ≡ false = cc in
+    sym (inside_nothing c.args.self.now c.parent.ensures.sound c.climb.at c.args.dir.now c.climb.invariant.directory c.in-None.ensures.parent other) ∙ c.climb.invariant.same
+
+pub returns-then-is_empty : goal.returns-then-is_empty
+returns-then-is_empty c = c.same.ensures ∙ sym (inside_empty c.args.self.now c.is_empty.ensures.sound c.args.start.now c.args.dir.now c.requires (sym c.if-is_empty.ensures.empty))
