@@ -1,0 +1,62 @@
+-- Lines and what they are, computed from the definition.
+use Rattle.std.proofs.Common.{◌≡◌, [], ◌∷◌, ◌++◌, replicate, codes, Some, None, refl}
+use Rattle.hex.proofs.OnLiterals.{hex_on_literals}
+use Rattle.run_model.specs.Script.{command_of}
+use Rattle.run_model.specs.declared.command.Piece.TheVariants.{Call, Root, HandleOf, Text, Mode}
+use Rattle.run_model.specs.declared.command.Command.TheVariants as command
+
+ring : command_of (codes "ring 1 1") ≡ Some (command.Ring 1 1)
+unfolding command_of
+ring = refl
+
+log : command_of (codes "log a 1 aa w4h5") ≡ Some (command.Log (codes "a") (replicate 15 0 ++ 1 ∷ []) (replicate 31 0 ++ 170 ∷ []))
+unfolding command_of hex_on_literals
+log = refl
+
+view : command_of (codes "view v a") ≡ Some (command.View (codes "v") (codes "a"))
+unfolding command_of
+view = refl
+
+use_of_a_view : command_of (codes "use a v") ≡ Some (command.Use (codes "a") (codes "v"))
+unfolding command_of
+use_of_a_view = refl
+
+moment : command_of (codes "at 5 0") ≡ Some (command.At 5 0)
+unfolding command_of
+moment = refl
+
+call : command_of (codes "as a nfs:9:0:0 root s:a sa:493") ≡ Some (command.As (codes "a") (Call 9 0 0 ∷ Root ∷ Text (codes "a") ∷ Mode 493 ∷ []))
+unfolding command_of
+call = refl
+
+call_of_a_handle : command_of (codes "as a nfs:3:0:0 h:1 s:a") ≡ Some (command.As (codes "a") (Call 3 0 0 ∷ HandleOf 1 ∷ Text (codes "a") ∷ []))
+unfolding command_of
+call_of_a_handle = refl
+
+end : command_of (codes "end") ≡ Some command.End
+unfolding command_of
+end = refl
+
+leading_zero : command_of (codes "ring 01 1") ≡ None
+unfolding command_of
+leading_zero = refl
+
+two_blanks : command_of (codes "ring  1 1") ≡ None
+unfolding command_of
+two_blanks = refl
+
+blank_at_the_end : command_of (codes "end ") ≡ None
+unfolding command_of
+blank_at_the_end = refl
+
+empty : command_of [] ≡ None
+unfolding command_of
+empty = refl
+
+no_piece : command_of (codes "as a") ≡ None
+unfolding command_of
+no_piece = refl
+
+upper_case : command_of (codes "log A 1 aa w4h5") ≡ None
+unfolding command_of
+upper_case = refl

@@ -1,0 +1,8 @@
+mod DigitLemmas
+mod Examples
+mod FillLemmas
+pub mod HexLaws
+pub mod LineLemmas
+pub mod NumberLaws
+mod PieceLemmas
+pub mod WordLaws

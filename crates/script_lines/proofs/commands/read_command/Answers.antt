@@ -1,0 +1,13 @@
+use Rattle.std.proofs.Common.{List, ℕ, Bor, map, rules, ◌∙◌, ap, sym}
+use Rattle.run_model.specs.Script.{command_of, command_of_words}
+use Rattle.script_lines.proofs.LineLemmas.{command_of_short}
+use Rattle.script_lines.proofs.commands.read_command.Goals as goal
+
+pub returns-then-line-gt-LINE_LIMIT : goal.returns-then-line-gt-LINE_LIMIT
+unfolding command_of
+returns-then-line-gt-LINE_LIMIT c = search rules
+
+pub returns : goal.returns
+returns c =
+    let words = ap (map (λ (w : Bor (List ℕ)). w.now)) c.deref.ensures.value ∙ c.in_ok-words.ensures in
+    rw (command_of_short c.args.line.now (search rules) ∙ ap command_of_words (sym words)) c.command.ensures
