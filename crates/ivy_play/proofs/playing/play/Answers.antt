@@ -1,0 +1,45 @@
+use Rattle.script_driver.specs.Run.{Ended, RefusedAt}
+use Rattle.ivy_play.proofs.PlayLemmas.{told_all, told_front, told_less, stops_short, played, ends_alike, no_limit}
+use Rattle.ivy_play.proofs.playing.play.Goals as goal
+
+pub returns-in-Ok-Ended-clause-ended : goal.returns-in-Ok-Ended-clause-ended
+returns-in-Ok-Ended-clause-ended g c = λ zero. told_all Ended _ _ _ (rw (c.in-Ok-Ended.field-0-is, c.new-world.ensures) at c.in-Ok-Ended.ensures.told)
+
+pub returns-in-Ok-Ended-clause-front : goal.returns-in-Ok-Ended-clause-front
+returns-in-Ok-Ended-clause-front g c = told_front _ _ _ (rw c.new-world.ensures at c.run_script.ensures.front)
+
+pub returns-in-Ok-Ended-clause-complete : goal.returns-in-Ok-Ended-clause-complete
+returns-in-Ok-Ended-clause-complete g c = played Ended _ _ _ _ _ (rw (c.in-Ok-Ended.field-0-is, c.new-world.ensures) at c.in-Ok-Ended.ensures.told)
+
+pub returns-in-Ok-Refused-clause-refused : goal.returns-in-Ok-Refused-clause-refused
+returns-in-Ok-Refused-clause-refused g c = λ three. (_, told_all (RefusedAt _) _ _ _ (rw (c.in-Ok-Refused.field-0-is, c.new-world.ensures) at c.in-Ok-Refused.ensures.told))
+
+pub returns-in-Ok-Refused-clause-front : goal.returns-in-Ok-Refused-clause-front
+returns-in-Ok-Refused-clause-front g c = told_front _ _ _ (rw c.new-world.ensures at c.run_script.ensures.front)
+
+pub returns-in-Ok-Refused-clause-complete : goal.returns-in-Ok-Refused-clause-complete
+returns-in-Ok-Refused-clause-complete g c = played (RefusedAt _) _ _ _ _ _ (rw (c.in-Ok-Refused.field-0-is, c.new-world.ensures) at c.in-Ok-Refused.ensures.told)
+
+pub unreachable-requires : goal.unreachable-requires
+unreachable-requires g c = no_limit (rw c.in-Ok-Exceeded.field-0-is at c.in-Ok-Exceeded.ensures.limits)
+
+pub returns-in-Err-Read-clause-front : goal.returns-in-Err-Read-clause-front
+returns-in-Err-Read-clause-front g c = told_front _ _ _ (rw c.new-world.ensures at c.run_script.ensures.front)
+
+pub returns-in-Err-Read-clause-waits : goal.returns-in-Err-Read-clause-waits
+returns-in-Err-Read-clause-waits g c = λ four. stops_short _ _ _ _ (rw (c.in-Err-Read.field-0-is, c.new-world.ensures) at c.in-Err-Read.ensures.waits)
+
+pub returns-in-Err-Write-clause-front : goal.returns-in-Err-Write-clause-front
+returns-in-Err-Write-clause-front g c = told_front _ _ _ (rw c.new-world.ensures at c.run_script.ensures.front)
+
+pub returns-in-Err-Write-clause-less : goal.returns-in-Err-Write-clause-less
+returns-in-Err-Write-clause-less g c = λ five. told_less _ _ _ (rw (c.in-Err-Write.field-0-is, c.new-world.ensures) at c.in-Err-Write.ensures.fails).0
+
+pub returns-in-Err-Memory-clause-front : goal.returns-in-Err-Memory-clause-front
+returns-in-Err-Memory-clause-front g c = told_front _ _ _ (rw c.new-world.ensures at c.run_script.ensures.front)
+
+pub returns-in-Ok-Ended-clause-alike : goal.returns-in-Ok-Ended-clause-alike
+returns-in-Ok-Ended-clause-alike g c = ends_alike Ended _ _ _ _ _ (rw (c.in-Ok-Ended.field-0-is, c.new-world.ensures) at c.in-Ok-Ended.ensures.told)
+
+pub returns-in-Ok-Refused-clause-alike : goal.returns-in-Ok-Refused-clause-alike
+returns-in-Ok-Refused-clause-alike g c = ends_alike (RefusedAt _) _ _ _ _ _ (rw (c.in-Ok-Refused.field-0-is, c.new-world.ensures) at c.in-Ok-Refused.ensures.told)

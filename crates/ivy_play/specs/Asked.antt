@@ -1,0 +1,23 @@
+-- The two calls of the superuser: a look-up, and a new directory.
+use Rattle.std.specs.Prelude.{ℕ, List, [], Some, None}
+use Rattle.ivy_base.specs.declared.key.Key.{Key}
+use Rattle.wire_model.specs.Rpc.{Identity}
+use Rattle.log_model.specs.View.{View}
+use Rattle.nfs_model.specs.declared.arguments.Args.TheVariants as call
+use Rattle.nfs_model.specs.declared.arguments.SetTime.TheVariants.{Keep}
+use Rattle.nfs_model.specs.declared.arguments.SetWhat.{SetWhat}
+use Rattle.nfs_model.specs.Objects.{handle_of}
+use Rattle.turn_model.specs.Turn.{Asked}
+
+abbrev pub superuser : Identity
+superuser = record { uid = 0; gid = 0; groups = [] }
+
+-- a mode and nothing else
+abbrev pub only_mode : ℕ → SetWhat
+only_mode m = record { mode = Some m; uid = None; gid = None; size = None; atime = Keep; mtime = Keep }
+
+abbrev pub look_up_of : View → Key → List ℕ → Asked
+look_up_of view dir name = record { caller = superuser; args = call.Lookup (handle_of view dir) name }
+
+abbrev pub directory_of : View → Key → List ℕ → ℕ → Asked
+directory_of view dir name mode = record { caller = superuser; args = call.MkDir (handle_of view dir) name (only_mode mode) }

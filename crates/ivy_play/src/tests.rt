@@ -1,0 +1,215 @@
+use crate::{Status, play};
+use ivy_base::Bytes;
+use ivy_io::{MemSink, MemSource};
+use std::alloc::Global;
+use std::test::Fail;
+
+/// A participant makes a directory and looks it up.
+const FIRST_SCRIPT: &[u8] = b"ring 1 1
+log a 1 aa w4h5
+view v a
+use a v
+at 5 0
+as a nfs:9:0:0 root s:a sa:493
+as a nfs:3:0:0 root s:a
+end
+";
+
+/// The lines of a script before its calls.
+const OPENING: &[u8] = b"ring 1 1\nlog a 1 aa w4h5\nview v a\nuse a v\n";
+
+/// The reply to MKDIR in the first script, of 284 bytes, from a model of the program in another language.
+const MADE: [&[u8]; 7] = [
+    b"reply 00000001000000010000000000000000000000000000000000000000000000010000002c495659",
+    b"31df55dda0a7ecc273b7a4986bdca73954098e2d84ef45eefaffb178cf5656b9207a3352589768262400",
+    b"00000100000002000001ed00000002000000000000000000000000000010000000000000001000000000",
+    b"0000000000df55dda0a7ecc273ef45eefaffb178cf000000050000000000000005000000000000000500",
+    b"000000000000010000000000001000000000000000000000000000000000000000000100000002000001",
+    b"ff000000030000000000000000000000000000100000000000000010000000000000000000df55dda0a7",
+    b"ecc2730000000000000001000000000000000000000005000000000000000500000000",
+];
+
+/// The reply to LOOKUP in the first script, of 252 bytes, from the same model.
+const FOUND: [&[u8]; 7] = [
+    b"reply 000000010000000100000000000000000000000000000000000000000000002c49565931df55dd",
+    b"a0a7ecc273b7a4986bdca73954098e2d84ef45eefaffb178cf5656b9207a335258976826240000000100",
+    b"000002000001ed0000000200000000000000000000000000001000000000000000100000000000000000",
+    b"00df55dda0a7ecc273ef45eefaffb178cf00000005000000000000000500000000000000050000000000",
+    b"00000100000002000001ff00000003000000000000000000000000000010000000000000001000000000",
+    b"0000000000df55dda0a7ecc2730000000000000001000000000000000000000005000000000000000500",
+    b"000000",
+];
+
+/// What a script gives: its status, and what was written.
+fn played(
+    alloc: Global,
+    script: &[u8],
+    failing_reads: &[u64],
+    failing_writes: &[u64],
+) -> Result<(Status, Vec<u8>), Fail> {
+    let bytes = Bytes::copy_of(alloc, script)?;
+    let mut source = MemSource::new(bytes, failing_reads.to_vec(alloc)?);
+    let mut sink = MemSink::new(alloc, failing_writes.to_vec(alloc)?);
+    let status = play(alloc, &mut source, &mut sink);
+    Ok((status, sink.written().to_vec(alloc)?))
+}
+
+/// The pieces in a row.
+fn joined(alloc: Global, pieces: &[&[u8]]) -> Result<Vec<u8>, Fail> {
+    let mut text = Vec::new(alloc);
+    for piece in pieces {
+        text.extend_from_slice(piece)?;
+    }
+    Ok(text)
+}
+
+/// The two lines that the first script shows.
+fn first_text(alloc: Global) -> Result<Vec<u8>, Fail> {
+    let mut text = joined(alloc, MADE.as_slice())?;
+    text.push(b'\n')?;
+    text.extend_from_slice(joined(alloc, FOUND.as_slice())?.as_slice())?;
+    text.push(b'\n')?;
+    Ok(text)
+}
+
+#[test]
+fn a_directory_is_made_and_found(rt: HostRuntime) -> Result<(), Fail> {
+    let alloc = rt.alloc();
+    let (status, text) = played(alloc, FIRST_SCRIPT, &[], &[])?;
+    assert_eq!(rt; status, 0);
+    assert_eq!(rt; text.as_slice(), first_text(alloc)?.as_slice());
+    Ok(())
+}
+
+#[test]
+fn scripts_end(rt: HostRuntime) -> Result<(), Fail> {
+    let cases: [(&[u8], Status, &[u8]); 12] = [
+        (b"end", 0, b""),
+        (b"end\nwhat follows isn't looked at", 0, b""),
+        (b"", 3, b"refused 1\n"),
+        (b"ring 1 1\n", 3, b"refused 2\n"),
+        (b"ring 1 1", 3, b"refused 2\n"),
+        (b"ring 1 1\nring 1 1\nend\n", 3, b"refused 2\n"),
+        (b"log a 1 aa w4h5\nend\n", 3, b"refused 1\n"),
+        (b"ring 2 1\nend\n", 3, b"refused 1\n"),
+        (b"at 4294967296 0\nend\n", 3, b"refused 1\n"),
+        (b"at 0 1000000000\nend\n", 3, b"refused 1\n"),
+        (b"\nend\n", 3, b"refused 1\n"),
+        (b"\xff\x00\nend\n", 3, b"refused 1\n"),
+    ];
+    for (script, status, text) in cases {
+        let (got, written) = played(rt.alloc(), script, &[], &[])?;
+        assert_eq!(rt; got, status, "at {script:?}");
+        assert_eq!(rt; written.as_slice(), text, "at {script:?}");
+    }
+    Ok(())
+}
+
+/// Each line is refused behind the opening ones, the fifth line of its script.
+#[test]
+fn calls_have_one_of_two_forms(rt: HostRuntime) -> Result<(), Fail> {
+    let alloc = rt.alloc();
+    let lines: [&[u8]; 14] = [
+        b"use a v",
+        b"view w a",
+        b"log b 2 bb w4h5",
+        b"as b nfs:3:0:0 root s:a",
+        b"as a nfs:3:0:0 root",
+        b"as a nfs:3:1:0 root s:a",
+        b"as a nfs:3:0:1 root s:a",
+        b"as a nfs:4:0:0 root s:a",
+        b"as a nfs:3:0:0 root s:..",
+        b"as a nfs:3:0:0 root s:",
+        b"as a nfs:3:0:0 root s:a/b",
+        b"as a nfs:3:0:0 h:1 s:a",
+        b"as a nfs:3:0:0 root s:a sa:493",
+        b"as a nfs:9:0:0 root s:a",
+    ];
+    for line in lines {
+        let script = joined(alloc, &[OPENING, line, b"\nend\n"])?;
+        let (status, written) = played(alloc, script.as_slice(), &[], &[])?;
+        assert_eq!(rt; status, 3, "at {line:?}");
+        assert_eq!(rt;
+            written.as_slice(),
+            b"refused 5\n".as_slice(),
+            "at {line:?}"
+        );
+    }
+    Ok(())
+}
+
+/// The status word of the last reply behind the opening lines and these.
+fn last_status(alloc: Global, calls: &[u8]) -> Result<Vec<u8>, Fail> {
+    let script = joined(alloc, &[OPENING, calls, b"end\n"])?;
+    let (_, text) = played(alloc, script.as_slice(), &[], &[])?;
+    let last = text.as_slice().split(|byte| *byte == b'\n').rev().nth(1);
+    Ok(
+        last.unwrap_or(&[])
+            .iter()
+            .copied()
+            .skip(54)
+            .take(8)
+            .collect(alloc)?,
+    )
+}
+
+/// The statuses of RFC 1813, section 2.6: NOENT 2, EXIST 17.
+#[test]
+fn refusals_have_their_status(rt: HostRuntime) -> Result<(), Fail> {
+    let cases: [(&[u8], &[u8]); 5] = [
+        (b"as a nfs:3:0:0 root s:a\n", b"00000002"),
+        (
+            b"as a nfs:9:0:0 root s:a sa:0\nas a nfs:9:0:0 root s:a sa:1\n",
+            b"00000011",
+        ),
+        (
+            b"as a nfs:9:0:0 root s:a sa:0\nas a nfs:9:0:0 h:1 s:a sa:1\n",
+            b"00000000",
+        ),
+        (
+            b"as a nfs:9:0:0 root s:a sa:0\nas a nfs:3:0:0 h:1 s:a\n",
+            b"00000002",
+        ),
+        (
+            b"as a nfs:9:0:0 root s:a sa:0\nas a nfs:9:0:0 h:1 s:b sa:0\nas a nfs:3:0:0 h:1 s:b\n",
+            b"00000000",
+        ),
+    ];
+    for (calls, status) in cases {
+        let got = last_status(rt.alloc(), calls)?;
+        assert_eq!(rt; got.as_slice(), status, "at {calls:?}");
+    }
+    Ok(())
+}
+
+#[test]
+fn long_lines_are_refused(rt: HostRuntime) -> Result<(), Fail> {
+    let alloc = rt.alloc();
+    let script = vec![in alloc; b'x'; 40_000]?;
+    let (status, written) = played(alloc, script.as_slice(), &[], &[])?;
+    assert_eq!(rt; status, 3);
+    assert_eq!(rt; written.as_slice(), b"refused 1\n".as_slice());
+    Ok(())
+}
+
+/// The script is one read and its end another; each line that shows something is one write.
+#[test]
+fn faults_are_told(rt: HostRuntime) -> Result<(), Fail> {
+    let alloc = rt.alloc();
+    let whole = first_text(alloc)?;
+    let (status, written) = played(alloc, FIRST_SCRIPT, &[1], &[])?;
+    assert_eq!(rt; status, 4);
+    assert!(rt; written.is_empty());
+    let unfinished = joined(alloc, &[OPENING, b"as a nfs:3:0:0 root s:a\n"])?;
+    let (status, written) = played(alloc, unfinished.as_slice(), &[2], &[])?;
+    assert_eq!(rt; status, 4);
+    assert!(rt; written.starts_with(b"reply ".as_slice()));
+    let (status, written) = played(alloc, FIRST_SCRIPT, &[], &[1])?;
+    assert_eq!(rt; status, 5);
+    assert!(rt; written.is_empty());
+    let (status, written) = played(alloc, FIRST_SCRIPT, &[], &[2])?;
+    assert_eq!(rt; status, 5);
+    assert!(rt; written.len() < whole.len());
+    assert!(rt; whole.starts_with(written.as_slice()));
+    Ok(())
+}
