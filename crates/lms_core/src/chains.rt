@@ -1,0 +1,61 @@
+//! Chains of a one-time signature, and the coefficients that say how far each goes.
+
+ghost use Rattle.std.specs.Prelude.{◌≡◌, ◌<◌, ◌≤◌, ◌-◌, ◌*◌, length};
+ghost use Rattle.hash_signature_model.specs.Parameters.{top, digest_digits, digits_in_byte};
+ghost use Rattle.hash_signature_model.specs.OneTime.{chain, coefficient, lacking, checked};
+
+use crate::hashing::step;
+use hash_signature_model::Width;
+
+/// The value after the steps of chain i from number `from` up to and without number `to`.
+pub fn walk(id: &[u8; 16], leaf: u32, i: u16, from: u8, to: u8, start: &[u8; 32]) -> [u8; 32]
+    requires { from ≤ to }
+    ensures { result ≡ chain id.now leaf i from (to - from) start.now }
+{
+    let mut value = *start;
+    'steps: for j in from..to {
+        value = step(id, leaf, i, j, &value);
+    }
+    value
+}
+
+/// Coefficient i of the bytes (RFC 8554, section 3.1.3).
+#[tactic(auto, unfolding(hash_signature_model::specs::OneTime::coefficient))]
+pub fn digit(w: Width, bytes: &[u8], i: u16) -> u8
+    requires { i < digits_in_byte w * length bytes.now }
+    ensures value { result ≡ coefficient w bytes.now i }
+    ensures bound { result ≤ top w }
+{
+    match w {
+        Width::W4 => {
+            let byte = bytes[i as usize / 2];
+            if i % 2 == 0 { byte / 16 } else { byte % 16 }
+        }
+        Width::W8 => bytes[i as usize],
+    }
+}
+
+/// The sum of what the coefficients of a digest lack to the greatest.
+fn sum_lacking(w: Width, digest: &[u8; 32]) -> u16
+    ensures { result ≡ lacking w digest.now (digest_digits w) }
+{
+    let greatest = w.step_count();
+    let mut sum = 0u16;
+    'digits: for i in 0..w.digit_count() {
+        sum += (greatest - digit(w, &digest[..], i)) as u16;
+    }
+    sum
+}
+
+/// A digest and its checksum (RFC 8554, section 4.4).
+pub fn with_checksum(w: Width, digest: &[u8; 32]) -> [u8; 34]
+    ensures { result ≡ checked w digest.now }
+{
+    let sum = sum_lacking(w, digest) * w.checksum_scale();
+    let [high, low] = sum.to_be_bytes();
+    let mut code = [0u8; 34];
+    code[..32].copy_from_slice(&digest[..]);
+    code[32] = high;
+    code[33] = low;
+    code
+}
