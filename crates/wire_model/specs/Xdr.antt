@@ -44,12 +44,22 @@ moment m = word m.sec ++ word m.nsec
 abbrev pub IsWordMoment : Moment → Type 0
 IsWordMoment m = (m.sec < 2 ^ 32) × (m.nsec < 2 ^ 32)
 
--- ---- what may be read at the front of bytes, and the rest
+-- ---- which values have these spellings
 
--- the bytes begin with this word
-abbrev pub IsWordFront : List ℕ → ℕ → List ℕ → Type 0
-IsWordFront bytes n rest = (n < 2 ^ 32) × (bytes ≡ word n ++ rest)
+-- a number of four bytes, and one of eight
+abbrev pub IsWord : ℕ → Type 0
+IsWord n = n < 2 ^ 32
 
--- the bytes begin with this data: at most so many bytes behind their count, and zeros up to a multiple of four
-abbrev pub IsOpaqueFront : ℕ → List ℕ → List ℕ → List ℕ → Type 0
-IsOpaqueFront most bytes item rest = (length item ≤ most) × (length item < 2 ^ 32) × (bytes ≡ opaque item ++ rest)
+abbrev pub IsDoubleWord : ℕ → Type 0
+IsDoubleWord n = n < 2 ^ 64
+
+-- whatever it is
+abbrev pub IsAny : {A : Type 0} → A → Type 0
+IsAny x = Unit {0}
+
+-- so many bytes, and at most so many
+abbrev pub IsOfLength : ℕ → List ℕ → Type 0
+IsOfLength n bytes = length bytes ≡ n
+
+abbrev pub IsUpTo : ℕ → List ℕ → Type 0
+IsUpTo most bytes = length bytes ≤ most

@@ -4,12 +4,10 @@ ghost use Rattle.std.specs.Prelude.{◌≡◌, ◌+◌, ◌^◌, ◌<◌, ◌≤
 ghost use Rattle.wire_model.specs.Xdr.{word, double_word, boolean, fixed, opaque};
 ghost use Rattle.xdr_codec.specs.Writing.{padded};
 
+use crate::padding::{PADDING, padding};
 use ivy_base::{Bytes, Memory};
 use std::alloc::Global;
 use std::marker::Model;
-
-/// The most zeros that fill an item up to a multiple of four (RFC 4506, section 3).
-const PADDING: [u8; 3] = [0; 3];
 
 /// A message being written: the bytes so far, and for how many more bytes there is room.
 ///
@@ -92,7 +90,7 @@ impl XdrWrite {
         ensures spare { self.new.spare + padded (length bytes.now) ≡ self.old.spare }
     {
         self.append(bytes);
-        self.append(&PADDING[..(4 - bytes.len() % 4) % 4]);
+        self.append(&PADDING[..padding(bytes.len())]);
     }
 
     /// Appends opaque data of any length (RFC 4506, section 4.10), or a string (section 4.11): the number of the
