@@ -23,7 +23,7 @@ use Rattle.log_model.specs.Laws.{NumbersAreKeys}
 use Rattle.log_model.specs.View.{View, view_name, view_block}
 use Rattle.log_model.specs.Replay.{replay}
 use Rattle.nfs_model.specs.declared.arguments.Args.{Args}
-use Rattle.nfs_model.specs.declared.arguments.Args.TheVariants.{Lookup, MkDir}
+use Rattle.nfs_model.specs.declared.arguments.Args.TheVariants.{Null, GetAttr, Lookup, MkDir}
 use Rattle.nfs_model.specs.declared.replies.NfsStatus.{NfsStatus}
 use Rattle.nfs_model.specs.declared.replies.NfsStatus.TheVariants.{RoFs, ServerFault}
 use Rattle.nfs_model.specs.declared.replies.Reply.TheVariants.{Refused}
@@ -47,11 +47,11 @@ use Rattle.run_model.specs.declared.command.Command.{Command}
 use Rattle.run_model.specs.declared.command.Command.TheVariants as command
 use Rattle.run_model.specs.Script.{◌>>=◌, command_of}
 use Rattle.run_model.specs.World.{World, Log, empty_world, goes_if, ring_line, log_line, view_line, use_line, at_line}
-use Rattle.run_model.specs.Calls.{view_of, call_head, handle_numbered, piece_bytes, message_of, is_file_name, is_place, is_form, are_name_parts, are_directory_parts, Sending, sending_of, agent_of, handle_given, reply_line, answered, Answers, served}
+use Rattle.run_model.specs.Calls.{view_of, call_head, handle_numbered, piece_bytes, message_of, is_file_name, is_place, is_form, are_parts, Sending, sending_of, agent_of, handle_given, reply_line, answered, Answers, served}
 use Rattle.run_model.specs.Step.{Does, MayDo, IvyStep, HasMemory, lacks_memory_line}
 use Rattle.run_model.specs.Laws.{EachScriptHasAFullRun}
 use Rattle.run_model.proofs.Messages.{superuser, call_record, head_is_call, caller_is_superuser}
-use Rattle.run_model.proofs.Sendings.{left_true, right_true, either_true, what_is_sent}
+use Rattle.run_model.proofs.Sendings.{left_true, right_true, OfForm, null, of_place, of_name, of_directory, which_form, what_is_sent}
 
 -- ---- runs of a step that keeps to valid worlds
 
@@ -143,8 +143,10 @@ short_made before after view (Ok dir) None sized = tt
 short_made before after view (Err fault) (Some number) sized = tt
 short_made before after view (Err fault) None sized = tt
 
--- the two calls that a script makes
+-- the calls that a script makes
 data IsOfForm : Args → Type 0 where
+  nulls : IsOfForm Null
+  tells : (object : List ℕ) → IsOfForm (GetAttr object)
   looks : (dir name : List ℕ) → IsOfForm (Lookup dir name)
   makes : (dir name : List ℕ) (mode : ℕ) → IsOfForm (MkDir dir name (only_mode mode))
 
@@ -167,6 +169,8 @@ module _ (a : Agent) (s : List Record) (now : Moment) (dir name : List ℕ) (mod
       tt tt (short_made (replay s) (replay (appended a.own now s ops)) a.view (object_of (replay s) a.view dir) (made_number ops) short)
 
 short_turn : (a : Agent) (s : List Record) (now : Moment) (args : Args) → IsOfForm args → NumbersAreKeys (replay s) → GivesShort (turn_on a s (record { caller = superuser; args = args }) now).reply
+short_turn a s now args nulls keys = tt
+short_turn a s now args (tells object) keys = short_about (object_of (replay s) a.view object) _ _ (λ d. tt)
 short_turn a s now args (looks dir name) keys =
     short_about (object_of (replay s) a.view dir) _ _ (λ d. short_unless (lookup_checks (replay s) superuser d name) (Attributes (Some (attributes (replay s) a.view d)))
     (found (replay s) a.view d (target_of (replay s) d.number name)) _ refl (short_found (replay s) a.view d (target_of (replay s) d.number name) keys))
@@ -180,7 +184,7 @@ short_turn a s now args (makes dir name mode) keys =
 
 -- ---- the call that is sent
 
--- the superuser's call of one of the two procedures, whose arguments fit
+-- the superuser's call of one of the procedures, whose arguments fit
 record Asks (m : List ℕ) : Type 0 where
   args : Args
   of_form : IsOfForm args
@@ -233,7 +237,26 @@ between : (o : Option (List ℕ)) (head after m : List ℕ) → ((o >>= λ bytes
 between None head after m h = cc h
 between (Some bytes) head after m h = (bytes, refl, cc)
 
+-- bytes behind a head alone
+behind_head : (o : Option (List ℕ)) (head m : List ℕ) → ((o >>= λ bytes. Some (bytes ++ [])) >>= λ rest. Some (head ++ rest)) ≡ Some m
+    → (bytes : List ℕ) × (o ≡ Some bytes) × (m ≡ head ++ bytes)
+behind_head None head m h = cc h
+behind_head (Some bytes) head m h =
+    let is : head ++ (bytes ++ []) ≡ m = cc in
+    (bytes, refl, sym is ∙ ap (λ (rest : List ℕ). head ++ rest) (append-nil bytes))
+
 module _ (w : World) (l : Log) (short : AllByRecursion IsShort w.handles) where
+  tell_asks : (place : Piece) (m : List ℕ) → is_place place ≡ true → message_of w l (Call 1 0 0 ∷ place ∷ []) ≡ Some m → Asks m
+  tell_asks place m is h =
+      let found = behind_head (piece_bytes w l place) (call_head 1 0 0) m h in
+      let handle = place_is_short w l place found.0 short is found.1 in
+      record {
+        args = GetAttr handle.0;
+        of_form = tells handle.0;
+        fits = handle.1;
+        spelled = found.2 ∙ ap (λ (bytes : List ℕ). call_head 1 0 0 ++ bytes) handle.2;
+      }
+
   look_asks : (place : Piece) (name m : List ℕ) → is_place place ≡ true → is_file_name name ≡ true → message_of w l (Call 3 0 0 ∷ place ∷ Text name ∷ []) ≡ Some m → Asks m
   look_asks place name m is named h =
       let found = between (piece_bytes w l place) (call_head 3 0 0) (opaque name ++ []) m h in
@@ -260,29 +283,19 @@ module _ (w : World) (l : Log) (short : AllByRecursion IsShort w.handles) where
       }
 
 module _ (w : World) (l : Log) (short : AllByRecursion IsShort w.handles) (m : List ℕ) where
-  look_parts : (parts : List Piece) → are_name_parts parts ≡ true → message_of w l (Call 3 0 0 ∷ parts) ≡ Some m → Asks m
-  look_parts (place ∷ Text name ∷ []) is h = look_asks w l short place name m (left_true (is_place place) (is_file_name name) is) (right_true (is_place place) (is_file_name name) is) h
-  look_parts _ is h = cc is
-
-  make_parts : (parts : List Piece) → are_directory_parts parts ≡ true → message_of w l (Call 9 0 0 ∷ parts) ≡ Some m → Asks m
-  make_parts (place ∷ Text name ∷ Mode mode ∷ []) is h = make_asks w l short place name m mode (left_true (is_place place) (is_file_name name) is) (right_true (is_place place) (is_file_name name) is) h
-  make_parts _ is h = cc is
+  parts_ask : (p : ℕ) (parts : List Piece) → OfForm p parts → message_of w l (Call p 0 0 ∷ parts) ≡ Some m → Asks m
+  parts_ask p parts null h = record { args = Null; of_form = nulls; fits = tt; spelled = cc }
+  parts_ask p parts (of_place place is) h = tell_asks w l short place m is h
+  parts_ask p parts (of_name place name is named) h = look_asks w l short place name m is named h
+  parts_ask p parts (of_directory place name mode is named) h = make_asks w l short place name m mode is named h
 
   call_asks : (p u g : ℕ) (parts : List Piece) → is_form (Call p u g ∷ parts) ≡ true → message_of w l (Call p u g ∷ parts) ≡ Some m → Asks m
   call_asks p u g parts form h =
-      let of_form = (p == 3 && are_name_parts parts) || (p == 9 && are_directory_parts parts) in
-      let caller = left_true (u == 0 && g == 0) of_form form in
+      let caller = left_true (u == 0 && g == 0) (are_parts p parts) form in
       let user : u ≡ 0 = eqb-true u 0 (left_true (u == 0) (g == 0) caller) in
       let group : g ≡ 0 = eqb-true g 0 (right_true (u == 0) (g == 0) caller) in
       let sent : message_of w l (Call p 0 0 ∷ parts) ≡ Some m = subst (λ (n : ℕ). message_of w l (Call p 0 n ∷ parts) ≡ Some m) group (subst (λ (n : ℕ). message_of w l (Call p n g ∷ parts) ≡ Some m) user h) in
-      elim (either_true (p == 3 && are_name_parts parts) (p == 9 && are_directory_parts parts) (right_true (u == 0 && g == 0) of_form form)) [
-        | inl e ↦
-            let third : p ≡ 3 = eqb-true p 3 (left_true (p == 3) (are_name_parts parts) e) in
-            look_parts parts (right_true (p == 3) (are_name_parts parts) e) (subst (λ (n : ℕ). message_of w l (Call n 0 0 ∷ parts) ≡ Some m) third sent)
-        | inr e ↦
-            let ninth : p ≡ 9 = eqb-true p 9 (left_true (p == 9) (are_directory_parts parts) e) in
-            make_parts parts (right_true (p == 9) (are_directory_parts parts) e) (subst (λ (n : ℕ). message_of w l (Call n 0 0 ∷ parts) ≡ Some m) ninth sent)
-      ]
+      parts_ask p parts (which_form p parts (right_true (u == 0 && g == 0) (are_parts p parts) form)) sent
 
   form_asks : (pieces : List Piece) → is_form pieces ≡ true → message_of w l pieces ≡ Some m → Asks m
   form_asks (Call p u g ∷ parts) form h = call_asks p u g parts form h
@@ -312,6 +325,12 @@ abbrev answer_of : World → Log → Args → Outcome World
 answer_of w l args = answered w l 1 (turn_on (agent_of l) l.records (record { caller = superuser; args = args }) w.now)
 
 asked_is_served : (w : World) (l : Log) (m : List ℕ) (args : Args) → IsOfForm args → ArgumentsFit args → m ≡ call_head (procedure_of args) 0 0 ++ arguments args → Answers w l m (answer_of w l args)
+asked_is_served w l m args nulls fits spelled =
+    served (call_record 0 (arguments args)) superuser args (rw spelled (head_is_call 0 (lit< tt) (arguments args))) (record { program = refl; version = refl; procedure = lit< tt }) (caller_is_superuser 0 (arguments args))
+    (record { program_is = refl; procedure_is = refl; fit = fits; spelled = refl })
+asked_is_served w l m args (tells object) fits spelled =
+    served (call_record 1 (arguments args)) superuser args (rw spelled (head_is_call 1 (lit< tt) (arguments args))) (record { program = refl; version = refl; procedure = lit< tt }) (caller_is_superuser 1 (arguments args))
+    (record { program_is = refl; procedure_is = refl; fit = fits; spelled = refl })
 asked_is_served w l m args (looks dir name) fits spelled =
     served (call_record 3 (arguments args)) superuser args (rw spelled (head_is_call 3 (lit< tt) (arguments args))) (record { program = refl; version = refl; procedure = lit< tt }) (caller_is_superuser 3 (arguments args))
     (record { program_is = refl; procedure_is = refl; fit = fits; spelled = refl })
@@ -373,6 +392,7 @@ some_full_command w line (command.At sec nsec) reached = (
   }),
 )
 some_full_command w line (command.As log pieces) reached = some_full_call w line log pieces (sending_of w log pieces) refl reached
+some_full_command w line command.Nothing reached = (Goes w [], refl, (λ same. cc same, reached))
 some_full_command w line command.End reached = (Ends, refl, (tt, tt))
 
 some_full_line : (w : World) (line : List ℕ) (c : Option Command) → IsReached w → (o : Outcome World) × MayDo w c o × IsFull w line o

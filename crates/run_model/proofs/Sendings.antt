@@ -7,7 +7,7 @@ use Rattle.run_model.specs.declared.command.Piece.{Piece}
 use Rattle.run_model.specs.declared.command.Piece.TheVariants.{Call, Root, HandleOf, Text, Mode}
 use Rattle.run_model.specs.Script.{◌>>=◌}
 use Rattle.run_model.specs.World.{World, Log, is_log}
-use Rattle.run_model.specs.Calls.{call_head, is_form, are_name_parts, are_directory_parts, message_of, Sending, sending_of}
+use Rattle.run_model.specs.Calls.{call_head, is_place, is_file_name, is_form, are_parts, are_no_parts, are_place_parts, are_name_parts, are_directory_parts, message_of, Sending, sending_of}
 use Rattle.run_model.proofs.Messages.{call_record, head_is_call}
 
 pub left_true : (a b : Bool) → (a && b) ≡ true → a ≡ true
@@ -32,11 +32,57 @@ pub record Begins (m : List ℕ) : Type 0 where
 pub begins_is_call : (m : List ℕ) (b : Begins m) → IsCall m (call_record b.procedure b.rest)
 begins_is_call m b = rw b.spelled (head_is_call b.procedure b.small b.rest)
 
-procedure_is_small : (p : ℕ) (parts : List Piece) → ((p == 3 && are_name_parts parts) || (p == 9 && are_directory_parts parts)) ≡ true → p < 2 ^ 32
-procedure_is_small p parts h = elim (either_true _ _ h) [
-  | inl e ↦ rw (eqb-true p 3 (left_true (p == 3) (are_name_parts parts) e)) (lit< tt)
-  | inr e ↦ rw (eqb-true p 9 (left_true (p == 9) (are_directory_parts parts) e)) (lit< tt)
-]
+-- the parts of a call, by its procedure
+pub data OfForm : ℕ → List Piece → Type 0 where
+  null : OfForm 0 []
+  of_place : (place : Piece) → is_place place ≡ true → OfForm 1 (place ∷ [])
+  of_name : (place : Piece) (name : List ℕ) → is_place place ≡ true → is_file_name name ≡ true → OfForm 3 (place ∷ Text name ∷ [])
+  of_directory : (place : Piece) (name : List ℕ) (mode : ℕ) → is_place place ≡ true → is_file_name name ≡ true → OfForm 9 (place ∷ Text name ∷ Mode mode ∷ [])
+
+no_parts : (parts : List Piece) → are_no_parts parts ≡ true → OfForm 0 parts
+no_parts [] h = null
+no_parts (p ∷ ps) h = cc h
+
+place_parts : (parts : List Piece) → are_place_parts parts ≡ true → OfForm 1 parts
+place_parts (place ∷ []) h = of_place place h
+place_parts _ h = cc h
+
+name_parts : (parts : List Piece) → are_name_parts parts ≡ true → OfForm 3 parts
+name_parts (place ∷ Text name ∷ []) h = of_name place name (left_true (is_place place) (is_file_name name) h) (right_true (is_place place) (is_file_name name) h)
+name_parts _ h = cc h
+
+directory_parts : (parts : List Piece) → are_directory_parts parts ≡ true → OfForm 9 parts
+directory_parts (place ∷ Text name ∷ Mode mode ∷ []) h =
+    of_directory place name mode (left_true (is_place place) (is_file_name name) h) (right_true (is_place place) (is_file_name name) h)
+directory_parts _ h = cc h
+
+-- parts that are those of one procedure, where it is that one
+of_procedure : (n p : ℕ) (parts : List Piece) (are : Bool) → (are ≡ true → OfForm n parts) → (p == n && are) ≡ true → OfForm p parts
+of_procedure n p parts are form h =
+    subst (λ (q : ℕ). OfForm q parts) (sym (eqb-true p n (left_true (p == n) are h))) (form (right_true (p == n) are h))
+
+pub which_form : (p : ℕ) (parts : List Piece) → are_parts p parts ≡ true → OfForm p parts
+which_form p parts h =
+    let a = p == 0 && are_no_parts parts in
+    let b = p == 1 && are_place_parts parts in
+    let c = p == 3 && are_name_parts parts in
+    let d = p == 9 && are_directory_parts parts in
+    elim (either_true (a || b || c) d h) [
+      | inl abc ↦ elim (either_true (a || b) c abc) [
+        | inl ab ↦ elim (either_true a b ab) [
+          | inl e ↦ of_procedure 0 p parts (are_no_parts parts) (no_parts parts) e
+          | inr e ↦ of_procedure 1 p parts (are_place_parts parts) (place_parts parts) e
+        ]
+        | inr e ↦ of_procedure 3 p parts (are_name_parts parts) (name_parts parts) e
+      ]
+      | inr e ↦ of_procedure 9 p parts (are_directory_parts parts) (directory_parts parts) e
+    ]
+
+procedure_is_small : (p : ℕ) (parts : List Piece) → OfForm p parts → p < 2 ^ 32
+procedure_is_small p parts null = lit< tt
+procedure_is_small p parts (of_place place is) = lit< tt
+procedure_is_small p parts (of_name place name is named) = lit< tt
+procedure_is_small p parts (of_directory place name mode is named) = lit< tt
 
 some_is : {A : Type 0} {x y : A} → Some x ≡ Some y → x ≡ y
 some_is h = cc h
@@ -64,13 +110,12 @@ form_begins w l (Text text ∷ parts) m form h = cc form
 form_begins w l (Mode mode ∷ parts) m form h = cc form
 form_begins w l (Call p u g ∷ parts) m form h =
     let head = head_first w l p u g parts m h in
-    let of_form = (p == 3 && are_name_parts parts) || (p == 9 && are_directory_parts parts) in
-    let caller = left_true (u == 0 && g == 0) of_form form in
+    let caller = left_true (u == 0 && g == 0) (are_parts p parts) form in
     let user : u ≡ 0 = eqb-true u 0 (left_true (u == 0) (g == 0) caller) in
     let group : g ≡ 0 = eqb-true g 0 (right_true (u == 0) (g == 0) caller) in
     record {
       procedure = p;
-      small = procedure_is_small p parts (right_true (u == 0 && g == 0) of_form form);
+      small = procedure_is_small p parts (which_form p parts (right_true (u == 0 && g == 0) (are_parts p parts) form));
       rest = head.0;
       spelled = head.1 ∙ (λ i. call_head p (user i) (group i) ++ head.0);
     }

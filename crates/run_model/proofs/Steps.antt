@@ -15,7 +15,7 @@ use Rattle.script_driver.specs.Run.{Outcome, Goes, Ends, Refuses, Exceeds, line_
 use Rattle.run_model.specs.declared.command.Piece.{Piece}
 use Rattle.run_model.specs.declared.command.Command.{Command}
 use Rattle.run_model.specs.declared.command.Command.TheVariants as command
-use Rattle.run_model.specs.Script.{command_of, command_of_words, words_of}
+use Rattle.run_model.specs.Script.{command_of, command_of_words, words_of, is_comment}
 use Rattle.run_model.specs.World.{World, Log, goes_if, ring_line, log_line, view_line, use_line, at_line}
 use Rattle.run_model.specs.Calls.{Sending, sending_of, Answers, served, out_of_memory, reply_line, answered, agent_of}
 use Rattle.run_model.specs.Step.{Does, MayDo, IvyStep, HasMemory, lacks_memory_line}
@@ -42,6 +42,7 @@ some_command w (command.View view log) = (view_line w view log, refl)
 some_command w (command.Use log view) = (use_line w log view, refl)
 some_command w (command.At sec nsec) = (at_line w sec nsec, refl)
 some_command w (command.As log pieces) = some_call w log pieces (sending_of w log pieces) refl
+some_command w command.Nothing = (Goes w [], refl)
 some_command w command.End = (Ends, refl)
 
 some_line : (w : World) (c : Option Command) → (outcome : Outcome World) × MayDo w c outcome
@@ -55,7 +56,7 @@ some_outcome w line = some_line w (command_of line)
 
 too_long : (line : List ℕ) → line_limit < length line → command_of line ≡ None
 unfolding command_of
-too_long line long = ap (λ (b : Bool). cond b None (command_of_words (words_of line))) (lt-ltb line_limit (length line) long)
+too_long line long = ap (λ (b : Bool). cond b None (cond (is_comment line) (Some command.Nothing) (command_of_words (words_of line)))) (lt-ltb line_limit (length line) long)
 
 pub long_stops : (w : World) (line : List ℕ) (next : World) (output : List ℕ) → line_limit < length line → IvyStep w line (Goes next output) → ⊥
 long_stops w line next output long does =
@@ -116,6 +117,7 @@ same_command w line (command.View view log) o p does does_p enough enough_p = do
 same_command w line (command.Use log view) o p does does_p enough enough_p = does ∙ sym does_p
 same_command w line (command.At sec nsec) o p does does_p enough enough_p = does ∙ sym does_p
 same_command w line (command.As log pieces) o p does does_p enough enough_p = same_sent w line log pieces (sending_of w log pieces) refl o p does does_p enough enough_p
+same_command w line command.Nothing o p does does_p enough enough_p = does ∙ sym does_p
 same_command w line command.End o p does does_p enough enough_p = does ∙ sym does_p
 
 same_line : (w : World) (line : List ℕ) (c : Option Command) (o p : Outcome World) → MayDo w c o → MayDo w c p → HasMemory w line o → HasMemory w line p → o ≡ p
@@ -149,6 +151,7 @@ command_meets_none w (command.View view log) does = goes_if_exceeds _ _ does
 command_meets_none w (command.Use log view) does = goes_if_exceeds _ _ does
 command_meets_none w (command.At sec nsec) does = goes_if_exceeds _ _ does
 command_meets_none w (command.As log pieces) does = sent_meets_none w (sending_of w log pieces) Exceeds refl does
+command_meets_none w command.Nothing does = cc does
 command_meets_none w command.End does = cc does
 
 line_meets_none : (w : World) (c : Option Command) → MayDo w c Exceeds → ⊥

@@ -56,7 +56,8 @@ message_of w l (p ∷ ps) = do
   rest ← message_of w l ps
   Some (bytes ++ rest)
 
--- ---- the calls that a script may make so far: by the superuser, a look-up or a new directory
+-- ---- the calls that a script may make so far: by the superuser, nothing at all, the attributes of an inode, a look-up or a
+-- new directory
 
 -- a name that passes the name checks, and is neither "." nor ".."
 abbrev pub is_file_name : List ℕ → Bool
@@ -69,6 +70,15 @@ is_place (Call procedure uid gid) = false
 is_place (Text text) = false
 is_place (Mode mode) = false
 
+-- no parts, and a place alone
+abbrev pub are_no_parts : List Piece → Bool
+are_no_parts [] = true
+are_no_parts _ = false
+
+abbrev pub are_place_parts : List Piece → Bool
+are_place_parts (place ∷ []) = is_place place
+are_place_parts _ = false
+
 -- a place and a name in it, for a new directory with a mode behind them
 abbrev pub are_name_parts : List Piece → Bool
 are_name_parts (place ∷ Text name ∷ []) = is_place place && is_file_name name
@@ -78,9 +88,14 @@ abbrev pub are_directory_parts : List Piece → Bool
 are_directory_parts (place ∷ Text name ∷ Mode mode ∷ []) = is_place place && is_file_name name
 are_directory_parts _ = false
 
+-- the parts of NULL, GETATTR, LOOKUP or MKDIR (RFC 1813, section 3.3)
+abbrev pub are_parts : ℕ → List Piece → Bool
+are_parts procedure parts =
+    (procedure == 0 && are_no_parts parts) || (procedure == 1 && are_place_parts parts)
+    || (procedure == 3 && are_name_parts parts) || (procedure == 9 && are_directory_parts parts)
+
 abbrev pub is_form : List Piece → Bool
-is_form (Call procedure uid gid ∷ parts) =
-    uid == 0 && gid == 0 && ((procedure == 3 && are_name_parts parts) || (procedure == 9 && are_directory_parts parts))
+is_form (Call procedure uid gid ∷ parts) = uid == 0 && gid == 0 && are_parts procedure parts
 is_form _ = false
 
 -- a log whose participant entered its view, and the message that it sends

@@ -1,6 +1,6 @@
 -- The lines of a script: which command a line is. Words are separated by single blanks, a name has 1 to 16 letters and
 -- digits, a number is decimal without sign or leading zero, and a line has at most 32,768 bytes.
-use Rattle.std.specs.Prelude.{ℕ, ◌+◌, ◌*◌, ◌-◌, ◌^◌, nat_le, nat_lt, ◌==◌, Bool, false, ◌&&◌, ◌||◌, not, List, [], ◌∷◌, ◌++◌, length, drop, fold, replicate, codes, Option, Some, None, Result, Ok, Err, if◌then◌else◌, nat_eq}
+use Rattle.std.specs.Prelude.{ℕ, ◌+◌, ◌*◌, ◌-◌, ◌^◌, nat_le, nat_lt, ◌==◌, Bool, true, false, ◌&&◌, ◌||◌, not, List, [], ◌∷◌, ◌++◌, length, drop, fold, replicate, codes, Option, Some, None, Result, Ok, Err, if◌then◌else◌, nat_eq}
 use Rattle.std.specs.List.{slice_split, list_all, starts_with}
 use Rattle.std.specs.Str.{bytes_eq}
 use Rattle.std.specs.Char.{is_ascii_digit}
@@ -166,6 +166,14 @@ command_of_words (word ∷ words) =
     else if bytes_eq word (codes "end") then end_of words
     else None
 
+-- an empty line, or a comment
+abbrev pub is_comment : List ℕ → Bool
+is_comment [] = true
+is_comment (b ∷ line) = b == 35
+
 -- the command that a line is, if it is one
 unfoldable pub command_of : List ℕ → Option Command
-command_of line = if nat_lt line_limit (length line) then None else command_of_words (words_of line)
+command_of line =
+    if nat_lt line_limit (length line) then None
+    else if is_comment line then Some command.Nothing
+    else command_of_words (words_of line)

@@ -1,9 +1,9 @@
 -- The step of a script: what a line may do in a world. A kind of line that comes later is one more case.
-use Rattle.std.specs.Prelude.{◌≡◌, ◌≢◌, ℕ, List, Option, Some, None}
+use Rattle.std.specs.Prelude.{◌≡◌, ◌≢◌, ℕ, List, [], Option, Some, None}
 use Rattle.wire_model.specs.Rpc.{SystemError, reply}
 use Rattle.script_driver.specs.Run.{Outcome, Goes, Ends, Refuses, Exceeds}
 use Rattle.run_model.specs.declared.command.Command.{Command}
-use Rattle.run_model.specs.declared.command.Command.TheVariants.{Ring, Log, View, Use, At, As, End}
+use Rattle.run_model.specs.declared.command.Command.TheVariants.{Ring, Log, View, Use, At, As, Nothing, End}
 use Rattle.run_model.specs.Script.{command_of}
 use Rattle.run_model.specs.World.{World, ring_line, log_line, view_line, use_line, at_line}
 use Rattle.run_model.specs.Calls.{CallLine, reply_line}
@@ -16,6 +16,7 @@ Does w (View view log) outcome = outcome ≡ view_line w view log
 Does w (Use log view) outcome = outcome ≡ use_line w log view
 Does w (At sec nsec) outcome = outcome ≡ at_line w sec nsec
 Does w (As log pieces) outcome = CallLine w log pieces outcome
+Does w Nothing outcome = outcome ≡ Goes w []
 Does w End outcome = outcome ≡ Ends
 
 abbrev pub MayDo : World → Option Command → Outcome World → Type 0

@@ -85,6 +85,8 @@ pub enum Command {
         log: Bytes,
         pieces: Pieces,
     },
+    /// An empty line, or one that begins with `#`: does nothing.
+    Nothing,
     /// `end`: ends the run.
     End,
 }
