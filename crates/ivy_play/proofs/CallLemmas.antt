@@ -1,5 +1,5 @@
 -- A participant's answers to calls are turns on its log.
-use Rattle.std.proofs.Common.{◌≡◌, ℕ, ◌+◌, ◌<◌, ◌≤◌, ◌%◌, min, Bool, true, false, List, [], ◌∷◌, ◌++◌, length, map, take, get_or, Option, Some, None, Ok, Err, refl, sym, ap, ◌∙◌, subst, arith}
+use Rattle.std.proofs.Common.{◌≡◌, ℕ, ◌+◌, ◌<◌, ◌≤◌, ◌%◌, min, Bool, true, false, List, [], ◌∷◌, ◌++◌, length, map, take, get_or, Option, Some, None, Result, Ok, Err, refl, sym, ap, ◌∙◌, subst, arith}
 use Rattle.std.specs.Prelude.{option_map, is_some, ◌^◌, if◌then◌else◌, MatchOption}
 use Rattle.std.specs.Option.{option_map_or}
 use Rattle.std.proofs.lemmas.List.{take_more, length-map, append-nil, map-append}
@@ -22,14 +22,16 @@ use Rattle.log_model.proofs.Later.{apply_more}
 use Rattle.nfs_model.specs.declared.replies.Fattr.{Fattr}
 use Rattle.nfs_model.specs.declared.replies.Wcc.{Wcc}
 use Rattle.nfs_model.specs.declared.replies.WccBefore.{WccBefore}
+use Rattle.nfs_model.specs.declared.replies.NfsStatus.{NfsStatus}
 use Rattle.nfs_model.specs.declared.replies.NfsStatus.TheVariants.{Stale, NoEnt, Exist, RoFs}
 use Rattle.nfs_model.specs.declared.replies.Tail.TheVariants as tail
 use Rattle.nfs_model.specs.declared.replies.Reply.{Reply}
 use Rattle.nfs_model.specs.declared.replies.Reply.TheVariants as reply
 use Rattle.nfs_model.specs.Objects.{Object, attributes, attributes_at, leading_number, size_of, live_object, handle_of, before_at, cache_data, no_cache_data}
+use Rattle.nfs_model.specs.Answers.{about}
 use Rattle.nfs_model.specs.Reading.{answer, found}
 use Rattle.nfs_model.specs.Changing.{Refuse, Operations, plan}
-use Rattle.nfs_model.proofs.Objects.{live_object_is, object_at}
+use Rattle.nfs_model.proofs.Objects.{live_object_is, object_at, object_of_handle}
 use Rattle.nfs_model.proofs.FirstCalls.{lookup_stale, lookup_no_entry, lookup_found, found_there, found_nothing, plan_stale, plan_exists, plan_makes, finish_makes}
 use Rattle.nfs3_replies.specs.Writable.{IsWritable}
 use Rattle.run_model.specs.Calls.{agent_of, handle_given}
@@ -39,7 +41,7 @@ use Rattle.turn_model.proofs.Turns.{log_turn-reading, log_turn-refused, log_turn
 use Rattle.ivy_play.specs.declared.participant.Participant.{Participant}
 use Rattle.ivy_play.specs.declared.participant.Written.{Written}
 use Rattle.ivy_play.specs.declared.calls.Answer.{Answer}
-use Rattle.ivy_play.specs.Asked.{look_up_of, directory_of, superuser}
+use Rattle.ivy_play.specs.Asked.{null_asked, attributes_asked, look_up_of, directory_of, superuser}
 use Rattle.ivy_play.specs.Directories.{AreDirectories}
 use Rattle.ivy_play.specs.Entries.{entry_of}
 use Rattle.ivy_play.specs.Lives.{IsLiveObject, IsStale}
@@ -230,6 +232,38 @@ is_there (Some k) h = (k, refl)
 is_missing : (e : Option Key) → is_some e ≡ false → e ≡ None
 is_missing None h = refl
 is_missing (Some k) h = cc h
+
+-- ---- NULL, and attributes
+
+pub answers_nothing : (p : Participant) (a : Answer) → a.reply ≡ reply.Nothing → a.added.items ≡ [] → a.number ≡ None
+    → (now : Moment) → IsTurnOf p null_asked now a
+answers_nothing p a told none number now =
+    unwritten p null_asked now a reply.Nothing
+    (log_turn-reading (agent_of (log_of p)) p.opened (entries_of p) null_asked now (replay (log_of p).records) refl refl) told none (no_number p a.number number) tt
+
+module _ (p : Participant) (number : Key) (numbered : length number.0 ≡ 20) (t : Tree) (kept : t ≡ replay (log_of p).records) where
+  abbrev told_of : Result Object NfsStatus → Reply
+  told_of o = about o tail.Empty (λ o. reply.Attributes (attributes t (alone p.owner) o))
+
+  telling : (now : Moment) (o : Result Object NfsStatus) → live_object t number ≡ o
+      → turn_on (agent_of (log_of p)) (log_of p).records (attributes_asked (alone p.owner) number) now ≡ record { reply = told_of o; set = (log_of p).records }
+  telling now o e =
+      log_turn-reading (agent_of (log_of p)) p.opened (entries_of p) (attributes_asked (alone p.owner) number) now t kept refl
+      ∙ ap (λ (r : Result Object NfsStatus). turned_to (told_of r) (log_of p).records) (object_of_handle t (alone p.owner) number (length-name _) numbered ∙ e)
+
+  pub tell_stale : (a : Answer) → IsStale t number → a.reply ≡ reply.Refused Stale tail.Empty → a.added.items ≡ [] → a.number ≡ None
+      → (now : Moment) → IsTurnOf p (attributes_asked (alone p.owner) number) now a
+  tell_stale a stale told none given now =
+      unwritten p (attributes_asked (alone p.owner) number) now a (reply.Refused Stale tail.Empty) (telling now (Err Stale) stale) told none (no_number p a.number given) tt
+
+  pub tell_attributes : (a : Answer) (given : Fattr) → IsLiveObject t (alone p.owner) number given → a.reply ≡ reply.Attributes given → a.added.items ≡ [] → a.number ≡ None
+      → (now : Moment) → IsTurnOf p (attributes_asked (alone p.owner) number) now a
+  tell_attributes a given live told none numberless now =
+      unwritten p (attributes_asked (alone p.owner) number) now a (reply.Attributes given)
+      (telling now (Ok (object_with number live.inode)) live.live ∙ ap (λ (f : Fattr). turned_to (reply.Attributes f) (log_of p).records) (sym live.attributes_are))
+      told none (no_number p a.number numberless) tt
+
+-- ---- a look-up, and a new directory
 
 module _ (p : Participant) (dir : Key) (name : List ℕ) (numbered : length dir.0 ≡ 20) (well_formed : IsFileName name) (t : Tree) (kept : t ≡ replay (log_of p).records) where
   named : length (view_name (alone p.owner)).0 ≡ 20

@@ -14,14 +14,14 @@ use Rattle.run_model.specs.declared.command.Piece.{Piece}
 use Rattle.run_model.specs.declared.command.Piece.TheVariants.{Call, Root, HandleOf, Text, Mode}
 use Rattle.run_model.specs.Script.{◌>>=◌}
 use Rattle.run_model.specs.World.{World, Log}
-use Rattle.run_model.specs.Calls.{view_of, call_head, is_place, is_file_name, are_name_parts, are_directory_parts, is_form, message_of, piece_bytes}
+use Rattle.run_model.specs.Calls.{view_of, call_head, is_place, is_file_name, are_parts, are_no_parts, are_place_parts, are_name_parts, are_directory_parts, is_form, message_of, piece_bytes}
 use Rattle.ivy_play.specs.declared.participant.Participant.{Participant}
 use Rattle.ivy_play.specs.declared.requests.Request.{Request}
-use Rattle.ivy_play.specs.declared.requests.Request.TheVariants.{LookUp, MakeDirectory}
+use Rattle.ivy_play.specs.declared.requests.Request.TheVariants.{Nothing, Attributes, LookUp, MakeDirectory}
 use Rattle.ivy_play.specs.Asked.{only_mode}
 use Rattle.ivy_play.specs.Handles.{place_in}
 use Rattle.ivy_play.specs.Participants.{log_of}
-use Rattle.ivy_play.specs.Requests.{asked_of, procedure_of, message_for, name_in, mode_in, procedure_in, look_up_in, directory_in, call_in, request_in, Asks, IsWellNamed}
+use Rattle.ivy_play.specs.Requests.{asked_of, procedure_of, message_for, name_in, mode_in, procedure_in, null_in, attributes_in, look_up_in, directory_in, call_in, request_in, Asks, IsWellNamed}
 use Rattle.run_model.proofs.Sendings.{if_some}
 use Rattle.ivy_play.proofs.NameTests.{from_tests}
 
@@ -59,6 +59,12 @@ place_bytes w l found h (HandleOf reply) = (λ e. numbered_bytes (handle_of (vie
 place_bytes w l found h (Call procedure uid gid) = (λ e. cc e, λ e. refl)
 place_bytes w l found h (Text text) = (λ e. cc e, λ e. refl)
 place_bytes w l found h (Mode mode) = (λ e. cc e, λ e. refl)
+
+place_parts : (v : View) (is_one : Bool) (bytes : Option (List ℕ)) (number : Option Key) → IsPlaceBytes v is_one bytes number
+    → (if is_one then (bytes >>= λ b. Some (b ++ [])) else None) ≡ option_map (arguments_of v) (number >>= λ n. Some (Attributes n))
+place_parts v false bytes number p = rw (p.1 refl) refl
+place_parts v true bytes None p = rw (p.0 refl) refl
+place_parts v true bytes (Some n) p = rw (p.0 refl) (ap (λ (x : List ℕ). Some x) (append-nil (opaque (handle_of v n))))
 
 look_up_parts : (v : View) (t : List ℕ) (is_one is_name : Bool) (bytes : Option (List ℕ)) (dir : Option Key) → IsPlaceBytes v is_one bytes dir
     → (if is_one && is_name then (bytes >>= λ b. Some (b ++ (opaque t ++ []))) else None)
@@ -122,6 +128,15 @@ no_mode v found a t c [] e = rw e (no_mode_behind v (place_in found a) (is_file_
 no_mode v found a t c (d ∷ rest) e = refl
 
 module _ (w : World) (l : Log) (found : List (Option Key)) (h : w.handles ≡ map (option_map (handle_of (view_of l))) found) where
+  null_is : (parts : List Piece) → Follows w l (are_no_parts parts) parts (null_in parts)
+  null_is [] = refl
+  null_is (a ∷ rest) = refl
+
+  attributes_are : (parts : List Piece) → Follows w l (are_place_parts parts) parts (attributes_in found parts)
+  attributes_are [] = refl
+  attributes_are (a ∷ []) = place_parts (view_of l) (is_place a) (piece_bytes w l a) (place_in found a) (place_bytes w l found h a)
+  attributes_are (a ∷ b ∷ rest) = refl
+
   look_up_is : (parts : List Piece) → Follows w l (are_name_parts parts) parts (look_up_in found parts)
   look_up_is [] = refl
   look_up_is (a ∷ []) = refl
@@ -182,6 +197,15 @@ named Root t e = cc e
 named (HandleOf reply) t e = cc e
 named (Mode mode) t e = cc e
 
+null_of_name : (parts : List Piece) → IfSome (null_in parts) (IsOf 0)
+null_of_name [] = (refl, tt)
+null_of_name (a ∷ rest) = tt
+
+attributes_of_name : (found : List (Option Key)) (parts : List Piece) → IfSome (attributes_in found parts) (IsOf 1)
+attributes_of_name found [] = tt
+attributes_of_name found (a ∷ []) = bound (IsOf 1) (place_in found a) (λ n. Some (Attributes n)) (λ n e. (refl, tt))
+attributes_of_name found (a ∷ b ∷ rest) = tt
+
 look_up_of_name : (found : List (Option Key)) (parts : List Piece) → IfSome (look_up_in found parts) (IsOf 3)
 look_up_of_name found [] = tt
 look_up_of_name found (a ∷ []) = tt
@@ -209,27 +233,64 @@ is_numbered n p None e h = tt
 is_numbered n p (Some r) e h = h.0 ∙ sym e
 
 module _ (w : World) (l : Log) (found : List (Option Key)) (h : w.handles ≡ map (option_map (handle_of (view_of l))) found) where
-  by_procedure : (p : ℕ) (parts : List Piece) (three nine : Bool) → (p == 3) ≡ three → (p == 9) ≡ nine
-      → (if (three && are_name_parts parts) || (nine && are_directory_parts parts)
-      then (message_of w l parts >>= λ bytes. Some (call_head p 0 0 ++ bytes)) else None)
-      ≡ option_map (message_for (view_of l)) (if three then look_up_in found parts else if nine then directory_in found parts else None)
-  by_procedure p parts true true a b = let x = eqb-true p 3 a in let y = eqb-true p 9 b in absurd (omega arith)
-  by_procedure p parts true false a b =
+  -- the call of a procedure, of the parts behind its head
+  IsCallOf : List Piece → ℕ → Type 0
+  IsCallOf parts p =
+      (if are_parts p parts then (message_of w l parts >>= λ bytes. Some (call_head p 0 0 ++ bytes)) else None)
+      ≡ option_map (message_for (view_of l)) (call_in found p parts)
+
+  at_null : (parts : List Piece) → IsCallOf parts 0
+  unfolding IsCallOf
+  at_null parts =
+      rw (or_false (are_no_parts parts), or_false (are_no_parts parts), or_false (are_no_parts parts))
+      (with_head (view_of l) 0 (are_no_parts parts) (message_of w l parts) (null_in parts)
+      (is_numbered 0 0 (null_in parts) refl (null_of_name parts)) (null_is w l found h parts))
+
+  at_attributes : (parts : List Piece) → IsCallOf parts 1
+  unfolding IsCallOf
+  at_attributes parts =
+      rw (or_false (are_place_parts parts), or_false (are_place_parts parts))
+      (with_head (view_of l) 1 (are_place_parts parts) (message_of w l parts) (attributes_in found parts)
+      (is_numbered 1 1 (attributes_in found parts) refl (attributes_of_name found parts)) (attributes_are w l found h parts))
+
+  at_look_up : (parts : List Piece) → IsCallOf parts 3
+  unfolding IsCallOf
+  at_look_up parts =
       rw (or_false (are_name_parts parts))
-      (with_head (view_of l) p (are_name_parts parts) (message_of w l parts) (look_up_in found parts)
-      (is_numbered 3 p (look_up_in found parts) (eqb-true p 3 a) (look_up_of_name found parts)) (look_up_is w l found h parts))
-  by_procedure p parts false true a b =
-      with_head (view_of l) p (are_directory_parts parts) (message_of w l parts) (directory_in found parts)
-      (is_numbered 9 p (directory_in found parts) (eqb-true p 9 b) (directory_of_name found parts)) (directory_is w l found h parts)
-  by_procedure p parts false false a b = refl
+      (with_head (view_of l) 3 (are_name_parts parts) (message_of w l parts) (look_up_in found parts)
+      (is_numbered 3 3 (look_up_in found parts) refl (look_up_of_name found parts)) (look_up_is w l found h parts))
+
+  at_directory : (parts : List Piece) → IsCallOf parts 9
+  unfolding IsCallOf
+  at_directory parts =
+      with_head (view_of l) 9 (are_directory_parts parts) (message_of w l parts) (directory_in found parts)
+      (is_numbered 9 9 (directory_in found parts) refl (directory_of_name found parts)) (directory_is w l found h parts)
+
+  by_directory : (p : ℕ) (parts : List Piece) (nine : Bool) → (p == 9) ≡ nine → (p == 3) ≡ false → (p == 1) ≡ false → (p == 0) ≡ false → IsCallOf parts p
+  unfolding IsCallOf
+  by_directory p parts true d c b a = subst (IsCallOf parts) (sym (eqb-true p 9 d)) (at_directory parts)
+  by_directory p parts false d c b a = rw (a, b, c, d) refl
+
+  by_look_up : (p : ℕ) (parts : List Piece) (three : Bool) → (p == 3) ≡ three → (p == 1) ≡ false → (p == 0) ≡ false → IsCallOf parts p
+  by_look_up p parts true c b a = subst (IsCallOf parts) (sym (eqb-true p 3 c)) (at_look_up parts)
+  by_look_up p parts false c b a = by_directory p parts (p == 9) refl c b a
+
+  by_attributes : (p : ℕ) (parts : List Piece) (one : Bool) → (p == 1) ≡ one → (p == 0) ≡ false → IsCallOf parts p
+  by_attributes p parts true b a = subst (IsCallOf parts) (sym (eqb-true p 1 b)) (at_attributes parts)
+  by_attributes p parts false b a = by_look_up p parts (p == 3) refl b a
+
+  by_procedure : (p : ℕ) (parts : List Piece) (null : Bool) → (p == 0) ≡ null → IsCallOf parts p
+  by_procedure p parts true a = subst (IsCallOf parts) (sym (eqb-true p 0 a)) (at_null parts)
+  by_procedure p parts false a = by_attributes p parts (p == 1) refl a
 
   by_caller : (p u g : ℕ) (parts : List Piece) (user group : Bool) → (u == 0) ≡ user → (g == 0) ≡ group
-      → (if user && group && ((p == 3 && are_name_parts parts) || (p == 9 && are_directory_parts parts))
+      → (if user && group && are_parts p parts
       then (message_of w l parts >>= λ bytes. Some (call_head p u g ++ bytes)) else None)
       ≡ option_map (message_for (view_of l)) ((if user && group then Some p else None) >>= λ n. call_in found n parts)
+  unfolding IsCallOf
   by_caller p u g parts false group a b = refl
   by_caller p u g parts true false a b = refl
-  by_caller p u g parts true true a b = rw (eqb-true u 0 a, eqb-true g 0 b) (by_procedure p parts (p == 3) (p == 9) refl refl)
+  by_caller p u g parts true true a b = rw (eqb-true u 0 a, eqb-true g 0 b) (by_procedure p parts (p == 0) refl)
 
   by_pieces : (pieces : List Piece) → (if is_form pieces then message_of w l pieces else None) ≡ option_map (message_for (view_of l)) (request_in found pieces)
   by_pieces [] = refl
@@ -244,16 +305,18 @@ module _ (w : World) (l : Log) (found : List (Option Key)) (h : w.handles ≡ ma
 pub asks_request : (p : Participant) (pieces : List Piece) (request : Option Request) → request ≡ request_in p.found.items pieces → Asks p pieces request
 asks_request p pieces request e w h = rw e (by_pieces w (log_of p) p.found.items h pieces)
 
-named_call : (found : List (Option Key)) (parts : List Piece) (three nine : Bool)
-    → IfSome (if three then look_up_in found parts else if nine then directory_in found parts else None) IsWellNamed
-named_call found parts true nine = is_named 3 (look_up_in found parts) (look_up_of_name found parts)
-named_call found parts false true = is_named 9 (directory_in found parts) (directory_of_name found parts)
-named_call found parts false false = tt
+named_call : (found : List (Option Key)) (parts : List Piece) (null one three nine : Bool)
+    → IfSome (if null then null_in parts else if one then attributes_in found parts else if three then look_up_in found parts else if nine then directory_in found parts else None) IsWellNamed
+named_call found parts true one three nine = is_named 0 (null_in parts) (null_of_name parts)
+named_call found parts false true three nine = is_named 1 (attributes_in found parts) (attributes_of_name found parts)
+named_call found parts false false true nine = is_named 3 (look_up_in found parts) (look_up_of_name found parts)
+named_call found parts false false false true = is_named 9 (directory_in found parts) (directory_of_name found parts)
+named_call found parts false false false false = tt
 
 named_pieces : (found : List (Option Key)) (pieces : List Piece) → IfSome (request_in found pieces) IsWellNamed
 named_pieces found [] = tt
 named_pieces found (first ∷ parts) =
-    bound IsWellNamed (procedure_in first) (λ n. call_in found n parts) (λ n e. named_call found parts (n == 3) (n == 9))
+    bound IsWellNamed (procedure_in first) (λ n. call_in found n parts) (λ n e. named_call found parts (n == 0) (n == 1) (n == 3) (n == 9))
 
 pub is_well_named : (found : List (Option Key)) (pieces : List Piece) (request : Option Request) → request ≡ request_in found pieces → IfSome request IsWellNamed
 is_well_named found pieces request e = rw e (named_pieces found pieces)

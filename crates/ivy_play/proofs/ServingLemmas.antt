@@ -25,7 +25,7 @@ use Rattle.ivy_play.specs.declared.calls.Answer.{Answer}
 use Rattle.ivy_play.specs.declared.participant.Participant.{Participant}
 use Rattle.ivy_play.specs.declared.participant.Written.{Written}
 use Rattle.ivy_play.specs.declared.requests.Request.{Request}
-use Rattle.ivy_play.specs.declared.requests.Request.TheVariants.{LookUp, MakeDirectory}
+use Rattle.ivy_play.specs.declared.requests.Request.TheVariants.{Nothing, Attributes, LookUp, MakeDirectory}
 use Rattle.ivy_play.specs.Asked.{look_up_of}
 use Rattle.ivy_play.specs.Entries.{entry_of}
 use Rattle.ivy_play.specs.Owners.{alone}
@@ -46,6 +46,13 @@ short_text n h = omega arith
 -- the bytes behind the head of a request's message are the arguments of its procedure
 are_arguments : (view : View) (r : Request) → IsWellNamed r → IsSpelled r
     → AreArguments nfs_program (procedure_of r) (arguments (asked_of view r).args) (asked_of view r).args
+are_arguments view Nothing named spelled = record { program_is = refl; procedure_is = refl; fit = tt; spelled = refl }
+are_arguments view (Attributes number) named spelled = record {
+  program_is = refl;
+  procedure_is = refl;
+  fit = handle_is_short view number spelled;
+  spelled = refl;
+}
 are_arguments view (LookUp dir name) named spelled = record {
   program_is = refl;
   procedure_is = refl;
@@ -64,16 +71,32 @@ are_arguments view (MakeDirectory dir name mode) named spelled = record {
 }
 
 procedure_is_word : (r : Request) → procedure_of r < 2 ^ 32
+procedure_is_word Nothing = lit< tt
+procedure_is_word (Attributes number) = lit< tt
 procedure_is_word (LookUp dir name) = lit< tt
 procedure_is_word (MakeDirectory dir name mode) = lit< tt
 
 procedure_is_there : (r : Request) → procedure_of r < 22
+procedure_is_there Nothing = lit< tt
+procedure_is_there (Attributes number) = lit< tt
 procedure_is_there (LookUp dir name) = lit< tt
 procedure_is_there (MakeDirectory dir name mode) = lit< tt
 
 -- a request is served by the turn that it asks for
 serves_request : (w : World) (l : Log) (r : Request) → IsWellNamed r → IsSpelled r
     → Answers w l (message_for (view_of l) r) (answered w l 1 (turn_on (agent_of l) l.records (asked_of (view_of l) r) w.now))
+serves_request w l Nothing named spelled =
+    let r = Nothing in
+    let args = (asked_of (view_of l) r).args in
+    served (call_record 0 (arguments args)) superuser args (head_is_call 0 (procedure_is_word r) (arguments args))
+    (record { program = refl; version = refl; procedure = procedure_is_there r })
+    (caller_is_superuser 0 (arguments args)) (are_arguments (view_of l) r named spelled)
+serves_request w l (Attributes number) named spelled =
+    let r = Attributes number in
+    let args = (asked_of (view_of l) r).args in
+    served (call_record 1 (arguments args)) superuser args (head_is_call 1 (procedure_is_word r) (arguments args))
+    (record { program = refl; version = refl; procedure = procedure_is_there r })
+    (caller_is_superuser 1 (arguments args)) (are_arguments (view_of l) r named spelled)
 serves_request w l (LookUp dir name) named spelled =
     let r = LookUp dir name in
     let args = (asked_of (view_of l) r).args in

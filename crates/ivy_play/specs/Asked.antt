@@ -1,4 +1,4 @@
--- The two calls of the superuser: a look-up, and a new directory.
+-- The calls of the superuser: nothing at all, the attributes of an inode, a look-up, and a new directory.
 use Rattle.std.specs.Prelude.{ℕ, List, [], Some, None}
 use Rattle.ivy_base.specs.declared.key.Key.{Key}
 use Rattle.wire_model.specs.Rpc.{Identity}
@@ -15,6 +15,12 @@ superuser = record { uid = 0; gid = 0; groups = [] }
 -- a mode and nothing else
 abbrev pub only_mode : ℕ → SetWhat
 only_mode m = record { mode = Some m; uid = None; gid = None; size = None; atime = Keep; mtime = Keep }
+
+abbrev pub null_asked : Asked
+null_asked = record { caller = superuser; args = call.Null }
+
+abbrev pub attributes_asked : View → Key → Asked
+attributes_asked view number = record { caller = superuser; args = call.GetAttr (handle_of view number) }
 
 abbrev pub look_up_of : View → Key → List ℕ → Asked
 look_up_of view dir name = record { caller = superuser; args = call.Lookup (handle_of view dir) name }

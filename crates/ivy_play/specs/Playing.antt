@@ -13,7 +13,7 @@ use Rattle.ivy_play.specs.Status.{status_of}
 abbrev pub ivy_runs : Option (List ℕ) → Ran → Type 0
 ivy_runs left = run_of (WithLaw IvyStep Headline) empty_world left
 
--- a run of the script in which no call is refused for want of memory: there is one at most
+-- a run of the script in which no call is refused for want of memory: there is one
 abbrev pub IsFullRun : List ℕ → Ran → Type 0
 IsFullRun script ran = Runs (WithLaw IvyStep HasMemory) empty_world 1 (lines_of (take (2 ^ 40) script)) ran
 

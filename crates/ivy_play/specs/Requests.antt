@@ -10,19 +10,23 @@ use Rattle.run_model.specs.declared.command.Piece.TheVariants.{Call, Text, Mode}
 use Rattle.run_model.specs.Script.{◌>>=◌}
 use Rattle.run_model.specs.World.{World}
 use Rattle.run_model.specs.Calls.{call_head, is_file_name, is_form, message_of}
-use Rattle.ivy_play.specs.Asked.{look_up_of, directory_of}
+use Rattle.ivy_play.specs.Asked.{null_asked, attributes_asked, look_up_of, directory_of}
 use Rattle.ivy_play.specs.Handles.{place_in}
 use Rattle.ivy_play.specs.Owners.{alone}
 use Rattle.ivy_play.specs.Participants.{log_of, handles_of}
 use Rattle.ivy_play.specs.declared.participant.Participant.{Participant}
 use Rattle.ivy_play.specs.declared.requests.Request.{Request}
-use Rattle.ivy_play.specs.declared.requests.Request.TheVariants.{LookUp, MakeDirectory}
+use Rattle.ivy_play.specs.declared.requests.Request.TheVariants.{Nothing, Attributes, LookUp, MakeDirectory}
 
 abbrev pub asked_of : View → Request → Asked
+asked_of view Nothing = null_asked
+asked_of view (Attributes number) = attributes_asked view number
 asked_of view (LookUp dir name) = look_up_of view dir name
 asked_of view (MakeDirectory dir name mode) = directory_of view dir name mode
 
 abbrev pub procedure_of : Request → ℕ
+procedure_of Nothing = 0
+procedure_of (Attributes number) = 1
 procedure_of (LookUp dir name) = 3
 procedure_of (MakeDirectory dir name mode) = 9
 
@@ -31,6 +35,8 @@ abbrev pub message_for : View → Request → List ℕ
 message_for view request = call_head (procedure_of request) 0 0 ++ arguments (asked_of view request).args
 
 abbrev pub IsWellNamed : Request → Type 0
+IsWellNamed Nothing = Unit {0}
+IsWellNamed (Attributes number) = Unit {0}
 IsWellNamed (LookUp dir name) = IsFileName name
 IsWellNamed (MakeDirectory dir name mode) = IsFileName name
 
@@ -47,7 +53,17 @@ abbrev pub procedure_in : Piece → Option ℕ
 procedure_in (Call procedure uid gid) = if uid == 0 && gid == 0 then Some procedure else None
 procedure_in _ = None
 
--- the request that the pieces of a look-up are, of a new directory, and of either
+-- the request that the pieces behind a call's head are: for nothing, for attributes, of a look-up, of a new directory
+abbrev pub null_in : List Piece → Option Request
+null_in [] = Some Nothing
+null_in _ = None
+
+abbrev pub attributes_in : List (Option Key) → List Piece → Option Request
+attributes_in found (p ∷ []) = do
+  number ← place_in found p
+  Some (Attributes number)
+attributes_in found _ = None
+
 abbrev pub look_up_in : List (Option Key) → List Piece → Option Request
 look_up_in found (p ∷ n ∷ []) = do
   dir ← place_in found p
@@ -63,9 +79,14 @@ directory_in found (p ∷ n ∷ m ∷ []) = do
   Some (MakeDirectory dir name mode)
 directory_in found _ = None
 
+-- of any of them
 abbrev pub call_in : List (Option Key) → ℕ → List Piece → Option Request
 call_in found procedure parts =
-    if procedure == 3 then look_up_in found parts else if procedure == 9 then directory_in found parts else None
+    if procedure == 0 then null_in parts
+    else if procedure == 1 then attributes_in found parts
+    else if procedure == 3 then look_up_in found parts
+    else if procedure == 9 then directory_in found parts
+    else None
 
 abbrev pub request_in : List (Option Key) → List Piece → Option Request
 request_in found [] = None

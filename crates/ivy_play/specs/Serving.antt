@@ -9,7 +9,7 @@ use Rattle.run_model.specs.Calls.{is_form, message_of, Answers}
 use Rattle.ivy_play.specs.Participants.{log_of, handles_of}
 use Rattle.ivy_play.specs.declared.participant.Participant.{Participant}
 use Rattle.ivy_play.specs.declared.requests.Request.{Request}
-use Rattle.ivy_play.specs.declared.requests.Request.TheVariants.{LookUp, MakeDirectory}
+use Rattle.ivy_play.specs.declared.requests.Request.TheVariants.{Nothing, Attributes, LookUp, MakeDirectory}
 
 -- nothing that counts has changed
 pub record IsSame (p q : Participant) : Type 0 where
@@ -28,7 +28,9 @@ IsCalled p now pieces q None = IsSame p q
 IsCalled p now pieces q (Some text) = (message : List ℕ) × IsAnswered p now message q text.items
     × ((w : World) → w.handles ≡ handles_of p → (if is_form pieces then message_of w (log_of p) pieces else None) ≡ Some message)
 
--- the directory's number has its 20 bytes, and the mode is a word
+-- the inode's number has its 20 bytes, and the mode is a word
 abbrev pub IsSpelled : Request → Type 0
+IsSpelled Nothing = Unit {0}
+IsSpelled (Attributes number) = length number.0 ≡ 20
 IsSpelled (LookUp dir name) = length dir.0 ≡ 20
 IsSpelled (MakeDirectory dir name mode) = (length dir.0 ≡ 20) × (mode < 2 ^ 32)

@@ -1,4 +1,5 @@
-//! The calls that are answered today: LOOKUP and MKDIR (RFC 1813, sections 3.3.3 and 3.3.9), by the superuser.
+//! The calls that are answered today: NULL, GETATTR, LOOKUP and MKDIR (RFC 1813, sections 3.3.0, 3.3.1, 3.3.3 and 3.3.9), by
+//! the superuser.
 
 ghost use Rattle.std.specs.Prelude.{◌≡◌, ◌%◌, [], ◌∷◌, map, Some, None, IfOk, OnOk};
 ghost use Rattle.ivy_base.specs.Naming.{IsFileName};
@@ -11,7 +12,7 @@ ghost use Rattle.nfs_model.specs.declared.replies.Tail.TheVariants.{Attributes, 
 ghost use Rattle.turn_model.specs.OneLog.{written_at};
 ghost use Rattle.ivy_play.specs.Entries.{entry_of};
 ghost use Rattle.ivy_play.specs.Owners.{alone};
-ghost use Rattle.ivy_play.specs.Asked.{look_up_of, directory_of};
+ghost use Rattle.ivy_play.specs.Asked.{attributes_asked, look_up_of, directory_of};
 ghost use Rattle.ivy_play.specs.Directories.{AreDirectories};
 
 use crate::participant::{Participant, Written};
@@ -32,20 +33,27 @@ pub struct Answer {
     pub number: Option<Key>,
 }
 
+/// The answer of a reply that adds no record and gives no handle.
+pub fn plain_answer(alloc: Global, reply: Reply) -> Answer
+    ensures reply { result.reply ≡ reply }
+    ensures added { result.added.items ≡ [] }
+    ensures number { result.number ≡ None }
+{
+    Answer {
+        reply,
+        added: Vec::new(alloc),
+        number: None,
+    }
+}
+
 /// A refusal of a reading call, with the directory's attributes where the handle passed its checks.
 fn reading_refused(alloc: Global, status: NfsStatus, dir: Option<Fattr>) -> Answer
     ensures reply { result.reply ≡ Refused status (Attributes dir) }
     ensures added { result.added.items ≡ [] }
     ensures number { result.number ≡ None }
 {
-    Answer {
-        reply: Reply::Refused {
-            status,
-            tail: Tail::Attributes(dir),
-        },
-        added: Vec::new(alloc),
-        number: None,
-    }
+    let tail = Tail::Attributes(dir);
+    plain_answer(alloc, Reply::Refused { status, tail })
 }
 
 /// A refusal of a changing call, with what is told of the directory where the handle passed its checks.
@@ -54,14 +62,8 @@ fn changing_refused(alloc: Global, status: NfsStatus, dir: Wcc) -> Answer
     ensures added { result.added.items ≡ [] }
     ensures number { result.number ≡ None }
 {
-    Answer {
-        reply: Reply::Refused {
-            status,
-            tail: Tail::Cache(dir),
-        },
-        added: Vec::new(alloc),
-        number: None,
-    }
+    let tail = Tail::Cache(dir);
+    plain_answer(alloc, Reply::Refused { status, tail })
 }
 
 /// What is told of a directory that no call has changed.
@@ -137,6 +139,24 @@ fn apply(alloc: Global, tree: &mut Tree, records: &[Written]) -> Result<(), Memo
 impl Participant {
     ghost use Rattle.ivy_play.specs.Participants.{log_of};
     ghost use Rattle.ivy_play.specs.Turns.{IsTurnOf};
+
+    /// The answer to a question for the attributes of the inode of that number.
+    pub fn tell(&self, alloc: Global, tree: &Tree, number: &Key) -> Answer
+        requires kept { tree.now ≡ replay (log_of self.now).records }
+        requires directories { AreDirectories tree.now }
+        ensures { (now : Moment) → IsTurnOf self.now (attributes_asked (alone self.now.owner) number.now) now result }
+    {
+        match self.live_attributes(tree, number) {
+            Some(object) => plain_answer(alloc, Reply::Attributes { object }),
+            None => plain_answer(
+                alloc,
+                Reply::Refused {
+                    status: NfsStatus::Stale,
+                    tail: Tail::Empty,
+                },
+            ),
+        }
+    }
 
     /// The answer to a look-up of a name in the directory of that number.
     pub fn look_up(

@@ -3,7 +3,7 @@
 ghost use Rattle.std.specs.Prelude.{◌≡◌, IfOk, IfSome, option_map};
 ghost use Rattle.run_model.specs.Calls.{is_file_name};
 ghost use Rattle.ivy_play.specs.Handles.{number_in, place_in};
-ghost use Rattle.ivy_play.specs.Requests.{name_in, mode_in, procedure_in};
+ghost use Rattle.ivy_play.specs.Requests.{name_in, mode_in, procedure_in, null_in};
 
 use crate::participant::Participant;
 use fs_tree::ROOT;
@@ -11,11 +11,29 @@ use ivy_base::{Bytes, Key, Memory, name_ok};
 use run_model::Piece;
 use std::alloc::Global;
 
-/// A call of the superuser's, on a directory by its inode's number.
+/// The procedures of NFS version 3 that a script may call (RFC 1813, section 3.3).
+const NULL: u32 = 0;
+const GETATTR: u32 = 1;
+const LOOKUP: u32 = 3;
+const MKDIR: u32 = 9;
+
+/// A call of the superuser's, on an inode by its number.
 #[derive(Drop)]
 pub enum Request {
+    Nothing,
+    Attributes { number: Key },
     LookUp { dir: Key, name: Bytes },
     MakeDirectory { dir: Key, name: Bytes, mode: u32 },
+}
+
+/// NULL, of no pieces behind the call's head.
+fn null_request(parts: &[Piece]) -> Option<Request>
+    ensures { result ≡ null_in parts.now }
+{
+    match parts {
+        [] => Some(Request::Nothing),
+        _ => None,
+    }
 }
 
 /// Whether the bytes may name an entry of a directory.
@@ -60,7 +78,7 @@ fn superuser_procedure(piece: &Piece) -> Option<u32>
 }
 
 impl Participant {
-    ghost use Rattle.ivy_play.specs.Requests.{look_up_in, directory_in, Asks, IsWellNamed};
+    ghost use Rattle.ivy_play.specs.Requests.{attributes_in, look_up_in, directory_in, Asks, IsWellNamed};
 
     /// The inode that the reply of that number, from 1, made or found.
     fn number_found(&self, reply: u64) -> Option<Key>
@@ -79,6 +97,17 @@ impl Participant {
             Piece::HandleOf { reply } => self.number_found(*reply),
             Piece::Call { .. } | Piece::Text { .. } | Piece::Mode { .. } => None,
         }
+    }
+
+    /// The attributes of an inode, of the pieces behind the call's head.
+    fn attributes_request(&self, parts: &[Piece]) -> Option<Request>
+        ensures { result ≡ attributes_in self.now.found.items parts.now }
+    {
+        let [place] = parts else {
+            return None;
+        };
+        let number = self.place(place)?;
+        Some(Request::Attributes { number })
     }
 
     /// A look-up, of the pieces behind the call's head.
@@ -122,8 +151,10 @@ impl Participant {
             return Ok(None);
         };
         match superuser_procedure(first) {
-            Some(3) => self.look_up_request(alloc, parts),
-            Some(9) => self.directory_request(alloc, parts),
+            Some(NULL) => Ok(null_request(parts)),
+            Some(GETATTR) => Ok(self.attributes_request(parts)),
+            Some(LOOKUP) => self.look_up_request(alloc, parts),
+            Some(MKDIR) => self.directory_request(alloc, parts),
             _ => Ok(None),
         }
     }

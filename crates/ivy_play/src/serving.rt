@@ -4,11 +4,12 @@ ghost use Rattle.std.specs.Prelude.{◌≡◌, ◌+◌, ◌<◌, ◌^◌, ◌++�
 ghost use Rattle.ivy_play.specs.Owners.{alone};
 ghost use Rattle.turn_model.specs.Turn.{most_records};
 
-use crate::calls::Answer;
+use crate::calls::{Answer, plain_answer};
 use crate::participant::Participant;
 use crate::reply_text::{memory_line, served_line};
 use crate::requests::Request;
 use ivy_base::{Memory, Moment};
+use nfs3_replies::Reply;
 use run_model::Piece;
 use std::alloc::Global;
 
@@ -32,6 +33,8 @@ impl Participant {
         ensures { IsSpelled request.now }
     {
         match request {
+            Request::Nothing => {}
+            Request::Attributes { number } => key_has_length(&number.0),
             Request::LookUp { dir, .. } => key_has_length(&dir.0),
             Request::MakeDirectory { dir, mode, .. } => {
                 key_has_length(&dir.0);
@@ -47,6 +50,8 @@ impl Participant {
     {
         let mut tree = self.replay(alloc)?;
         match request {
+            Request::Nothing => Ok(plain_answer(alloc, Reply::Nothing)),
+            Request::Attributes { number } => Ok(self.tell(alloc, &tree, number)),
             Request::LookUp { dir, name } => self.look_up(alloc, &tree, dir, name.as_slice()),
             Request::MakeDirectory { dir, name, mode } => {
                 self.make_directory(alloc, &mut tree, dir, name.as_slice(), *mode, now)

@@ -172,6 +172,7 @@ impl World {
             Command::Use { log, view } => Ok(self.use_view(alloc, log.as_slice(), view.as_slice())),
             Command::At { sec, nsec } => Ok(self.set_moment(alloc, sec, nsec)),
             Command::As { log, pieces } => self.call(alloc, log.as_slice(), &pieces),
+            Command::Nothing => Ok(Taken::Went(Vec::new(alloc))),
             Command::End => Ok(Taken::Ended),
         }
     }

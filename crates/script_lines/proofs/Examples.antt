@@ -49,9 +49,17 @@ blank_at_the_end : command_of (codes "end ") ≡ None
 unfolding command_of
 blank_at_the_end = refl
 
-empty : command_of [] ≡ None
+empty : command_of [] ≡ Some command.Nothing
 unfolding command_of
 empty = refl
+
+comment : command_of (codes "# end") ≡ Some command.Nothing
+unfolding command_of
+comment = refl
+
+no_comment : command_of (codes " # end") ≡ None
+unfolding command_of
+no_comment = refl
 
 no_piece : command_of (codes "as a") ≡ None
 unfolding command_of

@@ -3,7 +3,7 @@ use Rattle.std.proofs.Common.{◌≡◌, ℕ, ◌<◌, ◌≤◌, ◌==◌, fals
 use Rattle.std.specs.List.{All, join_with_byte}
 use Rattle.std.proofs.lemmas.List.Elements.{All-head, All-tail}
 use Rattle.std.proofs.lemmas.List.Splits.{slice_split_none, slice_split_at, join_with_byte-slice_split}
-use Rattle.run_model.specs.Script.{command_of, command_of_words, words_of}
+use Rattle.run_model.specs.Script.{command_of, command_of_words, words_of, is_comment}
 use Rattle.script_driver.specs.Run.{line_limit}
 use Rattle.script_lines.proofs.LineLemmas.{command_of_short}
 
@@ -21,5 +21,6 @@ words_of_joined (word ∷ next ∷ words) some blankless =
     ∙ ap (λ others. word ∷ others) (words_of_joined (next ∷ words) (omega arith) (All-tail HasNoBlank word (next ∷ words) blankless))
 
 -- a line of such words is the command that they are
-pub command_of_joined : (words : List (List ℕ)) → 0 < length words → All HasNoBlank words → length (join_with_byte 32 words) ≤ line_limit → command_of (join_with_byte 32 words) ≡ command_of_words words
-command_of_joined words some blankless short = command_of_short (join_with_byte 32 words) short ∙ ap command_of_words (words_of_joined words some blankless)
+pub command_of_joined : (words : List (List ℕ)) → 0 < length words → All HasNoBlank words → length (join_with_byte 32 words) ≤ line_limit → is_comment (join_with_byte 32 words) ≡ false
+    → command_of (join_with_byte 32 words) ≡ command_of_words words
+command_of_joined words some blankless short no_comment = command_of_short (join_with_byte 32 words) short no_comment ∙ ap command_of_words (words_of_joined words some blankless)

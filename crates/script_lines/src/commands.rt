@@ -1,7 +1,7 @@
 //! Which command a line is.
 
 ghost use Rattle.std.specs.Prelude.{◌≡◌, IfOk, map};
-ghost use Rattle.run_model.specs.Script.{ring_of, log_of, view_of, use_of, at_of, as_of, end_of, command_of_words, command_of};
+ghost use Rattle.run_model.specs.Script.{ring_of, log_of, view_of, use_of, at_of, as_of, end_of, command_of_words, is_comment, command_of};
 
 use crate::hex_digits::{identifier, seed};
 use crate::names::name;
@@ -148,6 +148,13 @@ fn command(alloc: Global, words: &[&[u8]]) -> Result<Option<Command>, Memory>
     }
 }
 
+/// Whether the line is empty, or begins with `#`.
+fn is_comment(line: &[u8]) -> bool
+    ensures { result ≡ is_comment line.now }
+{
+    matches!(line, [] | [b'#', ..])
+}
+
 /// Reads a line of a script, without its newline. `Ok(None)` where the line is no command, as one of more than
 /// 32,768 bytes. The error is want of memory.
 pub fn read_command(alloc: Global, line: &[u8]) -> Result<Option<Command>, Memory>
@@ -155,6 +162,9 @@ pub fn read_command(alloc: Global, line: &[u8]) -> Result<Option<Command>, Memor
 {
     if line.len() > LINE_LIMIT {
         return Ok(None);
+    }
+    if is_comment(line) {
+        return Ok(Some(Command::Nothing));
     }
     let words = parts(alloc, line, b' ')?;
     command(alloc, &words)

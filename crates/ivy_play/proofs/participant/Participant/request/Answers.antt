@@ -29,3 +29,6 @@ returns-in-Some-eq9-clause-named c =
     let same = λ (request : Option Request). request ≡ request_in c.args.self.now.found.items c.args.pieces.now in
     let e : IfOk c.directory_request.result same = search rules in
     IfOk-weaker c.directory_request.result same ((λ request. IfSome request IsWellNamed)) (is_well_named c.args.self.now.found.items c.args.pieces.now) e
+
+pub returns-in-Some-eq1-clause-asks : goal.returns-in-Some-eq1-clause-asks
+returns-in-Some-eq1-clause-asks c = asks_request c.args.self.now c.args.pieces.now c.attributes_request.result (search rules)
