@@ -1,11 +1,12 @@
 -- What an operation makes of one inode, whatever its number: the rules of `tree_model` without the tree.
 use Rattle.std.specs.Prelude.{ℕ, ◌+◌, ◌≤◌, ◌&&◌, not, List, length, Option, Some, None, IfSome, is_some, unwrap_or, if◌then◌else◌}
+use Rattle.ivy_base.specs.declared.operation.Kind.{Kind}
 use Rattle.ivy_base.specs.declared.operation.Moment.{Moment}
 use Rattle.ivy_base.specs.declared.operation.Change.{Change}
 use Rattle.ivy_base.specs.declared.operation.Op.{Op}
 use Rattle.ivy_base.specs.declared.operation.Op.TheVariants as op
-use Rattle.tree_model.specs.Tree.{Attributes, Inode, file_kind}
-use Rattle.tree_model.specs.Apply.{overwritten, resized, set_attributes}
+use Rattle.tree_model.specs.Tree.{Inode, file_kind}
+use Rattle.tree_model.specs.Apply.{overwritten, set_attributes}
 
 -- ---- which operations
 
@@ -26,13 +27,17 @@ ChangesContent _ = ⊥
 
 -- ---- what they make
 
--- the inode that an Inode adds: its three times are the moment
-abbrev pub made : Moment → Op → Option Inode
-made now (op.Inode number kind mode uid gid target) = Some (record {
+-- a new inode, whose three times are the moment
+abbrev pub new_inode : Moment → Kind → ℕ → ℕ → ℕ → List ℕ → Inode
+new_inode now kind mode uid gid target = record {
   kind = kind;
   attributes = record { mode = mode; uid = uid; gid = gid; atime = now; mtime = now; ctime = now };
   body = target;
-})
+}
+
+-- the inode that the operation adds
+abbrev pub made : Moment → Op → Option Inode
+made now (op.Inode number kind mode uid gid target) = Some (new_inode now kind mode uid gid target)
 made now _ = None
 
 -- the bytes, or a directory's entries, changed at that moment
@@ -52,14 +57,3 @@ abbrev pub changed : Moment → Op → Inode → Inode
 changed now (op.Write number offset bytes) i = if file_kind i.kind then written now offset bytes i else i
 changed now (op.SetAttrs number change) i = set_where_possible now change i
 changed now _ i = i
-
--- the attributes that a SetAttrs leaves
-abbrev pub changed_attributes : Moment → Change → Attributes → Attributes
-changed_attributes now change a = record {
-  mode = unwrap_or change.mode a.mode;
-  uid = unwrap_or change.uid a.uid;
-  gid = unwrap_or change.gid a.gid;
-  atime = unwrap_or change.atime a.atime;
-  mtime = unwrap_or change.mtime (if is_some change.size then now else a.mtime);
-  ctime = now;
-}

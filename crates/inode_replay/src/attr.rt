@@ -1,8 +1,6 @@
 ghost use Rattle.std.specs.Prelude.{◌≡◌};
-ghost use Rattle.inode_replay.specs.Attributes.{attributes_of};
-ghost use Rattle.inode_replay.specs.Contents.{changed_attributes};
 
-use ivy_base::{Change, Moment};
+use ivy_base::Moment;
 
 /// What an inode shows of itself beside its kind and its size (RFC 1813, section 2.5, fattr3).
 #[derive(Clone, Copy, Debug, PartialEq, Eq)]
@@ -32,25 +30,6 @@ impl Attr {
             gid,
             atime: moment,
             mtime: moment,
-            ctime: moment,
-        }
-    }
-
-    // The attributes after a change at that moment.
-    pub(crate) fn changed(self, moment: Moment, change: &Change) -> Attr
-        ensures { attributes_of result ≡ changed_attributes moment change.now (attributes_of self) }
-    {
-        let mtime = if change.size.is_some() {
-            moment
-        } else {
-            self.mtime
-        };
-        Attr {
-            mode: change.mode.unwrap_or(self.mode),
-            uid: change.uid.unwrap_or(self.uid),
-            gid: change.gid.unwrap_or(self.gid),
-            atime: change.atime.unwrap_or(self.atime),
-            mtime: change.mtime.unwrap_or(mtime),
             ctime: moment,
         }
     }

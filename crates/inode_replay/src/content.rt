@@ -57,12 +57,7 @@ impl Content {
     /// Does what a Write or a SetAttrs does to this inode at that moment; one that may not be done changes nothing,
     /// and is no error. A file's bytes end at 16,777,216 at most. The error is want of memory, and then the inode is
     /// as it was.
-    pub fn apply_content(
-        &mut self,
-        _alloc: Global,
-        moment: Moment,
-        op: &Op,
-    ) -> Result<(), Memory>
+    pub fn apply_content(&mut self, _alloc: Global, moment: Moment, op: &Op) -> Result<(), Memory>
         requires { ChangesContent op.now }
         ensures ok { OnOk result (self.new ≡ changed moment op.now self.old) }
         ensures err { OnErr result (self.new ≡ self.old) }
@@ -96,9 +91,19 @@ impl Content {
         if change.size.is_some() && !self.is_file() {
             return Ok(());
         }
-        let size = change.size.unwrap_or(self.size());
-        self.body.resize(size as usize, 0)?;
-        self.attr = self.attr.changed(moment, change);
+        if let Some(size) = change.size {
+            self.body.resize(size as usize, 0)?;
+            self.attr.mtime = moment;
+        }
+        let attr = self.attr;
+        self.attr = Attr {
+            mode: change.mode.unwrap_or(attr.mode),
+            uid: change.uid.unwrap_or(attr.uid),
+            gid: change.gid.unwrap_or(attr.gid),
+            atime: change.atime.unwrap_or(attr.atime),
+            mtime: change.mtime.unwrap_or(attr.mtime),
+            ctime: moment,
+        };
         Ok(())
     }
 

@@ -16,4 +16,4 @@ returns-clause-ok c =
     let room : c.max.result ≡ max (offset + length part) (length old) = search rules in
     let long : length now ≡ c.resize.new.self.len = search (rules, overwrites) in
     with_items_is c.resize.new.self now long
-        ∙ patched old grown part c.copy_from_slice.new.self offset c.max.result _ longer room c.copy_from_slice.ensures.after (omega arith)
+    ∙ patched old grown part c.copy_from_slice.new.self offset c.max.result _ longer room c.copy_from_slice.ensures.after (omega arith)
