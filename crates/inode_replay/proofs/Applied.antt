@@ -8,6 +8,7 @@ use Rattle.ivy_base.specs.declared.key.Key.{Key}
 use Rattle.ivy_base.specs.declared.operation.Kind.{Kind}
 use Rattle.ivy_base.specs.declared.operation.Moment.{Moment}
 use Rattle.ivy_base.specs.declared.operation.Change.{Change}
+use Rattle.ivy_base.specs.declared.operation.Op.{Op}
 use Rattle.ivy_base.specs.declared.operation.Op.TheVariants as op
 use Rattle.ivy_base.specs.Naming.{key_cmp}
 use Rattle.tree_model.specs.Tree.{Tree, Inode, IsInOrder, inode_at, is_file, file_kind}
@@ -109,3 +110,24 @@ module _ (t : Tree) (order : IsInOrder t) (now : Moment) (number : Key) where
 -- a change of a directory's entries
 pub touched-at : (t : Tree) (now : Moment) (dir : Key) → touched now dir t ≡ at_inode t dir (touched_inode now)
 touched-at t now dir = refl
+
+-- ---- the kind stays
+
+kind-if : (b : Bool) (i j : Inode) → j.kind ≡ i.kind → (cond b j i).kind ≡ i.kind
+kind-if true i j same = same
+kind-if false i j same = refl
+
+kind-unless : (b : Bool) (i j : Inode) → j.kind ≡ i.kind → (cond b i j).kind ≡ i.kind
+kind-unless true i j same = refl
+kind-unless false i j same = same
+
+pub kind-changed : (now : Moment) (o : Op) (i : Inode) → (changed now o i).kind ≡ i.kind
+kind-changed now (op.Inode number kind mode uid gid target) i = refl
+kind-changed now (op.Write number offset bytes) i = kind-if (file_kind i.kind) i (written now offset bytes i) refl
+kind-changed now (op.Link dir name number) i = refl
+kind-changed now (op.Unlink dir name) i = refl
+kind-changed now (op.Rename dir name to_dir to_name) i = refl
+kind-changed now (op.Prepare dir name verifier) i = refl
+kind-changed now (op.Cancel seq) i = refl
+kind-changed now (op.SetAttrs number change) i = kind-unless (is_some change.size && not (file_kind i.kind)) i (set_attributes now change i) refl
+kind-changed now op.End i = refl

@@ -1,5 +1,5 @@
 -- What an operation makes of one inode, whatever its number: the rules of `tree_model` without the tree.
-use Rattle.std.specs.Prelude.{ℕ, ◌+◌, ◌≤◌, ◌&&◌, not, List, length, Option, Some, None, IfSome, is_some, unwrap_or, if◌then◌else◌}
+use Rattle.std.specs.Prelude.{ℕ, ◌+◌, ◌≤◌, ◌&&◌, not, List, length, Option, Some, None, IfSome, is_some, if◌then◌else◌}
 use Rattle.ivy_base.specs.declared.operation.Kind.{Kind}
 use Rattle.ivy_base.specs.declared.operation.Moment.{Moment}
 use Rattle.ivy_base.specs.declared.operation.Change.{Change}

@@ -1,7 +1,7 @@
-use Rattle.std.proofs.Common.{◌≡◌, ℕ, ◌+◌, ◌-◌, ◌++◌, List, length, take, drop, max, arith, rules, refl, sym, ap, ◌∙◌}
-use Rattle.std.proofs.lemmas.List.{with_items_is, places}
+use Rattle.std.proofs.Common.{◌≡◌, ◌+◌, ◌-◌, ◌++◌, length, take, drop, max, arith, rules, ◌∙◌}
+use Rattle.std.proofs.lemmas.List.{with_items_is}
 use Rattle.std.proofs.lemmas.Slice.{overwrites}
-use Rattle.tree_model.specs.Apply.{overwritten, resized}
+use Rattle.tree_model.specs.Apply.{resized}
 use Rattle.inode_replay.proofs.Overwritten.{patched}
 use Rattle.inode_replay.proofs.content.overwrite.Goals as goal
 
