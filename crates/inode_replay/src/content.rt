@@ -1,0 +1,188 @@
+//! One inode: its kind, its attributes and its bytes.
+
+ghost use Rattle.std.specs.Prelude.{◌≡◌, ◌+◌, ◌^◌, ◌<◌, length, take, drop, Some, IfOk, OnOk, OnErr, if◌then◌else◌};
+ghost use Rattle.tree_model.specs.Tree.{file_kind};
+ghost use Rattle.tree_model.specs.Apply.{overwritten};
+ghost use Rattle.inode_replay.specs.Attributes.{attributes_of};
+ghost use Rattle.inode_replay.specs.Contents.{MakesInode, ChangesContent, made, changed, touched_inode, written, set_where_possible};
+
+use crate::attr::Attr;
+use ivy_base::{Bytes, Change, Kind, Memory, Moment, Op};
+use std::alloc::Global;
+use std::marker::Model;
+
+/// An inode: its kind, its attributes, and its bytes, which are a regular file's content or a symbolic link's text.
+///
+/// Contracts see it as the inode of `tree_model`.
+#[derive(Drop)]
+pub struct Content {
+    kind: Kind,
+    attr: Attr,
+    body: Vec<u8>,
+}
+
+impl Model for Content {
+    ghost use Rattle.tree_model.specs.Tree.{Inode};
+    ghost use Rattle.inode_replay.specs.Attributes.{attributes_of};
+
+    ghost Value = { Inode };
+
+    ghost view = { λ c. record { kind = c.kind; attributes = attributes_of c.attr; body = c.body.items } };
+}
+
+impl Content {
+    /// The inode that an Inode operation adds at that moment. The error is want of memory.
+    pub fn fresh(alloc: Global, op: &Op, moment: Moment) -> Result<Content, Memory>
+        requires { MakesInode op.now }
+        ensures { IfOk result (λ content. made moment op.now ≡ Some content) }
+    {
+        let Op::Inode {
+            kind,
+            mode,
+            uid,
+            gid,
+            target,
+            ..
+        } = op
+        else {
+            unreachable!()
+        };
+        Ok(Content {
+            kind: *kind,
+            attr: Attr::at(moment, *mode, *uid, *gid),
+            body: target.as_slice().to_vec(alloc)?,
+        })
+    }
+
+    /// Does what a Write or a SetAttrs does to this inode at that moment; one that may not be done changes nothing,
+    /// and is no error. A file's bytes end at 16,777,216 at most. The error is want of memory, and then the inode is
+    /// as it was.
+    pub fn apply_content(&mut self, _alloc: Global, moment: Moment, op: &Op) -> Result<(), Memory>
+        requires { ChangesContent op.now }
+        ensures ok { OnOk result (self.new ≡ changed moment op.now self.old) }
+        ensures err { OnErr result (self.new ≡ self.old) }
+    {
+        match op {
+            Op::Write { offset, bytes, .. } => self.write(moment, *offset, bytes.as_slice()),
+            Op::SetAttrs { change, .. } => self.set_attributes(moment, change),
+            _ => unreachable!(),
+        }
+    }
+
+    // Replaces a regular file's bytes from the offset on.
+    fn write(&mut self, moment: Moment, offset: u64, bytes: &[u8]) -> Result<(), Memory>
+        requires { offset + length bytes.now < 2 ^ 64 }
+        ensures ok { OnOk result (self.new ≡ (if file_kind self.old.kind then written moment offset bytes.now self.old else self.old)) }
+        ensures err { OnErr result (self.new ≡ self.old) }
+    {
+        if !self.is_file() {
+            return Ok(());
+        }
+        overwrite(&mut self.body, offset as usize, bytes)?;
+        self.touch(moment);
+        Ok(())
+    }
+
+    // Sets what is given; only a regular file takes a size.
+    fn set_attributes(&mut self, moment: Moment, change: &Change) -> Result<(), Memory>
+        ensures ok { OnOk result (self.new ≡ set_where_possible moment change.now self.old) }
+        ensures err { OnErr result (self.new ≡ self.old) }
+    {
+        if change.size.is_some() && !self.is_file() {
+            return Ok(());
+        }
+        if let Some(size) = change.size {
+            self.body.resize(size as usize, 0)?;
+            self.attr.mtime = moment;
+        }
+        let attr = self.attr;
+        self.attr = Attr {
+            mode: change.mode.unwrap_or(attr.mode),
+            uid: change.uid.unwrap_or(attr.uid),
+            gid: change.gid.unwrap_or(attr.gid),
+            atime: change.atime.unwrap_or(attr.atime),
+            mtime: change.mtime.unwrap_or(attr.mtime),
+            ctime: moment,
+        };
+        Ok(())
+    }
+
+    /// Sets the times that a change of the bytes or of the entries sets: mtime and ctime.
+    pub fn touch(&mut self, moment: Moment)
+        ensures { self.new ≡ touched_inode moment self.old }
+    {
+        self.attr.mtime = moment;
+        self.attr.ctime = moment;
+    }
+
+    /// The inode's kind.
+    pub fn kind(&self) -> Kind
+        ensures { result ≡ self.now.kind }
+    {
+        self.kind
+    }
+
+    /// How many bytes it has: a file's size or the length of a link's text, and 0 for a directory.
+    pub fn size(&self) -> u64
+        ensures { result ≡ length self.now.body }
+    {
+        self.body.len() as u64
+    }
+
+    /// The inode's attributes.
+    pub fn attr(&self) -> Attr
+        ensures { attributes_of result ≡ self.now.attributes }
+    {
+        self.attr
+    }
+
+    /// A symbolic link's text: the path that it leads to.
+    pub fn target(&self) -> &[u8]
+        requires { self.now.kind ≡ Kind.Lnk }
+        ensures { result.now ≡ self.now.body }
+    {
+        self.body.as_slice()
+    }
+
+    /// The bytes from the offset on, at most so many: fewer where the end comes first, and none at or past the end.
+    /// The error is want of memory.
+    pub fn read_range(&self, alloc: Global, offset: u64, count: u32) -> Result<Bytes, Memory>
+        ensures { IfOk result (λ bytes. bytes ≡ take count (drop offset self.now.body)) }
+    {
+        let start = self.body.len().min(offset as usize);
+        let rest = &self.body[start..];
+        let length = rest.len().min(count as usize);
+        Bytes::copy_of(alloc, &rest[..length])
+    }
+
+    /// An inode of its own with the same kind, attributes and bytes. The error is want of memory.
+    pub fn copy(&self, alloc: Global) -> Result<Content, Memory>
+        ensures { IfOk result (λ copy. copy ≡ self.now) }
+    {
+        Ok(Content {
+            kind: self.kind,
+            attr: self.attr,
+            body: self.body.as_slice().to_vec(alloc)?,
+        })
+    }
+
+    // Whether it is a regular file.
+    fn is_file(&self) -> bool
+        ensures { result ≡ file_kind self.now.kind }
+    {
+        self.kind == Kind::Reg
+    }
+}
+
+// Replaces the bytes from the offset on, and fills a gap with zeros. The error is want of memory, and then nothing has
+// changed.
+fn overwrite(body: &mut Vec<u8>, offset: usize, bytes: &[u8]) -> Result<(), Memory>
+    requires { offset + length bytes.now < 2 ^ 64 }
+    ensures ok { OnOk result (body.new.items ≡ overwritten body.old.items offset bytes.now) }
+    ensures err { OnErr result (body.new.items ≡ body.old.items) }
+{
+    let end = offset + bytes.len();
+    body.resize(end.max(body.len()), 0)?;
+    body[offset..end].copy_from_slice(bytes);
+    Ok(())
+}
