@@ -83,7 +83,7 @@ fn a_directory_is_made_and_found(rt: HostRuntime) -> Result<(), Fail> {
 
 #[test]
 fn scripts_end(rt: HostRuntime) -> Result<(), Fail> {
-    let cases: [(&[u8], Status, &[u8]); 12] = [
+    let cases: [(&[u8], Status, &[u8]); 15] = [
         (b"end", 0, b""),
         (b"end\nwhat follows isn't looked at", 0, b""),
         (b"", 3, b"refused 1\n"),
@@ -94,7 +94,10 @@ fn scripts_end(rt: HostRuntime) -> Result<(), Fail> {
         (b"ring 2 1\nend\n", 3, b"refused 1\n"),
         (b"at 4294967296 0\nend\n", 3, b"refused 1\n"),
         (b"at 0 1000000000\nend\n", 3, b"refused 1\n"),
-        (b"\nend\n", 3, b"refused 1\n"),
+        (b"\n# end\n\nend\n", 0, b""),
+        (b"# a ring\n\nring 1 1", 3, b"refused 4\n"),
+        (b" # end\nend\n", 3, b"refused 1\n"),
+        (b" \nend\n", 3, b"refused 1\n"),
         (b"\xff\x00\nend\n", 3, b"refused 1\n"),
     ];
     for (script, status, text) in cases {
@@ -107,13 +110,19 @@ fn scripts_end(rt: HostRuntime) -> Result<(), Fail> {
 
 /// Each line is refused behind the opening ones, the fifth line of its script.
 #[test]
-fn calls_have_one_of_two_forms(rt: HostRuntime) -> Result<(), Fail> {
+fn calls_have_one_of_the_forms(rt: HostRuntime) -> Result<(), Fail> {
     let alloc = rt.alloc();
-    let lines: [&[u8]; 14] = [
+    let lines: [&[u8]; 20] = [
         b"use a v",
         b"view w a",
         b"log b 2 bb w4h5",
         b"as b nfs:3:0:0 root s:a",
+        b"as a nfs:0:0:0 root",
+        b"as a nfs:0:1:0",
+        b"as a nfs:1:0:0",
+        b"as a nfs:1:0:1 root",
+        b"as a nfs:1:0:0 h:1",
+        b"as a nfs:1:0:0 root root",
         b"as a nfs:3:0:0 root",
         b"as a nfs:3:1:0 root s:a",
         b"as a nfs:3:0:1 root s:a",
@@ -138,6 +147,36 @@ fn calls_have_one_of_two_forms(rt: HostRuntime) -> Result<(), Fail> {
     Ok(())
 }
 
+/// NULL is answered by the head of an accepted reply alone (RFC 5531, section 9); GETATTR by the root's attributes
+/// before any record: a directory of mode 0777 with two links, of user and group 0, of 4,096 bytes, the first eight
+/// bytes of the view's name and of the root's number, and the times 0 (RFC 1813, section 2.5, fattr3).
+#[test]
+fn nothing_and_the_root_are_told(rt: HostRuntime) -> Result<(), Fail> {
+    let alloc = rt.alloc();
+    let script = joined(
+        alloc,
+        &[
+            OPENING,
+            b"# two calls\n\nas a nfs:0:0:0\nas a nfs:1:0:0 root\nend\n",
+        ],
+    )?;
+    let (status, text) = played(alloc, script.as_slice(), &[], &[])?;
+    assert_eq!(rt; status, 0);
+    let want = joined(
+        alloc,
+        &[
+            b"reply 000000010000000100000000000000000000000000000000\n",
+            b"reply 000000010000000100000000000000000000000000000000",
+            b"0000000000000002000001ff000000020000000000000000",
+            b"000000000000100000000000000010000000000000000000",
+            b"df55dda0a7ecc2730000000000000001",
+            b"000000000000000000000000000000000000000000000000\n",
+        ],
+    )?;
+    assert_eq!(rt; text.as_slice(), want.as_slice());
+    Ok(())
+}
+
 /// The status word of the last reply behind the opening lines and these.
 fn last_status(alloc: Global, calls: &[u8]) -> Result<Vec<u8>, Fail> {
     let script = joined(alloc, &[OPENING, calls, b"end\n"])?;
@@ -156,7 +195,11 @@ fn last_status(alloc: Global, calls: &[u8]) -> Result<Vec<u8>, Fail> {
 /// The statuses of RFC 1813, section 2.6: NOENT 2, EXIST 17.
 #[test]
 fn refusals_have_their_status(rt: HostRuntime) -> Result<(), Fail> {
-    let cases: [(&[u8], &[u8]); 5] = [
+    let cases: [(&[u8], &[u8]); 6] = [
+        (
+            b"as a nfs:9:0:0 root s:a sa:0\nas a nfs:1:0:0 h:1\n",
+            b"00000000",
+        ),
         (b"as a nfs:3:0:0 root s:a\n", b"00000002"),
         (
             b"as a nfs:9:0:0 root s:a sa:0\nas a nfs:9:0:0 root s:a sa:1\n",

@@ -59,6 +59,7 @@ fn show_command(alloc: Global, command: &Command) -> Result<String, Fail> {
             }
             shown
         }
+        Command::Nothing => format!(in alloc; "Nothing")?,
         Command::End => format!(in alloc; "End")?,
     })
 }
@@ -77,7 +78,7 @@ fn expect_lines(rt: &impl Abort, alloc: Global, lines: &[(&[u8], &str)]) -> Resu
 
 #[test]
 fn rings_moments_and_ends(rt: HostRuntime) -> Result<(), Fail> {
-    let lines: [(&[u8], &str); 30] = [
+    let lines: [(&[u8], &str); 33] = [
         (b"ring 1 1", "Ring nodes=1 replicas=1"),
         (b"ring 0 8", "Ring nodes=0 replicas=8"),
         (
@@ -111,7 +112,10 @@ fn rings_moments_and_ends(rt: HostRuntime) -> Result<(), Fail> {
         (b"end ", ""),
         (b"end 1", ""),
         (b"end\0", ""),
-        (b"", ""),
+        (b"", "Nothing"),
+        (b"#", "Nothing"),
+        (b"# end", "Nothing"),
+        (b" #", ""),
         (b" ", ""),
         (b"\xff\xfe", ""),
     ];
