@@ -13,8 +13,11 @@ use std::alloc::Global;
 
 /// The procedures of NFS version 3 that a script may call (RFC 1813, section 3.3).
 const NULL: u32 = 0;
+
 const GETATTR: u32 = 1;
+
 const LOOKUP: u32 = 3;
+
 const MKDIR: u32 = 9;
 
 /// A call of the superuser's, on an inode by its number.

@@ -1,6 +1,6 @@
 -- From the start each script has a run in which no call is refused for want of memory: each world on the way has a lone log
 -- and file handles of at most 64 bytes, so each call's arguments fit, and a turn answers it.
-use Rattle.std.proofs.Common.{◌≡◌, ◌≢◌, ℕ, ◌+◌, ◌/◌, ◌%◌, ◌≤◌, ◌^◌, zero, suc, Bool, true, false, cond, not, ◌&&◌, ◌||◌, List, [], ◌∷◌, ◌++◌, length, get_or, Option, Some, None, Result, Ok, Err, refl, sym, ap, ◌∙◌, subst, inl, inr, arith, lit<, lit≤, append_assoc, length-append}
+use Rattle.std.proofs.Common.{◌≡◌, ◌≢◌, ℕ, ◌+◌, ◌/◌, ◌%◌, ◌≤◌, ◌^◌, zero, suc, Bool, true, false, cond, not, ◌&&◌, ◌||◌, List, [], ◌∷◌, ◌++◌, length, get_or, Option, Some, None, Result, Ok, Err, refl, sym, ap, ◌∙◌, subst, arith, lit<, lit≤, append_assoc, length-append}
 use Rattle.std.specs.Prelude.{MatchOption, IfSome, slice_get, is_some, option_map, nat_lt, ◌==◌, replicate}
 use Rattle.std.specs.List.{AllByRecursion}
 use Rattle.std.specs.Int.{to_be_bytes, w32}

@@ -1,5 +1,5 @@
 -- What stands at the front of bytes, part by part: for readers that go from left to right.
-use Rattle.std.proofs.Common.{◌≡◌, ℕ, List, [], ◌++◌, refl, sym, ap, ◌∙◌, append_assoc}
+use Rattle.std.proofs.Common.{◌≡◌, ℕ, List, ◌++◌, sym, ap, ◌∙◌, append_assoc}
 use Rattle.wire_model.specs.OneReading.{ReadsOne, IsFront, HasNoFront}
 
 -- one part, and then the other

@@ -1,5 +1,5 @@
 -- Why an item can't be read: exactly by the bytes that are left.
-use Rattle.std.specs.Prelude.{◌≡◌, ◌≢◌, ℕ, ◌-◌, ◌<◌, ◌≤◌, List, [], length, take, drop, ◌⊎◌}
+use Rattle.std.specs.Prelude.{◌≢◌, ℕ, ◌-◌, ◌<◌, ◌≤◌, List, [], length, take, drop, ◌⊎◌}
 use Rattle.wire_model.specs.Xdr.{padding, word, IsWord}
 use Rattle.wire_model.specs.OneReading.{IsFront}
 use Rattle.xdr_codec.specs.Writing.{padded}

@@ -1,4 +1,4 @@
-use Rattle.std.proofs.Common.{◌≡◌, sym, ap, ◌∙◌, ◌++◌, List, ℕ}
+use Rattle.std.proofs.Common.{sym, ◌∙◌}
 use Rattle.xdr_codec.proofs.Zeros.{front_of_zeros, no_zeros}
 use Rattle.xdr_codec.proofs.read.behind_zeros.Goals as goal
 
