@@ -1,1 +1,3 @@
 pub mod ReplyHead
+pub mod Parts
+pub mod Callers

@@ -6,8 +6,10 @@
 //! heads, and [`heads_are_fronts`] is the law that ties them to whole replies.
 #![tactic(auto)]
 
+pub mod call;
 pub mod reply;
 #[cfg(test)]
 mod tests;
 
+pub use call::{Call, Caller, Heading, read_call};
 pub use reply::{LONGEST_HEAD, ReplyHead, heads_are_fronts, write_head};
