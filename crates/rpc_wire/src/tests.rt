@@ -1,4 +1,5 @@
-use crate::{LONGEST_HEAD, ReplyHead, write_head};
+use crate::{Caller, Heading, LONGEST_HEAD, ReplyHead, read_call, write_head};
+use std::alloc::Global;
 use std::test::Fail;
 use xdr_codec::XdrWrite;
 
@@ -28,6 +29,130 @@ fn heads_are_written(rt: HostRuntime) -> Result<(), Fail> {
             want.extend_from_slice(&u32::from(word).to_be_bytes())?;
         }
         assert_eq!(rt; bytes.as_slice(), want.as_slice(), "at {head:?}");
+    }
+    Ok(())
+}
+
+/// The bytes of these words.
+fn bytes_of(alloc: Global, words: &[u32]) -> Result<Vec<u8>, Fail> {
+    let mut bytes = Vec::new(alloc);
+    for &word in words {
+        bytes.extend_from_slice(&word.to_be_bytes())?;
+    }
+    Ok(bytes)
+}
+
+/// The call 1 of NULL of NFS version 3, of no flavour (RFC 5531, section 9, and RFC 1813, section 3.3.0).
+const NULL_CALL: [u32; 10] = [1, 0, 2, 100_003, 3, 0, 0, 0, 0, 0];
+
+const NOBODY: Caller = Caller {
+    uid: 65_534,
+    gid: 65_534,
+    gids: [0; 16],
+    count: 0,
+};
+
+#[test]
+fn a_call_is_read_whole(rt: HostRuntime) -> Result<(), Fail> {
+    let bytes = bytes_of(rt.alloc(), NULL_CALL.as_slice())?;
+    match read_call(&bytes) {
+        Heading::Good(call) => {
+            assert_eq!(rt; call.xid, 1);
+            assert_eq!(rt; call.program, 100_003);
+            assert_eq!(rt; call.version, 3);
+            assert_eq!(rt; call.procedure, 0);
+            assert_eq!(rt; call.caller, Some(NOBODY));
+            assert!(rt; call.args.is_empty());
+        }
+        other => assert!(rt; false, "{other:?}"),
+    }
+    for length in 0..40 {
+        let cut = matches!(read_call(&bytes[..length]), Heading::NotACall);
+        assert!(rt; cut, "at {length}");
+    }
+    Ok(())
+}
+
+/// Whether the words are a call whose caller is this one.
+fn is_by(alloc: Global, words: &[u32], caller: Option<Caller>) -> Result<bool, Fail> {
+    let bytes = bytes_of(alloc, words)?;
+    Ok(match read_call(&bytes) {
+        Heading::Good(call) => call.caller == caller,
+        _ => false,
+    })
+}
+
+/// A call with a credential of that flavour and body.
+fn call_with(alloc: Global, flavour: u32, body: &[u32]) -> Result<Vec<u32>, Fail> {
+    let mut words = Vec::new(alloc);
+    let size = u32::try_from(body.len().saturating_mul(4)).unwrap_or(u32::MAX);
+    words.extend_from_slice(&[1, 0, 2, 100_003, 3, 1, flavour, size])?;
+    words.extend_from_slice(body)?;
+    words.extend_from_slice(&[0, 0])?;
+    Ok(words)
+}
+
+/// The body of AUTH_SYS of user 1000 and group 100 on the machine `ivy!`, with these further groups (appendix A).
+fn body_with(alloc: Global, groups: &[u32]) -> Result<Vec<u32>, Fail> {
+    let mut body = Vec::new(alloc);
+    let count = u32::try_from(groups.len()).unwrap_or(u32::MAX);
+    body.extend_from_slice(&[7, 4, 0x6976_7921, 1000, 100, count])?;
+    body.extend_from_slice(groups)?;
+    Ok(body)
+}
+
+#[test]
+fn callers_are_read(rt: HostRuntime) -> Result<(), Fail> {
+    let alloc = rt.alloc();
+    let groups = [
+        11u32, 12, 13, 14, 15, 16, 17, 18, 19, 20, 21, 22, 23, 24, 25, 26, 27,
+    ];
+    let mut gids = [0; 16];
+    gids.copy_from_slice(&groups[..16]);
+    let full = Caller {
+        uid: 1000,
+        gid: 100,
+        gids,
+        count: 16,
+    };
+    let sixteen = body_with(alloc, &groups[..16])?;
+    let mut longer = body_with(alloc, &groups[..16])?;
+    longer.push(0)?;
+    let seventeen = body_with(alloc, &groups)?;
+    let cases: [(u32, &[u32], Option<Caller>); 7] = [
+        (1, &sixteen, Some(full)),
+        (1, &longer, None),
+        (1, &seventeen, None),
+        (1, &[], None),
+        (1, &[7, 256, 0, 0, 0], None),
+        (0, &[1, 2, 3], Some(NOBODY)),
+        (6, &sixteen, None),
+    ];
+    for (flavour, body, caller) in cases {
+        let words = call_with(alloc, flavour, body)?;
+        let by = is_by(alloc, &words, caller)?;
+        assert!(rt; by, "at {flavour} {body:?}");
+    }
+    Ok(())
+}
+
+/// A call of RPC version 3 is a mismatch after twelve bytes, a reply is no call, and neither is a credential of 404
+/// bytes, or one whose length no bytes stand behind.
+#[test]
+fn other_messages_are_told_apart(rt: HostRuntime) -> Result<(), Fail> {
+    let alloc = rt.alloc();
+    let three = bytes_of(alloc, &[9, 0, 3])?;
+    let mismatch = matches!(read_call(&three), Heading::Mismatch { xid: 9 });
+    assert!(rt; mismatch);
+    let others: [[u32; 10]; 3] = [
+        [1, 1, 2, 100_003, 3, 0, 0, 0, 0, 0],
+        [1, 0, 2, 100_003, 3, 0, 0, 404, 0, 0],
+        [1, 0, 2, 100_003, 3, 0, 0, u32::MAX, 0, 0],
+    ];
+    for words in others {
+        let bytes = bytes_of(alloc, words.as_slice())?;
+        let no_call = matches!(read_call(&bytes), Heading::NotACall);
+        assert!(rt; no_call, "at {words:?}");
     }
     Ok(())
 }
