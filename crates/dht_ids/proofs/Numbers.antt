@@ -1,13 +1,12 @@
 -- Numbers by their digits in base 256, and arithmetic on the circle.
-use Rattle.std.proofs.Common.{◌≡◌, ℕ, zero, suc, ◌+◌, ◌-◌, ◌*◌, ◌/◌, ◌%◌, ◌^◌, ◌<◌, ◌≤◌, List, [], ◌∷◌, length, get_or, set, drop, replicate, refl, sym, ap, ◌∙◌, subst, arith, length-drop, length-set, Bool, true, false, cond}
+use Rattle.std.proofs.Common.{◌≡◌, ℕ, zero, suc, ◌+◌, ◌-◌, ◌*◌, ◌/◌, ◌%◌, ◌^◌, ◌<◌, ◌≤◌, List, [], ◌∷◌, length, get_or, set, drop, replicate, refl, sym, ap, ◌∙◌, arith, length-drop, length-set}
 use Rattle.std.proofs.lemmas.List.{length-replicate, drop_more, drop-set, drop_all}
 use Rattle.std.proofs.lemmas.Nat.{mod-mul-add, mod_below, mul-add-lt, pow-add, pow_below}
 use Rattle.std.specs.Ordering.{nat_cmp, ordering_then, MatchOrdering}
 use Rattle.std.specs.declared.cmp.Ordering.{Ordering}
 use Rattle.std.specs.declared.cmp.Ordering.TheVariants.{Less, Equal, Greater}
-use Rattle.std.specs.Cmp.Lexicographic.{slice_cmp}
 use Rattle.std.specs.Cmp.{nat_cmp_is}
-use Rattle.std.proofs.lemmas.Cmp.{ranked, by_ranked}
+use Rattle.std.proofs.lemmas.Cmp.{ranked}
 use Rattle.std.proofs.Math.Nat.{pow-succ', mod-eq_of_lt, mul-le-mul_right, add-mul-mod_self_right}
 use Rattle.std.proofs.Math.Numerals.{add-one}
 use Rattle.ring_model.specs.Circle.{be_number, turn, clockwise}
@@ -50,7 +49,7 @@ pub distance_step : (to from gap : List ℕ) (i k b : ℕ) → length to ≡ i +
     → get_or to i 0 < 256 → get_or from i 0 < 256 → b ≤ 1
     → be_number (drop (i + 1) gap) + be_number (drop (i + 1) from) ≡ be_number (drop (i + 1) to) + b * 256 ^ k
     → be_number (drop i (set gap i ((256 + get_or to i 0 - get_or from i 0 - b) % 256))) + be_number (drop i from)
-        ≡ be_number (drop i to) + (1 - (256 + get_or to i 0 - get_or from i 0 - b) / 256) * 256 ^ (k + 1)
+    ≡ be_number (drop i to) + (1 - (256 + get_or to i 0 - get_or from i 0 - b) / 256) * 256 ^ (k + 1)
 distance_step to from gap i k b lt lf lg ht hf hb e =
     let g = be_number_set gap i k ((256 + get_or to i 0 - get_or from i 0 - b) % 256) (omega arith) lg in
     let f = be_number_from from i k (omega arith) lf in
@@ -243,8 +242,8 @@ order_more a b j o q pos la lb ba bb h e =
       left = rw left (from_fits a (j - 1) (20 - j) in_a size_a ba fits_a);
       right = rw left (from_fits b (j - 1) (20 - j) in_b size_b bb fits_b);
       so_far = e ∙ ap (ordering_then (nat_cmp (get_or a (j - 1) 0) (get_or b (j - 1) 0))) before
-        ∙ digits_order (get_or a (j - 1) 0) (get_or b (j - 1) 0) (256 ^ (20 - j)) (be_number (drop (j - 1 + 1) a)) (be_number (drop (j - 1 + 1) b)) fits_a fits_b
-        ∙ rw (be_number_from a (j - 1) (20 - j) in_a size_a, be_number_from b (j - 1) (20 - j) in_b size_b) refl;
+          ∙ digits_order (get_or a (j - 1) 0) (get_or b (j - 1) 0) (256 ^ (20 - j)) (be_number (drop (j - 1 + 1) a)) (be_number (drop (j - 1 + 1) b)) fits_a fits_b
+          ∙ rw (be_number_from a (j - 1) (20 - j) in_a size_a, be_number_from b (j - 1) (20 - j) in_b size_b) refl;
     }
 
 pub order_end : (a b : List ℕ) (j : ℕ) (o : Ordering) → j ≤ 0 → IsOrderSoFar a b j o
@@ -279,8 +278,8 @@ power_number place h =
     let back : 20 - 1 - (19 - place / 8) ≡ place / 8 = omega arith in
     let whole : place % 8 + 8 * (place / 8) ≡ place = omega arith in
     be_number_one_digit 20 (19 - place / 8) (2 ^ (place % 8)) i
-        ∙ rw (back, pow_256 (place / 8)) (sym (pow-add 2 (place % 8) (8 * (place / 8))))
-        ∙ ap (λ n. 2 ^ n) whole
+    ∙ rw (back, pow_256 (place / 8)) (sym (pow-add 2 (place % 8) (8 * (place / 8))))
+    ∙ ap (λ n. 2 ^ n) whole
 
 -- a bit of a byte
 pub bit_number : (place : ℕ) → (1 * 2 ^ (place % 8)) % 256 ≡ 2 ^ (place % 8)

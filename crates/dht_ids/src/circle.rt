@@ -87,7 +87,11 @@ pub fn between(a: &Key, x: &Key, b: &Key) -> bool
 {
     let behind = order(a, x) == Ordering::Less;
     let before = order(x, b) != Ordering::Greater;
-    if order(a, b) == Ordering::Less { behind && before } else { behind || before }
+    if order(a, b) == Ordering::Less {
+        behind && before
+    } else {
+        behind || before
+    }
 }
 
 /// Whether x lies strictly between a and b, clockwise. Where a is b, all but a does.
@@ -96,5 +100,9 @@ pub fn inside(a: &Key, x: &Key, b: &Key) -> bool
 {
     let behind = order(a, x) == Ordering::Less;
     let before = order(x, b) == Ordering::Less;
-    if order(a, b) == Ordering::Less { behind && before } else { behind || before }
+    if order(a, b) == Ordering::Less {
+        behind && before
+    } else {
+        behind || before
+    }
 }

@@ -11,22 +11,22 @@
 //! be asked and what it tells), and `ring_model`'s `specs/Circle.antt` and `specs/Arc.antt`.
 #![tactic(auto)]
 
-
+pub mod ask;
 pub mod circle;
 pub mod judge;
-
-
+pub mod lists;
+pub mod mesh;
 pub mod peer;
 pub mod post;
 pub mod signature;
 #[cfg(test)]
 mod tests;
 
-
+pub use ask::{Answer, Ask, AskKind, Heard, StoreFault, Want};
 pub use circle::{between, distance, finger_start, inside, order, same};
 pub use judge::{Judge, Judged};
-
-
+pub use lists::{Acks, Peers, Posts};
+pub use mesh::Mesh;
 pub use peer::{Peer, node_id};
 pub use post::{Ack, Post, PostKind};
 pub use signature::{LoadFault, SignFault, Signature};

@@ -3,8 +3,9 @@
 ghost use Rattle.std.specs.Prelude.{◌≡◌};
 ghost use Rattle.dht_ids.specs.NodeIds.{node_id_of};
 
-use ivy_base::Key;
 use itoa::Buffer;
+use ivy_base::Key;
+use ring_model::Placed;
 use sha1::Sha1;
 
 /// A node of the ring: its number and its identifier, which is its place on the circle.
@@ -14,6 +15,12 @@ pub struct Peer {
     pub number: u32,
     /// The identifier, mostly that of [`node_id`]. A peer that came in an answer may have any.
     pub id: Key,
+}
+
+impl Placed for Peer {
+    ghost use Rattle.dht_ids.specs.Peers.{place};
+
+    ghost place = { place };
 }
 
 /// The identifier of the node of that number: the SHA-1 of `node-` and the number in decimal (this project's rule).

@@ -1,6 +1,9 @@
 //! Blocks on their way to the ring.
 
-use ivy_base::{Bytes, Key};
+ghost use Rattle.std.specs.Prelude.{◌≡◌, IfOk};
+
+use ivy_base::{Bytes, Key, Memory};
+use std::alloc::Global;
 
 /// What a block that is put is.
 #[derive(Clone, Copy, Debug, PartialEq, Eq)]
@@ -22,6 +25,19 @@ pub struct Post {
     pub bytes: Bytes,
     /// What it is.
     pub kind: PostKind,
+}
+
+impl Post {
+    /// A copy of this post and of its bytes. The error is want of memory.
+    pub fn copy(&self, alloc: Global) -> Result<Post, Memory>
+        ensures { IfOk result (λ copy. copy ≡ self.now) }
+    {
+        Ok(Post {
+            key: self.key,
+            bytes: self.bytes.copy(alloc)?,
+            kind: self.kind,
+        })
+    }
 }
 
 /// The word that a put was acknowledged.

@@ -1,4 +1,4 @@
-use Rattle.std.proofs.Common.{rules, arith}
+use Rattle.std.proofs.Common.{rules}
 use Rattle.dht_ids.proofs.Numbers.{distance_start, distance_more, distance_end}
 use Rattle.dht_ids.proofs.circle.distance.Goals as goal
 

@@ -1,4 +1,4 @@
-use Rattle.std.proofs.Common.{rules, arith}
+use Rattle.std.proofs.Common.{rules}
 use Rattle.dht_ids.proofs.Numbers.{sum_start, sum_more, sum_end}
 use Rattle.dht_ids.proofs.circle.moved.Goals as goal
 

@@ -1,4 +1,4 @@
-use Rattle.std.proofs.Common.{rules, arith}
+use Rattle.std.proofs.Common.{rules}
 use Rattle.dht_ids.proofs.Numbers.{order_start, order_more, order_end}
 use Rattle.dht_ids.proofs.circle.order.Goals as goal
 
