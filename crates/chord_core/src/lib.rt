@@ -11,5 +11,6 @@
 mod near;
 mod node;
 mod route;
+mod settle;
 
 pub use node::Node;

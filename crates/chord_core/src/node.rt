@@ -1,19 +1,21 @@
 //! A node of the ring.
 
-ghost use Rattle.std.specs.Prelude.{◌≡◌, ◌-◌, ◌*◌, ◌≤◌, length, set, Some, None, IfOk, MatchResult};
+ghost use Rattle.std.specs.Prelude.{◌≡◌, ◌-◌, ◌*◌, ◌≤◌, List, Contains, IsPermutation, length, set, Some, None, IfOk, MatchResult};
 ghost use Rattle.dht_ids.specs.Peers.{place};
+ghost use Rattle.dht_ids.specs.declared.peer.Peer.{Peer};
+ghost use Rattle.ring_model.specs.Members.{IsAscending};
 ghost use Rattle.ring_model.specs.Pass.{notified};
+ghost use Rattle.chord_core.specs.Settled.{IsSettledNode};
 ghost use Rattle.chord_core.specs.State.{alone_node, with_links, with_list, ring_answer, IsOfRing, adopted, IsOfNear, stabilised};
 
 use crate::near::{notice, others, renew};
 use crate::route::{nearer, owners};
+use crate::settle;
+use crate::settle::FINGERS;
 use dht_ids::{Answer, Ask, Peer, Peers};
 use ivy_base::Memory;
 use std::alloc::Global;
 use std::marker::Model;
-
-/// How many fingers a node has: the bits of an identifier.
-const FINGERS: usize = 160;
 
 /// A node of the ring: itself, r, its predecessor, the list of its next members (at most 2r) and its 160 fingers.
 #[derive(Drop)]
@@ -49,7 +51,27 @@ impl Node {
             replicas,
             before: None,
             list: Peers::of(Vec::new(alloc)),
-            fingers: vec![in alloc; me; FINGERS]?,
+            fingers: vec![in alloc; me; FINGERS as usize]?,
+            room: Some(Vec::with_capacity(alloc, 1)?),
+        })
+    }
+
+    /// A node of a settled ring of these members. r is 1 to 8, the node is one of the members, and no two of them have
+    /// one identifier. It takes a number of comparisons that grows like n log n with the number of members. The error
+    /// is want of memory.
+    pub fn settled(alloc: Global, me: Peer, replicas: u32, members: &Peers) -> Result<Node, Memory>
+        requires few { (1 ≤ replicas) × (replicas ≤ 8) }
+        requires member { Contains members.now me }
+        ensures { (live : List Peer) → IsAscending place live → IsPermutation live members.now → IfOk result (λ node. IsSettledNode live me replicas node) }
+    {
+        let live = settle::ascending(alloc, members.as_slice())?;
+        let (behind, front) = settle::around(&live, &me.id);
+        Ok(Node {
+            me,
+            replicas,
+            before: settle::last(behind, front),
+            list: Peers::of(settle::next(alloc, behind, front, 2 * replicas as usize)?),
+            fingers: settle::fingers(alloc, &live, me)?,
             room: Some(Vec::with_capacity(alloc, 1)?),
         })
     }
