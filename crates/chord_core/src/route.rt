@@ -59,14 +59,26 @@ fn put_nearer(entries: &mut Vec<Peer>, peer: Peer, key: &Key) -> Result<(), Memo
     Ok(())
 }
 
-/// Puts those of the peers that are strictly between the node and the key where they belong.
+/// Puts the peer where it belongs, where it is strictly between the node and the key.
+fn put_inside(found: &mut Vec<Peer>, peer: Peer, me: Peer, key: &Key) -> Result<(), Memory>
+    ensures { IfOk result (λ _. found.new.items ≡ nearer_with place me (number key.now) (peer ∷ []) found.old.items) }
+{
+    if inside(&me.id, &peer.id, key) {
+        put_nearer(found, peer, key)?;
+    }
+    Ok(())
+}
+
+/// Puts those of the peers that are strictly between the node and the key where they belong. One that stands where the
+/// one before it does is passed over, since most fingers are the same few peers.
 fn put_all(found: &mut Vec<Peer>, peers: &[Peer], me: Peer, key: &Key) -> Result<(), Memory>
     ensures { IfOk result (λ _. found.new.items ≡ nearer_with place me (number key.now) peers.now found.old.items) }
 {
-    for peer in peers {
-        if inside(&me.id, &peer.id, key) {
-            put_nearer(found, *peer, key)?;
+    for (i, peer) in peers.iter().enumerate() {
+        if i > 0 && same(&peer.id, &peers[i - 1].id) {
+            continue;
         }
+        put_inside(found, *peer, me, key)?;
     }
     Ok(())
 }
