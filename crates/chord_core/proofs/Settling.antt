@@ -1,5 +1,5 @@
 -- Members in the order of their places, and where a key stands among them.
-use Rattle.std.proofs.Common.{◌≡◌, ℕ, zero, suc, ◌+◌, ◌-◌, ◌<◌, ◌≤◌, Bool, true, false, cond, List, [], ◌∷◌, ◌++◌, length, take, drop, filter, get_or, min, Option, Some, None, Contains, IsPermutation, refl, sym, ap, ◌∙◌, subst, arith, inl, inr, ⊎_elim, ◌⊎◌, ltb, leb, eqb, length-take, sum_by, zero-add}
+use Rattle.std.proofs.Common.{◌≡◌, ℕ, zero, suc, ◌+◌, ◌-◌, ◌<◌, ◌≤◌, true, false, cond, List, [], ◌∷◌, ◌++◌, length, take, drop, filter, get_or, min, Option, Some, None, Contains, IsPermutation, refl, sym, ap, ◌∙◌, subst, arith, inl, inr, ⊎_elim, ◌⊎◌, ltb, leb, eqb, length-take, sum_by, zero-add}
 use Rattle.std.specs.List.{AllByRecursion, last_or}
 use Rattle.std.specs.List.Sorted.{IsNonDecreasingBy, IsPartitionPoint}
 use Rattle.std.proofs.lemmas.Bool.{cases_eq, cases_lt, lt-ltb, le-ltb, le-leb, lt-leb, ltb-true, ltb-false, cond-true, cond-false, eq-eqb, ne_eqb}
@@ -8,7 +8,7 @@ use Rattle.std.proofs.lemmas.List.Sorted.{Contains-permutation, IsPermutation-sy
 use Rattle.std.proofs.lemmas.List.Sums.{sum_by-cons}
 use Rattle.std.proofs.Math.Seq.{take-append-add}
 use Rattle.ring_model.specs.Members.{IsAmong, IsAscending, following, from_place, first}
-use Rattle.ring_model.proofs.Lists.{all-among, all_from, all_weaker, among_index, index_among, filter_all, filter_none, filter-keeps, filter-drops}
+use Rattle.ring_model.proofs.Lists.{all-among, all_from, all_weaker, among_index, index_among, filter_all, filter-keeps, filter-drops}
 
 -- ---- lists
 

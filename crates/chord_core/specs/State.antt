@@ -1,5 +1,5 @@
 -- What a node of the ring keeps, what it answers, and what it makes of what it hears.
-use Rattle.std.specs.Prelude.{◌≡◌, ℕ, ◌*◌, ◌≤◌, vec_capacity, List, [], ◌∷◌, take, drop, filter, replicate, Option, Some, None, ⊤}
+use Rattle.std.specs.Prelude.{ℕ, ◌*◌, List, [], ◌∷◌, take, filter, replicate, Option, Some, None, ⊤}
 use Rattle.dht_ids.specs.declared.ask.Answer.{Answer}
 use Rattle.dht_ids.specs.declared.ask.Answer.TheVariants as answer
 use Rattle.dht_ids.specs.declared.ask.Ask.{Ask}
@@ -10,7 +10,7 @@ use Rattle.ring_model.specs.Circle.{number}
 use Rattle.ring_model.specs.Members.{is_other}
 use Rattle.ring_model.specs.Ring.{Links}
 use Rattle.ring_model.specs.Route.{nearer_part, owners_part}
-use Rattle.ring_model.specs.Pass.{renewed, notified}
+use Rattle.ring_model.specs.Pass.{renewed}
 
 -- a node: itself, how many nodes own a key, and what it knows of others
 pub record State : Type 0 where

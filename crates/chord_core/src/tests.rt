@@ -42,8 +42,9 @@ fn a_lone_node_owns_each_key(rt: HostRuntime) -> Result<(), Fail> {
 fn settled(alloc: Global, replicas: u32) -> Result<Node, Memory>
     requires { (1 ≤ replicas) × (replicas ≤ 8) }
 {
-    let members = Peers::of(vec![in alloc; peer(6), peer(1), peer(3)]?);
-    Node::settled(alloc, peer(1), replicas, &members)
+    let me = peer(1);
+    let members = Peers::of(vec![in alloc; peer(6), me, peer(3)]?);
+    Node::settled(alloc, me, replicas, &members)
 }
 
 #[test]

@@ -1,7 +1,6 @@
-use Rattle.std.proofs.Common.{◌≡◌, ◌∙◌, ◌++◌, ◌*◌, ap, refl, subst, sym, take, List, IsPermutation, None, rules}
+use Rattle.std.proofs.Common.{◌≡◌, ◌∙◌, ◌++◌, ◌*◌, ap, refl, subst, take, IsPermutation, None, rules}
 use Rattle.std.specs.List.{last_or}
 use Rattle.dht_ids.specs.Peers.{place}
-use Rattle.dht_ids.specs.declared.peer.Peer.{Peer}
 use Rattle.ring_model.specs.Members.{following}
 use Rattle.chord_core.specs.Settled.{AreFingers}
 use Rattle.chord_core.proofs.Settling.{some_member, sorted_is, member_lives, following_is}
