@@ -1,0 +1,22 @@
+//! A node of the ring: what it knows of others, what it answers of that, and what it makes of what it hears.
+//!
+//! Layer: over `dht_ids` and `ring_model`, whose definitions the contracts cite; below whatever keeps nodes, which
+//! carries the asks and decides who hears what.
+//! For the layers above: contracts see a [`Node`] as itself, r and its links, and each method is an equation in the
+//! words of `ring_model`: [`Node::answer`] gives the route of the definitions, [`Node::stabilise`] the renewed list,
+//! [`Node::notify`] what a notice leaves. They hold for any peers in any answer, also for peers that were never made.
+//! [`Node::settled`] makes a node of a settled ring. Where memory is short a node stays as it was. Definitions:
+//! `specs/State.antt`, `specs/Settled.antt`.
+//!
+//! Costs, counted in comparisons of identifiers: a route takes one for each finger and entry of the list and for each
+//! peer that it is put behind; a settled node takes n log n to sort the members and log n for each finger.
+#![tactic(auto)]
+
+mod near;
+mod node;
+mod route;
+mod settle;
+#[cfg(test)]
+mod tests;
+
+pub use node::Node;

@@ -1,0 +1,114 @@
+//! What nodes are asked, and what they answer.
+
+ghost use Rattle.std.specs.Prelude.{◌≡◌, IfOk};
+
+use crate::lists::Peers;
+use crate::peer::Peer;
+use ivy_base::{Bytes, Key, Memory};
+use std::alloc::Global;
+
+/// What a node is asked.
+#[derive(Drop)]
+pub enum Ask {
+    /// For the nodes that are nearer to the key, and for those that own it as far as the node knows.
+    Route(Key),
+    /// For its predecessor and its list.
+    Near,
+    /// To take note of a node that may stand before it.
+    Notify(Peer),
+    /// For the block under the key.
+    Get(Key),
+    /// To hold a content block under the key.
+    PutBlock(Key, Bytes),
+    /// To hold the head of a log under the key.
+    PutHead(Key, Bytes),
+}
+
+/// What a node answers.
+#[derive(Drop)]
+pub enum Answer {
+    /// To Route: the nearer nodes, nearest first, and the owners, in their order.
+    Route { nearer: Peers, owners: Peers },
+    /// To Near: the predecessor, where the node knows one, and the list of the next members.
+    Near { before: Option<Peer>, list: Peers },
+    /// To Get: the block.
+    Found(Bytes),
+    /// To Get: no block is held under the key.
+    Nothing,
+    /// To a put: the block is held now.
+    Stored,
+    /// To a put: the block isn't held, and what was held still is.
+    Refused(StoreFault),
+    /// To Notify.
+    Noted,
+    /// No answer came.
+    Silent,
+}
+
+impl Answer {
+    /// A copy of this answer and of what it has. The error is want of memory.
+    pub fn copy(&self, alloc: Global) -> Result<Answer, Memory>
+        ensures { IfOk result (λ copy. copy ≡ self.now) }
+    {
+        Ok(match self {
+            Answer::Route { nearer, owners } => Answer::Route {
+                nearer: nearer.copy(alloc)?,
+                owners: owners.copy(alloc)?,
+            },
+            Answer::Near { before, list } => Answer::Near {
+                before: *before,
+                list: list.copy(alloc)?,
+            },
+            Answer::Found(bytes) => Answer::Found(bytes.copy(alloc)?),
+            Answer::Nothing => Answer::Nothing,
+            Answer::Stored => Answer::Stored,
+            Answer::Refused(fault) => Answer::Refused(*fault),
+            Answer::Noted => Answer::Noted,
+            Answer::Silent => Answer::Silent,
+        })
+    }
+}
+
+/// Why a node refuses a block.
+#[derive(Clone, Copy, Debug, PartialEq, Eq)]
+pub enum StoreFault {
+    /// The key of a content block isn't the SHA-1 of its bytes.
+    WrongName,
+    /// The judge takes the bytes for no head of that key.
+    NotJudged,
+    /// A head of that number is held, and the number of the new one isn't greater.
+    Older(u32),
+    /// The node would hold too many bytes.
+    Full,
+}
+
+/// Which of the asks for data an ask is.
+#[derive(Clone, Copy, Debug, PartialEq, Eq)]
+pub enum AskKind {
+    Route,
+    Get,
+    PutBlock,
+    PutHead,
+}
+
+/// An ask for data and what was heard of it: an entry of a trail.
+#[derive(Drop)]
+pub struct Heard {
+    /// The node that was asked.
+    pub node: Peer,
+    /// What it was asked.
+    pub kind: AskKind,
+    /// The key that the ask named.
+    pub key: Key,
+    /// The name of the bytes put; None for Route and Get.
+    pub put: Option<Key>,
+    /// The answer.
+    pub got: Answer,
+}
+
+/// What a machine wants next: that a node is asked, or nothing more, since it has its result.
+#[derive(Drop)]
+pub enum Want<T> {
+    Ask(Peer, Ask),
+    Done(T),
+}
