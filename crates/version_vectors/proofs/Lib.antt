@@ -4,4 +4,5 @@ pub mod OneVector
 pub mod Lengths
 pub mod EntryReading
 pub mod Order
+pub mod Places
 pub mod EntriesReading
