@@ -37,7 +37,7 @@ sorted_before (d ∷ v) e w h =
     let parts = both_true (below_all key_cmp d.0 (v ++ e ∷ w)) (is_sorted key_cmp (v ++ e ∷ w)) h in
     (below_between d.0 v e w parts.0, sorted_before v e w parts.1)
 
-each_behind : (k : Key) (w : Vector) → below_all key_cmp k w ≡ true → AreBehind k w
+pub each_behind : (k : Key) (w : Vector) → below_all key_cmp k w ≡ true → AreBehind k w
 each_behind k [] h = tt
 each_behind k (d ∷ w) h = let parts = both_true (is_lt (key_cmp k d.0)) (below_all key_cmp k w) h in (parts.0, each_behind k w parts.1)
 

@@ -107,7 +107,7 @@ searched es log (Err i) sorted within parted =
 
 -- ---- the stamp there
 
-greater : (d log : Key) → is_lt (key_cmp d log) ≡ true → key_cmp log d ≡ Greater
+pub greater : (d log : Key) → is_lt (key_cmp d log) ≡ true → key_cmp log d ≡ Greater
 greater d log less = keys_total.antisymm log d ∙ ap ordering_reverse (is_less _ less)
 
 pub stamp_behind : (log : Key) (v : Vector) → AreBehind log v → stamp_at v log ≡ None

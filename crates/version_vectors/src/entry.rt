@@ -1,6 +1,6 @@
 //! One log of a vector.
 
-ghost use Rattle.std.specs.Prelude.{◌≡◌, ◌+◌, ◌*◌, ◌^◌, ◌≤◌, ◌++◌, length, if◌then◌else◌, IfSome, IfNone};
+ghost use Rattle.std.specs.Prelude.{◌≡◌, ◌+◌, ◌*◌, ◌^◌, ◌<◌, ◌≤◌, ◌++◌, length, if◌then◌else◌, IfSome, IfNone};
 ghost use Rattle.log_model.specs.Vector.{later, weight_of};
 ghost use Rattle.wire_model.specs.OneReading.{IsFront, HasNoFront};
 ghost use Rattle.log_model.specs.Spelling.{IsKey, vector_entry};
@@ -39,9 +39,10 @@ pub fn is_later(held: &Entry, other: &Entry) -> bool
 }
 
 /// What the types say of an entry: its keys have 20 bytes, and its number has four.
-pub fn check_types(entry: &Entry)
-    ensures log { IsKey entry.now.log }
-    ensures name { IsKey entry.now.name }
+pub fn check_types(entry: Entry)
+    ensures log { IsKey entry.log }
+    ensures seq { entry.seq < 2 ^ 32 }
+    ensures name { IsKey entry.name }
 {
     let _ = key_of(&entry.log.0);
     let _ = key_of(&entry.name.0);

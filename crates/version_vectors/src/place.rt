@@ -60,8 +60,8 @@ pub fn take_all_in(entries: &mut Vec<Entry>, others: &[Entry]) -> Result<(), Mem
     ensures joined { OnOk result (vector_of entries.new.items ≡ join (vector_of entries.old.items) (vector_of others.now)) }
     ensures whole { OnOk result (IsVector (vector_of entries.new.items)) }
 {
-    'others: for other in others {
-        take_in(entries, *other)?;
+    'others: for &other in others {
+        take_in(entries, other)?;
     }
     Ok(())
 }

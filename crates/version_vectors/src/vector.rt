@@ -77,7 +77,7 @@ impl Vector {
         requires { 1 ≤ entry.seq }
         ensures { IfOk result (λ v. v ≡ put key_cmp entry.log (stamped entry).1 self.now) }
     {
-        check_types(&entry);
+        check_types(entry);
         let (front, back) = around(self.entries.as_slice(), &entry.log);
         let mut entries = Vec::with_capacity(alloc, self.entries.len() + 1)?;
         entries.extend_from_slice(front)?;
