@@ -3,11 +3,10 @@
 ghost use Rattle.std.specs.Prelude.{◌≡◌, ◌<◌, ◌≤◌, ◌++◌, IsTrue, length, MatchResult, OnOk, OnErr};
 ghost use Rattle.std.specs.FinMap.Entries.{is_sorted};
 ghost use Rattle.ivy_base.specs.Naming.{key_cmp};
-ghost use Rattle.version_vectors.specs.Entries.{vector_of};
-ghost use Rattle.version_vectors.specs.Places.{IsAt, IsBetween, IsAround};
-ghost use Rattle.version_vectors.specs.Vectors.{IsVector, EntryFits};
 ghost use Rattle.log_model.specs.Vector.{with_entry, join};
-ghost use Rattle.version_vectors.specs.Entries.{stamped};
+ghost use Rattle.version_vectors.specs.Vectors.{IsVector};
+ghost use Rattle.version_vectors.specs.Entries.{stamped, vector_of};
+ghost use Rattle.version_vectors.specs.Places.{IsAt, IsBetween, IsAround};
 
 use crate::entry::{Entry, is_later};
 use ivy_base::{Key, Memory};
@@ -17,11 +16,12 @@ pub fn place_of(entries: &[Entry], log: &Key) -> Result<usize, usize>
     requires { IsTrue (is_sorted key_cmp (vector_of entries.now)) }
     ensures { MatchResult result (IsAt log.now (vector_of entries.now)) (IsBetween log.now (vector_of entries.now)) }
 {
-    entries.binary_search_by_key(log, |e: &Entry| -> Key
-        ensures { result ≡ e.now.log }
-    {
-        e.log
-    })
+    entries.binary_search_by_key(
+        log,
+        |e: &Entry| -> Key
+            ensures { result ≡ e.now.log }
+        { e.log },
+    )
 }
 
 /// The entries of the logs before that one, and those behind it. The entries ascend by log.

@@ -1,12 +1,12 @@
 //! Version vectors.
 
 ghost use Rattle.std.specs.Prelude.{◌≡◌, ◌+◌, ◌*◌, ◌^◌, ◌<◌, ◌≤◌, [], ◌++◌, ◌↔◌, length, IsTrue, nat_le, IfOk, IfErr, option_map};
-ghost use Rattle.wire_model.specs.Xdr.{array};
-ghost use Rattle.wire_model.specs.OneReading.{IsFront};
-ghost use Rattle.log_model.specs.Vector.{stamp_at, seq_of, join, Dominates, without_log, weight_of};
 ghost use Rattle.std.specs.List.{list_all};
 ghost use Rattle.std.specs.FinMap.Entries.{put};
 ghost use Rattle.ivy_base.specs.Naming.{key_cmp};
+ghost use Rattle.wire_model.specs.Xdr.{array};
+ghost use Rattle.wire_model.specs.OneReading.{IsFront};
+ghost use Rattle.log_model.specs.Vector.{stamp_at, seq_of, join, Dominates, without_log, weight_of};
 ghost use Rattle.log_model.specs.Spelling.{vector_entry};
 ghost use Rattle.version_vectors.specs.Vectors.{IsVector, VectorFits};
 ghost use Rattle.version_vectors.specs.Entries.{entry_of, stamped, vector_of};
@@ -21,7 +21,10 @@ use std::alloc::Global;
 use std::marker::Model;
 use xdr_codec::{XdrRead, XdrWrite};
 
-/// A version vector.
+/// Of each log that a writer held, the newest record by number and name (Ivy). Contracts see it as the list of its
+/// entries, ascending by log.
+///
+/// Its entries have keys, and numbers from 1 on that 32 bits hold; each log has one entry at most.
 #[derive(Drop)]
 pub struct Vector {
     entries: Vec<Entry>,
@@ -52,7 +55,7 @@ impl Vector {
         }
     }
 
-    /// The log's entry.
+    /// The log's entry, where the vector has one.
     pub fn get(&self, log: &Key) -> Option<Entry>
         ensures { result ≡ option_map (entry_of log.now) (stamp_at self.now log.now) }
     {
@@ -72,7 +75,7 @@ impl Vector {
         }
     }
 
-    /// The vector with that entry in place of its log's. The error is want of memory.
+    /// The vector with that entry in place of its log's, whichever of the two is newer. The error is want of memory.
     pub fn with(&self, alloc: Global, entry: Entry) -> Result<Vector, Memory>
         requires { 1 ≤ entry.seq }
         ensures { IfOk result (λ v. v ≡ put key_cmp entry.log (stamped entry).1 self.now) }
@@ -131,7 +134,7 @@ impl Vector {
         })
     }
 
-    /// The number of entries.
+    /// How many entries there are.
     pub fn len(&self) -> usize
         ensures count { result ≡ length self.now }
         ensures fits { IsVector self.now }
@@ -147,7 +150,7 @@ impl Vector {
         self.entries.as_slice()
     }
 
-    /// The sum of the numbers.
+    /// The sum of the entries' numbers.
     pub fn weight(&self) -> u64
         requires { length self.now ≤ 2 ^ 31 }
         ensures { result ≡ weight_of self.now }
@@ -155,12 +158,12 @@ impl Vector {
         sum_of(self.entries.as_slice())
     }
 
-    /// The vector at the front of the bytes, of at most so many entries.
-    pub fn read(
-        alloc: Global,
-        reader: &mut XdrRead<'_>,
-        most: u32,
-    ) -> Result<Vector, VectorFault>
+    /// The vector at the front of the bytes, of at most `most` entries: their count (RFC 4506, section 4.13), and of
+    /// each entry the head key, the number and the name, ascending strictly by head key.
+    ///
+    /// The error is `Malformed` exactly where no such vector stands there, and else want of memory. Memory is taken
+    /// only where bytes for so many entries are left. After an error the reader may stand anywhere.
+    pub fn read(alloc: Global, reader: &mut XdrRead<'_>, most: u32) -> Result<Vector, VectorFault>
         ensures ok { IfOk result (λ v. IsFront (VectorFits most) (array vector_entry) reader.old v reader.new) }
         ensures err { IfErr result (ReadFault most reader.old) }
     {
@@ -174,7 +177,7 @@ impl Vector {
         Ok(Vector { entries })
     }
 
-    /// The bytes that [`Vector::write`] appends.
+    /// How many bytes [`Vector::write`] appends: 4, and 44 for each entry.
     pub fn written_len(&self) -> usize
         requires { length self.now < 2 ^ 32 }
         ensures spelled { result ≡ length (array vector_entry self.now) }
@@ -183,7 +186,8 @@ impl Vector {
         4 + ENTRY_BYTES * self.entries.len()
     }
 
-    /// Appends the count of the entries and each entry.
+    /// Appends the vector as [`Vector::read`] reads it: the count, and of each entry the head key, the number and the
+    /// name.
     pub fn write(&self, out: &mut XdrWrite)
         requires few { length self.now < 2 ^ 32 }
         requires room { length (array vector_entry self.now) ≤ out.old.spare }
