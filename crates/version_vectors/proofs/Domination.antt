@@ -1,5 +1,5 @@
 -- A vector dominates another where it goes as far as each of its entries.
-use Rattle.std.proofs.Common.{◌≡◌, ◌↔◌, ℕ, ◌≤◌, Bool, true, false, cond, ◌&&◌, List, [], ◌∷◌, Some, None, Option, refl, sym, ap, ◌∙◌, subst, arith}
+use Rattle.std.proofs.Common.{◌≡◌, ◌↔◌, ◌≤◌, Bool, true, false, cond, List, [], ◌∷◌, Some, None, refl, sym, ap, ◌∙◌, subst, arith}
 use Rattle.std.specs.Prelude.{nat_le, IsTrue}
 use Rattle.std.specs.List.{list_all}
 use Rattle.std.specs.Ordering.{eq_by_cmp}
@@ -9,7 +9,7 @@ use Rattle.ivy_base.specs.declared.key.Key.{Key}
 use Rattle.ivy_base.specs.Naming.{key_cmp}
 use Rattle.tree_model.proofs.Keys.{same_key_is, same_key_itself}
 use Rattle.tree_model.proofs.Sound.{both_true}
-use Rattle.log_model.specs.Vector.{Stamp, Vector, stamp_at, reach, seq_of, Dominates}
+use Rattle.log_model.specs.Vector.{Vector, stamp_at, reach, seq_of, Dominates}
 use Rattle.log_model.proofs.Lists.{both}
 use Rattle.version_vectors.specs.Entries.{stamped, vector_of}
 use Rattle.version_vectors.specs.declared.entry.Entry as kept

@@ -1,6 +1,6 @@
 -- What an edit at the place of a log makes of a vector.
-use Rattle.std.proofs.Common.{◌≡◌, ℕ, suc, ◌+◌, ◌-◌, ◌<◌, ◌≤◌, Bool, true, false, cond, not, List, [], ◌∷◌, ◌++◌, length, get_or, set, take, drop, Some, None, Option, refl, sym, ap, ◌∙◌, subst, arith}
-use Rattle.std.specs.Ordering.{is_lt, is_eq}
+use Rattle.std.proofs.Common.{◌≡◌, ℕ, suc, ◌+◌, ◌-◌, ◌<◌, cond, not, List, [], ◌∷◌, ◌++◌, length, get_or, set, take, drop, Option, refl, sym, ap, ◌∙◌, subst, arith}
+use Rattle.std.specs.Ordering.{is_eq}
 use Rattle.std.specs.Cmp.{tied_itself}
 use Rattle.std.specs.List.{insert}
 use Rattle.std.specs.FinMap.Entries.{put, by_order}
@@ -8,7 +8,7 @@ use Rattle.std.proofs.lemmas.List.{take-append-drop, take-map, drop-map, map-app
 use Rattle.ivy_base.specs.declared.key.Key.{Key}
 use Rattle.ivy_base.specs.Naming.{key_cmp}
 use Rattle.tree_model.proofs.Keys.{keys_total, same_key_itself}
-use Rattle.log_model.specs.Vector.{Stamp, Entry, Vector, stamp_at, later, later_or, with_entry, without_log}
+use Rattle.log_model.specs.Vector.{Stamp, Entry, Vector, later, later_or, with_entry, without_log}
 use Rattle.version_vectors.specs.Entries.{stamped, vector_of}
 use Rattle.version_vectors.specs.Places.{AreBefore, AreBehind, IsAt, IsBetween, IsAround}
 use Rattle.version_vectors.specs.declared.entry.Entry as kept

@@ -1,17 +1,16 @@
 -- An entry is read part by part.
-use Rattle.std.proofs.Common.{◌≡◌, ℕ, ◌-◌, ◌%◌, ◌<◌, ◌≤◌, ◌^◌, List, [], ◌++◌, length, refl, sym, ap, ◌∙◌, subst, arith}
+use Rattle.std.proofs.Common.{◌≡◌, ℕ, ◌-◌, ◌%◌, ◌≤◌, List, ◌++◌, length, refl, sym, ap, ◌∙◌, subst, arith}
 use Rattle.std.specs.Prelude.{replicate, take}
 use Rattle.std.proofs.lemmas.List.{append-nil, take_all}
 use Rattle.ivy_base.specs.declared.key.Key.{Key}
 use Rattle.wire_model.specs.Xdr.{word, fixed, IsWord, IsOfLength}
-use Rattle.wire_model.specs.OneReading.{ReadsOne, IsFront, HasNoFront}
-use Rattle.wire_model.proofs.OneReading.{one_word, one_raw, ◌▷◌}
-use Rattle.wire_model.proofs.Fronts.{both, no_second, none_of_fewer, only_misfit, front_of_parts, none_of_parts}
-use Rattle.log_model.specs.Vector.{Entry}
+use Rattle.wire_model.specs.OneReading.{IsFront, HasNoFront}
+use Rattle.wire_model.proofs.OneReading.{one_word, ◌▷◌}
+use Rattle.wire_model.proofs.Fronts.{both, no_second, only_misfit, none_of_parts}
 use Rattle.log_model.specs.Spelling.{IsKey, vector_entry}
 use Rattle.version_vectors.specs.Vectors.{EntryFits}
 use Rattle.version_vectors.specs.Reading.{key_bytes}
-use Rattle.version_vectors.proofs.OneVector.{EntryParts, parts_of, of_entry_parts, PartsFit, parts_fit, one_key, one_of_parts}
+use Rattle.version_vectors.proofs.OneVector.{parts_of, PartsFit, parts_fit, one_key, one_of_parts}
 
 -- 20 bytes take no padding
 pub fixed_key : (bytes : List ℕ) → length bytes ≡ 20 → fixed bytes ≡ bytes

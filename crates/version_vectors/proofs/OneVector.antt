@@ -1,10 +1,10 @@
 -- A vector can be read in one way only, whatever follows it.
-use Rattle.std.proofs.Common.{◌≡◌, ℕ, ◌<◌, ◌≤◌, ◌^◌, List, length, refl, ap, arith}
+use Rattle.std.proofs.Common.{ℕ, ◌<◌, ◌^◌, List, refl, ap, arith}
 use Rattle.ivy_base.specs.declared.key.Key.{Key}
 use Rattle.wire_model.specs.Xdr.{array}
 use Rattle.wire_model.specs.OneReading.{ReadsOne}
 use Rattle.wire_model.proofs.OneReading.{one_word, one_raw, one_array, of_parts, of_fewer, ◌▷◌}
-use Rattle.log_model.specs.Vector.{Stamp, Entry, Vector}
+use Rattle.log_model.specs.Vector.{Entry}
 use Rattle.log_model.specs.Spelling.{IsKey, vector_entry}
 use Rattle.version_vectors.specs.Vectors.{EntryFits, VectorFits}
 use Rattle.version_vectors.specs.Reading.{key_bytes}

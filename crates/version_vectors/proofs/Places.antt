@@ -9,8 +9,8 @@ use Rattle.std.specs.declared.cmp.Ordering.{Ordering}
 use Rattle.std.specs.declared.cmp.Ordering.TheVariants.{Less, Equal, Greater}
 use Rattle.std.proofs.lemmas.List.{take-append-drop, drop_more, take-map, drop-map, length-map, map-append, append_cancel_left}
 use Rattle.std.specs.FinMap.Entries.{is_sorted, below_all}
-use Rattle.std.specs.Ordering.{eq_by_cmp, is_eq}
-use Rattle.std.specs.Prelude.{option_map, Option, Some, None, cond, false, Bool}
+use Rattle.std.specs.Ordering.{is_eq}
+use Rattle.std.specs.Prelude.{option_map, Some, None, cond}
 use Rattle.ivy_base.specs.declared.key.Key.{Key}
 use Rattle.ivy_base.specs.Naming.{key_cmp}
 use Rattle.tree_model.proofs.Keys.{keys_total, exact_keys, same_key_itself}

@@ -1,15 +1,12 @@
 -- Ranks that tie are equal.
-use Rattle.std.proofs.Common.{◌≡◌, ℕ, List, refl, sym, ap, ◌∙◌}
+use Rattle.std.proofs.Common.{◌≡◌, ℕ, List, refl, sym, ap}
 use Rattle.std.specs.Cmp.{ranked}
 use Rattle.std.specs.Ordering.{nat_cmp, ordering_then}
 use Rattle.std.specs.declared.cmp.Ordering.{Ordering}
 use Rattle.std.specs.declared.cmp.Ordering.TheVariants.{Less, Equal, Greater}
 use Rattle.std.proofs.lemmas.Map.Lookups.{exact_bytes}
-use Rattle.ivy_base.specs.declared.key.PubKey.{PubKey}
 use Rattle.ivy_base.specs.Naming.{owner_cmp}
-use Rattle.log_model.specs.Rank.{rank_cmp}
-use Rattle.version_vectors.specs.Ranks.{rank_of, OnlyEqualRanksTie}
-use Rattle.version_vectors.specs.declared.rank.Rank.{Rank}
+use Rattle.version_vectors.specs.Ranks.{OnlyEqualRanksTie}
 
 tied_first : (r s : Ordering) → ordering_then r s ≡ Equal → r ≡ Equal
 tied_first Less s h = h

@@ -14,7 +14,7 @@
 //! entries one by one. Definitions: `specs/Vectors.antt` has which vectors there are and which may be read,
 //! `specs/Entries.antt` what the entries stand for, `specs/Reading.antt` what a failed read tells, `specs/Places.antt`
 //! where a log stands, and `specs/Ranks.antt` the order of ranks. For readers of longer formats
-//! `proofs/OneVector.antt` has that a vector can be read in one way only, and `proofs/Lengths.antt` how many bytes it
+//! `proofs/OneVector.antt` has the law of [`vectors_read_one_way`], and `proofs/Lengths.antt` how many bytes it
 //! takes.
 //!
 //! Costs: to find a log takes the logarithm of the number of entries; a join finds each entry of the second vector in
@@ -33,4 +33,5 @@ mod vector;
 pub use entry::Entry;
 pub use fault::VectorFault;
 pub use rank::{Rank, ranks_are_ordered};
+pub use reading::vectors_read_one_way;
 pub use vector::Vector;

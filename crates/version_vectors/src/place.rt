@@ -16,12 +16,7 @@ pub fn place_of(entries: &[Entry], log: &Key) -> Result<usize, usize>
     requires { IsTrue (is_sorted key_cmp (vector_of entries.now)) }
     ensures { MatchResult result (IsAt log.now (vector_of entries.now)) (IsBetween log.now (vector_of entries.now)) }
 {
-    entries.binary_search_by_key(
-        log,
-        |e: &Entry| -> Key
-            ensures { result ≡ e.now.log }
-        { e.log },
-    )
+    entries.binary_search_by_key(log, |entry| entry.log)
 }
 
 /// The entries of the logs before that one, and those behind it. The entries ascend by log.

@@ -1,11 +1,13 @@
 //! Reading entries.
 
-ghost use Rattle.std.specs.Prelude.{◌≡◌, ◌^◌, ◌<◌, ◌≤◌, IsTrue, length, IfOk, IfErr, MatchBool};
+ghost use Rattle.std.specs.Prelude.{ℕ, ◌≡◌, ◌^◌, ◌<◌, ◌≤◌, IsTrue, length, IfOk, IfErr, MatchBool};
 ghost use Rattle.std.specs.FinMap.Entries.{is_sorted};
 ghost use Rattle.ivy_base.specs.Naming.{key_cmp};
 ghost use Rattle.version_vectors.specs.Places.{AreBefore};
-ghost use Rattle.wire_model.specs.OneReading.{IsFront};
-ghost use Rattle.version_vectors.specs.Vectors.{EntriesFit};
+ghost use Rattle.wire_model.specs.OneReading.{IsFront, ReadsOne};
+ghost use Rattle.wire_model.specs.Xdr.{array};
+ghost use Rattle.log_model.specs.Spelling.{vector_entry};
+ghost use Rattle.version_vectors.specs.Vectors.{EntriesFit, VectorFits};
 ghost use Rattle.version_vectors.specs.Entries.{vector_of};
 ghost use Rattle.version_vectors.specs.Reading.{entries_bytes, EntriesFault};
 
@@ -50,3 +52,8 @@ fn is_last(entries: &[Entry], log: &Key) -> bool
         None => true,
     }
 }
+
+/// A law and no code: bytes begin with one vector at most, whatever follows it.
+pub fn vectors_read_one_way()
+    ensures { (most : ℕ) → most < 2 ^ 32 → ReadsOne (VectorFits most) (array vector_entry) }
+{}

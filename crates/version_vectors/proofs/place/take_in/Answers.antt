@@ -1,4 +1,3 @@
-use Rattle.std.proofs.Common.{◌≡◌, ap, ◌∙◌}
 use Rattle.version_vectors.proofs.Edits.{replaced, stays, inserted}
 use Rattle.version_vectors.proofs.place.take_in.Goals as goal
 

@@ -1,4 +1,3 @@
-use Rattle.std.proofs.Common.{◌≡◌, ap}
 use Rattle.log_model.proofs.Owners.{ranks_total}
 use Rattle.version_vectors.proofs.Ranks.{only_equal_tie}
 use Rattle.version_vectors.proofs.rank.ranks_are_ordered.Goals as goal

@@ -1,7 +1,5 @@
-use Rattle.std.proofs.Common.{◌≡◌, ℕ, ◌<◌, ◌/◌, length, List, ◌∷◌, [], ◌++◌, subst, sym, ap, ◌∙◌, arith, length-append}
+use Rattle.std.proofs.Common.{ℕ, ◌<◌, ◌/◌, length, List, subst, arith, length-append}
 use Rattle.std.proofs.lemmas.List.{map-append}
-use Rattle.version_vectors.specs.Entries.{stamped, vector_of}
-use Rattle.version_vectors.specs.Places.{AreBefore}
 use Rattle.version_vectors.proofs.EntriesReading.{too_few_bytes, no_next, out_of_order, more_entries}
 use Rattle.version_vectors.proofs.reading.read_entries.Goals as goal
 

@@ -1,4 +1,4 @@
-use Rattle.std.proofs.Common.{◌≡◌, ◌+◌, ◌*◌, length, ap, arith}
+use Rattle.std.proofs.Common.{length, ap, arith}
 use Rattle.version_vectors.proofs.Lengths.{length-kept}
 use Rattle.version_vectors.proofs.vector.Vector.write.Goals as goal
 

@@ -1,5 +1,5 @@
 use Rattle.version_vectors.proofs.Lengths.{length-kept}
-use Rattle.std.proofs.Common.{◌≡◌, arith}
+use Rattle.std.proofs.Common.{arith}
 use Rattle.version_vectors.proofs.vector.Vector.written_len.Goals as goal
 
 pub returns-clause-spelled : goal.returns-clause-spelled
