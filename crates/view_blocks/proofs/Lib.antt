@@ -1,0 +1,5 @@
+pub mod OneView
+pub mod Ascending
+pub mod Heads
+pub mod KeyLists
+pub mod Refusals
