@@ -69,9 +69,9 @@ own_heads_step keys each heads i d found each_are are within search_is =
     let head_is : log ≡ head_key_of (get_or keys i none) = ap (λ (hs : List Key). get_or hs i d) each_are ∙ get_or-map head_key_of keys i none d inside in
     let later : drop (i + 1) heads ≡ map head_key_of (drop (i + 1) keys) = ap (λ (hs : List Key). drop (i + 1) hs) are ∙ drop-map head_key_of (i + 1) keys in
     let e : found ≡ is_log_of (drop (i + 1) keys) (head_key_of (get_or keys i none)) =
-        search_is ∙ ap (λ (hs : List Key). list_any (is_head log) hs) (take_rest heads (i + 1))
-        ∙ log_of_heads log (drop (i + 1) heads) (drop (i + 1) keys) later
-        ∙ ap (λ (l : Key). is_log_of (drop (i + 1) keys) l) head_is in
+    search_is ∙ ap (λ (hs : List Key). list_any (is_head log) hs) (take_rest heads (i + 1))
+    ∙ log_of_heads log (drop (i + 1) heads) (drop (i + 1) keys) later
+    ∙ ap (λ (l : Key). is_log_of (drop (i + 1) keys) l) head_is in
     own_heads_from keys i none inside ∙ ap (λ (b : Bool). not b && have_own_head_keys (drop (i + 1) keys)) (sym e)
 
 -- the heads of the one list differ from those of the other
@@ -97,7 +97,7 @@ own_heads_of_both [] others = and_true (have_own_head_keys others)
 own_heads_of_both (k ∷ ks) others =
     let differ : PubKey → Bool = λ other. not (same_key (head_key_of k) (head_key_of other)) in
     let e : list_all differ (ks ++ others) ≡ (list_all differ ks && not (is_log_of others (head_key_of k))) =
-        list_all-append differ ks others ∙ ap (λ (b : Bool). list_all differ ks && b) (others_differ k others) in
+    list_all-append differ ks others ∙ ap (λ (b : Bool). list_all differ ks && b) (others_differ k others) in
     (λ i. e i && own_heads_of_both ks others i)
     ∙ regrouped (list_all differ ks) (not (is_log_of others (head_key_of k))) (have_own_head_keys ks) (have_own_head_keys others) (list_all (λ key. not (is_log_of others (head_key_of key))) ks)
 

@@ -8,5 +8,4 @@ pub fn views_have_blocks()
     ensures one { OneViewForEachBlock }
     ensures legal { LegalViewsPass }
     ensures faults { FaultsAreOne }
-{
-}
+{}

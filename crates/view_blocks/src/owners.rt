@@ -72,9 +72,7 @@ impl Owners {
     pub fn are_apart(&self, others: &Owners) -> bool
         ensures { result ≡ have_own_head_keys (self.now ++ others.now) }
     {
-        self.have_own_heads()
-            && others.have_own_heads()
-            && others.has_none(&self.heads)
+        self.have_own_heads() && others.have_own_heads() && others.has_none(&self.heads)
     }
 
     /// Whether none of these is the head key of one of the keys.

@@ -1,4 +1,4 @@
-//! Views.
+//! Views: their tests, and what is asked of them.
 
 ghost use Rattle.std.specs.Prelude.{◌≡◌, ◌≢◌, ◌≤◌, length, IfOk, IfErr, OnOk};
 ghost use Rattle.log_model.specs.View.{IsView, view_block, view_name, is_member, is_former};
@@ -14,7 +14,8 @@ use std::marker::Model;
 /// The most members that a view has, and the most former ones.
 const MOST: usize = 16;
 
-/// The participants whose logs make up the file system, and those whose logs did once (Ivy, section 4).
+/// The participants whose logs make up the file system, and those whose logs did once (Ivy, section 4): 1 to 16
+/// members and up to 16 former ones, in the order of their keys' bytes, no two of which name one log.
 #[derive(Drop)]
 pub struct View {
     members: Owners,
@@ -34,7 +35,9 @@ impl Model for View {
 }
 
 impl View {
-    /// The view of these members and former members.
+    /// The view of these members and former members, which each ascend by their bytes.
+    ///
+    /// The fault is the first test that fails, `NoMember`, `TooMany`, `Order` or `Overlap`, or want of memory.
     pub fn make(alloc: Global, members: &[PubKey], former: &[PubKey]) -> Result<View, ViewFault>
         ensures ok { IfOk result (λ view. view ≡ record { members = members.now; former = former.now }) }
         ensures legal { IfOk result IsView }
@@ -52,18 +55,26 @@ impl View {
         })
     }
 
-    /// The view that has this block.
+    /// The view that has this block: `IVV1`, and then the members' keys and the former members' keys, each as an
+    /// array (RFC 4506, section 4.13) of 60 bytes a key.
+    ///
+    /// The fault is `Malformed` where the bytes are the block of no two lists of keys, and else that of
+    /// [`View::make`] at the two lists. No memory is taken before the form is read and the keys are counted.
     pub fn read(alloc: Global, bytes: &[u8]) -> Result<View, ViewFault>
         ensures ok { IfOk result (λ view. bytes.now ≡ view_block view) }
         ensures legal { IfOk result IsView }
         ensures keys { IfOk result HasKeys }
         ensures err { IfErr result (BlockFailsAs bytes.now) }
     {
-        let Some((members, former)) = key_lists(bytes) else {
+        let Some((member_keys, former_keys)) = key_lists(bytes) else {
             return Err(ViewFault::Malformed);
         };
-        test_counts(members.len(), former.len())?;
-        let (members, former) = tested(alloc, keys_of(alloc, members)?, keys_of(alloc, former)?)?;
+        test_counts(member_keys.len(), former_keys.len())?;
+        let (members, former) = tested(
+            alloc,
+            keys_of(alloc, member_keys)?,
+            keys_of(alloc, former_keys)?,
+        )?;
         Ok(View {
             members,
             former,
@@ -145,7 +156,8 @@ fn test_counts(members: usize, former: usize) -> Result<(), ViewFault>
     }
 }
 
-/// The two lists with their head keys, of which a view may be made. The fault is `Order`, `Overlap` or `Memory`.
+/// The two lists with their head keys, where a view may be made of them. The fault is `Order`, `Overlap` or
+/// `Memory`.
 fn tested(
     alloc: Global,
     members: Vec<PubKey>,

@@ -19,4 +19,4 @@ returns-clause-some c =
     let front : IsFront IsWord word c.args.bytes.now count c.u32.new.self = search rules in
     let behind : IsFront (IsOfLength (60 * count)) fixed c.u32.new.self item c.rest.result.now = search rules in
     rw c.as_chunks.ensures.front
-        (front_of_keys c.args.bytes.now c.u32.new.self item c.rest.result.now count (all_bytes c.args.bytes.now (λ i. omega (arith, c.type_inv.bytes i))) front behind)
+    (front_of_keys c.args.bytes.now c.u32.new.self item c.rest.result.now count (all_bytes c.args.bytes.now (λ i. omega (arith, c.type_inv.bytes i))) front behind)
