@@ -1,7 +1,7 @@
 -- The head keys of public keys, and the tests that are made of them.
-use Rattle.std.proofs.Common.{◌≡◌, ℕ, suc, ◌+◌, ◌-◌, ◌<◌, Bool, true, false, ◌&&◌, ◌||◌, nat_eq, List, [], ◌∷◌, ◌++◌, length, get_or, take, drop, map, refl, sym, ap, ◌∙◌, subst, arith, add-one, drop-cons, append_assoc}
+use Rattle.std.proofs.Common.{◌≡◌, ℕ, ◌+◌, ◌-◌, ◌<◌, Bool, true, false, ◌&&◌, ◌||◌, nat_eq, List, [], ◌∷◌, ◌++◌, length, get_or, take, drop, map, refl, sym, ap, ◌∙◌, subst, add-one, drop-cons}
 use Rattle.std.specs.Prelude.{not}
-use Rattle.std.specs.List.{AllByRecursion, list_any, list_all}
+use Rattle.std.specs.List.{list_any, list_all}
 use Rattle.std.specs.Cmp.Lexicographic.{pointwise}
 use Rattle.std.specs.Ordering.{is_eq, ordering_reverse}
 use Rattle.std.specs.declared.cmp.Ordering.{Ordering}
@@ -14,10 +14,7 @@ use Rattle.ivy_base.specs.Naming.{head_key_of, key_cmp}
 use Rattle.tree_model.specs.Tree.{same_key}
 use Rattle.tree_model.proofs.Keys.{keys_total}
 use Rattle.tree_model.proofs.Same.{same_key_answer}
-use Rattle.log_model.proofs.Lists.{each_append}
 use Rattle.log_model.specs.View.{is_log_of, have_own_head_keys}
-use Rattle.view_blocks.specs.Faults.{IsPubKey}
-use Rattle.view_blocks.specs.Owners.{AreHeads}
 
 -- `==` of two head keys
 abbrev is_head : Key → Key → Bool

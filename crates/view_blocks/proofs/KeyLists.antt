@@ -1,8 +1,8 @@
 -- Lists of public keys in bytes, and the block of two of them.
-use Rattle.std.proofs.Common.{◌≡◌, ◌≢◌, ℕ, zero, suc, ◌+◌, ◌-◌, ◌*◌, ◌^◌, ◌/◌, ◌%◌, ◌<◌, ◌≤◌, true, nat_lt, Bool, List, [], ◌∷◌, ◌++◌, length, get_or, take, drop, map, replicate, refl, sym, ap, ◌∙◌, subst, arith, append_assoc, length-append, length-drop}
+use Rattle.std.proofs.Common.{◌≡◌, ◌≢◌, ℕ, zero, suc, ◌*◌, ◌^◌, ◌/◌, ◌%◌, ◌<◌, ◌≤◌, true, nat_lt, Bool, List, [], ◌∷◌, ◌++◌, length, get_or, take, drop, refl, sym, ap, ◌∙◌, subst, arith, append_assoc, length-append, length-drop}
 use Rattle.std.specs.List.{AllByRecursion, list_all, flat_map}
 use Rattle.std.specs.Simd.{first_chunks}
-use Rattle.std.proofs.lemmas.List.{append-nil, append_cancel_left, take-append-drop, length-take-le, length-map}
+use Rattle.std.proofs.lemmas.List.{append-nil, append_cancel_left, take-append-drop, length-take-le}
 use Rattle.std.proofs.lemmas.Bool.{lt-ltb}
 use Rattle.std.proofs.lemmas.List.Folds.{list_all-append}
 use Rattle.ivy_base.specs.declared.key.PubKey.{PubKey}
@@ -11,7 +11,6 @@ use Rattle.wire_model.specs.OneReading.{IsFront, HasNoFront}
 use Rattle.wire_model.proofs.OneReading.{one_word}
 use Rattle.tree_model.proofs.Sound.{both_true}
 use Rattle.log_model.proofs.Lists.{both}
-use Rattle.log_model.specs.Spelling.{IsBlock}
 use Rattle.log_model.specs.View.{View, view_block}
 use Rattle.view_blocks.specs.Faults.{IsPubKey, AreKeys, keys_block, keys_of, FitsBlock, HasNoForm}
 use Rattle.view_blocks.proofs.OneView.{mark, one_list}

@@ -3,3 +3,4 @@ pub mod Ascending
 pub mod Heads
 pub mod KeyLists
 pub mod Refusals
+pub mod Examples

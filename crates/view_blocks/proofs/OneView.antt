@@ -1,5 +1,5 @@
 -- One view for each block, and no view's block begins another's.
-use Rattle.std.proofs.Common.{◌≡◌, ℕ, List, [], ◌∷◌, ◌++◌, refl, sym, ap, ◌∙◌, arith}
+use Rattle.std.proofs.Common.{◌≡◌, ℕ, List, [], ◌∷◌, refl, ap, arith}
 use Rattle.ivy_base.specs.declared.key.PubKey.{PubKey}
 use Rattle.wire_model.specs.OneReading.{ReadsOne}
 use Rattle.wire_model.proofs.OneReading.{◌▷◌, always, one_raw, one_array, of_parts, of_fewer, whole}

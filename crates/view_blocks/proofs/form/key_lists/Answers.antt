@@ -1,4 +1,4 @@
-use Rattle.std.proofs.Common.{rules, ◌≡◌, ◌≢◌, []}
+use Rattle.std.proofs.Common.{rules, ◌≢◌, []}
 use Rattle.view_blocks.specs.Faults.{keys_of}
 use Rattle.view_blocks.proofs.KeyLists.{no_former, nothing_behind}
 use Rattle.view_blocks.proofs.form.key_lists.Goals as goal

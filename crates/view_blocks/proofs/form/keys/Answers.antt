@@ -1,8 +1,6 @@
-use Rattle.std.proofs.Common.{rules, ◌≡◌, ◌*◌, arith}
-use Rattle.ivy_base.specs.declared.key.PubKey.{PubKey}
+use Rattle.std.proofs.Common.{rules, ◌*◌, arith}
 use Rattle.wire_model.specs.Xdr.{word, fixed, IsWord, IsOfLength}
 use Rattle.wire_model.specs.OneReading.{IsFront, HasNoFront}
-use Rattle.view_blocks.specs.Faults.{AreKeys, keys_block, keys_of}
 use Rattle.view_blocks.proofs.KeyLists.{all_bytes, front_of_keys, no_keys}
 use Rattle.view_blocks.proofs.form.keys.Goals as goal
 

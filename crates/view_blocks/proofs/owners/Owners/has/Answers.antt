@@ -1,7 +1,6 @@
-use Rattle.std.proofs.Common.{◌≡◌, ◌∙◌, ap}
+use Rattle.std.proofs.Common.{◌∙◌, ap}
 use Rattle.ivy_base.specs.declared.key.PubKey.{PubKey}
 use Rattle.std.proofs.Common.{List}
-use Rattle.std.specs.List.{list_any}
 use Rattle.log_model.specs.View.{is_log_of}
 use Rattle.view_blocks.proofs.Heads.{log_of_heads}
 use Rattle.view_blocks.proofs.owners.Owners.has.Goals as goal

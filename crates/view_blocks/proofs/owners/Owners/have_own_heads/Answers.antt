@@ -1,6 +1,5 @@
-use Rattle.std.proofs.Common.{◌≡◌, ◌∙◌, ◌+◌, ap, sym, List, Bool, true, false, ◌&&◌, drop, ℕ, length, ◌<◌, subst}
+use Rattle.std.proofs.Common.{◌≡◌, ◌∙◌, ◌+◌, ap, sym, Bool, ◌&&◌, drop}
 use Rattle.std.specs.Prelude.{not}
-use Rattle.ivy_base.specs.declared.key.PubKey.{PubKey}
 use Rattle.log_model.specs.View.{have_own_head_keys}
 use Rattle.view_blocks.proofs.Heads.{own_heads_step}
 use Rattle.view_blocks.proofs.owners.Owners.have_own_heads.Goals as goal
