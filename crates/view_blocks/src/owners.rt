@@ -2,7 +2,7 @@
 
 ghost use Rattle.std.specs.Prelude.{◌≡◌, ◌++◌, length, not, IfOk};
 ghost use Rattle.std.specs.List.{AllByRecursion, list_all};
-ghost use Rattle.ivy_base.specs.Naming.{name, head_key_of};
+ghost use Rattle.ivy_base.specs.Naming.{name};
 ghost use Rattle.log_model.specs.Spelling.{IsBlock};
 ghost use Rattle.log_model.specs.View.{is_log_of, ascend, have_own_head_keys};
 ghost use Rattle.view_blocks.specs.Faults.{IsPubKey, keys_of};

@@ -1,8 +1,8 @@
 //! Views: their tests, and what is asked of them.
 
-ghost use Rattle.std.specs.Prelude.{◌≡◌, ◌≢◌, ◌≤◌, length, IfOk, IfErr, OnOk};
+ghost use Rattle.std.specs.Prelude.{◌≡◌, ◌≢◌, ◌≤◌, IfOk, IfErr, OnOk};
 ghost use Rattle.log_model.specs.View.{IsView, view_block, view_name, is_member, is_former};
-ghost use Rattle.view_blocks.specs.Faults.{FitsBlock, HasKeys, HasFewKeys, CountsFailAs, FailsAs, BlockFailsAs};
+ghost use Rattle.view_blocks.specs.Faults.{HasKeys, HasFewKeys, CountsFailAs, FailsAs, BlockFailsAs};
 
 use crate::fault::ViewFault;
 use crate::form::{block_of, key_lists};
