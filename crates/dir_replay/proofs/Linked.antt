@@ -99,8 +99,8 @@ pub linked : (nodes : List (Key × Node)) → IsTied nodes → (t : Tree) → tr
 linked nodes tied t seen dir name ino may copied same subdirs names above counted more up between after entering naming =
     subst (λ (u : Tree). true ≡ may_link u dir name ino → subdirs ≡ one_more_if (subdirectory_count u dir) (is_directory (inode_at u ino)) → names ≡ one_more_if (name_count u ino) true → above ≡ cond (is_directory (inode_at u ino)) (Some dir) None → (tree_of after ≡ cond (may_link u dir name ino) (with_name u dir name ino) u) × IsTied after) seen
     (λ may counted more up.
-      let left : after ≡ at_node (at_node nodes dir (entered name ino subdirs)) ino (named above names) = naming ∙ ap (λ ns. at_node ns ino (named above names)) (entering ∙ ap (λ bytes. at_node nodes dir (entered bytes ino subdirs)) same) in (
-        ap tree_of left ∙ tree_of-linked nodes tied dir name ino (sym may) subdirs names above counted more up ∙ ap (λ b. cond b (with_name (tree_of nodes) dir name ino) (tree_of nodes)) may,
-        subst (λ (ns : List (Key × Node)). IsTied ns) (sym left) (tied-linked nodes tied dir name ino (sym may) subdirs names above counted more up),
-      ))
+    let left : after ≡ at_node (at_node nodes dir (entered name ino subdirs)) ino (named above names) = naming ∙ ap (λ ns. at_node ns ino (named above names)) (entering ∙ ap (λ bytes. at_node nodes dir (entered bytes ino subdirs)) same) in (
+      ap tree_of left ∙ tree_of-linked nodes tied dir name ino (sym may) subdirs names above counted more up ∙ ap (λ b. cond b (with_name (tree_of nodes) dir name ino) (tree_of nodes)) may,
+      subst (λ (ns : List (Key × Node)). IsTied ns) (sym left) (tied-linked nodes tied dir name ino (sym may) subdirs names above counted more up),
+    ))
     may counted more up

@@ -117,11 +117,11 @@ module _ (nodes : List (Key × Node)) (tied : IsTied nodes) (dir : Key) (name : 
       (is_sorted-where_key place_cmp (λ q. not (eq_by_cmp place_cmp q (dir, name))) mid.names (from_test _ sorted_mid))
       (from_test _ sound_then.order.names)
       (λ p.
-        find-without mid.names (dir, name) p
-        ∙ ap (λ e. cond (not (eq_by_cmp place_cmp p (dir, name))) e None) (find-put place_cmp places_total p (to_dir, to_name) moved (tree_of nodes).names)
-        ∙ by p (eq_by_cmp place_cmp p (to_dir, to_name)) refl (eq_by_cmp place_cmp p (dir, name)) refl (value_at place_cmp p (tree_of nodes).names)
-        ∙ ap (cond (eq_by_cmp place_cmp p (to_dir, to_name)) (Some moved)) (sym (find-without (tree_of nodes).names (dir, name) p))
-        ∙ sym (find-put place_cmp places_total p (to_dir, to_name) moved (without (dir, name) (tree_of nodes).names)))
+      find-without mid.names (dir, name) p
+      ∙ ap (λ e. cond (not (eq_by_cmp place_cmp p (dir, name))) e None) (find-put place_cmp places_total p (to_dir, to_name) moved (tree_of nodes).names)
+      ∙ by p (eq_by_cmp place_cmp p (to_dir, to_name)) refl (eq_by_cmp place_cmp p (dir, name)) refl (value_at place_cmp p (tree_of nodes).names)
+      ∙ ap (cond (eq_by_cmp place_cmp p (to_dir, to_name)) (Some moved)) (sym (find-without (tree_of nodes).names (dir, name) p))
+      ∙ sym (find-put place_cmp places_total p (to_dir, to_name) moved (without (dir, name) (tree_of nodes).names)))
     where
       by : (p : Place) (a : Bool) → eq_by_cmp place_cmp p (to_dir, to_name) ≡ a → (b : Bool) → eq_by_cmp place_cmp p (dir, name) ≡ b → (e : Option Key) → cond (not b) (cond a (Some moved) e) None ≡ cond a (Some moved) (cond (not b) e None)
       by p true to true from e =
@@ -172,7 +172,7 @@ module _ (nodes : List (Key × Node)) (tied : IsTied nodes) (dir : Key) (name : 
   subdirs_mid_here (Some y) is may =
       ap (one_more_if (subdirectory_count (tree_of nodes) to_dir)) (and_false (is_directory (inode_at (tree_of nodes) moved)))
       ∙ sym (same_off (subdirectory_count mid to_dir) (subdirectory_count (tree_of nodes) to_dir) (weight (same_key to_dir to_dir && is_directory (inode_at (tree_of nodes) moved)))
-        (ap (λ b. subdirectory_count mid to_dir + weight (same_key to_dir to_dir && b)) (kinds_alike y may) ∙ subdirs_replaced (tree_of nodes) to_dir to_name moved y to_dir order is))
+      (ap (λ b. subdirectory_count mid to_dir + weight (same_key to_dir to_dir && b)) (kinds_alike y may) ∙ subdirs_replaced (tree_of nodes) to_dir to_name moved y to_dir order is))
 
   subdirs_mid_there : (e : Option Key) → entry (tree_of nodes) to_dir to_name ≡ e → (q : Key) → same_key q to_dir ≡ false → subdirectory_count (tree_of nodes) q ≡ subdirectory_count mid q
   subdirs_mid_there None is q other =
@@ -194,8 +194,8 @@ module _ (nodes : List (Key × Node)) (tied : IsTied nodes) (dir : Key) (name : 
   unchanged_parent : (q : Key) → same_key q moved ≡ false → is_target o q ≡ false → directory_parent (tree_of nodes) q ≡ directory_parent then q
   unchanged_parent q other free = parent_kept (tree_of nodes) then tied.sound sound_then q refl (names_then_is q free)
       (λ p named. kept_with (without (dir, name) (tree_of nodes).names) (to_dir, to_name) moved p q
-        (λ h. not_target o q free (sym at_target ∙ (was_elsewhere (tree_of nodes).names (dir, name) (to_dir, to_name) q h).1))
-        (kept_without (tree_of nodes).names (dir, name) p moved q found other named))
+      (λ h. not_target o q free (sym at_target ∙ (was_elsewhere (tree_of nodes).names (dir, name) (to_dir, to_name) q h).1))
+      (kept_without (tree_of nodes).names (dir, name) p moved q found other named))
 
   new_parent : (b : Bool) → is_directory (inode_at (tree_of nodes) moved) ≡ b → cond b (Some to_dir) None ≡ directory_parent then moved
   new_parent true isd = sym (ap (λ b. cond b (parent then moved) None) isd ∙ parent_of_named then sound_then moved (to_dir, to_name) isd (found_with (without (dir, name) (tree_of nodes).names) (to_dir, to_name) moved))
@@ -305,16 +305,16 @@ pub renamed : (nodes : List (Key × Node)) → IsTied nodes → (t : Tree) → t
 renamed nodes tied t seen dir name moved to_dir to_name found may o at_target directory isd subdirs counted above up copied same first second third after entering unnaming leaving moving =
     subst (λ (u : Tree). Some moved ≡ entry u dir name → true ≡ may_rename u moved to_dir to_name → o ≡ entry u to_dir to_name → directory ≡ is_directory (inode_at u moved) → subdirs ≡ one_more_if (subdirectory_count u to_dir) (is_directory (inode_at u moved) && is_none o) → (tree_of after ≡ names_after u (op.Rename dir name to_dir to_name)) × IsTied after) seen
     (λ found may at_target isd counted.
-      let a = is_directory (inode_at (tree_of nodes) to_dir) in
-      let b = may_replace (tree_of nodes) moved (entry (tree_of nodes) to_dir to_name) in
-      let abc = both_true (a && b) (not (is_inside (tree_of nodes) to_dir moved)) (sym may) in
-      let ab = both_true a b abc.0 in
-      let replace : may_replace (tree_of nodes) moved o ≡ true = ap (may_replace (tree_of nodes) moved) at_target ∙ ab.1 in
-      let effective : is_effective (tree_of nodes) (op.Rename dir name to_dir to_name) ≡ true = ap (λ e. option_map_or (λ x. may_rename (tree_of nodes) x to_dir to_name) e false) (sym found) ∙ sym may in
-      let is : after ≡ at_node (at_node (any_unnamed (at_node nodes to_dir (entered to_name moved subdirs)) o) dir (left name directory)) moved (moved_to above) =
-          moving ∙ ap (λ ns. at_node ns moved (moved_to above)) (leaving ∙ ap (λ ns. at_node ns dir (left name directory)) (unnaming ∙ ap (λ ns. any_unnamed ns o) (entering ∙ ap (λ bytes. at_node nodes to_dir (entered bytes moved subdirs)) same))) in (
-        ap tree_of is ∙ tree_of-renamed nodes tied dir name moved to_dir to_name (sym found) o (sym at_target) ab.0 replace effective subdirs counted directory isd above up
-        ∙ sym (after_is nodes tied dir name moved to_dir to_name (sym found) o (sym at_target) ab.0 replace effective),
-        subst (λ (ns : List (Key × Node)). IsTied ns) (sym is) (tied-renamed nodes tied dir name moved to_dir to_name (sym found) o (sym at_target) ab.0 replace effective subdirs counted directory isd above up),
-      ))
+    let a = is_directory (inode_at (tree_of nodes) to_dir) in
+    let b = may_replace (tree_of nodes) moved (entry (tree_of nodes) to_dir to_name) in
+    let abc = both_true (a && b) (not (is_inside (tree_of nodes) to_dir moved)) (sym may) in
+    let ab = both_true a b abc.0 in
+    let replace : may_replace (tree_of nodes) moved o ≡ true = ap (may_replace (tree_of nodes) moved) at_target ∙ ab.1 in
+    let effective : is_effective (tree_of nodes) (op.Rename dir name to_dir to_name) ≡ true = ap (λ e. option_map_or (λ x. may_rename (tree_of nodes) x to_dir to_name) e false) (sym found) ∙ sym may in
+    let is : after ≡ at_node (at_node (any_unnamed (at_node nodes to_dir (entered to_name moved subdirs)) o) dir (left name directory)) moved (moved_to above) =
+    moving ∙ ap (λ ns. at_node ns moved (moved_to above)) (leaving ∙ ap (λ ns. at_node ns dir (left name directory)) (unnaming ∙ ap (λ ns. any_unnamed ns o) (entering ∙ ap (λ bytes. at_node nodes to_dir (entered bytes moved subdirs)) same))) in (
+      ap tree_of is ∙ tree_of-renamed nodes tied dir name moved to_dir to_name (sym found) o (sym at_target) ab.0 replace effective subdirs counted directory isd above up
+          ∙ sym (after_is nodes tied dir name moved to_dir to_name (sym found) o (sym at_target) ab.0 replace effective),
+      subst (λ (ns : List (Key × Node)). IsTied ns) (sym is) (tied-renamed nodes tied dir name moved to_dir to_name (sym found) o (sym at_target) ab.0 replace effective subdirs counted directory isd above up),
+    ))
     found may at_target isd counted

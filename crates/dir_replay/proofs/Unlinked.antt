@@ -114,8 +114,8 @@ pub unlinked : (nodes : List (Key × Node)) → IsTied nodes → (t : Tree) → 
 unlinked nodes tied t seen dir name ino found may directory isd between after leaving unnaming =
     subst (λ (u : Tree). Some ino ≡ entry u dir name → true ≡ may_lose_name u ino → directory ≡ is_directory (inode_at u ino) → (tree_of after ≡ cond (option_map_or (may_lose_name u) (entry u dir name) false) (without_name u dir name) u) × IsTied after) seen
     (λ found may isd.
-      let is : after ≡ at_node (at_node nodes dir (left name directory)) ino unnamed = unnaming ∙ ap (λ ns. at_node ns ino unnamed) leaving in (
-        ap tree_of is ∙ tree_of-unlinked nodes tied dir name ino (sym found) (sym may) directory isd ∙ ap (λ b. cond b (without_name (tree_of nodes) dir name) (tree_of nodes)) (sym (effective nodes tied dir name ino (sym found) (sym may))),
-        subst (λ (ns : List (Key × Node)). IsTied ns) (sym is) (tied-unlinked nodes tied dir name ino (sym found) (sym may) directory isd),
-      ))
+    let is : after ≡ at_node (at_node nodes dir (left name directory)) ino unnamed = unnaming ∙ ap (λ ns. at_node ns ino unnamed) leaving in (
+      ap tree_of is ∙ tree_of-unlinked nodes tied dir name ino (sym found) (sym may) directory isd ∙ ap (λ b. cond b (without_name (tree_of nodes) dir name) (tree_of nodes)) (sym (effective nodes tied dir name ino (sym found) (sym may))),
+      subst (λ (ns : List (Key × Node)). IsTied ns) (sym is) (tied-unlinked nodes tied dir name ino (sym found) (sym may) directory isd),
+    ))
     found may isd

@@ -95,13 +95,7 @@ impl Names {
     }
 
     // Gives an inode a name, where it may have it.
-    fn link(
-        &mut self,
-        alloc: Global,
-        dir: &Key,
-        name: &[u8],
-        ino: &Key,
-    ) -> Result<Touched, Memory>
+    fn link(&mut self, alloc: Global, dir: &Key, name: &[u8], ino: &Key) -> Result<Touched, Memory>
         ensures ok { OnOk result (self.new ≡ names_after self.old (op.Link dir.now name.now ino.now)) }
         ensures touched { IfOk result (λ dirs. dirs ≡ touched_by self.old (op.Link dir.now name.now ino.now)) }
         ensures err { OnErr result (self.new ≡ self.old) }

@@ -82,13 +82,7 @@ impl Nodes {
 
     /// Puts a name for the inode into the directory, which then has so many subdirectories; without such a
     /// directory nothing changes. The error is want of memory, and then nothing has changed.
-    pub fn enter(
-        &mut self,
-        dir: &Key,
-        name: Vec<u8>,
-        ino: Key,
-        subdirs: u64,
-    ) -> Result<(), Memory>
+    pub fn enter(&mut self, dir: &Key, name: Vec<u8>, ino: Key, subdirs: u64) -> Result<(), Memory>
         ensures ok { OnOk result (self.new ≡ at_node self.old dir.now (entered name.items ino subdirs)) }
         ensures err { OnErr result (self.new ≡ self.old) }
     {

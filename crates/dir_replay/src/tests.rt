@@ -8,7 +8,11 @@ const NOTHING: Touched = Touched {
     second: None,
 };
 
-const fn key(last: u8) -> Key {
+// The root for 0, and one number for each other.
+fn key(last: u8) -> Key {
+    if last == 0 {
+        return ROOT;
+    }
     Key([
         2, 0, 0, 0, 0, 0, 0, 0, 0, 0, 0, 0, 0, 0, 0, 0, 0, 0, 0, last,
     ])
@@ -138,117 +142,186 @@ fn operations_of_no_names(rt: HostRuntime) -> Result<(), Fail> {
     Ok(())
 }
 
+// Whether the Link does nothing to the names, or else what it is to do.
+fn link_does(
+    base: &Names,
+    alloc: Global,
+    dir: Key,
+    name: &[u8],
+    ino: Key,
+    want: Touched,
+) -> Result<bool, Memory> {
+    let mut names = base.copy(alloc)?;
+    let found = if want == NOTHING {
+        base.entry(&dir, name)
+    } else {
+        Some(ino)
+    };
+    Ok(link(&mut names, alloc, dir, name, ino)? == want && names.entry(&dir, name) == found)
+}
+
 #[test]
 fn links(rt: HostRuntime) -> Result<(), Fail> {
     let alloc = rt.alloc();
     let base = start(alloc)?;
-    let cases: [(Key, &[u8], Key, bool); 12] = [
-        // A first name, a second name of a file, and a directory with entries.
-        (ROOT, b"h", key(6), true),
-        (key(2), b"h", key(3), true),
-        (key(2), b"h", key(8), true),
+    // A first name, a second name of a file, and a directory with entries.
+    for (dir, ino) in [(0u8, 6u8), (2, 3), (2, 8)] {
+        let done = link_does(
+            &base,
+            alloc,
+            key(dir),
+            b"h".as_slice(),
+            key(ino),
+            one(key(dir)),
+        )?;
+        assert!(rt; done, "at {ino}");
+    }
+    let cases: [(u8, &[u8], u8); 9] = [
         // The name is taken, the directory or the inode is missing, or the first is no directory.
-        (ROOT, b"a", key(6), false),
-        (key(77), b"h", key(6), false),
-        (ROOT, b"h", key(77), false),
-        (key(3), b"h", key(6), false),
+        (0, b"a", 6),
+        (77, b"h", 6),
+        (0, b"h", 77),
+        (3, b"h", 6),
         // The root, a directory that has a name, or one with the place in it.
-        (key(1), b"h", ROOT, false),
-        (ROOT, b"h", key(2), false),
-        (key(5), b"h", key(5), false),
-        (key(8), b"h", key(8), false),
-        (key(9), b"h", key(8), false),
+        (1, b"h", 0),
+        (0, b"h", 2),
+        (5, b"h", 5),
+        (8, b"h", 8),
+        (9, b"h", 8),
     ];
-    for (dir, name, ino, done) in cases {
-        let mut names = base.copy(alloc)?;
-        let touched = link(&mut names, alloc, dir, name, ino)?;
-        let more = u64::from(done);
-        let want = if done { one(dir) } else { NOTHING };
-        let found = if done { Some(ino) } else { base.entry(&dir, name) };
-        assert_eq!(rt; touched, want, "at {name:?} of {ino:?}");
-        assert_eq!(rt; names.entry(&dir, name), found, "at {name:?} of {ino:?}");
-        assert!(rt; names.names_of(&ino) - base.names_of(&ino) == more);
-        assert!(rt; names.entries(&dir) - base.entries(&dir) == more);
+    for (dir, name, ino) in cases {
+        let nothing = link_does(&base, alloc, key(dir), name, key(ino), NOTHING)?;
+        assert!(rt; nothing, "at {ino}");
     }
     Ok(())
+}
+
+// Whether the Unlink does nothing to the names, or else what it is to do.
+fn unlink_does(
+    base: &Names,
+    alloc: Global,
+    dir: Key,
+    name: &[u8],
+    want: Touched,
+) -> Result<bool, Memory> {
+    let mut names = base.copy(alloc)?;
+    let found = if want == NOTHING {
+        base.entry(&dir, name)
+    } else {
+        None
+    };
+    Ok(unlink(&mut names, alloc, dir, name)? == want && names.entry(&dir, name) == found)
 }
 
 #[test]
 fn unlinks(rt: HostRuntime) -> Result<(), Fail> {
     let alloc = rt.alloc();
     let base = start(alloc)?;
-    let cases: [(Key, &[u8], bool); 6] = [
-        // A file, and an empty directory.
-        (ROOT, b"f", true),
-        (ROOT, b"c", true),
-        // The name is missing, or names a directory that isn't empty.
-        (ROOT, b"x", false),
-        (key(3), b"x", false),
-        (key(77), b"f", false),
-        (ROOT, b"a", false),
-    ];
-    for (dir, name, done) in cases {
-        let mut names = base.copy(alloc)?;
-        let touched = unlink(&mut names, alloc, dir, name)?;
-        let want = if done { one(dir) } else { NOTHING };
-        let found = if done { None } else { base.entry(&dir, name) };
-        assert_eq!(rt; touched, want, "at {name:?}");
-        assert_eq!(rt; names.entry(&dir, name), found, "at {name:?}");
+    // A file, and an empty directory.
+    assert!(rt; unlink_does(&base, alloc, ROOT, b"f".as_slice(), one(ROOT))?);
+    assert!(rt; unlink_does(&base, alloc, ROOT, b"c".as_slice(), one(ROOT))?);
+    // The name is missing, also in no directory, or names a directory that isn't empty.
+    let cases: [(u8, &[u8]); 4] = [(0, b"x"), (3, b"x"), (77, b"f"), (0, b"a")];
+    for (dir, name) in cases {
+        let nothing = unlink_does(&base, alloc, key(dir), name, NOTHING)?;
+        assert!(rt; nothing, "at {name:?}");
     }
-    let mut names = base.copy(alloc)?;
-    unlink(&mut names, alloc, ROOT, b"c".as_slice())?;
-    assert_eq!(rt; names.subdirs(&ROOT), 1);
-    assert_eq!(rt; names.parent(&key(7)), None);
-    assert_eq!(rt; names.names_of(&key(7)), 0);
-    assert_eq!(rt; base.subdirs(&ROOT), 2);
     Ok(())
+}
+
+// Whether the Rename does nothing to the names, or else what it is to do.
+fn rename_does(
+    base: &Names,
+    alloc: Global,
+    from: (Key, &[u8]),
+    to: (Key, &[u8]),
+    want: Touched,
+) -> Result<bool, Memory> {
+    let mut names = base.copy(alloc)?;
+    let moved = base.entry(&from.0, from.1);
+    let target = base.entry(&to.0, to.1);
+    let touched = rename(&mut names, alloc, from.0, from.1, to.0, to.1)?;
+    let (left, found) = if want == NOTHING {
+        (moved, target)
+    } else {
+        (None, moved)
+    };
+    Ok(touched == want && names.entry(&from.0, from.1) == left && names.entry(&to.0, to.1) == found)
 }
 
 #[test]
 fn renames(rt: HostRuntime) -> Result<(), Fail> {
     let alloc = rt.alloc();
+    let base = start(alloc)?;
+    // Into another directory, in place of a file, and in place of an empty directory.
+    let cases: [(u8, &[u8], u8, &[u8]); 3] = [
+        (0, b"a", 7, b"n"),
+        (1, b"g", 0, b"f"),
+        (1, b"b", 0, b"c"),
+    ];
+    for (dir, name, to_dir, to_name) in cases {
+        let want = two(key(dir), key(to_dir));
+        let done = rename_does(&base, alloc, (key(dir), name), (key(to_dir), to_name), want)?;
+        assert!(rt; done, "at {name:?}");
+    }
+    // In the same directory.
+    let (from, to) = ((ROOT, b"f".as_slice()), (ROOT, b"n".as_slice()));
+    assert!(rt; rename_does(&base, alloc, from, to, one(ROOT))?);
+    Ok(())
+}
+
+#[test]
+fn renames_that_do_nothing(rt: HostRuntime) -> Result<(), Fail> {
+    let alloc = rt.alloc();
     let mut base = start(alloc)?;
     link(&mut base, alloc, key(2), b"f".as_slice(), key(3))?;
-    let cases: [(Key, &[u8], Key, &[u8], Touched); 15] = [
-        // Into another directory, in the same one, in place of a file, and in place of an empty directory.
-        (ROOT, b"a", key(7), b"n", two(ROOT, key(7))),
-        (ROOT, b"f", ROOT, b"n", one(ROOT)),
-        (key(1), b"g", ROOT, b"f", two(key(1), ROOT)),
-        (key(1), b"b", ROOT, b"c", two(key(1), ROOT)),
+    let cases: [(u8, &[u8], u8, &[u8]); 11] = [
         // The source or the target directory is missing, or the target directory is none.
-        (ROOT, b"x", ROOT, b"n", NOTHING),
-        (key(77), b"f", ROOT, b"n", NOTHING),
-        (ROOT, b"f", key(77), b"n", NOTHING),
-        (ROOT, b"f", key(3), b"n", NOTHING),
+        (0, b"x", 0, b"n"),
+        (77, b"f", 0, b"n"),
+        (0, b"f", 77, b"n"),
+        (0, b"f", 3, b"n"),
         // One is a directory and the other isn't, or the target has entries.
-        (ROOT, b"f", ROOT, b"c", NOTHING),
-        (ROOT, b"c", ROOT, b"f", NOTHING),
-        (ROOT, b"c", ROOT, b"a", NOTHING),
+        (0, b"f", 0, b"c"),
+        (0, b"c", 0, b"f"),
+        (0, b"c", 0, b"a"),
         // Into itself and into what is inside it.
-        (ROOT, b"a", key(1), b"n", NOTHING),
-        (ROOT, b"a", key(2), b"n", NOTHING),
+        (0, b"a", 1, b"n"),
+        (0, b"a", 2, b"n"),
         // The same name, and another name of the same inode.
-        (ROOT, b"f", ROOT, b"f", NOTHING),
-        (ROOT, b"f", key(2), b"f", NOTHING),
+        (0, b"f", 0, b"f"),
+        (0, b"f", 2, b"f"),
     ];
-    for (dir, name, to_dir, to_name, want) in cases {
-        let mut names = base.copy(alloc)?;
-        let moved = base.entry(&dir, name);
-        let target = base.entry(&to_dir, to_name);
-        let touched = rename(&mut names, alloc, dir, name, to_dir, to_name)?;
-        let done = touched.first.is_some();
-        assert_eq!(rt; touched, want, "at {name:?} to {to_name:?}");
-        assert_eq!(rt; names.entry(&dir, name), if done { None } else { moved });
-        assert_eq!(rt; names.entry(&to_dir, to_name), if done { moved } else { target });
+    for (dir, name, to_dir, to_name) in cases {
+        let nothing = rename_does(
+            &base,
+            alloc,
+            (key(dir), name),
+            (key(to_dir), to_name),
+            NOTHING,
+        )?;
+        assert!(rt; nothing, "at {name:?} to {to_name:?}");
     }
-    let mut names = base.copy(alloc)?;
-    rename(&mut names, alloc, key(1), b"b".as_slice(), ROOT, b"c".as_slice())?;
+    Ok(())
+}
+
+#[test]
+fn what_a_replaced_directory_leaves(rt: HostRuntime) -> Result<(), Fail> {
+    let alloc = rt.alloc();
+    let mut names = start(alloc)?;
+    rename(
+        &mut names,
+        alloc,
+        key(1),
+        b"b".as_slice(),
+        ROOT,
+        b"c".as_slice(),
+    )?;
     assert_eq!(rt; names.parent(&key(2)), Some(ROOT));
     assert_eq!(rt; names.subdirs(&key(1)), 0);
     assert_eq!(rt; names.subdirs(&ROOT), 2);
     assert_eq!(rt; names.names_of(&key(7)), 0);
     assert_eq!(rt; names.parent(&key(7)), None);
-    assert!(rt; !names.inside(&key(2), &key(1)));
     Ok(())
 }
 
@@ -298,6 +371,11 @@ fn many_names_are_listed_in_order(rt: HostRuntime) -> Result<(), Fail> {
         number = number.wrapping_add(1);
     }
     assert_eq!(rt; number, 10_000);
-    assert_eq!(rt; Listing::of(names.listing(alloc, &ROOT)?.into_vec()).as_slice().len(), 10_000);
+    assert_eq!(rt;
+        Listing::of(names.listing(alloc, &ROOT)?.into_vec())
+            .as_slice()
+            .len(),
+        10_000
+    );
     Ok(())
 }

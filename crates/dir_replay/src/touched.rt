@@ -40,7 +40,11 @@ impl Touched {
     {
         Touched {
             first: Some(first),
-            second: if same(&second, &first) { None } else { Some(second) },
+            second: if same(&second, &first) {
+                None
+            } else {
+                Some(second)
+            },
         }
     }
 }
