@@ -1,10 +1,10 @@
 -- The directory that has a directory's name.
-use Rattle.std.proofs.Common.{◌≡◌, ℕ, List, [], ◌∷◌, Option, Some, None, Bool, true, false, cond, ◌||◌, find, option_map, is_some, nat_lt, refl, sym, ap, ◌∙◌, subst}
+use Rattle.std.proofs.Common.{◌≡◌, ℕ, List, [], ◌∷◌, Option, Some, None, Bool, true, false, cond, ◌||◌, find, option_map, nat_lt, refl, sym, ap, ◌∙◌, subst}
 use Rattle.std.specs.List.{list_any}
 use Rattle.std.specs.Ordering.{eq_by_cmp}
 use Rattle.std.specs.FinMap.Entries.{find as value_at, is_sorted, below_all}
 use Rattle.ivy_base.specs.declared.key.Key.{Key}
-use Rattle.tree_model.specs.Tree.{Tree, Place, place_cmp, same_key, inode_at, is_directory, has_name, name_count, parent, parent_in}
+use Rattle.tree_model.specs.Tree.{Tree, Place, place_cmp, same_key, inode_at, is_directory, has_name, name_count, parent}
 use Rattle.tree_model.specs.Sound.{Names, IsSound}
 use Rattle.tree_model.proofs.Keys.{same_key_is, same_place_itself}
 use Rattle.tree_model.proofs.Sound.{both_true}

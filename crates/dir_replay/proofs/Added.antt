@@ -1,5 +1,5 @@
 -- A new inode.
-use Rattle.std.proofs.Common.{◌≡◌, ℕ, ◌+◌, List, [], ◌∷◌, Option, Some, None, Bool, true, false, cond, ◌&&◌, ◌||◌, Bor, count_by, option_map, is_some, refl, sym, ap, ◌∙◌, subst}
+use Rattle.std.proofs.Common.{◌≡◌, ◌+◌, List, [], ◌∷◌, Option, Some, None, Bool, true, false, cond, ◌&&◌, Bor, count_by, option_map, is_some, refl, sym, ap, ◌∙◌, subst}
 use Rattle.std.specs.Option.{option_copied}
 use Rattle.std.specs.List.{list_any}
 use Rattle.std.specs.FinMap.Entries.{find as value_at, find-put, put}
@@ -7,9 +7,8 @@ use Rattle.std.proofs.lemmas.List.Sums.{sum_by-cons}
 use Rattle.ivy_base.specs.declared.key.Key.{Key}
 use Rattle.ivy_base.specs.declared.operation.Kind.{Kind}
 use Rattle.ivy_base.specs.Naming.{key_cmp}
-use Rattle.tree_model.specs.Tree.{Tree, Inode, Place, same_key, inode_at, is_directory, has_name, name_count, subdirectory_count, parent}
+use Rattle.tree_model.specs.Tree.{Tree, Inode, Place, same_key, inode_at, is_directory, has_name, parent}
 use Rattle.tree_model.specs.Apply.{with_inode}
-use Rattle.tree_model.specs.Sound.{IsSound}
 use Rattle.tree_model.proofs.Keys.{keys_total, exact_keys, same_key_is}
 use Rattle.tree_model.proofs.Names.{inode_at-with_inode}
 use Rattle.tree_model.proofs.Sound.{both_false}

@@ -1,26 +1,24 @@
 -- A tree and the same tree without what its inodes contain. What an operation does to names depends on neither
 -- contents nor moments.
-use Rattle.std.proofs.Common.{◌≡◌, ℕ, List, [], ◌∷◌, Option, Some, None, Bool, true, false, cond, not, ◌&&◌, ◌||◌, map, count_by, option_map, is_some, refl, sym, ap, ◌∙◌, subst}
+use Rattle.std.proofs.Common.{◌≡◌, ℕ, List, [], ◌∷◌, Option, Some, None, Bool, true, false, cond, ◌&&◌, map, option_map, is_some, refl, sym, ap, ◌∙◌}
 use Rattle.std.specs.declared.cmp.Ordering.{Ordering}
 use Rattle.std.specs.declared.cmp.Ordering.TheVariants.{Less, Equal, Greater}
 use Rattle.std.specs.Option.{option_map_or}
 use Rattle.std.specs.Ordering.{is_lt, eq_by_cmp}
 use Rattle.std.specs.FinMap.Entries.{find as value_at, put, by_order, below_all, is_sorted, is_sorted-put}
 use Rattle.ivy_base.specs.declared.key.Key.{Key}
-use Rattle.ivy_base.specs.declared.operation.Kind.{Kind}
 use Rattle.ivy_base.specs.declared.operation.Moment.{Moment}
 use Rattle.ivy_base.specs.declared.operation.Op.{Op}
 use Rattle.ivy_base.specs.declared.operation.Op.TheVariants as op
-use Rattle.ivy_base.specs.Naming.{key_cmp, root_number}
-use Rattle.tree_model.specs.Tree.{Tree, Inode, Place, same_key, inode_at, entry, is_directory, is_file, directory_kind, file_kind, has_name, is_inside, is_empty_directory, subdirectory_count}
-use Rattle.tree_model.specs.Apply.{with_inode, changed_inode, at_inode, set_attributes, touched, with_name, without_name, may_link, link, may_lose_name, unlink, same_bool, may_replace, may_rename, move, apply}
+use Rattle.ivy_base.specs.Naming.{key_cmp}
+use Rattle.tree_model.specs.Tree.{Tree, Inode, inode_at, entry, is_directory, is_file}
+use Rattle.tree_model.specs.Apply.{with_inode, changed_inode, at_inode, touched, may_link, may_lose_name, may_replace, may_rename}
 use Rattle.tree_model.specs.Sound.{IsSound}
 use Rattle.tree_model.proofs.Keys.{keys_total, same_key_itself}
 use Rattle.tree_model.proofs.Names.{inode_at-with_inode}
 use Rattle.tree_model.proofs.Sound.{sound_kinds, from_test, to_test}
-use Rattle.tree_model.proofs.Applied.{sound_apply}
-use Rattle.dir_replay.specs.Bare.{bare, bare_inode, IsBare}
-use Rattle.dir_replay.specs.Effect.{is_effective, directories, touched_by, none_touched, with_names_changed, names_after, IsOfNames, touched_at, all_touched}
+use Rattle.dir_replay.specs.Bare.{bare, bare_inode}
+use Rattle.dir_replay.specs.Effect.{is_effective, directories, touched_by, none_touched}
 use Rattle.dir_replay.proofs.Sorted.{put_same}
 
 abbrev pub bare_inodes : List (Key × Inode) → List (Key × Inode)

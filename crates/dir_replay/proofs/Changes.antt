@@ -1,18 +1,16 @@
 -- What a change of one inode in the list of all leaves as it was.
-use Rattle.std.proofs.Common.{◌≡◌, ℕ, List, [], ◌∷◌, ◌++◌, Option, Some, None, Bool, true, false, cond, not, option_map, refl, sym, ap, ◌∙◌, subst, filter}
-use Rattle.std.specs.Ordering.{is_eq, is_lt, eq_by_cmp, ordering_then}
+use Rattle.std.proofs.Common.{◌≡◌, ℕ, List, [], ◌∷◌, ◌++◌, Option, Some, None, Bool, true, false, cond, not, option_map, refl, sym, ap, ◌∙◌, subst}
+use Rattle.std.specs.Ordering.{is_eq, eq_by_cmp, ordering_then}
 use Rattle.std.specs.declared.cmp.Ordering.{Ordering}
 use Rattle.std.specs.declared.cmp.Ordering.TheVariants.{Less, Equal, Greater}
 use Rattle.std.specs.Cmp.{tied_itself}
 use Rattle.std.specs.FinMap.Entries.{find as value_at, find-put, put, where_key, by_order, below_all, is_sorted, is_sorted-put}
 use Rattle.std.proofs.lemmas.List.Elements.{filter-append}
 use Rattle.ivy_base.specs.declared.key.Key.{Key}
-use Rattle.ivy_base.specs.declared.operation.Kind.{Kind}
 use Rattle.ivy_base.specs.Naming.{key_cmp}
-use Rattle.tree_model.specs.Tree.{Tree, Place, place_cmp, same_key, inode_at}
-use Rattle.tree_model.proofs.Keys.{keys_total, exact_keys, same_key_is, same_key_itself}
+use Rattle.tree_model.specs.Tree.{Place, place_cmp, same_key}
+use Rattle.tree_model.proofs.Keys.{keys_total, exact_keys, same_key_is}
 use Rattle.tree_model.proofs.Sound.{both_true, from_test, to_test}
-use Rattle.tree_model.proofs.Climb.{less_is_not_equal}
 use Rattle.dir_replay.specs.declared.nodes.Node.{Node}
 use Rattle.dir_replay.specs.Bare.{bare_inode}
 use Rattle.dir_replay.specs.Entries.{name_cmp}

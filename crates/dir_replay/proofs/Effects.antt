@@ -2,7 +2,7 @@
 -- `touched` says, and to a bare tree what it does to the names of any.
 use Rattle.std.proofs.Common.{◌≡◌, ℕ, List, Option, Some, None, Bool, true, false, cond, not, ◌&&◌, is_some, map, refl, sym, ap, ◌∙◌, subst}
 use Rattle.std.specs.Option.{option_map_or}
-use Rattle.std.specs.FinMap.Entries.{find as value_at, is_sorted}
+use Rattle.std.specs.FinMap.Entries.{is_sorted}
 use Rattle.ivy_base.specs.declared.key.Key.{Key}
 use Rattle.ivy_base.specs.declared.operation.Kind.{Kind}
 use Rattle.ivy_base.specs.declared.operation.Moment.{Moment}
@@ -11,13 +11,13 @@ use Rattle.ivy_base.specs.declared.operation.Op.{Op}
 use Rattle.ivy_base.specs.declared.operation.Op.TheVariants as op
 use Rattle.ivy_base.specs.Naming.{key_cmp}
 use Rattle.tree_model.specs.Tree.{Tree, Inode, same_key, inode_at, entry, is_file}
-use Rattle.tree_model.specs.Apply.{with_inode, at_inode, set_attributes, overwritten, touched, with_name, without_name, may_rename, move, apply}
+use Rattle.tree_model.specs.Apply.{with_inode, at_inode, set_attributes, touched, with_name, without_name, may_rename, move, apply}
 use Rattle.tree_model.specs.Sound.{IsSound}
 use Rattle.tree_model.proofs.Keys.{same_key_is}
 use Rattle.tree_model.proofs.Applied.{sound_apply}
 use Rattle.dir_replay.specs.declared.touched.Touched.{Touched}
 use Rattle.dir_replay.specs.Bare.{bare, bare_inode, IsBare}
-use Rattle.dir_replay.specs.Effect.{is_effective, directories, touched_by, none_touched, with_names_changed, names_after, IsOfNames, touched_at, all_touched}
+use Rattle.dir_replay.specs.Effect.{is_effective, touched_by, none_touched, with_names_changed, names_after, IsOfNames, touched_at, all_touched}
 use Rattle.dir_replay.proofs.Bare.{bare_twice, sound-bare, is_some-bare, bare-with_inode, bare-at_inode, bare-touched, sorted_touched, touched_twice, is_effective-bare}
 
 -- ---- what an operation of names makes of a whole tree

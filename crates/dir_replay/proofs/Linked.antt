@@ -1,12 +1,12 @@
 -- A name more.
-use Rattle.std.proofs.Common.{◌≡◌, ℕ, ◌+◌, List, Option, Some, None, Bool, true, false, cond, not, ◌&&◌, option_map, is_some, is_none, refl, sym, ap, ◌∙◌, subst}
+use Rattle.std.proofs.Common.{◌≡◌, ℕ, ◌+◌, List, Option, Some, None, Bool, true, false, cond, ◌&&◌, is_some, is_none, refl, sym, ap, ◌∙◌, subst}
 use Rattle.std.specs.FinMap.Entries.{find as value_at, is_sorted}
 use Rattle.ivy_base.specs.declared.key.Key.{Key}
 use Rattle.ivy_base.specs.declared.operation.Op.TheVariants as op
 use Rattle.ivy_base.specs.Naming.{key_cmp}
-use Rattle.tree_model.specs.Tree.{Tree, Place, place_cmp, same_key, inode_at, entry, is_directory, parent, name_count, subdirectory_count}
+use Rattle.tree_model.specs.Tree.{Tree, same_key, inode_at, entry, is_directory, parent, name_count, subdirectory_count}
 use Rattle.tree_model.specs.Apply.{may_link, with_name}
-use Rattle.tree_model.specs.Sound.{Names, IsSound}
+use Rattle.tree_model.specs.Sound.{IsSound}
 use Rattle.tree_model.proofs.Keys.{same_key_itself}
 use Rattle.tree_model.proofs.Sound.{directory_is_some}
 use Rattle.tree_model.proofs.Applied.{link_tests}

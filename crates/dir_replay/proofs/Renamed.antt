@@ -2,14 +2,14 @@
 use Rattle.std.proofs.Common.{◌≡◌, ℕ, ◌+◌, List, Option, Some, None, Bool, true, false, cond, not, ◌&&◌, count_by, is_some, is_none, refl, sym, ap, ◌∙◌, subst, arith}
 use Rattle.std.specs.Option.{option_map_or}
 use Rattle.std.specs.Ordering.{eq_by_cmp}
-use Rattle.std.specs.FinMap.Entries.{find as value_at, find-put, put, is_sorted, is_sorted-put, is_sorted-where_key, same_entries}
+use Rattle.std.specs.FinMap.Entries.{find as value_at, find-put, is_sorted, is_sorted-put, is_sorted-where_key, same_entries}
 use Rattle.ivy_base.specs.declared.key.Key.{Key}
 use Rattle.ivy_base.specs.declared.operation.Op.TheVariants as op
 use Rattle.ivy_base.specs.Naming.{key_cmp}
 use Rattle.tree_model.specs.Tree.{Tree, Place, place_cmp, same_key, inode_at, entry, is_directory, is_inside, parent, name_count, subdirectory_count}
 use Rattle.tree_model.specs.Apply.{same_bool, may_lose_name, may_replace, may_rename, with_name, without_name}
 use Rattle.tree_model.specs.Sound.{Names, IsSound}
-use Rattle.tree_model.proofs.Keys.{places_total, exact_places, same_key_is, same_key_itself, same_place_is, same_place_itself}
+use Rattle.tree_model.proofs.Keys.{places_total, exact_places, same_key_itself, same_place_is}
 use Rattle.tree_model.proofs.Sound.{both_true, directory_is_some, from_test, to_test}
 use Rattle.dir_replay.specs.declared.nodes.Node.{Node}
 use Rattle.dir_replay.specs.Counts.{less_one_if, one_more_if}

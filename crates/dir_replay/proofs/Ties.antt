@@ -3,11 +3,10 @@ use Rattle.std.proofs.Common.{◌≡◌, ℕ, ◌+◌, ◌-◌, List, Option, So
 use Rattle.std.specs.Ordering.{eq_by_cmp}
 use Rattle.std.specs.FinMap.Entries.{find as value_at, find-put, find-where_key, put, is_sorted}
 use Rattle.ivy_base.specs.declared.key.Key.{Key}
-use Rattle.ivy_base.specs.Naming.{key_cmp}
 use Rattle.tree_model.specs.Tree.{Tree, Place, place_cmp, same_key, inode_at, entry, is_directory, name_count, subdirectory_count}
-use Rattle.tree_model.specs.Sound.{Names, IsSound}
+use Rattle.tree_model.specs.Sound.{IsSound}
 use Rattle.tree_model.specs.Apply.{with_name, without_name}
-use Rattle.tree_model.proofs.Keys.{places_total, exact_places, same_key_is, same_key_itself, same_place_is, same_place_itself}
+use Rattle.tree_model.proofs.Keys.{places_total, exact_places, same_key_itself, same_place_is, same_place_itself}
 use Rattle.dir_replay.specs.declared.nodes.Node.{Node}
 use Rattle.dir_replay.specs.Counts.{less_one_if, one_more_if}
 use Rattle.dir_replay.specs.Tied.{IsTied, directory_parent}

@@ -1,5 +1,5 @@
 -- A name less.
-use Rattle.std.proofs.Common.{◌≡◌, ℕ, ◌+◌, List, Option, Some, None, Bool, true, false, cond, not, ◌&&◌, refl, sym, ap, ◌∙◌, subst}
+use Rattle.std.proofs.Common.{◌≡◌, ℕ, ◌+◌, List, Some, None, Bool, true, false, cond, ◌&&◌, refl, sym, ap, ◌∙◌, subst}
 use Rattle.std.specs.Option.{option_map_or}
 use Rattle.std.specs.Ordering.{eq_by_cmp}
 use Rattle.std.specs.FinMap.Entries.{find as value_at, is_sorted}
@@ -18,7 +18,7 @@ use Rattle.dir_replay.specs.View.{tree_of}
 use Rattle.dir_replay.specs.Tied.{IsTied, directory_parent}
 use Rattle.dir_replay.proofs.Sorted.{sorted_nodes}
 use Rattle.dir_replay.proofs.Counts.{weight}
-use Rattle.dir_replay.proofs.Changes.{Each, each_kept, each_changed, sorted-at_node, kinds-at_node, names-at_node, names-left, without}
+use Rattle.dir_replay.proofs.Changes.{Each, each_kept, each_changed, sorted-at_node, kinds-at_node, names-at_node, names-left}
 use Rattle.dir_replay.proofs.Shown.{bare-tree_of}
 use Rattle.dir_replay.proofs.Above.{parent_of_unnamed, parent_kept}
 use Rattle.dir_replay.proofs.Effects.{sound_after}

@@ -7,7 +7,7 @@ use Rattle.std.specs.Ordering.{is_eq, is_lt, eq_by_cmp, ordering_then}
 use Rattle.std.specs.FinMap.Entries.{find as value_at, below_all, is_sorted}
 use Rattle.ivy_base.specs.declared.key.Key.{Key}
 use Rattle.ivy_base.specs.Naming.{key_cmp}
-use Rattle.tree_model.specs.Tree.{Tree, Place, place_cmp, same_key, inode_at, entry, has_name}
+use Rattle.tree_model.specs.Tree.{Place, place_cmp, same_key, inode_at, entry}
 use Rattle.tree_model.proofs.Keys.{keys_total, same_key_is}
 use Rattle.tree_model.proofs.Sound.{both_true}
 use Rattle.tree_model.proofs.Climb.{less_is_not_equal}

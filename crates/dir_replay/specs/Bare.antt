@@ -1,6 +1,5 @@
 -- A tree without what its inodes contain: the same names, and of each inode the kind alone.
-use Rattle.std.specs.Prelude.{◌≡◌, ℕ, List, [], map}
-use Rattle.ivy_base.specs.declared.key.Key.{Key}
+use Rattle.std.specs.Prelude.{◌≡◌, [], map}
 use Rattle.ivy_base.specs.declared.operation.Kind.{Kind}
 use Rattle.tree_model.specs.Tree.{Tree, Inode, Attributes}
 

@@ -1,4 +1,4 @@
-use Rattle.std.proofs.Common.{Some, None, true, cond, sym, ap, ◌∙◌}
+use Rattle.std.proofs.Common.{Some, None, true, cond, ap, ◌∙◌}
 use Rattle.dir_replay.specs.Counts.{one_more_if}
 use Rattle.dir_replay.proofs.Linked.{linked}
 use Rattle.dir_replay.proofs.names.Names.link.Goals as goal
