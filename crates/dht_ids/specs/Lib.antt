@@ -1,0 +1,2 @@
+pub mod NodeIds
+pub mod Peers

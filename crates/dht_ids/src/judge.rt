@@ -1,0 +1,28 @@
+//! The judge of heads, whose form the ring does not know.
+
+ghost use Rattle.std.specs.Prelude.{◌≡◌, ℕ, List};
+ghost use Rattle.std.specs.declared.option.Option.{Option};
+ghost use Rattle.ivy_base.specs.declared.key.Key.{Key};
+ghost use Rattle.dht_ids.specs.declared.judge.Judged.{Judged};
+
+use ivy_base::Key;
+
+/// What a good head says: the record that is its log's newest.
+#[derive(Clone, Copy, Debug, PartialEq, Eq)]
+pub struct Judged {
+    /// The record's number in its log. Of two heads under one key the one of the greater number is newer.
+    pub seq: u32,
+    /// The record's name.
+    pub name: Key,
+}
+
+/// Who tells a good head from any other bytes.
+pub trait Judge: Copy {
+    /// What the bytes say as a head under the key, or None where they are none.
+    ghost judges: { Self → Key → List ℕ → Option Judged };
+
+    /// What the bytes say as a head under the key, or None where they are none. The same arguments get the same
+    /// answer.
+    fn judge(&self, key: &Key, bytes: &[u8]) -> Option<Judged>
+        ensures { result ≡ judges self.now key.now bytes.now };
+}

@@ -1,0 +1,34 @@
+//! Blocks on their way to the ring.
+
+use ivy_base::{Bytes, Key};
+
+/// What a block that is put is.
+#[derive(Clone, Copy, Debug, PartialEq, Eq)]
+pub enum PostKind {
+    /// A content block that isn't a record, as a view or a piece of a snapshot. Its key is its name.
+    Block,
+    /// A record of a log: a content block, whose key is its name.
+    Log,
+    /// The head of a log. Its key is the log's head key.
+    Head,
+}
+
+/// A block that is to be put at its owners.
+#[derive(Drop)]
+pub struct Post {
+    /// The key whose owners are to hold it.
+    pub key: Key,
+    /// The block.
+    pub bytes: Bytes,
+    /// What it is.
+    pub kind: PostKind,
+}
+
+/// The word that a put was acknowledged.
+#[derive(Clone, Copy, Debug, PartialEq, Eq)]
+pub struct Ack {
+    /// The key under which the block was put.
+    pub key: Key,
+    /// The name of the bytes that were acknowledged.
+    pub name: Key,
+}

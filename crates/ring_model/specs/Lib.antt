@@ -1,0 +1,11 @@
+pub mod Circle
+pub mod Arc
+pub mod Members
+pub mod Ring
+pub mod Route
+pub mod Lookup
+pub mod Pass
+pub mod Round
+pub mod Change
+pub mod Blocks
+pub mod Laws
