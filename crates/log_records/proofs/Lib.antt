@@ -1,0 +1,5 @@
+pub mod Bytes
+pub mod Chains
+pub mod OneBody
+pub mod Bodies
+pub mod Operations

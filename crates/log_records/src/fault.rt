@@ -1,0 +1,65 @@
+use ivy_base::Memory;
+use thiserror::Error;
+use xdr_codec::XdrFault;
+
+/// Why no record was read.
+#[derive(Clone, Copy, Debug, PartialEq, Eq, Error)]
+pub enum RecordFault {
+    /// The bytes aren't the block of a record of the owner's.
+    #[error("not a record of the owner's")]
+    Malformed,
+    /// The block is above 12,288 bytes. This is tested first.
+    #[error("a record's block has more than 12288 bytes")]
+    TooLong,
+    /// The record makes an inode, of another number than the one that this record makes.
+    #[error("an inode of another number than its record makes")]
+    BadNumber,
+    /// Want of memory. No clause ties this to a cause.
+    #[error("out of memory")]
+    Memory,
+}
+
+/// Why a part of a block was not read.
+#[derive(Clone, Copy, Debug, PartialEq, Eq)]
+pub enum PartFault {
+    /// The bytes don't begin with such a part.
+    Malformed,
+    /// Want of memory.
+    Memory,
+}
+
+impl From<XdrFault> for PartFault {
+    ghost use Rattle.std.specs.Prelude.{◌≡◌};
+    ghost use Rattle.log_records.specs.declared.fault.PartFault.TheVariants.{Malformed};
+
+    ghost from_gives = { λ _ fault. fault ≡ Malformed };
+
+    fn from(_: XdrFault) -> Self {
+        PartFault::Malformed
+    }
+}
+
+impl From<Memory> for PartFault {
+    ghost use Rattle.std.specs.Prelude.{◌≡◌};
+    ghost use Rattle.log_records.specs.declared.fault.PartFault.TheVariants.{Memory};
+
+    ghost from_gives = { λ _ fault. fault ≡ Memory };
+
+    fn from(_: Memory) -> Self {
+        PartFault::Memory
+    }
+}
+
+impl From<PartFault> for RecordFault {
+    ghost use Rattle.std.specs.Prelude.{◌≡◌};
+    ghost use Rattle.log_records.specs.Reading.{fault_of_part};
+
+    ghost from_gives = { λ part fault. fault ≡ fault_of_part part };
+
+    fn from(part: PartFault) -> Self {
+        match part {
+            PartFault::Malformed => RecordFault::Malformed,
+            PartFault::Memory => RecordFault::Memory,
+        }
+    }
+}
