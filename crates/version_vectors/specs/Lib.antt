@@ -1,0 +1,4 @@
+pub mod Entries
+pub mod Vectors
+pub mod Reading
+pub mod Places

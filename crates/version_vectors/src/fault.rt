@@ -1,0 +1,34 @@
+//! Why no vector was read.
+
+ghost use Rattle.std.specs.Prelude.{◌≡◌};
+ghost use Rattle.version_vectors.specs.declared.fault.VectorFault.TheVariants.{Memory as NoMemory};
+
+use std::alloc::{AllocError, AllocFailed};
+use thiserror::Error;
+
+/// Why no vector was read.
+#[derive(Clone, Copy, Debug, PartialEq, Eq, Error)]
+pub enum VectorFault {
+    /// The bytes begin with no vector of at most so many entries.
+    #[error("no version vector stands there")]
+    Malformed,
+    /// Memory ran out. No clause ties this to a cause.
+    #[error("out of memory")]
+    Memory,
+}
+
+impl From<AllocError> for VectorFault {
+    ghost from_gives = { λ _ fault. fault ≡ NoMemory };
+
+    fn from(_: AllocError) -> Self {
+        VectorFault::Memory
+    }
+}
+
+impl<T: Drop> From<AllocFailed<T>> for VectorFault {
+    ghost from_gives = { λ _ fault. fault ≡ NoMemory };
+
+    fn from(_: AllocFailed<T>) -> Self {
+        VectorFault::Memory
+    }
+}
