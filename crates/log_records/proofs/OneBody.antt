@@ -77,3 +77,57 @@ change_of_parts p = record { mode = p.0.0.0.0.0; uid = p.0.0.0.0.1; gid = p.0.0.
 pub one_change : ReadsOne IsChange change_block
 one_change = of_parts change_parts (λ c f. (((((f.mode, f.uid), f.gid), f.size), f.atime), f.mtime)) (λ c. refl) (λ c d e. ap change_of_parts e)
     (one_optional (one_at_most 4095 (omega arith)) ▷ one_optional one_word ▷ one_optional one_word ▷ one_optional one_size ▷ one_optional one_record_moment ▷ one_optional one_record_moment)
+
+-- ---- operations
+
+abbrev InodeParts : Type 0
+InodeParts = ((((Key × Kind) × ℕ) × ℕ) × ℕ) × List ℕ
+
+abbrev inode_of : InodeParts → Op
+inode_of p = op.Inode p.0.0.0.0.0 p.0.0.0.0.1 p.0.0.0.1 p.0.0.1 p.0.1 p.1
+
+target_fits : (kind : Kind) (bytes : List ℕ) → IsTarget kind bytes → length bytes ≤ 1024
+target_fits Reg bytes f = rw f (omega arith)
+target_fits Dir bytes f = rw f (omega arith)
+target_fits Lnk bytes f = f.1
+
+set_body : (number : Key) (change : Change) (r : List ℕ) → body (op.SetAttrs number change) ++ r ≡ (number.0 ++ change_block change) ++ r
+set_body number change r = ap (λ (bytes : List ℕ). bytes ++ r) (simp append_assoc)
+
+set_spelled : (number : Key) (change : Change) (r : List ℕ) (other : Key) (change2 : Change) (s : List ℕ)
+    → body (op.SetAttrs number change) ++ r ≡ body (op.SetAttrs other change2) ++ s → (number.0 ++ change_block change) ++ r ≡ (other.0 ++ change_block change2) ++ s
+set_spelled number change r other change2 s e = sym (set_body number change r) ∙ e ∙ set_body other change2 s
+
+-- the body of an operation, of which the kind is known, is of one operation
+pub one_body : (kind : ℕ) → ReadsOne (IsOfKind kind) body
+one_body kind = record { one = λ x y r s f g e. same x y r s f.1 g.1 (f.0 ∙ sym g.0) e }
+  where
+    same : (x y : Op) (r s : List ℕ) → OperationFits x → OperationFits y → record_kind x ≡ record_kind y → body x ++ r ≡ body y ++ s → (x ≡ y) × (r ≡ s)
+    same (op.Inode number kind mode uid gid target) (op.Inode number2 kind2 mode2 uid2 gid2 target2) r s f g k e =
+        let parts = one_key ▷ one_kind ▷ one_at_most 4095 (omega arith) ▷ one_word ▷ one_word ▷ one_short_opaque 1024 (omega arith) in
+        let p = parts.one (((((number, kind), mode), uid), gid), target) (((((number2, kind2), mode2), uid2), gid2), target2) r s
+            (((((f.0, tt), f.1), f.2), f.3), target_fits kind target f.4) (((((g.0, tt), g.1), g.2), g.3), target_fits kind2 target2 g.4) e in
+        (ap inode_of p.0, p.1)
+    same (op.Write number offset bytes) (op.Write number2 offset2 bytes2) r s f g k e =
+        let p = (one_key ▷ one_double_word ▷ one_short_opaque 8192 (omega arith)).one ((number, offset), bytes) ((number2, offset2), bytes2) r s
+            ((f.0, omega (arith, f.3)), f.2) ((g.0, omega (arith, g.3)), g.2) e in
+        (ap (λ (p : (Key × ℕ) × List ℕ). op.Write p.0.0 p.0.1 p.1) p.0, p.1)
+    same (op.Link dir name number) (op.Link dir2 name2 number2) r s f g k e =
+        let p = (one_key ▷ one_name ▷ one_key).one ((dir, name), number) ((dir2, name2), number2) r s ((f.0, f.1), f.2) ((g.0, g.1), g.2) e in
+        (ap (λ (p : (Key × List ℕ) × Key). op.Link p.0.0 p.0.1 p.1) p.0, p.1)
+    same (op.Unlink dir name) (op.Unlink dir2 name2) r s f g k e =
+        let p = (one_key ▷ one_name).one (dir, name) (dir2, name2) r s (f.0, f.1) (g.0, g.1) e in
+        (ap (λ (p : Key × List ℕ). op.Unlink p.0 p.1) p.0, p.1)
+    same (op.Rename dir name to_dir to_name) (op.Rename dir2 name2 to_dir2 to_name2) r s f g k e =
+        let p = (one_key ▷ one_name ▷ one_key ▷ one_name).one (((dir, name), to_dir), to_name) (((dir2, name2), to_dir2), to_name2) r s
+            (((f.0, f.1), f.2), f.3) (((g.0, g.1), g.2), g.3) e in
+        (ap (λ (p : ((Key × List ℕ) × Key) × List ℕ). op.Rename p.0.0.0 p.0.0.1 p.0.1 p.1) p.0, p.1)
+    same (op.Prepare dir name verifier) (op.Prepare dir2 name2 verifier2) r s f g k e =
+        let p = (one_key ▷ one_name ▷ one_block 8).one ((dir, name), verifier) ((dir2, name2), verifier2) r s ((f.0, f.1), f.2) ((g.0, g.1), g.2) e in
+        (ap (λ (p : (Key × List ℕ) × List ℕ). op.Prepare p.0.0 p.0.1 p.1) p.0, p.1)
+    same (op.Cancel seq) (op.Cancel seq2) r s f g k e = let p = one_word.one seq seq2 r s f g e in (ap op.Cancel p.0, p.1)
+    same (op.SetAttrs number change) (op.SetAttrs number2 change2) r s f g k e =
+        let p = (one_key ▷ one_change).one (number, change) (number2, change2) r s (f.0, f.1) (g.0, g.1) (set_spelled number change r number2 change2 s e) in
+        (ap (λ (p : Key × Change). op.SetAttrs p.0 p.1) p.0, p.1)
+    same op.End op.End r s f g k e = (refl, e)
+    same x y r s f g k e = absurd (omega (arith, k))

@@ -3,7 +3,9 @@
 
 pub mod fault;
 mod body;
+mod body_writing;
 mod change;
+mod change_writing;
 mod parts;
 
 pub use fault::RecordFault;
