@@ -54,12 +54,33 @@ IsFour p = ((IsOptional IsMode p.0.0.0 × IsOptional IsWord p.0.0.1) × IsOption
 abbrev four : Four → List ℕ
 four p = optional word p.0.0.0 ++ optional word p.0.0.1 ++ optional word p.0.1 ++ optional double_word p.1
 
+one_mode : ReadsOne (IsOptional IsMode) (optional word)
+one_mode = one_optional (one_at_most 4095 (omega arith))
+
 one_four : ReadsOne IsFour four
-one_four = one_optional (one_at_most 4095 (omega arith)) ▷ one_optional one_word ▷ one_optional one_word ▷ one_optional one_size
+one_four = one_mode ▷ one_optional one_word ▷ one_optional one_word ▷ one_optional one_size
 
 parts_of_change : (c : Change) → IsChange c → PartsOf {A = ChangeParts} (λ p. (IsFour p.0.0 × IsOptional IsMoment p.0.1) × IsOptional IsMoment p.1)
     (λ p. four p.0.0 ++ optional moment p.0.1 ++ optional moment p.1) (change_block c)
 parts_of_change c f = record { part = change_parts c; fits = (((((f.mode, f.uid), f.gid), f.size), f.atime), f.mtime); spelled = refl }
+
+without_four : {bytes : List ℕ} → HasNoFront IsFour four bytes → HasNoFront IsChange change_block bytes
+without_four absent = none_of_some parts_of_change (no_first (IsOptional IsMoment) (optional moment) (no_first (IsOptional IsMoment) (optional moment) absent))
+
+pub no_mode : {b0 : List ℕ} → HasNoFront (IsOptional IsMode) (optional word) b0 → HasNoFront IsChange change_block b0
+no_mode absent = without_four (no_first (IsOptional (IsAtMost 16777216)) (optional double_word) (no_first (IsOptional IsWord) (optional word) (no_first (IsOptional IsWord) (optional word) absent)))
+
+pub no_uid : {b0 b1 : List ℕ} {mode : Option ℕ} → IsFront (IsOptional IsMode) (optional word) b0 mode b1 → HasNoFront (IsOptional IsWord) (optional word) b1 → HasNoFront IsChange change_block b0
+no_uid mode absent = without_four (no_first (IsOptional (IsAtMost 16777216)) (optional double_word) (no_first (IsOptional IsWord) (optional word) (no_second one_mode mode absent)))
+
+pub no_gid : {b0 b1 b2 : List ℕ} {mode uid : Option ℕ}
+    → IsFront (IsOptional IsMode) (optional word) b0 mode b1 → IsFront (IsOptional IsWord) (optional word) b1 uid b2 → HasNoFront (IsOptional IsWord) (optional word) b2 → HasNoFront IsChange change_block b0
+no_gid mode uid absent = without_four (no_first (IsOptional (IsAtMost 16777216)) (optional double_word) (no_second (one_mode ▷ one_optional one_word) (both mode uid) absent))
+
+pub no_size : {b0 b1 b2 b3 : List ℕ} {mode uid gid : Option ℕ}
+    → IsFront (IsOptional IsMode) (optional word) b0 mode b1 → IsFront (IsOptional IsWord) (optional word) b1 uid b2 → IsFront (IsOptional IsWord) (optional word) b2 gid b3
+    → HasNoFront (IsOptional (IsAtMost 16777216)) (optional double_word) b3 → HasNoFront IsChange change_block b0
+no_size mode uid gid absent = without_four (no_second (one_mode ▷ one_optional one_word ▷ one_optional one_word) (both (both mode uid) gid) absent)
 
 pub no_atime : {b0 b1 b2 b3 b4 : List ℕ} {mode uid gid size : Option ℕ}
     → IsFront (IsOptional IsMode) (optional word) b0 mode b1 → IsFront (IsOptional IsWord) (optional word) b1 uid b2 → IsFront (IsOptional IsWord) (optional word) b2 gid b3

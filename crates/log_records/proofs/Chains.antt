@@ -1,5 +1,6 @@
 -- Parts side by side, where the later one's bounds depend on the earlier one.
 use Rattle.std.proofs.Common.{◌≡◌, ℕ, List, ◌++◌, refl, sym, ap, ◌∙◌, append_assoc, subst}
+use Rattle.std.specs.Prelude.{Result, Ok, Err, OnErr}
 use Rattle.wire_model.specs.OneReading.{ReadsOne, IsFront, HasNoFront}
 use Rattle.log_records.specs.declared.fault.PartFault.{PartFault}
 use Rattle.log_records.specs.declared.fault.PartFault.TheVariants.{Malformed, Memory}
@@ -54,3 +55,8 @@ pub refused : {A B : Type 0} {Fits : A → Type 0} {spell : A → List ℕ} {Who
     → (HasNoFront Fits spell middle → HasNoFront Whole written bytes) → (fault : PartFault) → Refuses Fits spell middle fault → Refuses Whole written bytes fault
 refused absent Malformed f = absent f
 refused absent Memory f = tt
+
+-- an error is refused whatever it is
+pub on_err : {T E : Type 0} (r : Result T E) {Q : Type 0} → Q → OnErr r Q
+on_err (Ok x) q = tt
+on_err (Err e) q = q

@@ -3,3 +3,5 @@ pub mod Chains
 pub mod OneBody
 pub mod Bodies
 pub mod Operations
+pub mod Heads
+pub mod Ends

@@ -1,3 +1,5 @@
 pub mod Reading
 pub mod Parts
 pub mod Sizes
+pub mod Heads
+pub mod Laws

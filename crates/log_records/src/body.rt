@@ -35,7 +35,6 @@ pub fn read_body(alloc: Global, reader: &mut XdrRead, kind: u32) -> Result<Op, P
 }
 
 /// A new inode.
-#[tactic(auto, using(crate::proofs::Operations::no_inode_kind, crate::proofs::Operations::no_inode_mode, crate::proofs::Operations::no_inode_uid, crate::proofs::Operations::no_inode_gid, crate::proofs::Operations::no_inode_target))]
 fn read_inode(alloc: Global, reader: &mut XdrRead) -> Result<Op, PartFault>
     ensures ok { IfOk result (λ op. IsFront (IsOfKind 1) body reader.old op reader.new) }
     ensures err { IfErr result (Refuses (IsOfKind 1) body reader.old) }
@@ -57,7 +56,6 @@ fn read_inode(alloc: Global, reader: &mut XdrRead) -> Result<Op, PartFault>
 }
 
 /// Bytes that are written into a file.
-#[tactic(auto, using(crate::proofs::Operations::no_write_piece))]
 fn read_write(alloc: Global, reader: &mut XdrRead) -> Result<Op, PartFault>
     ensures ok { IfOk result (λ op. IsFront (IsOfKind 2) body reader.old op reader.new) }
     ensures err { IfErr result (Refuses (IsOfKind 2) body reader.old) }
@@ -68,7 +66,7 @@ fn read_write(alloc: Global, reader: &mut XdrRead) -> Result<Op, PartFault>
 }
 
 /// A name that is given.
-#[tactic(auto, using(crate::proofs::Operations::no_link_place, crate::proofs::Operations::no_link_number))]
+#[tactic(auto, using(crate::proofs::Operations::no_link_place))]
 fn read_link(alloc: Global, reader: &mut XdrRead) -> Result<Op, PartFault>
     ensures ok { IfOk result (λ op. IsFront (IsOfKind 3) body reader.old op reader.new) }
     ensures err { IfErr result (Refuses (IsOfKind 3) body reader.old) }
@@ -89,7 +87,7 @@ fn read_unlink(alloc: Global, reader: &mut XdrRead) -> Result<Op, PartFault>
 }
 
 /// A name that is moved.
-#[tactic(auto, using(crate::proofs::Operations::no_rename_place, crate::proofs::Operations::no_rename_target))]
+#[tactic(auto, using(crate::proofs::Operations::no_rename_place))]
 fn read_rename(alloc: Global, reader: &mut XdrRead) -> Result<Op, PartFault>
     ensures ok { IfOk result (λ op. IsFront (IsOfKind 5) body reader.old op reader.new) }
     ensures err { IfErr result (Refuses (IsOfKind 5) body reader.old) }
@@ -105,7 +103,7 @@ fn read_rename(alloc: Global, reader: &mut XdrRead) -> Result<Op, PartFault>
 }
 
 /// An exclusive creation that is announced.
-#[tactic(auto, using(crate::proofs::Operations::no_prepare_place, crate::proofs::Operations::no_prepare_verifier))]
+#[tactic(auto, using(crate::proofs::Operations::no_prepare_place))]
 fn read_prepare(alloc: Global, reader: &mut XdrRead) -> Result<Op, PartFault>
     ensures ok { IfOk result (λ op. IsFront (IsOfKind 6) body reader.old op reader.new) }
     ensures err { IfErr result (Refuses (IsOfKind 6) body reader.old) }
@@ -125,7 +123,6 @@ fn read_cancel(reader: &mut XdrRead) -> Result<Op, PartFault>
 }
 
 /// Attributes that are set.
-#[tactic(auto, using(crate::proofs::Operations::no_set_change))]
 fn read_set_attrs(reader: &mut XdrRead) -> Result<Op, PartFault>
     ensures ok { IfOk result (λ op. IsFront (IsOfKind 8) body reader.old op reader.new) }
     ensures err { IfErr result (Refuses (IsOfKind 8) body reader.old) }

@@ -7,6 +7,7 @@ ghost use Rattle.log_records.specs.Parts.{key_bytes, place_block};
 ghost use Rattle.log_records.specs.Sizes.{opaque_size, body_size, IsShort, HasShortTexts};
 
 use crate::change_writing::{change_len, put_change};
+use crate::writing::{opaque_len, put_key};
 use ivy_base::{Bytes, Key, Kind, Op};
 use xdr_codec::XdrWrite;
 
@@ -34,29 +35,16 @@ pub fn body_len(op: &Op) -> Option<usize>
     ensures bound { IfSome result (λ n. n ≤ 2 ^ 35) }
 {
     Some(match op {
-        Op::Inode { target, .. } => 36 + opaque_len(target)?,
-        Op::Write { bytes, .. } => 28 + opaque_len(bytes)?,
-        Op::Link { name, .. } => 40 + opaque_len(name)?,
-        Op::Unlink { name, .. } => 20 + opaque_len(name)?,
-        Op::Rename { name, to_name, .. } => 40 + opaque_len(name)? + opaque_len(to_name)?,
-        Op::Prepare { name, .. } => 28 + opaque_len(name)?,
+        Op::Inode { target, .. } => 36 + opaque_len(target.as_slice())?,
+        Op::Write { bytes, .. } => 28 + opaque_len(bytes.as_slice())?,
+        Op::Link { name, .. } => 40 + opaque_len(name.as_slice())?,
+        Op::Unlink { name, .. } => 20 + opaque_len(name.as_slice())?,
+        Op::Rename { name, to_name, .. } => 40 + opaque_len(name.as_slice())? + opaque_len(to_name.as_slice())?,
+        Op::Prepare { name, .. } => 28 + opaque_len(name.as_slice())?,
         Op::Cancel { .. } => 4,
         Op::SetAttrs { change, .. } => 20 + change_len(change),
         Op::End => 0,
     })
-}
-
-/// How many bytes a text takes; none where it has 2^32 bytes or more.
-fn opaque_len(bytes: &Bytes) -> Option<usize>
-    ensures size { IfSome result (λ n. n ≡ opaque_size bytes.now) }
-    ensures short { IfSome result (λ _. IsShort bytes.now) }
-    ensures bound { IfSome result (λ n. n ≤ 2 ^ 33) }
-{
-    let len = bytes.as_slice().len();
-    if len > u32::MAX as usize {
-        return None;
-    }
-    Some(4 + len + (4 - len % 4) % 4)
 }
 
 /// Appends the operation.
@@ -123,15 +111,6 @@ fn kind_number(kind: Kind) -> u32
         Kind::Dir => 2,
         Kind::Lnk => 5,
     }
-}
-
-/// Appends a key.
-pub fn put_key(out: &mut XdrWrite, key: &Key)
-    requires { 20 ≤ out.old.spare }
-    ensures written { out.new.written ≡ out.old.written ++ key_bytes key.now }
-    ensures spare { out.new.spare + 20 ≡ out.old.spare }
-{
-    out.put_fixed(&key.0);
 }
 
 /// Appends the verifier of an exclusive creation.

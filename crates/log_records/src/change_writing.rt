@@ -5,6 +5,7 @@ ghost use Rattle.wire_model.specs.Xdr.{word, double_word, optional, moment};
 ghost use Rattle.log_records.specs.Parts.{change_block};
 ghost use Rattle.log_records.specs.Sizes.{optional_size, change_size};
 
+use crate::writing::put_moment;
 use ivy_base::{Change, Moment};
 use xdr_codec::XdrWrite;
 
@@ -90,14 +91,4 @@ fn put_optional_moment(out: &mut XdrWrite, item: Option<Moment>)
             put_moment(out, m);
         }
     }
-}
-
-/// Appends a moment: the seconds and the nanoseconds.
-pub fn put_moment(out: &mut XdrWrite, m: Moment)
-    requires { 8 ≤ out.old.spare }
-    ensures written { out.new.written ≡ out.old.written ++ moment m }
-    ensures spare { out.new.spare + 8 ≡ out.old.spare }
-{
-    out.put_u32(m.sec);
-    out.put_u32(m.nsec);
 }

@@ -19,13 +19,34 @@ pub enum RecordFault {
     Memory,
 }
 
-/// Why a part of a block was not read.
+/// The bytes don't begin with what was to be read.
+#[derive(Clone, Copy, Debug, PartialEq, Eq)]
+pub struct Malformed;
+
+impl From<XdrFault> for Malformed {
+    fn from(_: XdrFault) -> Self {
+        Malformed
+    }
+}
+
+/// Why a part of a block was not read, where it takes memory.
 #[derive(Clone, Copy, Debug, PartialEq, Eq)]
 pub enum PartFault {
     /// The bytes don't begin with such a part.
     Malformed,
     /// Want of memory.
     Memory,
+}
+
+impl From<Malformed> for PartFault {
+    ghost use Rattle.std.specs.Prelude.{◌≡◌};
+    ghost use Rattle.log_records.specs.declared.fault.PartFault.TheVariants.{Malformed};
+
+    ghost from_gives = { λ _ fault. fault ≡ Malformed };
+
+    fn from(_: Malformed) -> Self {
+        PartFault::Malformed
+    }
 }
 
 impl From<XdrFault> for PartFault {

@@ -6,6 +6,9 @@ mod body;
 mod body_writing;
 mod change;
 mod change_writing;
+pub mod head;
 mod parts;
+mod writing;
 
 pub use fault::RecordFault;
+pub use head::{Head, plain_head};

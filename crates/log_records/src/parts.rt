@@ -1,14 +1,15 @@
 //! Reading the parts that records share.
 
-ghost use Rattle.std.specs.Prelude.{◌≡◌, ◌≤◌, ◌%◌, ◌↔◌, IsTrue, length, IfOk, IfErr};
+ghost use Rattle.std.specs.Prelude.{◌≡◌, ◌≤◌, ◌%◌, ◌↔◌, IsTrue, length, IfOk, IfErr, OnErr};
 ghost use Rattle.ivy_base.specs.Naming.{IsFileName};
 ghost use Rattle.wire_model.specs.Xdr.{word, double_word, opaque, optional, moment, IsWord, IsAny};
-ghost use Rattle.wire_model.specs.OneReading.{IsFront};
+ghost use Rattle.wire_model.specs.OneReading.{IsFront, HasNoFront};
 ghost use Rattle.log_model.specs.Spelling.{IsBlock, IsKey, IsMoment, IsTarget};
-ghost use Rattle.log_records.specs.Parts.{as_it_stands, key_bytes, kind_word, IsAtMost, place_block, IsPlace, piece_block, IsPiece, target_bound};
+ghost use Rattle.log_records.specs.Heads.{IsNumber};
+ghost use Rattle.log_records.specs.Parts.{magic_bytes, as_it_stands, key_bytes, kind_word, IsAtMost, place_block, IsPlace, piece_block, IsPiece, target_bound};
 ghost use Rattle.log_records.specs.Reading.{Refuses};
 
-use crate::fault::PartFault;
+use crate::fault::{Malformed, PartFault};
 use ivy_base::{Bytes, Key, Kind, Moment, name_ok};
 use std::alloc::Global;
 use xdr_codec::XdrRead;
@@ -16,12 +17,24 @@ use xdr_codec::XdrRead;
 /// The most bytes of a file.
 pub const LONGEST_FILE: u64 = 16_777_216;
 
+/// What the blocks of a format begin with.
+#[tactic(auto, using(crate::proofs::Heads::no_magic))]
+pub fn read_magic(reader: &mut XdrRead, magic: &[u8; 4]) -> Result<(), Malformed>
+    ensures ok { IfOk result (λ u. IsFront IsAny (magic_bytes magic.now) reader.old u reader.new) }
+    ensures err { OnErr result (HasNoFront IsAny (magic_bytes magic.now) reader.old) }
+{
+    if reader.fixed(4)? != magic.as_slice() {
+        return Err(Malformed);
+    }
+    Ok(())
+}
+
 /// So many bytes, where no zeros fill them up.
 #[tactic(auto, using(crate::proofs::Bytes::block_front, crate::proofs::Bytes::no_block))]
-pub fn read_block<const N: usize>(reader: &mut XdrRead) -> Result<[u8; N], PartFault>
+pub fn read_block<const N: usize>(reader: &mut XdrRead) -> Result<[u8; N], Malformed>
     requires { N % 4 ≡ 0 }
     ensures ok { IfOk result (λ bytes. IsFront (IsBlock N) as_it_stands reader.old bytes reader.new) }
-    ensures err { IfErr result (Refuses (IsBlock N) as_it_stands reader.old) }
+    ensures err { OnErr result (HasNoFront (IsBlock N) as_it_stands reader.old) }
 {
     let item = reader.fixed(N)?;
     Ok(block_of(item))
@@ -39,29 +52,41 @@ fn block_of<const N: usize>(item: &[u8]) -> [u8; N]
 }
 
 /// A key: 20 bytes.
-pub fn read_key(reader: &mut XdrRead) -> Result<Key, PartFault>
+pub fn read_key(reader: &mut XdrRead) -> Result<Key, Malformed>
     ensures ok { IfOk result (λ key. IsFront IsKey key_bytes reader.old key reader.new) }
-    ensures err { IfErr result (Refuses IsKey key_bytes reader.old) }
+    ensures err { OnErr result (HasNoFront IsKey key_bytes reader.old) }
 {
     Ok(Key(read_block::<20>(reader)?))
 }
 
 /// A number of at most `most`.
-pub fn read_at_most(reader: &mut XdrRead, most: u32) -> Result<u32, PartFault>
+pub fn read_at_most(reader: &mut XdrRead, most: u32) -> Result<u32, Malformed>
     ensures ok { IfOk result (λ n. IsFront (IsAtMost most) word reader.old n reader.new) }
-    ensures err { IfErr result (Refuses (IsAtMost most) word reader.old) }
+    ensures err { OnErr result (HasNoFront (IsAtMost most) word reader.old) }
 {
     let n = reader.u32()?;
     if n > most {
-        return Err(PartFault::Malformed);
+        return Err(Malformed);
+    }
+    Ok(n)
+}
+
+/// The number of a record in its log, 1 to 1,048,576.
+pub fn read_number(reader: &mut XdrRead) -> Result<u32, Malformed>
+    ensures ok { IfOk result (λ n. IsFront IsNumber word reader.old n reader.new) }
+    ensures err { OnErr result (HasNoFront IsNumber word reader.old) }
+{
+    let n = read_at_most(reader, 1_048_576)?;
+    if n == 0 {
+        return Err(Malformed);
     }
     Ok(n)
 }
 
 /// A moment, of less than 1,000,000,000 nanoseconds.
-pub fn read_moment(reader: &mut XdrRead) -> Result<Moment, PartFault>
+pub fn read_moment(reader: &mut XdrRead) -> Result<Moment, Malformed>
     ensures ok { IfOk result (λ m. IsFront IsMoment moment reader.old m reader.new) }
-    ensures err { IfErr result (Refuses IsMoment moment reader.old) }
+    ensures err { OnErr result (HasNoFront IsMoment moment reader.old) }
 {
     let sec = reader.u32()?;
     let nsec = read_at_most(reader, 999_999_999)?;
@@ -69,15 +94,15 @@ pub fn read_moment(reader: &mut XdrRead) -> Result<Moment, PartFault>
 }
 
 /// The kind of an inode: 1 for a regular file, 2 for a directory, 5 for a symbolic link.
-pub fn read_kind(reader: &mut XdrRead) -> Result<Kind, PartFault>
+pub fn read_kind(reader: &mut XdrRead) -> Result<Kind, Malformed>
     ensures ok { IfOk result (λ kind. IsFront IsAny kind_word reader.old kind reader.new) }
-    ensures err { IfErr result (Refuses IsAny kind_word reader.old) }
+    ensures err { OnErr result (HasNoFront IsAny kind_word reader.old) }
 {
     match reader.u32()? {
         1 => Ok(Kind::Reg),
         2 => Ok(Kind::Dir),
         5 => Ok(Kind::Lnk),
-        _ => Err(PartFault::Malformed),
+        _ => Err(Malformed),
     }
 }
 
