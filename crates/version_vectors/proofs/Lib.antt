@@ -4,4 +4,9 @@ pub mod OneVector
 pub mod Lengths
 pub mod EntryReading
 pub mod Order
+pub mod Places
+pub mod Edits
+pub mod Whole
+pub mod Domination
+pub mod Ranks
 pub mod EntriesReading

@@ -18,7 +18,7 @@ use Rattle.version_vectors.specs.Places.{AreBefore, AreBehind}
 use Rattle.version_vectors.specs.Entries.{stamped, vector_of}
 use Rattle.version_vectors.specs.declared.entry.Entry as kept
 
-is_less : (r : Ordering) → is_lt r ≡ true → r ≡ Less
+pub is_less : (r : Ordering) → is_lt r ≡ true → r ≡ Less
 is_less Less h = refl
 is_less Equal h = cc
 is_less Greater h = cc
@@ -36,6 +36,15 @@ sorted_before [] e w h = tt
 sorted_before (d ∷ v) e w h =
     let parts = both_true (below_all key_cmp d.0 (v ++ e ∷ w)) (is_sorted key_cmp (v ++ e ∷ w)) h in
     (below_between d.0 v e w parts.0, sorted_before v e w parts.1)
+
+pub each_behind : (k : Key) (w : Vector) → below_all key_cmp k w ≡ true → AreBehind k w
+each_behind k [] h = tt
+each_behind k (d ∷ w) h = let parts = both_true (is_lt (key_cmp k d.0)) (below_all key_cmp k w) h in (parts.0, each_behind k w parts.1)
+
+-- behind an entry
+pub sorted_behind : (v : Vector) (e : Entry) (w : Vector) → is_sorted key_cmp (v ++ e ∷ w) ≡ true → AreBehind e.0 w
+sorted_behind [] e w h = each_behind e.0 w (both_true (below_all key_cmp e.0 w) (is_sorted key_cmp w) h).0
+sorted_behind (d ∷ v) e w h = sorted_behind v e w (both_true (below_all key_cmp d.0 (v ++ e ∷ w)) (is_sorted key_cmp (v ++ e ∷ w)) h).1
 
 below_more : (k : Key) (v : Vector) (e : Entry) → below_all key_cmp k v ≡ true → is_lt (key_cmp k e.0) ≡ true → below_all key_cmp k (v ++ e ∷ []) ≡ true
 below_more k [] e h less = both _ true less refl

@@ -1,4 +1,5 @@
 pub mod Entries
 pub mod Vectors
 pub mod Reading
+pub mod Ranks
 pub mod Places

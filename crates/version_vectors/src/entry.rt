@@ -1,7 +1,7 @@
 //! One log of a vector.
 
-ghost use Rattle.std.specs.Prelude.{◌≡◌, ◌+◌, ◌*◌, ◌^◌, ◌≤◌, ◌++◌, length, IfSome, IfNone};
-ghost use Rattle.log_model.specs.Vector.{weight_of};
+ghost use Rattle.std.specs.Prelude.{◌≡◌, ◌+◌, ◌*◌, ◌^◌, ◌<◌, ◌≤◌, ◌++◌, length, if◌then◌else◌, IfSome, IfNone};
+ghost use Rattle.log_model.specs.Vector.{later, weight_of};
 ghost use Rattle.wire_model.specs.OneReading.{IsFront, HasNoFront};
 ghost use Rattle.log_model.specs.Spelling.{IsKey, vector_entry};
 ghost use Rattle.version_vectors.specs.Vectors.{EntryFits};
@@ -9,6 +9,7 @@ ghost use Rattle.version_vectors.specs.Entries.{stamped, vector_of};
 ghost use Rattle.version_vectors.specs.Reading.{key_bytes, entries_bytes};
 
 use ivy_base::Key;
+use std::cmp::Ordering;
 use xdr_codec::{XdrRead, XdrWrite};
 
 /// A log, and the newest of its records that is known (Ivy: an entry of a version vector).
@@ -24,6 +25,28 @@ pub struct Entry {
 
 /// The bytes of an entry.
 pub const ENTRY_BYTES: usize = 44;
+
+/// Whether the other entry of the same log is the later one: of the greater number, or of an equal number and the
+/// lesser name.
+pub fn is_later(held: &Entry, other: &Entry) -> bool
+    ensures { later (stamped held.now).1 (stamped other.now).1 ≡ (if result then (stamped other.now).1 else (stamped held.now).1) }
+{
+    match held.seq.cmp(&other.seq) {
+        Ordering::Less => true,
+        Ordering::Equal => other.name.cmp(&held.name).is_lt(),
+        Ordering::Greater => false,
+    }
+}
+
+/// What the types say of an entry: its keys have 20 bytes, and its number has four.
+pub fn check_types(entry: Entry)
+    ensures log { IsKey entry.log }
+    ensures seq { entry.seq < 2 ^ 32 }
+    ensures name { IsKey entry.name }
+{
+    let _ = key_of(&entry.log.0);
+    let _ = key_of(&entry.name.0);
+}
 
 /// The entry at the front. There is none where the bytes are too few, or the number is 0; then the reader may
 /// stand anywhere.
