@@ -1,6 +1,8 @@
--- Where bytes are left behind a block.
-use Rattle.std.proofs.Common.{◌≡◌, ℕ, List, []}
+-- Where bytes are left behind a block, and where they differ.
+use Rattle.std.proofs.Common.{◌≡◌, ℕ, List, [], Bool, true, false, not, refl, sym, ap, ◌∙◌}
 use Rattle.std.specs.Prelude.{◌≢◌}
+use Rattle.std.specs.Str.{bytes_eq}
+use Rattle.std.proofs.lemmas.Slice.Eq.{bytes_eq-Decides}
 use Rattle.xdr_codec.specs.Reading.{EndFault}
 use Rattle.xdr_codec.specs.declared.fault.XdrFault.{XdrFault}
 use Rattle.xdr_codec.specs.declared.fault.XdrFault.TheVariants.{Short, TooLong, Padding, NotBool, Trailing}
@@ -11,3 +13,10 @@ ended rest Short f = absurd f
 ended rest TooLong f = absurd f
 ended rest Padding f = absurd f
 ended rest NotBool f = absurd f
+
+untrue : (b : Bool) → not b ≡ true → b ≡ true → ⊥
+untrue true h g = cc
+untrue false h g = cc
+
+pub not_same : (xs ys zs : List ℕ) (b : Bool) → b ≡ not (bytes_eq xs ys) → b ≡ true → ys ≡ zs → xs ≢ zs
+not_same xs ys zs b e t s same = untrue (bytes_eq xs ys) (sym e ∙ t) ((bytes_eq-Decides xs ys).1 (same ∙ sym s))

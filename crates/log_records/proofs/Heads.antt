@@ -10,34 +10,12 @@ use Rattle.wire_model.proofs.OneReading.{◌▷◌, of_fewer, of_length, of_part
 use Rattle.wire_model.proofs.Fronts.{both, no_first, no_second}
 use Rattle.log_model.specs.Vector.{Stamp}
 use Rattle.log_model.specs.Spelling.{IsBlock, IsKey, head_block, IsHeadOf}
-use Rattle.log_records.specs.Parts.{magic_bytes, as_it_stands, key_bytes}
+use Rattle.log_records.specs.Parts.{constant_bytes, as_it_stands, key_bytes}
 use Rattle.log_records.specs.Heads.{stamp, IsNumber, Parts, IsHead, head_bytes}
 use Rattle.log_records.specs.Laws.{HeadsAreOne}
-use Rattle.log_records.proofs.Bytes.{fixed_block}
+use Rattle.log_records.proofs.Constants.{one_constant}
 use Rattle.log_records.proofs.Chains.{PartsOf, none_of_some}
 use Rattle.log_records.proofs.OneBody.{one_block, one_key}
-
--- ---- what a block begins with
-
-pub one_magic : (front : List ℕ) → ReadsOne IsAny (magic_bytes front)
-one_magic front = always front
-
-pub no_magic : {bytes magic : List ℕ} → length magic ≡ 4 → HasNoFront (IsOfLength 4) fixed bytes → HasNoFront IsAny (magic_bytes magic) bytes
-no_magic {magic} size absent = record {
-  none = λ u rest f. absent.none magic rest (record { fits = size; spelled = f.spelled ∙ ap (λ (s : List ℕ). s ++ rest) (sym (fixed_block magic (ap (λ n. n % 4) size))) });
-}
-
-fixed_4 : (bytes : List ℕ) → length bytes ≡ 4 → fixed bytes ≡ bytes
-fixed_4 bytes h = fixed_block bytes (ap (λ n. n % 4) h)
-
-pub other_magic : {bytes item rest magic : List ℕ} → length magic ≡ 4 → IsFront (IsOfLength 4) fixed bytes item rest → item ≢ magic → HasNoFront IsAny (magic_bytes magic) bytes
-other_magic {bytes} {item} {magic} size f differs = record {
-  none = λ u after g.
-      differs (one_fixed.one item magic _ after f.fits size (sym f.spelled ∙ g.spelled ∙ ap (λ (s : List ℕ). s ++ after) (sym (fixed_block magic (ap (λ n. n % 4) size))))).0;
-}
-  where
-    one_fixed : ReadsOne (IsOfLength 4) fixed
-    one_fixed = of_length 4 (λ bytes h. ap length (fixed_4 bytes h) ∙ h) (λ x y f g e. sym (fixed_4 x f) ∙ e ∙ fixed_4 y g)
 
 -- ---- heads
 
@@ -54,10 +32,10 @@ abbrev IsTwo : Two → Type 0
 IsTwo p = IsAny p.0 × IsBlock 60 p.1
 
 abbrev two : Two → List ℕ
-two p = magic_bytes magic p.0 ++ as_it_stands p.1
+two p = constant_bytes magic p.0 ++ as_it_stands p.1
 
 one_two : ReadsOne IsTwo two
-one_two = one_magic magic ▷ one_block 60
+one_two = one_constant magic ▷ one_block 60
 
 abbrev Three : Type 0
 Three = Two × ℕ
@@ -101,20 +79,20 @@ parts_of_head p f = record { part = chain p; fits = chain_fits p f; spelled = re
 without_three : {bytes : List ℕ} → HasNoFront IsThree three bytes → HasNoFront IsHead head_bytes bytes
 without_three absent = none_of_some parts_of_head (no_first (IsUpTo 16000) opaque (no_first IsKey key_bytes absent))
 
-pub no_head_magic : {b0 : List ℕ} → HasNoFront IsAny (magic_bytes magic) b0 → HasNoFront IsHead head_bytes b0
+pub no_head_magic : {b0 : List ℕ} → HasNoFront IsAny (constant_bytes magic) b0 → HasNoFront IsHead head_bytes b0
 no_head_magic absent = without_three (no_first IsNumber word (no_first (IsBlock 60) as_it_stands absent))
 
-pub no_head_owner : {b0 b1 : List ℕ} {u : Unit {0}} → IsFront IsAny (magic_bytes magic) b0 u b1 → HasNoFront (IsBlock 60) as_it_stands b1 → HasNoFront IsHead head_bytes b0
-no_head_owner f absent = without_three (no_first IsNumber word (no_second (one_magic magic) f absent))
+pub no_head_owner : {b0 b1 : List ℕ} {u : Unit {0}} → IsFront IsAny (constant_bytes magic) b0 u b1 → HasNoFront (IsBlock 60) as_it_stands b1 → HasNoFront IsHead head_bytes b0
+no_head_owner f absent = without_three (no_first IsNumber word (no_second (one_constant magic) f absent))
 
-pub no_head_number : {b0 b1 b2 owner : List ℕ} {u : Unit {0}} → IsFront IsAny (magic_bytes magic) b0 u b1 → IsFront (IsBlock 60) as_it_stands b1 owner b2 → HasNoFront IsNumber word b2 → HasNoFront IsHead head_bytes b0
+pub no_head_number : {b0 b1 b2 owner : List ℕ} {u : Unit {0}} → IsFront IsAny (constant_bytes magic) b0 u b1 → IsFront (IsBlock 60) as_it_stands b1 owner b2 → HasNoFront IsNumber word b2 → HasNoFront IsHead head_bytes b0
 no_head_number f owner absent = without_three (no_second one_two (both f owner) absent)
 
-pub no_head_name : {b0 b1 b2 b3 owner : List ℕ} {u : Unit {0}} {n : ℕ} → IsFront IsAny (magic_bytes magic) b0 u b1 → IsFront (IsBlock 60) as_it_stands b1 owner b2 → IsFront IsNumber word b2 n b3
+pub no_head_name : {b0 b1 b2 b3 owner : List ℕ} {u : Unit {0}} {n : ℕ} → IsFront IsAny (constant_bytes magic) b0 u b1 → IsFront (IsBlock 60) as_it_stands b1 owner b2 → IsFront IsNumber word b2 n b3
     → HasNoFront IsKey key_bytes b3 → HasNoFront IsHead head_bytes b0
 no_head_name f owner number absent = none_of_some parts_of_head (no_first (IsUpTo 16000) opaque (no_second one_three (both (both f owner) number) absent))
 
-pub no_head_signature : {b0 b1 b2 b3 b4 owner : List ℕ} {u : Unit {0}} {n : ℕ} {name : Key} → IsFront IsAny (magic_bytes magic) b0 u b1 → IsFront (IsBlock 60) as_it_stands b1 owner b2 → IsFront IsNumber word b2 n b3
+pub no_head_signature : {b0 b1 b2 b3 b4 owner : List ℕ} {u : Unit {0}} {n : ℕ} {name : Key} → IsFront IsAny (constant_bytes magic) b0 u b1 → IsFront (IsBlock 60) as_it_stands b1 owner b2 → IsFront IsNumber word b2 n b3
     → IsFront IsKey key_bytes b3 name b4 → HasNoFront (IsUpTo 16000) opaque b4 → HasNoFront IsHead head_bytes b0
 no_head_signature f owner number name absent = none_of_some parts_of_head (no_second (one_three ▷ one_key) (both (both (both f owner) number) name) absent)
 

@@ -3,3 +3,4 @@ pub mod Parts
 pub mod Sizes
 pub mod Heads
 pub mod Laws
+pub mod Frames

@@ -9,9 +9,9 @@ use Rattle.ivy_base.specs.Naming.{IsFileName}
 use Rattle.wire_model.specs.Xdr.{word, double_word, opaque, optional, moment}
 use Rattle.log_model.specs.Spelling.{kind_number, record_kind, IsKey, OperationFits}
 
--- the same bytes whatever the block is of
-abbrev pub magic_bytes : List ℕ → Unit {0} → List ℕ
-magic_bytes front u = front
+-- the same bytes, whatever else the block has
+abbrev pub constant_bytes : List ℕ → Unit {0} → List ℕ
+constant_bytes front u = front
 
 -- bytes as they stand, and a key's
 abbrev pub as_it_stands : List ℕ → List ℕ

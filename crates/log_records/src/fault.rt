@@ -1,5 +1,6 @@
 use ivy_base::Memory;
 use thiserror::Error;
+use version_vectors::VectorFault;
 use xdr_codec::XdrFault;
 
 /// Why no record was read.
@@ -68,6 +69,20 @@ impl From<Memory> for PartFault {
 
     fn from(_: Memory) -> Self {
         PartFault::Memory
+    }
+}
+
+impl From<VectorFault> for PartFault {
+    ghost use Rattle.std.specs.Prelude.{◌≡◌};
+    ghost use Rattle.log_records.specs.Reading.{fault_of_vector};
+
+    ghost from_gives = { λ vector fault. fault ≡ fault_of_vector vector };
+
+    fn from(vector: VectorFault) -> Self {
+        match vector {
+            VectorFault::Malformed => PartFault::Malformed,
+            VectorFault::Memory => PartFault::Memory,
+        }
     }
 }
 

@@ -8,8 +8,8 @@ ghost use Rattle.log_model.specs.Spelling.{head_block, IsHeadOf};
 ghost use Rattle.log_records.specs.Heads.{stamp, IsHead, head_bytes};
 
 use crate::fault::Malformed;
-use crate::parts::{read_block, read_key, read_magic, read_number};
-use crate::writing::{opaque_len, put_key, put_magic, put_owner};
+use crate::parts::{read_block, read_constant, read_key, read_number};
+use crate::writing::{opaque_len, put_constant, put_key, put_owner};
 use ivy_base::{Bytes, Key, Memory, PubKey};
 use std::alloc::Global;
 use xdr_codec::{XdrRead, XdrWrite};
@@ -51,7 +51,7 @@ impl<'a> Head<'a> {
         };
         let mut out = XdrWrite::new(alloc);
         out.reserve(88 + signature_len)?;
-        put_magic(&mut out, &MAGIC);
+        put_constant(&mut out, &MAGIC);
         put_owner(&mut out, &self.owner);
         out.put_u32(self.seq);
         put_key(&mut out, &self.name);
@@ -94,7 +94,7 @@ fn read_head<'a>(reader: &mut XdrRead<'a>) -> Result<Head<'a>, Malformed>
     ensures ok { IfOk result (λ h. IsFront IsHead head_bytes reader.old ((h.owner, stamp h.seq h.name), h.signature.now) reader.new) }
     ensures err { OnErr result (HasNoFront IsHead head_bytes reader.old) }
 {
-    read_magic(reader, &MAGIC)?;
+    read_constant(reader, &MAGIC)?;
     let owner = PubKey(read_block::<60>(reader)?);
     let seq = read_number(reader)?;
     let name = read_key(reader)?;

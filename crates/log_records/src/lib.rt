@@ -6,6 +6,7 @@ mod body;
 mod body_writing;
 mod change;
 mod change_writing;
+mod frame;
 pub mod head;
 mod parts;
 mod writing;

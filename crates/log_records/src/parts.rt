@@ -6,7 +6,7 @@ ghost use Rattle.wire_model.specs.Xdr.{word, double_word, opaque, optional, mome
 ghost use Rattle.wire_model.specs.OneReading.{IsFront, HasNoFront};
 ghost use Rattle.log_model.specs.Spelling.{IsBlock, IsKey, IsMoment, IsTarget};
 ghost use Rattle.log_records.specs.Heads.{IsNumber};
-ghost use Rattle.log_records.specs.Parts.{magic_bytes, as_it_stands, key_bytes, kind_word, IsAtMost, place_block, IsPlace, piece_block, IsPiece, target_bound};
+ghost use Rattle.log_records.specs.Parts.{constant_bytes, as_it_stands, key_bytes, kind_word, IsAtMost, place_block, IsPlace, piece_block, IsPiece, target_bound};
 ghost use Rattle.log_records.specs.Reading.{Refuses};
 
 use crate::fault::{Malformed, PartFault};
@@ -17,13 +17,17 @@ use xdr_codec::XdrRead;
 /// The most bytes of a file.
 pub const LONGEST_FILE: u64 = 16_777_216;
 
-/// What the blocks of a format begin with.
-#[tactic(auto, using(crate::proofs::Heads::no_magic))]
-pub fn read_magic(reader: &mut XdrRead, magic: &[u8; 4]) -> Result<(), Malformed>
-    ensures ok { IfOk result (λ u. IsFront IsAny (magic_bytes magic.now) reader.old u reader.new) }
-    ensures err { OnErr result (HasNoFront IsAny (magic_bytes magic.now) reader.old) }
+/// Bytes that are the same in each block, so many that no zeros fill them up.
+#[tactic(auto, using(crate::proofs::Constants::no_constant))]
+pub fn read_constant<const N: usize>(
+    reader: &mut XdrRead,
+    constant: &[u8; N],
+) -> Result<(), Malformed>
+    requires { N % 4 ≡ 0 }
+    ensures ok { IfOk result (λ u. IsFront IsAny (constant_bytes constant.now) reader.old u reader.new) }
+    ensures err { OnErr result (HasNoFront IsAny (constant_bytes constant.now) reader.old) }
 {
-    if reader.fixed(4)? != magic.as_slice() {
+    if reader.fixed(N)? != constant.as_slice() {
         return Err(Malformed);
     }
     Ok(())

@@ -22,12 +22,12 @@ pub fn opaque_len(bytes: &[u8]) -> Option<usize>
 }
 
 /// Appends what the blocks of a format begin with.
-pub fn put_magic(out: &mut XdrWrite, magic: &[u8; 4])
+pub fn put_constant(out: &mut XdrWrite, constant: &[u8; 4])
     requires { 4 ≤ out.old.spare }
-    ensures written { out.new.written ≡ out.old.written ++ magic.now }
+    ensures written { out.new.written ≡ out.old.written ++ constant.now }
     ensures spare { out.new.spare + 4 ≡ out.old.spare }
 {
-    out.put_fixed(magic);
+    out.put_fixed(constant);
 }
 
 /// Appends a public key.
