@@ -6,3 +6,6 @@ pub mod Operations
 pub mod Constants
 pub mod Heads
 pub mod Ends
+pub mod Frames
+pub mod OneRecord
+pub mod Weights

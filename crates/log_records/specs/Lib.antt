@@ -4,3 +4,4 @@ pub mod Sizes
 pub mod Heads
 pub mod Laws
 pub mod Frames
+pub mod Records

@@ -8,8 +8,10 @@ mod change;
 mod change_writing;
 mod frame;
 pub mod head;
+pub mod record;
 mod parts;
 mod writing;
 
 pub use fault::RecordFault;
 pub use head::{Head, plain_head};
+pub use record::Record;
