@@ -4,8 +4,10 @@ pub mod OneBody
 pub mod Bodies
 pub mod Operations
 pub mod Constants
-pub mod Heads
+pub mod OneHead
 pub mod Ends
 pub mod Frames
 pub mod OneRecord
 pub mod Weights
+pub mod PlainHeads
+pub mod Sizes

@@ -86,7 +86,7 @@ InodeParts = ((((Key × Kind) × ℕ) × ℕ) × ℕ) × List ℕ
 abbrev inode_of : InodeParts → Op
 inode_of p = op.Inode p.0.0.0.0.0 p.0.0.0.0.1 p.0.0.0.1 p.0.0.1 p.0.1 p.1
 
-target_fits : (kind : Kind) (bytes : List ℕ) → IsTarget kind bytes → length bytes ≤ 1024
+pub target_fits : (kind : Kind) (bytes : List ℕ) → IsTarget kind bytes → length bytes ≤ 1024
 target_fits Reg bytes f = rw f (omega arith)
 target_fits Dir bytes f = rw f (omega arith)
 target_fits Lnk bytes f = f.1

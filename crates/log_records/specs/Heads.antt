@@ -47,10 +47,13 @@ name_in bytes = record { 0 = take 20 (drop 68 bytes) }
 abbrev pub is_block : ℕ → List ℕ → Bool
 is_block count bytes = nat_eq (length bytes) count && list_all (λ b. nat_lt b 256) bytes
 
+-- they are a head under the key with that owner, number and name, and with an empty signature
+abbrev pub is_plain : Key → List ℕ → PubKey → ℕ → Key → Bool
+is_plain key bytes owner seq name =
+    is_block 60 owner.0 && nat_le 1 seq && nat_le seq 1048576 && is_block 20 name.0 && bytes_eq bytes (head_block owner (stamp seq name) []) && bytes_eq key.0 (head_key_of owner).0
+
 abbrev pub is_plain_head : Key → List ℕ → Bool
-is_plain_head key bytes =
-    is_block 60 (owner_in bytes).0 && is_block 20 (name_in bytes).0 && nat_le 1 (seq_in bytes) && nat_le (seq_in bytes) 1048576
-    && bytes_eq bytes (head_block (owner_in bytes) (stamp (seq_in bytes) (name_in bytes)) []) && bytes_eq key.0 (head_key_of (owner_in bytes)).0
+is_plain_head key bytes = is_plain key bytes (owner_in bytes) (seq_in bytes) (name_in bytes)
 
 -- what the bytes say as a plain head under the key, where they are one
 abbrev pub plain_judged : Key → List ℕ → Option Judged

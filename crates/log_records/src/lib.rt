@@ -9,9 +9,13 @@ mod change_writing;
 mod frame;
 pub mod head;
 pub mod record;
+pub mod judge;
+mod laws;
 mod parts;
 mod writing;
 
 pub use fault::RecordFault;
 pub use head::{Head, plain_head};
+pub use judge::PlainJudge;
+pub use laws::blocks_are_one;
 pub use record::Record;

@@ -1,5 +1,5 @@
 use Rattle.log_records.proofs.Chains.{on_err}
-use Rattle.log_records.proofs.Heads.{no_head_magic, no_head_name, no_head_number, no_head_owner, no_head_signature}
+use Rattle.log_records.proofs.OneHead.{no_head_magic, no_head_name, no_head_number, no_head_owner, no_head_signature}
 use Rattle.log_records.proofs.head.read_head.Goals as goal
 
 pub returns-in_err-read_constant-clause-err : goal.returns-in_err-read_constant-clause-err

@@ -1,6 +1,6 @@
 use Rattle.log_records.proofs.Chains.{on_err}
 use Rattle.log_records.proofs.Ends.{ended}
-use Rattle.log_records.proofs.Heads.{no_whole_head, more_than_a_head}
+use Rattle.log_records.proofs.OneHead.{no_whole_head, more_than_a_head}
 use Rattle.log_records.proofs.head.read_whole.Goals as goal
 
 pub returns-in_err-head-clause-err : goal.returns-in_err-head-clause-err
