@@ -1,0 +1,13 @@
+pub mod Bytes
+pub mod Chains
+pub mod OneBody
+pub mod Bodies
+pub mod Operations
+pub mod Constants
+pub mod OneHead
+pub mod Ends
+pub mod Frames
+pub mod OneRecord
+pub mod Weights
+pub mod PlainHeads
+pub mod Sizes

@@ -1,0 +1,133 @@
+-- Each part of a record, and each operation of one kind, has one spelling.
+use Rattle.std.proofs.Common.{◌≡◌, ℕ, ◌^◌, ◌<◌, ◌≤◌, List, ◌++◌, length, Option, refl, sym, ap, ◌∙◌, arith, append_assoc}
+use Rattle.std.specs.Prelude.{IfSome, ⊤, Some, None}
+use Rattle.ivy_base.specs.declared.key.Key.{Key}
+use Rattle.ivy_base.specs.declared.operation.Kind.{Kind}
+use Rattle.ivy_base.specs.declared.operation.Kind.TheVariants.{Reg, Dir, Lnk}
+use Rattle.ivy_base.specs.declared.operation.Moment.{Moment}
+use Rattle.ivy_base.specs.declared.operation.Change.{Change}
+use Rattle.ivy_base.specs.declared.operation.Op.{Op}
+use Rattle.ivy_base.specs.declared.operation.Op.TheVariants as op
+use Rattle.ivy_base.specs.Naming.{IsFileName}
+use Rattle.wire_model.specs.Xdr.{word, double_word, opaque, optional, moment, IsWord, IsDoubleWord, IsAny, IsUpTo}
+use Rattle.wire_model.specs.OneReading.{ReadsOne}
+use Rattle.wire_model.proofs.OneReading.{◌▷◌, of_fewer, of_parts, one_word, one_double_word, one_moment, one_raw, one_short_opaque, one_optional}
+use Rattle.log_model.specs.Spelling.{record_kind, body, IsKey, IsBlock, IsMode, IsMoment, IsTarget, IsChange, OperationFits}
+use Rattle.log_records.specs.Parts.{key_bytes, kind_word, IsAtMost, place_block, IsPlace, piece_block, IsPiece, change_block, IsOfKind}
+
+pub one_block : (count : ℕ) → ReadsOne (IsBlock count) (λ bytes. bytes)
+one_block count = of_fewer (λ bytes f. f.size) (one_raw count)
+
+pub one_key : ReadsOne IsKey key_bytes
+one_key = of_parts (λ (k : Key). k.0) (λ k f. f) (λ k. refl) (λ k l e. ap (λ (bytes : List ℕ). record { 0 = bytes }) e) (one_block 20)
+
+pub one_at_most : (most : ℕ) → most < 2 ^ 32 → ReadsOne (IsAtMost most) word
+one_at_most most h = of_fewer (λ n f. omega arith) one_word
+
+pub one_record_moment : ReadsOne IsMoment moment
+one_record_moment = of_fewer (λ m f. (f.sec, omega (arith, f.nsec))) one_moment
+
+pub one_kind : ReadsOne IsAny kind_word
+one_kind = record { one = kinds }
+  where
+    kinds : (x y : Kind) (r s : List ℕ) → IsAny x → IsAny y → kind_word x ++ r ≡ kind_word y ++ s → (x ≡ y) × (r ≡ s)
+    kinds Reg Reg r s f g e = (refl, (one_word.one 1 1 r s (omega arith) (omega arith) e).1)
+    kinds Reg Dir r s f g e = cc
+    kinds Reg Lnk r s f g e = cc
+    kinds Dir Reg r s f g e = cc
+    kinds Dir Dir r s f g e = (refl, (one_word.one 2 2 r s (omega arith) (omega arith) e).1)
+    kinds Dir Lnk r s f g e = cc
+    kinds Lnk Reg r s f g e = cc
+    kinds Lnk Dir r s f g e = cc
+    kinds Lnk Lnk r s f g e = (refl, (one_word.one 5 5 r s (omega arith) (omega arith) e).1)
+
+pub one_name : ReadsOne IsFileName opaque
+one_name = of_fewer (λ bytes f. f.short) (one_short_opaque 255 (omega arith))
+
+pub one_place : ReadsOne IsPlace place_block
+one_place = one_key ▷ one_name
+
+pub one_piece : ReadsOne IsPiece piece_block
+one_piece = of_fewer {Fewer = IsPiece} (λ p f. (omega arith, f.1)) (one_double_word ▷ one_short_opaque 8192 (omega arith))
+
+pub one_target : (kind : Kind) → ReadsOne (IsTarget kind) opaque
+one_target kind = of_fewer (short kind) (one_short_opaque 1024 (omega arith))
+  where
+    short : (kind : Kind) (bytes : List ℕ) → IsTarget kind bytes → length bytes ≤ 1024
+    short Reg bytes f = rw f (omega arith)
+    short Dir bytes f = rw f (omega arith)
+    short Lnk bytes f = f.1
+
+abbrev pub IsOptionalAtMost : ℕ → Option ℕ → Type 0
+IsOptionalAtMost most o = IfSome o (IsAtMost most)
+
+pub one_size : ReadsOne (IsAtMost 16777216) double_word
+one_size = of_fewer {Fewer = IsAtMost 16777216} (λ n f. omega arith) one_double_word
+
+-- the parts of a change, side by side
+abbrev pub ChangeParts : Type 0
+ChangeParts = ((((Option ℕ × Option ℕ) × Option ℕ) × Option ℕ) × Option Moment) × Option Moment
+
+abbrev pub change_parts : Change → ChangeParts
+change_parts c = (((((c.mode, c.uid), c.gid), c.size), c.atime), c.mtime)
+
+abbrev pub change_of_parts : ChangeParts → Change
+change_of_parts p = record { mode = p.0.0.0.0.0; uid = p.0.0.0.0.1; gid = p.0.0.0.1; size = p.0.0.1; atime = p.0.1; mtime = p.1 }
+
+pub one_change : ReadsOne IsChange change_block
+one_change = of_parts change_parts (λ c f. (((((f.mode, f.uid), f.gid), f.size), f.atime), f.mtime)) (λ c. refl) (λ c d e. ap change_of_parts e)
+    (one_optional (one_at_most 4095 (omega arith)) ▷ one_optional one_word ▷ one_optional one_word ▷ one_optional one_size ▷ one_optional one_record_moment ▷ one_optional one_record_moment)
+
+-- ---- operations
+
+abbrev InodeParts : Type 0
+InodeParts = ((((Key × Kind) × ℕ) × ℕ) × ℕ) × List ℕ
+
+abbrev inode_of : InodeParts → Op
+inode_of p = op.Inode p.0.0.0.0.0 p.0.0.0.0.1 p.0.0.0.1 p.0.0.1 p.0.1 p.1
+
+pub target_fits : (kind : Kind) (bytes : List ℕ) → IsTarget kind bytes → length bytes ≤ 1024
+target_fits Reg bytes f = rw f (omega arith)
+target_fits Dir bytes f = rw f (omega arith)
+target_fits Lnk bytes f = f.1
+
+set_body : (number : Key) (change : Change) (r : List ℕ) → body (op.SetAttrs number change) ++ r ≡ (number.0 ++ change_block change) ++ r
+set_body number change r = ap (λ (bytes : List ℕ). bytes ++ r) (simp append_assoc)
+
+set_spelled : (number : Key) (change : Change) (r : List ℕ) (other : Key) (change2 : Change) (s : List ℕ)
+    → body (op.SetAttrs number change) ++ r ≡ body (op.SetAttrs other change2) ++ s → (number.0 ++ change_block change) ++ r ≡ (other.0 ++ change_block change2) ++ s
+set_spelled number change r other change2 s e = sym (set_body number change r) ∙ e ∙ set_body other change2 s
+
+-- the body of an operation, of which the kind is known, is of one operation
+pub one_body : (kind : ℕ) → ReadsOne (IsOfKind kind) body
+one_body kind = record { one = λ x y r s f g e. same x y r s f.1 g.1 (f.0 ∙ sym g.0) e }
+  where
+    same : (x y : Op) (r s : List ℕ) → OperationFits x → OperationFits y → record_kind x ≡ record_kind y → body x ++ r ≡ body y ++ s → (x ≡ y) × (r ≡ s)
+    same (op.Inode number kind mode uid gid target) (op.Inode number2 kind2 mode2 uid2 gid2 target2) r s f g k e =
+        let parts = one_key ▷ one_kind ▷ one_at_most 4095 (omega arith) ▷ one_word ▷ one_word ▷ one_short_opaque 1024 (omega arith) in
+        let p = parts.one (((((number, kind), mode), uid), gid), target) (((((number2, kind2), mode2), uid2), gid2), target2) r s
+            (((((f.0, tt), f.1), f.2), f.3), target_fits kind target f.4) (((((g.0, tt), g.1), g.2), g.3), target_fits kind2 target2 g.4) e in
+        (ap inode_of p.0, p.1)
+    same (op.Write number offset bytes) (op.Write number2 offset2 bytes2) r s f g k e =
+        let p = (one_key ▷ one_double_word ▷ one_short_opaque 8192 (omega arith)).one ((number, offset), bytes) ((number2, offset2), bytes2) r s
+            ((f.0, omega (arith, f.3)), f.2) ((g.0, omega (arith, g.3)), g.2) e in
+        (ap (λ (p : (Key × ℕ) × List ℕ). op.Write p.0.0 p.0.1 p.1) p.0, p.1)
+    same (op.Link dir name number) (op.Link dir2 name2 number2) r s f g k e =
+        let p = (one_key ▷ one_name ▷ one_key).one ((dir, name), number) ((dir2, name2), number2) r s ((f.0, f.1), f.2) ((g.0, g.1), g.2) e in
+        (ap (λ (p : (Key × List ℕ) × Key). op.Link p.0.0 p.0.1 p.1) p.0, p.1)
+    same (op.Unlink dir name) (op.Unlink dir2 name2) r s f g k e =
+        let p = (one_key ▷ one_name).one (dir, name) (dir2, name2) r s (f.0, f.1) (g.0, g.1) e in
+        (ap (λ (p : Key × List ℕ). op.Unlink p.0 p.1) p.0, p.1)
+    same (op.Rename dir name to_dir to_name) (op.Rename dir2 name2 to_dir2 to_name2) r s f g k e =
+        let p = (one_key ▷ one_name ▷ one_key ▷ one_name).one (((dir, name), to_dir), to_name) (((dir2, name2), to_dir2), to_name2) r s
+            (((f.0, f.1), f.2), f.3) (((g.0, g.1), g.2), g.3) e in
+        (ap (λ (p : ((Key × List ℕ) × Key) × List ℕ). op.Rename p.0.0.0 p.0.0.1 p.0.1 p.1) p.0, p.1)
+    same (op.Prepare dir name verifier) (op.Prepare dir2 name2 verifier2) r s f g k e =
+        let p = (one_key ▷ one_name ▷ one_block 8).one ((dir, name), verifier) ((dir2, name2), verifier2) r s ((f.0, f.1), f.2) ((g.0, g.1), g.2) e in
+        (ap (λ (p : (Key × List ℕ) × List ℕ). op.Prepare p.0.0 p.0.1 p.1) p.0, p.1)
+    same (op.Cancel seq) (op.Cancel seq2) r s f g k e = let p = one_word.one seq seq2 r s f g e in (ap op.Cancel p.0, p.1)
+    same (op.SetAttrs number change) (op.SetAttrs number2 change2) r s f g k e =
+        let p = (one_key ▷ one_change).one (number, change) (number2, change2) r s (f.0, f.1) (g.0, g.1) (set_spelled number change r number2 change2 s e) in
+        (ap (λ (p : Key × Change). op.SetAttrs p.0 p.1) p.0, p.1)
+    same op.End op.End r s f g k e = (refl, e)
+    same x y r s f g k e = absurd (omega (arith, k))

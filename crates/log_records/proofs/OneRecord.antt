@@ -1,0 +1,129 @@
+-- Records: each has one spelling, and when bytes are none.
+use Rattle.std.proofs.Common.{◌≡◌, ℕ, ◌+◌, ◌<◌, ◌^◌, ◌≤◌, List, [], ◌∷◌, ◌++◌, length, refl, sym, ap, ◌∙◌, arith, subst}
+use Rattle.std.specs.Prelude.{None}
+use Rattle.ivy_base.specs.declared.key.Key.{Key}
+use Rattle.ivy_base.specs.declared.key.PubKey.{PubKey}
+use Rattle.ivy_base.specs.declared.operation.Op.{Op}
+use Rattle.ivy_base.specs.declared.operation.Op.TheVariants as op
+use Rattle.ivy_base.specs.Naming.{head_key_of}
+use Rattle.wire_model.specs.OneReading.{ReadsOne, IsFront, HasNoFront}
+use Rattle.wire_model.proofs.OneReading.{whole}
+use Rattle.log_model.specs.Vector.{stamp_at}
+use Rattle.log_model.specs.Record.{Record}
+use Rattle.log_model.specs.Spelling.{record_kind, body, record_block, HasSpelling, IsRecordOf}
+use Rattle.log_model.specs.Chain.{HasMadeNumber}
+use Rattle.log_records.specs.declared.frame.Frame.{Frame}
+use Rattle.log_records.specs.declared.fault.PartFault.{PartFault}
+use Rattle.log_records.specs.declared.fault.PartFault.TheVariants as part
+use Rattle.log_records.specs.Parts.{IsOfKind}
+use Rattle.log_records.specs.Frames.{IsFrame, frame_block, AreParts, parts_block, IsWellPlaced}
+use Rattle.log_records.specs.Reading.{Refuses, fault_of_part, IsSpelled, RefusesWhole}
+use Rattle.log_records.specs.Records.{ReadFault}
+use Rattle.log_records.specs.Laws.{IsOwned, RecordsAreOne}
+use Rattle.log_records.proofs.Chains.{no_first_by, no_second_by, one_by, refused_whole}
+use Rattle.log_records.proofs.OneBody.{one_body}
+use Rattle.log_records.proofs.Frames.{one_frame}
+
+-- ---- a frame and an operation
+
+abbrev pub kind_in : Frame → Op → Type 0
+kind_in f o = IsOfKind f.kind o
+
+pub one_of_parts : (log : Key) → ReadsOne (AreParts log) (parts_block log)
+one_of_parts log = one_by kind_in (one_frame log) (λ f. one_body f.kind)
+
+pub no_frame : (log : Key) (bytes : List ℕ) (fault : PartFault) → Refuses (IsFrame log) (frame_block log) bytes fault → RefusesWhole (AreParts log) (parts_block log) bytes fault
+no_frame log bytes fault f = refused_whole {Whole = AreParts log} {written = parts_block log} (λ absent. no_first_by kind_in body absent) fault f
+
+pub no_operation : (log : Key) (bytes middle : List ℕ) (frame : Frame) → IsFront (IsFrame log) (frame_block log) bytes frame middle
+    → (fault : PartFault) → Refuses (IsOfKind frame.kind) body middle fault → RefusesWhole (AreParts log) (parts_block log) bytes fault
+no_operation log bytes middle frame front fault f = refused_whole {Whole = AreParts log} {written = parts_block log} (λ absent. no_second_by kind_in (one_frame log) front absent) fault f
+
+-- ---- records
+
+kind_fits : (o : Op) → record_kind o < 2 ^ 32
+kind_fits (op.Inode number kind mode uid gid target) = omega arith
+kind_fits (op.Write number offset bytes) = omega arith
+kind_fits (op.Link dir name number) = omega arith
+kind_fits (op.Unlink dir name) = omega arith
+kind_fits (op.Rename dir name to_dir to_name) = omega arith
+kind_fits (op.Prepare dir name verifier) = omega arith
+kind_fits (op.Cancel seq) = omega arith
+kind_fits (op.SetAttrs number change) = omega arith
+kind_fits op.End = omega arith
+
+abbrev pub frame_in : Record → Frame
+frame_in r = record { kind = record_kind r.op; prev = r.prev; seq = r.seq; moment = r.moment; vector = r.vector }
+
+abbrev pub parts_in : Record → Frame × Op
+parts_in r = (frame_in r, r.op)
+
+abbrev pub record_with : PubKey → Frame × Op → Record
+record_with owner p = record { owner = owner; seq = p.0.seq; prev = p.0.prev; vector = p.0.vector; moment = p.0.moment; op = p.1 }
+
+parts_fit : (r : Record) → HasSpelling r → AreParts (head_key_of r.owner) (parts_in r)
+parts_fit r f = (record {
+  kind_is = kind_fits r.op;
+  prev_is = f.prev;
+  seq_is = (f.some, f.few);
+  moment_is = f.moment;
+  cited = (record { whole = record { entries = f.entries; in_order = f.in_order }; short = f.short }, f.of_others);
+}, (refl, f.operation))
+
+owned_parts : (owner : PubKey) (r : Record) → r.owner ≡ owner → HasSpelling r → AreParts (head_key_of owner) (parts_in r)
+owned_parts owner r e f = subst (λ (o : PubKey). AreParts (head_key_of o) (parts_in r)) e (parts_fit r f)
+
+spelled_by : (owner : PubKey) (r : Record) → r.owner ≡ owner → record_block r ≡ parts_block (head_key_of owner) (parts_in r)
+spelled_by owner r e = ap (λ (o : PubKey). parts_block (head_key_of o) (parts_in r)) e
+
+pub one_record : RecordsAreOne
+one_record owner = record {
+  one = λ x y r s f g e.
+      let p = (one_of_parts (head_key_of owner)).one (parts_in x) (parts_in y) r s (owned_parts owner x f.0 f.1) (owned_parts owner y g.0 g.1)
+          (ap (λ (b : List ℕ). b ++ r) (sym (spelled_by owner x f.0)) ∙ e ∙ ap (λ (b : List ℕ). b ++ s) (spelled_by owner y g.0)) in
+      (same x y (f.0 ∙ sym g.0) p.0, p.1);
+}
+  where
+    same : (x y : Record) → x.owner ≡ y.owner → parts_in x ≡ parts_in y → x ≡ y
+    same x y o e = ap (λ (w : PubKey). record_with w (parts_in x)) o ∙ ap (record_with y.owner) e
+
+-- ---- reading
+
+record_parts : (owner : PubKey) (bytes : List ℕ) (r : Record) → IsRecordOf owner bytes r → IsSpelled (AreParts (head_key_of owner)) (parts_block (head_key_of owner)) bytes (parts_in r)
+record_parts owner bytes r f = record { fits = owned_parts owner r f.owned f.fits; spelled = f.spelled ∙ spelled_by owner r f.owned }
+
+well_placed : (r : Record) → HasSpelling r → IsWellPlaced (frame_in r) r.op
+well_placed r f = record { ends_first = f.ends_first; first_alone = f.first_alone }
+
+pub no_record : (owner : PubKey) (bytes : List ℕ) (log : Key) → log ≡ head_key_of owner → length bytes ≤ 12288 → (fault : PartFault)
+    → RefusesWhole (AreParts log) (parts_block log) bytes fault → ReadFault owner bytes (fault_of_part fault)
+no_record owner bytes log e short part.Malformed absent = (short, λ r f. absent (parts_in r) (rw e (record_parts owner bytes r f)))
+no_record owner bytes log e short part.Memory absent = tt
+
+pub misplaced : (owner : PubKey) (bytes : List ℕ) (log : Key) (p : Frame × Op) → log ≡ head_key_of owner → IsSpelled (AreParts log) (parts_block log) bytes p → (IsWellPlaced p.0 p.1 → ⊥)
+    → (r : Record) → IsRecordOf owner bytes r → ⊥
+misplaced owner bytes log p e f wrong r g =
+    let h = record_parts owner bytes r g in
+    let k : IsSpelled (AreParts (head_key_of owner)) (parts_block (head_key_of owner)) bytes p = rw e at f in
+    let same : p ≡ parts_in r = whole (one_of_parts (head_key_of owner)) p (parts_in r) k.fits h.fits (sym k.spelled ∙ h.spelled) in
+    wrong (subst (λ (q : Frame × Op). IsWellPlaced q.0 q.1) (sym same) (well_placed r g.fits))
+
+pub is_record : (owner : PubKey) (bytes : List ℕ) (log : Key) (p : Frame × Op) → log ≡ head_key_of owner → IsSpelled (AreParts log) (parts_block log) bytes p → IsWellPlaced p.0 p.1
+    → IsRecordOf owner bytes (record_with owner p)
+is_record owner bytes log p e f placed = record {
+  owned = refl;
+  fits = record {
+    some = f.fits.0.seq_is.0;
+    few = f.fits.0.seq_is.1;
+    prev = f.fits.0.prev_is;
+    moment = f.fits.0.moment_is;
+    entries = f.fits.0.cited.0.whole.entries;
+    in_order = f.fits.0.cited.0.whole.in_order;
+    short = f.fits.0.cited.0.short;
+    of_others = ap (stamp_at p.0.vector) (sym e) ∙ f.fits.0.cited.1;
+    operation = f.fits.1.1;
+    ends_first = placed.ends_first;
+    first_alone = placed.first_alone;
+  };
+  spelled = f.spelled ∙ ap (λ (k : Key). parts_block k p) e ∙ ap (λ (k : ℕ). parts_block (head_key_of owner) (record p.0 { kind = k }, p.1)) (sym f.fits.1.0);
+}

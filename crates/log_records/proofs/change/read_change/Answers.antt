@@ -1,0 +1,21 @@
+use Rattle.log_records.proofs.Chains.{on_err}
+use Rattle.log_records.proofs.Bodies.{no_atime, no_gid, no_mode, no_mtime, no_size, no_uid}
+use Rattle.log_records.proofs.change.read_change.Goals as goal
+
+pub returns-in_err-mode-clause-err : goal.returns-in_err-mode-clause-err
+returns-in_err-mode-clause-err c = on_err c.from_residual.result (no_mode c.in_err-mode.ensures.err)
+
+pub returns-in_err-uid-clause-err : goal.returns-in_err-uid-clause-err
+returns-in_err-uid-clause-err c = on_err c.from_residual-in_err-uid.result (no_uid c.in_ok-mode.ensures.ok c.in_err-uid.ensures.err)
+
+pub returns-in_err-gid-clause-err : goal.returns-in_err-gid-clause-err
+returns-in_err-gid-clause-err c = on_err c.from_residual-in_err-gid.result (no_gid c.in_ok-mode.ensures.ok c.in_ok-uid.ensures.ok c.in_err-gid.ensures.err)
+
+pub returns-in_err-size-clause-err : goal.returns-in_err-size-clause-err
+returns-in_err-size-clause-err c = on_err c.from_residual-in_err-size.result (no_size c.in_ok-mode.ensures.ok c.in_ok-uid.ensures.ok c.in_ok-gid.ensures.ok c.in_err-size.ensures.err)
+
+pub returns-in_err-atime-clause-err : goal.returns-in_err-atime-clause-err
+returns-in_err-atime-clause-err c = on_err c.from_residual-in_err-atime.result (no_atime c.in_ok-mode.ensures.ok c.in_ok-uid.ensures.ok c.in_ok-gid.ensures.ok c.in_ok-size.ensures.ok c.in_err-atime.ensures.err)
+
+pub returns-in_err-mtime-clause-err : goal.returns-in_err-mtime-clause-err
+returns-in_err-mtime-clause-err c = on_err c.from_residual-in_err-mtime.result (no_mtime c.in_ok-mode.ensures.ok c.in_ok-uid.ensures.ok c.in_ok-gid.ensures.ok c.in_ok-size.ensures.ok c.in_ok-atime.ensures.ok c.in_err-mtime.ensures.err)

@@ -1,0 +1,59 @@
+-- Parts of a record's block that are read and written as one, with their bounds.
+use Rattle.std.specs.Prelude.{◌≡◌, ℕ, ◌+◌, ◌≤◌, List, ◌++◌, length, Option, IfSome}
+use Rattle.ivy_base.specs.declared.key.Key.{Key}
+use Rattle.ivy_base.specs.declared.operation.Kind.{Kind}
+use Rattle.ivy_base.specs.declared.operation.Kind.TheVariants.{Reg, Dir, Lnk}
+use Rattle.ivy_base.specs.declared.operation.Change.{Change}
+use Rattle.ivy_base.specs.declared.operation.Op.{Op}
+use Rattle.ivy_base.specs.Naming.{IsFileName}
+use Rattle.wire_model.specs.Xdr.{word, double_word, opaque, optional, moment}
+use Rattle.log_model.specs.Spelling.{kind_number, record_kind, IsKey, OperationFits}
+
+-- the same bytes, whatever else the block has
+abbrev pub constant_bytes : List ℕ → Unit {0} → List ℕ
+constant_bytes front u = front
+
+-- bytes as they stand, and a key's
+abbrev pub as_it_stands : List ℕ → List ℕ
+as_it_stands bytes = bytes
+
+abbrev pub key_bytes : Key → List ℕ
+key_bytes k = k.0
+
+abbrev pub kind_word : Kind → List ℕ
+kind_word kind = word (kind_number kind)
+
+-- at most so much
+abbrev pub IsAtMost : ℕ → ℕ → Type 0
+IsAtMost most n = n ≤ most
+
+-- a name in a directory
+abbrev pub place_block : Key × List ℕ → List ℕ
+place_block p = p.0.0 ++ opaque p.1
+
+abbrev pub IsPlace : Key × List ℕ → Type 0
+IsPlace p = IsKey p.0 × IsFileName p.1
+
+-- bytes from an offset on
+abbrev pub piece_block : ℕ × List ℕ → List ℕ
+piece_block p = double_word p.0 ++ opaque p.1
+
+abbrev pub IsPiece : ℕ × List ℕ → Type 0
+IsPiece p = (1 ≤ length p.1) × (length p.1 ≤ 8192) × (p.0 + length p.1 ≤ 16777216)
+
+abbrev pub change_block : Change → List ℕ
+change_block c = optional word c.mode ++ optional word c.uid ++ optional word c.gid ++ optional double_word c.size ++ optional moment c.atime ++ optional moment c.mtime
+
+-- an operation of that kind
+abbrev pub IsOfKind : ℕ → Op → Type 0
+IsOfKind kind op = (record_kind op ≡ kind) × OperationFits op
+
+-- the most bytes of a symbolic link's text, which other kinds haven't
+abbrev pub target_bound : Kind → ℕ
+target_bound Reg = 0
+target_bound Dir = 0
+target_bound Lnk = 1024
+
+-- where there is one, it is such
+abbrev pub IsOptional : {A : Type 0} → (A → Type 0) → Option A → Type 0
+IsOptional Fits o = IfSome o Fits

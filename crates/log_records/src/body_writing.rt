@@ -1,0 +1,134 @@
+//! Writing the operation of a record.
+
+ghost use Rattle.std.specs.Prelude.{◌≡◌, ◌+◌, ◌^◌, ◌<◌, ◌≤◌, ◌++◌, length, IfSome};
+ghost use Rattle.wire_model.specs.Xdr.{opaque};
+ghost use Rattle.log_model.specs.Spelling.{kind_number as number_of_kind, record_kind, body};
+ghost use Rattle.log_records.specs.Parts.{key_bytes, place_block};
+ghost use Rattle.log_records.specs.Sizes.{opaque_size, body_size, IsShort, HasShortTexts};
+
+use crate::change_writing::{change_len, put_change};
+use crate::writing::{opaque_len, put_key};
+use ivy_base::{Bytes, Key, Kind, Op};
+use xdr_codec::XdrWrite;
+
+/// Which operation it is, 1 to 9.
+pub fn kind_of(op: &Op) -> u32
+    ensures { result ≡ record_kind op.now }
+{
+    match op {
+        Op::Inode { .. } => 1,
+        Op::Write { .. } => 2,
+        Op::Link { .. } => 3,
+        Op::Unlink { .. } => 4,
+        Op::Rename { .. } => 5,
+        Op::Prepare { .. } => 6,
+        Op::Cancel { .. } => 7,
+        Op::SetAttrs { .. } => 8,
+        Op::End => 9,
+    }
+}
+
+/// How many bytes the operation takes; none where a text has 2^32 bytes or more.
+pub fn body_len(op: &Op) -> Option<usize>
+    ensures size { IfSome result (λ n. n ≡ body_size op.now) }
+    ensures short { IfSome result (λ _. HasShortTexts op.now) }
+    ensures bound { IfSome result (λ n. n ≤ 2 ^ 35) }
+{
+    Some(match op {
+        Op::Inode { target, .. } => 36 + opaque_len(target.as_slice())?,
+        Op::Write { bytes, .. } => 28 + opaque_len(bytes.as_slice())?,
+        Op::Link { name, .. } => 40 + opaque_len(name.as_slice())?,
+        Op::Unlink { name, .. } => 20 + opaque_len(name.as_slice())?,
+        Op::Rename { name, to_name, .. } => 40 + opaque_len(name.as_slice())? + opaque_len(to_name.as_slice())?,
+        Op::Prepare { name, .. } => 28 + opaque_len(name.as_slice())?,
+        Op::Cancel { .. } => 4,
+        Op::SetAttrs { change, .. } => 20 + change_len(change),
+        Op::End => 0,
+    })
+}
+
+/// Appends the operation.
+pub fn put_body(out: &mut XdrWrite, op: &Op)
+    requires room { body_size op.now ≤ out.old.spare }
+    requires short { HasShortTexts op.now }
+    ensures written { out.new.written ≡ out.old.written ++ body op.now }
+    ensures spare { out.new.spare + body_size op.now ≡ out.old.spare }
+{
+    match op {
+        Op::Inode {
+            ino,
+            kind,
+            mode,
+            uid,
+            gid,
+            target,
+        } => {
+            put_key(out, ino);
+            out.put_u32(kind_number(*kind));
+            out.put_u32(*mode);
+            out.put_u32(*uid);
+            out.put_u32(*gid);
+            out.put_opaque(target.as_slice());
+        }
+        Op::Write { ino, offset, bytes } => {
+            put_key(out, ino);
+            out.put_u64(*offset);
+            out.put_opaque(bytes.as_slice());
+        }
+        Op::Link { dir, name, ino } => {
+            put_place(out, dir, name);
+            put_key(out, ino);
+        }
+        Op::Unlink { dir, name } => put_place(out, dir, name),
+        Op::Rename {
+            dir,
+            name,
+            to_dir,
+            to_name,
+        } => {
+            put_place(out, dir, name);
+            put_place(out, to_dir, to_name);
+        }
+        Op::Prepare { dir, name, verf } => {
+            put_place(out, dir, name);
+            put_verifier(out, verf);
+        }
+        Op::Cancel { seq } => out.put_u32(*seq),
+        Op::SetAttrs { ino, change } => {
+            put_key(out, ino);
+            put_change(out, change);
+        }
+        Op::End => {}
+    }
+}
+
+/// The number of a kind: 1 for a regular file, 2 for a directory, 5 for a symbolic link.
+fn kind_number(kind: Kind) -> u32
+    ensures { result ≡ number_of_kind kind }
+{
+    match kind {
+        Kind::Reg => 1,
+        Kind::Dir => 2,
+        Kind::Lnk => 5,
+    }
+}
+
+/// Appends the verifier of an exclusive creation.
+fn put_verifier(out: &mut XdrWrite, verifier: &[u8; 8])
+    requires { 8 ≤ out.old.spare }
+    ensures written { out.new.written ≡ out.old.written ++ verifier.now }
+    ensures spare { out.new.spare + 8 ≡ out.old.spare }
+{
+    out.put_fixed(verifier);
+}
+
+/// Appends a name behind its directory's number.
+fn put_place(out: &mut XdrWrite, dir: &Key, name: &Bytes)
+    requires room { 20 + opaque_size name.now ≤ out.old.spare }
+    requires short { IsShort name.now }
+    ensures written { out.new.written ≡ out.old.written ++ place_block (dir.now, name.now) }
+    ensures spare { out.new.spare + (20 + opaque_size name.now) ≡ out.old.spare }
+{
+    put_key(out, dir);
+    out.put_opaque(name.as_slice());
+}

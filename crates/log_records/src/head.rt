@@ -1,0 +1,108 @@
+//! Heads of logs.
+
+ghost use Rattle.std.specs.Prelude.{◌≡◌, [], List, ℕ, IfOk, IfSome, IfNone, OnErr};
+ghost use Rattle.ivy_base.specs.declared.key.PubKey.{PubKey};
+ghost use Rattle.wire_model.specs.OneReading.{IsFront, HasNoFront};
+ghost use Rattle.log_model.specs.Vector.{Stamp};
+ghost use Rattle.log_model.specs.Spelling.{head_block, IsHeadOf};
+ghost use Rattle.log_records.specs.Heads.{stamp, IsHead, head_bytes};
+
+use crate::fault::Malformed;
+use crate::parts::{read_block, read_constant, read_key, read_number};
+use crate::writing::{opaque_len, put_constant, put_key, put_owner};
+use ivy_base::{Bytes, Key, Memory, PubKey};
+use std::alloc::Global;
+use xdr_codec::{XdrRead, XdrWrite};
+
+/// What the block of a head begins with.
+const MAGIC: [u8; 4] = *b"IVH1";
+
+/// The most bytes of a signature.
+const LONGEST_SIGNATURE: u32 = 16_000;
+
+/// The head of a log: its newest record, which the owner signs. Its block is at most 16,092 bytes.
+#[derive(Clone, Copy, Debug)]
+pub struct Head<'a> {
+    /// The public key of the log's owner.
+    pub owner: PubKey,
+    /// The number of the log's newest record, 1 to 1,048,576.
+    pub seq: u32,
+    /// The name of that record.
+    pub name: Key,
+    /// The owner's signature of what stands before it, at most 16,000 bytes. It is not verified here.
+    pub signature: &'a [u8],
+}
+
+impl<'a> Head<'a> {
+    /// The head whose block these bytes are. There is none where they are the block of no head.
+    pub fn read(bytes: &'a [u8]) -> Option<Head<'a>>
+        ensures some { IfSome result (λ h. IsHeadOf h.owner bytes.now (stamp h.seq h.name) h.signature.now) }
+        ensures none { IfNone result ((owner : PubKey) (newest : Stamp) (signature : List ℕ) → IsHeadOf owner bytes.now newest signature → ⊥) }
+    {
+        read_whole(bytes).ok()
+    }
+
+    /// The head's block. The error is want of memory; it also comes where the signature has 2^32 bytes or more.
+    pub fn write(&self, alloc: Global) -> Result<Bytes, Memory>
+        ensures { IfOk result (λ block. block ≡ head_block self.now.owner (stamp self.now.seq self.now.name) self.now.signature.now) }
+    {
+        let Some(signature_len) = opaque_len(self.signature) else {
+            return Err(Memory);
+        };
+        let mut out = XdrWrite::new(alloc);
+        out.reserve(88 + signature_len)?;
+        put_constant(&mut out, &MAGIC);
+        put_owner(&mut out, &self.owner);
+        out.put_u32(self.seq);
+        put_key(&mut out, &self.name);
+        out.put_opaque(self.signature);
+        Ok(out.into_bytes())
+    }
+}
+
+/// The block of a head with an empty signature, 92 bytes. The error is want of memory.
+pub fn plain_head(
+    alloc: Global,
+    owner: &PubKey,
+    seq: u32,
+    name: &Key,
+) -> Result<Bytes, Memory>
+    ensures { IfOk result (λ block. block ≡ head_block owner.now (stamp seq name.now) []) }
+{
+    Head {
+        owner: *owner,
+        seq,
+        name: *name,
+        signature: &[],
+    }
+    .write(alloc)
+}
+
+/// The head at the front, where nothing is behind it.
+fn read_whole<'a>(bytes: &'a [u8]) -> Result<Head<'a>, Malformed>
+    ensures ok { IfOk result (λ h. IsHeadOf h.owner bytes.now (stamp h.seq h.name) h.signature.now) }
+    ensures err { OnErr result ((owner : PubKey) (newest : Stamp) (signature : List ℕ) → IsHeadOf owner bytes.now newest signature → ⊥) }
+{
+    let mut reader = XdrRead::new(bytes);
+    let head = read_head(&mut reader)?;
+    reader.finish()?;
+    Ok(head)
+}
+
+/// The head at the front.
+fn read_head<'a>(reader: &mut XdrRead<'a>) -> Result<Head<'a>, Malformed>
+    ensures ok { IfOk result (λ h. IsFront IsHead head_bytes reader.old ((h.owner, stamp h.seq h.name), h.signature.now) reader.new) }
+    ensures err { OnErr result (HasNoFront IsHead head_bytes reader.old) }
+{
+    read_constant(reader, &MAGIC)?;
+    let owner = PubKey(read_block::<60>(reader)?);
+    let seq = read_number(reader)?;
+    let name = read_key(reader)?;
+    let signature = reader.opaque(LONGEST_SIGNATURE)?;
+    Ok(Head {
+        owner,
+        seq,
+        name,
+        signature,
+    })
+}

@@ -1,0 +1,183 @@
+//! Records of logs.
+
+ghost use Rattle.std.specs.Prelude.{◌≡◌, ◌^◌, ◌<◌, ◌≤◌, ◌↔◌, IsTrue, length, IfOk, IfErr, OnOk};
+ghost use Rattle.ivy_base.specs.Naming.{head_key_of};
+ghost use Rattle.log_model.specs.Vector.{weight_of};
+ghost use Rattle.log_model.specs.Spelling.{record_block, record_name, no_name, IsEndOp};
+ghost use Rattle.log_model.specs.Rank.{rank};
+ghost use Rattle.log_model.specs.Chain.{HasMadeNumber};
+ghost use Rattle.version_vectors.specs.Ranks.{rank_of};
+ghost use Rattle.log_records.specs.Frames.{AreParts, parts_block, CitesNothing, IsWellPlaced};
+ghost use Rattle.log_records.specs.Reading.{IsSpelled, RefusesWhole};
+ghost use Rattle.log_records.specs.Records.{record_of, IsRead, ReadFault};
+
+use crate::body::read_body;
+use crate::body_writing::{body_len, kind_of, put_body};
+use crate::fault::{PartFault, RecordFault};
+use crate::frame::{Frame, MAGIC, read_frame};
+use crate::writing::{put_constant, put_key, put_moment};
+use ivy_base::{Bytes, Key, Memory, Moment, Op, PubKey, head_key, name_of, number_of};
+use std::alloc::Global;
+use version_vectors::{Rank, Vector};
+use xdr_codec::{XdrRead, XdrWrite};
+
+/// The most bytes of a record's block.
+const LONGEST_RECORD: usize = 12_288;
+
+/// In place of a name, where there is none.
+const NO_NAME: Key = Key([0; 20]);
+
+/// A record of a log (Ivy): one step of its owner's, written once.
+#[derive(Drop)]
+pub struct Record {
+    /// The public key of the log's owner.
+    pub owner: PubKey,
+    /// The record's number in its log, 1 to 1,048,576.
+    pub seq: u32,
+    /// The name of the record before it; zeros in the first one.
+    pub prev: Key,
+    /// What the owner held of the other logs, at most 32.
+    pub vector: Vector,
+    /// When the record was made, by the owner's clock.
+    pub moment: Moment,
+    /// What it does.
+    pub op: Op,
+}
+
+impl Record {
+    /// The record of the owner's whose block these bytes are.
+    ///
+    /// `TooLong` comes exactly where there are more than 12,288 bytes, `Malformed` where else the bytes are the
+    /// block of no record of the owner's, and `BadNumber` where they are one that makes an inode of another
+    /// number than [`number_of`] gives. `Memory` is want of memory.
+    pub fn read(alloc: Global, bytes: &[u8], owner: &PubKey) -> Result<Record, RecordFault>
+        ensures ok { IfOk result (λ r. IsRead owner.now bytes.now (record_of r)) }
+        ensures short { OnOk result (length bytes.now ≤ 12288) }
+        ensures err { IfErr result (ReadFault owner.now bytes.now) }
+    {
+        if bytes.len() > LONGEST_RECORD {
+            return Err(RecordFault::TooLong);
+        }
+        let (frame, op) = read_parts(alloc, bytes, &head_key(owner))?;
+        if !is_well_placed(&frame, &op) {
+            return Err(RecordFault::Malformed);
+        }
+        if !has_made_number(owner, frame.seq, &op) {
+            return Err(RecordFault::BadNumber);
+        }
+        Ok(Record {
+            owner: *owner,
+            seq: frame.seq,
+            prev: frame.prev,
+            vector: frame.vector,
+            moment: frame.moment,
+            op,
+        })
+    }
+
+    /// The record's block.
+    ///
+    /// The error is want of memory; it also comes where a text has 2^32 bytes or more or the vector as many
+    /// entries, which no block can count.
+    pub fn write(&self, alloc: Global) -> Result<Bytes, Memory>
+        ensures { IfOk result (λ block. block ≡ record_block (record_of self.now)) }
+    {
+        let Some(body_len) = body_len(&self.op) else {
+            return Err(Memory);
+        };
+        if self.vector.len() > u32::MAX as usize {
+            return Err(Memory);
+        }
+        let mut out = XdrWrite::new(alloc);
+        out.reserve(60 + self.vector.written_len() + body_len)?;
+        put_constant(&mut out, &MAGIC);
+        out.put_u32(kind_of(&self.op));
+        put_key(&mut out, &head_key(&self.owner));
+        put_key(&mut out, &self.prev);
+        out.put_u32(self.seq);
+        put_moment(&mut out, self.moment);
+        self.vector.write(&mut out);
+        put_body(&mut out, &self.op);
+        Ok(out.into_bytes())
+    }
+
+    /// The record's name, the SHA-1 of its block. The errors are those of [`Record::write`].
+    pub fn name(&self, alloc: Global) -> Result<Key, Memory>
+        ensures { IfOk result (λ name. name ≡ record_name (record_of self.now)) }
+    {
+        let block = self.write(alloc)?;
+        Ok(name_of(block.as_slice()))
+    }
+
+    /// What the order of records goes by: the record's number and those of its vector, the owner, the number.
+    pub fn rank(&self) -> Rank
+        requires { length self.now.vector ≤ 2 ^ 31 }
+        ensures { rank_of result ≡ rank (record_of self.now) }
+    {
+        Rank {
+            weight: self.seq as u64 + cited_weight(&self.vector),
+            owner: self.owner,
+            seq: self.seq,
+        }
+    }
+}
+
+/// The frame and the operation that the bytes are, of a record of the log with that head key.
+fn read_parts(alloc: Global, bytes: &[u8], log: &Key) -> Result<(Frame, Op), PartFault>
+    ensures ok { IfOk result (λ parts. IsSpelled (AreParts log.now) (parts_block log.now) bytes.now parts) }
+    ensures err { IfErr result (RefusesWhole (AreParts log.now) (parts_block log.now) bytes.now) }
+{
+    let mut reader = XdrRead::new(bytes);
+    let frame = read_frame(alloc, &mut reader, log)?;
+    let op = read_body(alloc, &mut reader, frame.kind)?;
+    reader.finish()?;
+    Ok((frame, op))
+}
+
+/// The sum of the numbers of a vector's entries.
+#[tactic(auto, using(crate::proofs::Weights::weight_bound))]
+fn cited_weight(vector: &Vector) -> u64
+    requires { length vector.now ≤ 2 ^ 31 }
+    ensures weight { result ≡ weight_of vector.now }
+    ensures bound { result ≤ 2 ^ 63 }
+{
+    // That it is a vector, so that its numbers are below 2^32, is said by `len`.
+    let _ = vector.len();
+    vector.weight()
+}
+
+/// Whether the operation is End in the first record of a log and nowhere else, and whether the first one cites
+/// nothing.
+fn is_well_placed(frame: &Frame, op: &Op) -> bool
+    ensures { IsTrue result ↔ IsWellPlaced frame.now op.now }
+{
+    if frame.seq == 1 {
+        is_end(op) && cites_nothing(frame)
+    } else {
+        !is_end(op)
+    }
+}
+
+/// Whether the frame names neither a record before it nor one of another log.
+fn cites_nothing(frame: &Frame) -> bool
+    ensures { IsTrue result ↔ CitesNothing frame.now }
+{
+    frame.prev == NO_NAME && frame.vector.len() == 0
+}
+
+/// Whether the operation is End.
+fn is_end(op: &Op) -> bool
+    ensures { IsTrue result ↔ IsEndOp op.now }
+{
+    matches!(op, Op::End)
+}
+
+/// Whether the operation makes no inode, or makes it of the number that is that record's.
+fn has_made_number(owner: &PubKey, seq: u32, op: &Op) -> bool
+    ensures { IsTrue result ↔ HasMadeNumber owner.now seq op.now }
+{
+    match op {
+        Op::Inode { ino, .. } => *ino == number_of(owner, seq),
+        _ => true,
+    }
+}
