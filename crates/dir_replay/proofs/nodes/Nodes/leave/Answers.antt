@@ -1,0 +1,11 @@
+use Rattle.std.proofs.Common.{refl, sym, ap}
+use Rattle.dir_replay.specs.Nodes.{left}
+use Rattle.dir_replay.proofs.Written.{at_node-some, at_node-none}
+use Rattle.dir_replay.proofs.nodes.Nodes.leave.Goals as goal
+use Rattle.dir_replay.proofs.nodes.Nodes.leave.Goals.{in-Some, in_default}
+
+pub returns : goal.returns
+returns c = elim c.match-get_mut.branch [
+  | in-Some w ↦ rw (w.self-inside-is, ← c.self.view_is) (at_node-some c.self.inside.map.entries _ c.args.dir.now _ _ (left c.args.name.now c.args.directory) (sym w.in-Some.ensures.value) w.in-Some.ensures.ordered (c.get_mut.follows.holds _).0 (rw (w.remove.ensures, w.less_one_if-node.ensures) refl))
+  | in_default w ↦ rw (w.self-inside-is, ← c.self.view_is) (at_node-none c.self.inside.map.entries _ c.args.dir.now (left c.args.name.now c.args.directory) (sym w.in_default.ensures.value) (ap (λ m. m.entries) c.get_mut.follows.holds-at-none))
+]

@@ -1,0 +1,7 @@
+pub mod Bare
+pub mod Counts
+pub mod Effect
+pub mod Entries
+pub mod Nodes
+pub mod View
+pub mod Tied

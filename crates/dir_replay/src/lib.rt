@@ -1,0 +1,31 @@
+//! The names of all directories that a replay of records makes, and the kind of each inode.
+//!
+//! Layer: over `ivy_base` and `tree_model`, whose definitions the contracts cite; below whatever joins the names
+//! with what the inodes contain.
+//! For the layers above: contracts see [`Names`] as a tree of `tree_model` (`specs/Tree.antt` there) whose inodes
+//! are bare: of each no more than its kind is known (`specs/Bare.antt`). [`Names::fresh`] is the bare root alone,
+//! and [`Names::apply_names`] makes of a tree exactly what `apply` there makes of it, made bare; which directories
+//! it says were touched is in `specs/Effect.antt`. Each question is answered as the definition of its name says.
+//! Where memory is short the names stay as they were. Lemmas to cite: `proofs/Bare` (what an operation does to
+//! names depends on neither contents nor moments), `proofs/Effects` (what it does to a whole tree).
+//!
+//! Inside, `entries` is what stands in one directory, `nodes` all inodes by their numbers, and `names` the rules.
+//! Definitions: `specs/View.antt` is the tree that the kept maps stand for, `specs/Tied.antt` what holds of them.
+//!
+//! Costs, counted in comparisons: a question or an operation takes the logarithm of the number of inodes and of the
+//! names in its directories. Whether one directory lies inside another takes that for each step of the way up.
+#![tactic(auto)]
+
+mod entries;
+mod keys;
+mod listing;
+mod names;
+mod nodes;
+#[cfg(test)]
+mod tests;
+mod touched;
+
+pub use keys::ROOT;
+pub use listing::Listing;
+pub use names::Names;
+pub use touched::Touched;

@@ -1,0 +1,351 @@
+//! The rules of names: what one operation changes, and what is asked.
+
+ghost use Rattle.std.specs.Prelude.{◌≡◌, ℕ, [], Bool, IfOk, OnOk, OnErr, Option, Some, None, option_map, is_some, is_none, true, false, ◌&&◌, length, if◌then◌else◌};
+ghost use Rattle.std.specs.Option.{option_copied};
+ghost use Rattle.ivy_base.specs.declared.operation.Moment.{Moment};
+ghost use Rattle.ivy_base.specs.declared.operation.Op.TheVariants as op;
+ghost use Rattle.ivy_base.specs.Naming.{root_number};
+ghost use Rattle.tree_model.specs.Tree.{inode_at, entry, parent, has_name, is_directory, is_empty_directory, is_inside, name_count, subdirectory_count, listing, same_key};
+ghost use Rattle.tree_model.specs.Apply.{empty_tree, apply, with_inode, may_link, may_lose_name, may_replace, may_rename};
+ghost use Rattle.tree_model.specs.Sound.{IsSound};
+ghost use Rattle.dir_replay.specs.Bare.{bare, bare_inode, IsBare};
+ghost use Rattle.dir_replay.specs.Counts.{one_more_if};
+ghost use Rattle.dir_replay.specs.Effect.{names_after, touched_by, none_touched};
+
+use crate::entries::Entries;
+use crate::keys::{ROOT, is_root, same};
+use crate::nodes::{Node, Nodes};
+use crate::touched::Touched;
+use ivy_base::{Key, Kind, Memory, Op};
+use std::alloc::Global;
+use std::marker::Model;
+
+/// The names of all directories and the kind of each inode, which contracts see as a tree of bare inodes.
+#[derive(Drop)]
+pub struct Names {
+    nodes: Nodes,
+}
+
+impl Model for Names {
+    ghost use Rattle.tree_model.specs.Tree.{Tree};
+
+    ghost Value = { Tree };
+
+    ghost use Rattle.dir_replay.specs.View.{tree_of};
+    ghost use Rattle.dir_replay.specs.Tied.{IsTied};
+
+    ghost view = { λ t. tree_of t.nodes };
+
+    ghost invariant = { λ t. IsTied t.nodes };
+}
+
+impl Names {
+    /// The root alone, a directory without entries. The error is want of memory.
+    pub fn fresh(alloc: Global) -> Result<Names, Memory>
+        ensures { IfOk result (λ t. t ≡ bare empty_tree) }
+    {
+        let mut nodes = Nodes::new(alloc);
+        nodes.insert(ROOT, new_node(alloc, Kind::Dir))?;
+        Ok(Names { nodes })
+    }
+
+    /// Does to the names what the operation does, whenever that is, and says which directories' entries changed.
+    /// An operation that may not be done changes nothing, and is no error. The error is want of memory, and then
+    /// the names are as they were.
+    pub fn apply_names(&mut self, alloc: Global, op: &Op) -> Result<Touched, Memory>
+        ensures ok { OnOk result ((now : Moment) → self.new ≡ bare (apply self.old now op.now)) }
+        ensures touched { IfOk result (λ dirs. dirs ≡ touched_by self.old op.now) }
+        ensures err { OnErr result (self.new ≡ self.old) }
+    {
+        self.laws();
+        match op {
+            Op::Inode { ino, kind, .. } => self.add(alloc, *ino, *kind),
+            Op::Link { dir, name, ino } => self.link(alloc, dir, name.as_slice(), ino),
+            Op::Unlink { dir, name } => Ok(self.unlink(dir, name.as_slice())),
+            Op::Rename {
+                dir,
+                name,
+                to_dir,
+                to_name,
+            } => self.rename(alloc, dir, name.as_slice(), to_dir, to_name.as_slice()),
+            _ => Ok(Touched::nothing()),
+        }
+    }
+
+    // What holds of the tree at all times; it does nothing.
+    fn laws(&self)
+        ensures bare { IsBare self.now }
+        ensures sound { IsSound self.now }
+    {
+        let _nodes = &self.nodes;
+    }
+
+    // Adds an inode, where its number isn't used.
+    fn add(&mut self, alloc: Global, ino: Key, kind: Kind) -> Result<Touched, Memory>
+        ensures ok { OnOk result (self.new ≡ (if is_some (inode_at self.old ino) then self.old else with_inode self.old ino (bare_inode kind))) }
+        ensures touched { IfOk result (λ dirs. dirs ≡ none_touched) }
+        ensures err { OnErr result (self.new ≡ self.old) }
+    {
+        if self.nodes.get(&ino).is_some() {
+            return Ok(Touched::nothing());
+        }
+        self.nodes.insert(ino, new_node(alloc, kind))?;
+        Ok(Touched::nothing())
+    }
+
+    // Gives an inode a name, where it may have it.
+    fn link(
+        &mut self,
+        alloc: Global,
+        dir: &Key,
+        name: &[u8],
+        ino: &Key,
+    ) -> Result<Touched, Memory>
+        ensures ok { OnOk result (self.new ≡ names_after self.old (op.Link dir.now name.now ino.now)) }
+        ensures touched { IfOk result (λ dirs. dirs ≡ touched_by self.old (op.Link dir.now name.now ino.now)) }
+        ensures err { OnErr result (self.new ≡ self.old) }
+    {
+        if !self.may_link(dir, name, ino) {
+            return Ok(Touched::nothing());
+        }
+        let directory = self.is_directory(ino);
+        let names = one_more_if(self.names_of(ino), true)?;
+        let subdirs = one_more_if(self.subdirs(dir), directory)?;
+        let name = name.to_vec(alloc)?;
+        self.nodes.enter(dir, name, *ino, subdirs)?;
+        self.nodes.set_named(ino, given_if(directory, dir), names);
+        Ok(Touched::only(*dir))
+    }
+
+    // Removes a name, where it is there and may be lost.
+    fn unlink(&mut self, dir: &Key, name: &[u8]) -> Touched
+        ensures names { self.new ≡ names_after self.old (op.Unlink dir.now name.now) }
+        ensures touched { result ≡ touched_by self.old (op.Unlink dir.now name.now) }
+    {
+        let Some(ino) = self.entry(dir, name) else {
+            return Touched::nothing();
+        };
+        if !self.may_lose_name(&ino) {
+            return Touched::nothing();
+        }
+        let directory = self.is_directory(&ino);
+        self.nodes.leave(dir, name, directory);
+        self.nodes.unname(&ino);
+        Touched::only(*dir)
+    }
+
+    // Moves a name to its new place, where it is there and may be moved, in place of the name that stands there.
+    fn rename(
+        &mut self,
+        alloc: Global,
+        dir: &Key,
+        name: &[u8],
+        to_dir: &Key,
+        to_name: &[u8],
+    ) -> Result<Touched, Memory>
+        ensures ok { OnOk result (self.new ≡ names_after self.old (op.Rename dir.now name.now to_dir.now to_name.now)) }
+        ensures touched { IfOk result (λ dirs. dirs ≡ touched_by self.old (op.Rename dir.now name.now to_dir.now to_name.now)) }
+        ensures err { OnErr result (self.new ≡ self.old) }
+    {
+        let Some(moved) = self.entry(dir, name) else {
+            return Ok(Touched::nothing());
+        };
+        if !self.may_rename(&moved, to_dir, to_name) {
+            return Ok(Touched::nothing());
+        }
+        let target = self.entry(to_dir, to_name);
+        let directory = self.is_directory(&moved);
+        let new = is_new(directory, target);
+        let subdirs = one_more_if(self.subdirs(to_dir), new)?;
+        let to_name = to_name.to_vec(alloc)?;
+        // The new name comes first, as it alone may fail.
+        self.nodes.enter(to_dir, to_name, moved, subdirs)?;
+        self.nodes.unname_any(target);
+        self.nodes.leave(dir, name, directory);
+        self.nodes.set_parent(&moved, given_if(directory, to_dir));
+        Ok(Touched::both(*dir, *to_dir))
+    }
+
+    // Whether the inode may have that name.
+    fn may_link(&self, dir: &Key, name: &[u8], ino: &Key) -> bool
+        ensures { result ≡ may_link self.now dir.now name.now ino.now }
+    {
+        self.is_directory(dir)
+            && self.kind(ino).is_some()
+            && self.entry(dir, name).is_none()
+            && !is_root(ino)
+            && !(self.is_directory(ino) && (self.has_name(ino) || self.is_inside(dir, ino)))
+    }
+
+    // Whether the inode may lose its name: it isn't a directory with entries.
+    fn may_lose_name(&self, ino: &Key) -> bool
+        ensures { result ≡ may_lose_name self.now ino.now }
+    {
+        !self.is_directory(ino) || self.is_empty(ino)
+    }
+
+    // Whether the inode, which has a name, may have that one in its place.
+    fn may_rename(&self, moved: &Key, to_dir: &Key, to_name: &[u8]) -> bool
+        ensures { result ≡ may_rename self.now moved.now to_dir.now to_name.now }
+    {
+        self.is_directory(to_dir)
+            && self.may_replace(moved, self.entry(to_dir, to_name))
+            && !self.is_inside(to_dir, moved)
+    }
+
+    // Whether the moved inode may take the name of the target, where there is one.
+    fn may_replace(&self, moved: &Key, target: Option<Key>) -> bool
+        ensures { result ≡ may_replace self.now moved.now target }
+    {
+        match target {
+            Some(target) => {
+                self.is_directory(moved) == self.is_directory(&target)
+                    && self.may_lose_name(&target)
+                    && !same(moved, &target)
+            }
+            None => true,
+        }
+    }
+
+    /// The kind of the inode, where there is one of that number.
+    pub fn kind(&self, ino: &Key) -> Option<Kind>
+        ensures kind { result ≡ option_map (λ i. i.kind) (inode_at self.now ino.now) }
+        ensures bare { IsBare self.now }
+        ensures sound { IsSound self.now }
+    {
+        Some(self.nodes.get(ino)?.kind)
+    }
+
+    /// The number of the inode that the directory has under the name, where it has one.
+    pub fn entry(&self, dir: &Key, name: &[u8]) -> Option<Key>
+        ensures { result ≡ entry self.now dir.now name.now }
+    {
+        self.nodes.get(dir)?.entries.get(name)
+    }
+
+    /// Of a directory that has a name, the directory in which that stands; of anything else nothing.
+    pub fn parent(&self, dir: &Key) -> Option<Key>
+        ensures parent { result ≡ (if is_directory (inode_at self.now dir.now) then parent self.now dir.now else None) }
+        ensures sound { IsSound self.now }
+    {
+        self.nodes.get(dir)?.parent
+    }
+
+    /// How many names lead to the inode.
+    pub fn names_of(&self, ino: &Key) -> u64
+        ensures { result ≡ name_count self.now ino.now }
+    {
+        match self.nodes.get(ino) {
+            Some(node) => node.names,
+            None => 0,
+        }
+    }
+
+    /// How many names stand in the directory.
+    pub fn entries(&self, dir: &Key) -> u64
+        ensures { result ≡ length (listing self.now dir.now) }
+    {
+        match self.nodes.get(dir) {
+            Some(node) => node.entries.len() as u64,
+            None => 0,
+        }
+    }
+
+    /// How many names in the directory lead to directories.
+    pub fn subdirs(&self, dir: &Key) -> u64
+        ensures { result ≡ subdirectory_count self.now dir.now }
+    {
+        match self.nodes.get(dir) {
+            Some(node) => node.subdirs,
+            None => 0,
+        }
+    }
+
+    /// Whether the directory `x` is `dir` or lies inside it. Of what is no directory the answer is no.
+    pub fn inside(&self, x: &Key, dir: &Key) -> bool
+        ensures { result ≡ (is_directory (inode_at self.now x.now) && is_inside self.now x.now dir.now) }
+    {
+        self.is_directory(x) && self.is_inside(x, dir)
+    }
+
+    // Whether there is a directory of that number.
+    fn is_directory(&self, ino: &Key) -> bool
+        ensures { result ≡ is_directory (inode_at self.now ino.now) }
+    {
+        matches!(self.kind(ino), Some(Kind::Dir))
+    }
+
+    // Whether the inode has a name.
+    fn has_name(&self, ino: &Key) -> bool
+        ensures { result ≡ has_name self.now ino.now }
+    {
+        self.names_of(ino) > 0
+    }
+
+    // Whether the directory has no entries.
+    fn is_empty(&self, dir: &Key) -> bool
+        ensures empty { result ≡ is_empty_directory self.now dir.now }
+        ensures sound { IsSound self.now }
+    {
+        match self.nodes.get(dir) {
+            Some(node) => node.entries.is_empty(),
+            None => true,
+        }
+    }
+
+    // Whether the directory `start` is `dir` or lies inside it.
+    fn is_inside(&self, start: &Key, dir: &Key) -> bool
+        requires { is_directory (inode_at self.now start.now) ≡ true }
+        ensures { result ≡ is_inside self.now start.now dir.now }
+    {
+        // Nothing lies inside an empty directory, so a new one costs no climb.
+        if self.is_empty(dir) {
+            return same(start, dir);
+        }
+        let mut at = *start;
+        'climb: while !same(&at, dir) {
+            match self.parent(&at) {
+                Some(above) => at = above,
+                None => return false,
+            }
+        }
+        true
+    }
+}
+
+// An inode without names.
+fn new_node(alloc: Global, kind: Kind) -> Node
+    ensures { result ≡ record { kind = kind; parent = None; names = 0; subdirs = 0; entries = [] } }
+{
+    Node {
+        kind,
+        parent: None,
+        names: 0,
+        subdirs: 0,
+        entries: Entries::new(alloc),
+    }
+}
+
+// Whether a directory comes where no name stands.
+fn is_new(directory: bool, target: Option<Key>) -> bool
+    ensures { result ≡ (directory && is_none target) }
+{
+    directory && target.is_none()
+}
+
+// One more, where that is so. A count that a word can't hold is want of memory.
+fn one_more_if(count: u64, more: bool) -> Result<u64, Memory>
+    ensures { IfOk result (λ sum. sum ≡ one_more_if count more) }
+{
+    if more {
+        return count.checked_add(1).ok_or(Memory);
+    }
+    Ok(count)
+}
+
+// The number, where that is so.
+fn given_if(given: bool, ino: &Key) -> Option<Key>
+    ensures { result ≡ (if given then Some ino.now else None) }
+{
+    if given { Some(*ino) } else { None }
+}
