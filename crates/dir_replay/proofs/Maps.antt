@@ -1,13 +1,14 @@
 -- std's maps against the lists of entries that the definitions speak of.
-use Rattle.std.proofs.Common.{◌≡◌, ℕ, suc, List, [], ◌∷◌, Some, None, Bool, true, false, cond, length, ◌↔◌, map, not, refl, sym, ap, ◌∙◌}
+use Rattle.std.proofs.Common.{◌≡◌, ℕ, suc, List, [], ◌∷◌, ◌++◌, Some, None, Bool, true, false, cond, length, ◌↔◌, map, not, refl, sym, ap, ◌∙◌}
 use Rattle.std.specs.declared.cmp.Ordering.{Ordering}
 use Rattle.std.specs.declared.cmp.Ordering.TheVariants.{Less, Equal, Greater}
 use Rattle.std.specs.declared.vec.Vec.{Vec}
 use Rattle.std.specs.Cmp.{IsTotalOrder, Equal-is, tied_itself}
 use Rattle.std.specs.Cmp.Lexicographic.{nat_list_cmp_total}
+use Rattle.std.proofs.lemmas.List.{append-nil, append_assoc}
 use Rattle.std.proofs.lemmas.Map.Lookups.{exact_bytes}
 use Rattle.tree_model.proofs.Parents.{same_truth}
-use Rattle.std.specs.List.{AllByRecursion}
+use Rattle.std.specs.List.{AllByRecursion, AllZip}
 use Rattle.std.specs.List.Sorted.{IsStrictlySortedBy}
 use Rattle.std.specs.Ordering.{eq_by_cmp, is_eq, match_ordering}
 use Rattle.std.specs.FinMap.Entries.{find as value_at, put, by_order, where_key}
@@ -68,6 +69,28 @@ module _ {A : Type 0} where
           rest : (b : Bool) → cond b (Some e.1) (lookup (λ k. eq_by_cmp name_cmp name k.items) (remove_entry (λ k. eq_by_cmp name_cmp name k.items) es)) ≡ None → lookup (λ k. eq_by_cmp name_cmp name k.items) (remove_entry (λ k. eq_by_cmp name_cmp name k.items) es) ≡ None
           rest true h = cc
           rest false h = h
+
+  -- ---- going through the names
+
+  pub none_listed : {B : Type 0} (pairs : List B) (seen : List B) (f : List (Vec ℕ A × Key) → List B) (rest es : List (Vec ℕ A × Key)) → pairs ≡ [] → rest ≡ es → f es ≡ seen → pairs ++ f rest ≡ seen
+  none_listed pairs seen f rest es none all is = (λ i. none i ++ f (all i)) ∙ is
+
+  pub one_listed : (pairs more : List (List ℕ × Key)) (seen : List (List ℕ × Key)) (rest later : List (Vec ℕ A × Key)) (name : Vec ℕ A) (ino : Key) (bytes : List ℕ) → pairs ++ by_bytes rest ≡ seen → rest ≡ (name, ino) ∷ later → more ≡ pairs ++ (bytes, ino) ∷ [] → bytes ≡ name.items → more ++ by_bytes later ≡ seen
+  one_listed pairs more seen rest later name ino bytes told left pushed same =
+      (λ i. (pushed ∙ ap (λ b. pairs ++ (b, ino) ∷ []) same) i ++ by_bytes later)
+      ∙ append_assoc pairs ((name.items, ino) ∷ []) (by_bytes later)
+      ∙ ap (λ es. pairs ++ by_bytes es) (sym left) ∙ told
+
+  pub all_listed : (pairs seen : List (List ℕ × Key)) (rest : List (Vec ℕ A × Key)) → pairs ++ by_bytes rest ≡ seen → rest ≡ [] → pairs ≡ seen
+  all_listed pairs seen rest told none = sym (append-nil pairs) ∙ ap (λ es. pairs ++ by_bytes es) (sym none) ∙ told
+
+  -- ---- a clone
+
+  pub cloned-by_bytes : (V : Vec ℕ A → Vec ℕ A → Type 0) (K : Key → Key → Type 0) → ((v w : Vec ℕ A) → V v w → w.items ≡ v.items) → ((a b : Key) → K a b → b ≡ a) → (es fs : List (Vec ℕ A × Key)) → AllZip (λ p q. V p.0 q.0 × K p.1 q.1) es fs → by_bytes fs ≡ by_bytes es
+  cloned-by_bytes V K same_items same_keys [] [] h = refl
+  cloned-by_bytes V K same_items same_keys [] (f ∷ fs) h = absurd h
+  cloned-by_bytes V K same_items same_keys (e ∷ es) [] h = absurd h
+  cloned-by_bytes V K same_items same_keys (e ∷ es) (f ∷ fs) h = λ i. (same_items e.0 f.0 h.0.0 i, same_keys e.1 f.1 h.0.1 i) ∷ cloned-by_bytes V K same_items same_keys es fs h.1 i
 
 -- ---- any map
 

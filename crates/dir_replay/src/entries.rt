@@ -6,8 +6,8 @@ ghost use Rattle.ivy_base.specs.declared.key.Key.{Key};
 ghost use Rattle.std.specs.FinMap.Entries.{find as value_at, put, where_key};
 ghost use Rattle.dir_replay.specs.Entries.{name_cmp};
 
-use ivy_base::{Key, Memory};
-use std::alloc::Global;
+use ivy_base::{Bytes, Key, Memory};
+use std::alloc::{AllocError, Global};
 use std::collections::BTreeMap;
 use std::marker::Model;
 
@@ -73,5 +73,26 @@ impl Entries {
         ensures { self.new ≡ where_key name_cmp (λ n. not (eq_by_cmp name_cmp n name.now)) self.old }
     {
         self.map.remove(name);
+    }
+
+    /// The names with the inodes that they lead to, in the names' order. The error is want of memory.
+    pub fn list(&self, alloc: Global) -> Result<Vec<(Bytes, Key)>, Memory>
+        ensures { IfOk result (λ pairs. pairs.items ≡ self.now) }
+    {
+        let mut pairs = Vec::with_capacity(alloc, self.map.len())?;
+        'names: for (name, ino) in self.map.iter() {
+            pairs.push((Bytes::copy_of(alloc, name.as_slice())?, *ino))?;
+        }
+        Ok(pairs)
+    }
+}
+
+impl Clone for Entries {
+    ghost is_clone = { λ a b. b ≡ a };
+
+    fn clone(&self) -> Result<Entries, AllocError> {
+        Ok(Entries {
+            map: self.map.clone()?,
+        })
     }
 }

@@ -14,6 +14,7 @@ ghost use Rattle.dir_replay.specs.Effect.{names_after, touched_by, none_touched}
 
 use crate::entries::Entries;
 use crate::keys::{ROOT, is_root, same};
+use crate::listing::Listing;
 use crate::nodes::{Node, Nodes};
 use crate::touched::Touched;
 use ivy_base::{Key, Kind, Memory, Op};
@@ -259,6 +260,26 @@ impl Names {
             Some(node) => node.subdirs,
             None => 0,
         }
+    }
+
+    /// The names in the directory with the inodes that they lead to, ascending by the names' bytes; of what is no
+    /// directory, none. The error is want of memory.
+    pub fn listing(&self, alloc: Global, dir: &Key) -> Result<Listing, Memory>
+        ensures { IfOk result (λ pairs. pairs ≡ listing self.now dir.now) }
+    {
+        let Some(node) = self.nodes.get(dir) else {
+            return Ok(Listing::of(Vec::new(alloc)));
+        };
+        Ok(Listing::of(node.entries.list(alloc)?))
+    }
+
+    /// Equal names, which later changes of these don't reach. The error is want of memory.
+    pub fn copy(&self, _alloc: Global) -> Result<Names, Memory>
+        ensures { IfOk result (λ copy. copy ≡ self.now) }
+    {
+        Ok(Names {
+            nodes: self.nodes.copy()?,
+        })
     }
 
     /// Whether the directory `x` is `dir` or lies inside it. Of what is no directory the answer is no.

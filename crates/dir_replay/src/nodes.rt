@@ -1,6 +1,6 @@
 //! All inodes by their numbers, each with the names that lead to it and from it.
 
-ghost use Rattle.std.specs.Prelude.{◌≡◌, ℕ, List, Bool, OnOk, OnErr, Some, None, []};
+ghost use Rattle.std.specs.Prelude.{◌≡◌, ℕ, List, Bool, IfOk, OnOk, OnErr, Some, None, []};
 ghost use Rattle.std.specs.Option.{option_copied};
 ghost use Rattle.std.specs.FinMap.Entries.{find as value_at, put};
 ghost use Rattle.ivy_base.specs.Naming.{key_cmp};
@@ -13,7 +13,7 @@ use std::collections::BTreeMap;
 use std::marker::Model;
 
 /// An inode's kind, with what the rules of names ask of it.
-#[derive(Drop)]
+#[derive(Clone, Drop)]
 pub struct Node {
     /// What it is.
     pub kind: Kind,
@@ -69,6 +69,15 @@ impl Nodes {
     {
         self.map.insert(ino, node)?;
         Ok(())
+    }
+
+    /// The same inodes. The error is want of memory.
+    pub fn copy(&self) -> Result<Nodes, Memory>
+        ensures { IfOk result (λ copy. copy ≡ self.now) }
+    {
+        Ok(Nodes {
+            map: self.map.clone()?,
+        })
     }
 
     /// Puts a name for the inode into the directory, which then has so many subdirectories; without such a
