@@ -65,6 +65,17 @@ impl Contents {
         self.map.remove(ino);
     }
 
+    /// The same inodes, each with bytes of its own. The error is want of memory.
+    pub fn copy(&self, alloc: Global) -> Result<Contents, Memory>
+        ensures { IfOk result (λ copy. copy ≡ self.now) }
+    {
+        let mut copy = Contents::new(alloc);
+        'inodes: for (ino, content) in self.map.iter() {
+            copy.insert(*ino, content.copy(alloc)?)?;
+        }
+        Ok(copy)
+    }
+
     /// Does what a Write or a SetAttrs does to the inode of that number, where there is one. The error is want of
     /// memory, and then nothing has changed.
     pub fn change(

@@ -80,6 +80,16 @@ impl Tree {
         }
     }
 
+    /// An equal tree, which later changes of this one don't reach. The error is want of memory.
+    pub fn copy(&self, alloc: Global) -> Result<Tree, Memory>
+        ensures { IfOk result (λ copy. copy ≡ self.now) }
+    {
+        Ok(Tree {
+            names: self.names.copy(alloc)?,
+            contents: self.contents.copy(alloc)?,
+        })
+    }
+
     // Adds an inode, where its number isn't used.
     fn add(&mut self, alloc: Global, moment: Moment, op: &Op) -> Result<(), Memory>
         requires { MakesInode op.now }
