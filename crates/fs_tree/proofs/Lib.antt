@@ -1,9 +1,3 @@
-pub mod Maps
 pub mod Written
-pub mod Sorted
-pub mod Views
-pub mod Puts
-pub mod Added
-pub mod Linked
-pub mod Counted
-pub mod Empty
+pub mod Joined
+pub mod Copied

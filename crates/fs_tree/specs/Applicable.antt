@@ -1,12 +1,10 @@
--- The operations that can be applied.
-use Rattle.std.specs.Prelude.{◌≡◌, []}
-use Rattle.ivy_base.specs.declared.operation.Kind.TheVariants.{Dir}
+-- The operations that can be applied: all that the body of a record may have.
 use Rattle.ivy_base.specs.declared.operation.Op.{Op}
 use Rattle.ivy_base.specs.declared.operation.Op.TheVariants as op
+use Rattle.inode_replay.specs.Contents.{ChangesContent}
 
--- an Inode of a directory with an empty target, a Link or an End
+-- a Write or a SetAttrs lets no file end past its limit
 abbrev pub IsApplicable : Op → Type 0
-IsApplicable (op.Inode number kind mode uid gid target) = (kind ≡ Dir) × (target ≡ [])
-IsApplicable (op.Link dir name number) = Unit {0}
-IsApplicable op.End = Unit {0}
-IsApplicable _ = ⊥
+IsApplicable (op.Write number offset bytes) = ChangesContent (op.Write number offset bytes)
+IsApplicable (op.SetAttrs number change) = ChangesContent (op.SetAttrs number change)
+IsApplicable _ = Unit {0}

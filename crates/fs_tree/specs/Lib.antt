@@ -1,7 +1,4 @@
-pub mod Attributes
-pub mod Names
-pub mod Nodes
+pub mod Contents
 pub mod View
-pub mod Parents
 pub mod Tied
 pub mod Applicable

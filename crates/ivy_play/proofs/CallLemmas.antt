@@ -11,8 +11,8 @@ use Rattle.ivy_base.specs.declared.operation.Op.{Op}
 use Rattle.ivy_base.specs.declared.operation.Op.TheVariants as op
 use Rattle.ivy_base.specs.Naming.{IsFileName, inode_number}
 use Rattle.ivy_base.proofs.NameLemmas.{length-name}
-use Rattle.fs_tree.specs.declared.attr.Attr.{Attr}
-use Rattle.fs_tree.specs.Attributes.{attributes_of}
+use Rattle.inode_replay.specs.declared.attr.Attr.{Attr}
+use Rattle.inode_replay.specs.Attributes.{attributes_of}
 use Rattle.tree_model.specs.Tree.{Tree, Inode, Attributes, inode_at, is_live, entry, directory_kind, is_directory, link_count, subdirectory_count, name_count}
 use Rattle.tree_model.specs.Apply.{apply, apply_all}
 use Rattle.log_model.specs.View.{View, view_name}
@@ -63,7 +63,7 @@ one_record_more t now after ws i w inside is so_far step =
     ∙ ap (λ (vs : List Written). apply_all t (map entry_of vs)) (sym more)
 
 pub one_directory_more : (now after : Tree) (w : Written) → AreDirectories now → after ≡ apply now w.moment w.op → AreDirectories after
-one_directory_more now after w all step = subst AreDirectories (sym step) (one_more_directory now w.moment w.op (may_apply w.op w.of_directories) all)
+one_directory_more now after w all step = subst AreDirectories (sym step) (one_more_directory now w.moment w.op w.of_directories all)
 
 -- ---- attributes
 

@@ -1,6 +1,5 @@
 -- Records that make directories alone make trees of directories alone.
 use Rattle.std.proofs.Common.{◌≡◌, ℕ, Bool, true, false, cond, List, [], ◌∷◌, length, Option, Some, None, refl, subst, nat_eq}
-use Rattle.std.proofs.lemmas.Bool.{eqb-true}
 use Rattle.std.specs.Prelude.{is_some}
 use Rattle.std.specs.List.{AllByRecursion}
 use Rattle.std.specs.FinMap.Entries.{put, find, by_order}
@@ -18,7 +17,7 @@ use Rattle.tree_model.specs.Tree.{Tree, Inode, inode_at, directory_kind}
 use Rattle.tree_model.specs.Apply.{empty_tree, apply, changed_inode, touched, with_name, may_link}
 use Rattle.fs_tree.specs.Applicable.{IsApplicable}
 use Rattle.ivy_play.specs.Directories.{AreDirectories, is_of_directories}
-use Rattle.run_model.proofs.Sendings.{left_true, right_true}
+use Rattle.run_model.proofs.Sendings.{left_true}
 
 abbrev IsDirectory : Inode → Type 0
 IsDirectory i = i.kind ≡ Dir
@@ -56,43 +55,40 @@ add_by : (b : Bool) (t next : Tree) → AreDirectories t → AreDirectories next
 add_by true t next all more = all
 add_by false t next all more = more
 
-apply_keeps : (t : Tree) (now : Moment) (o : Op) → IsApplicable o → AreDirectories t → AreDirectories (apply t now o)
-apply_keeps t now (op.Inode number kind mode uid gid target) fits all =
-    add_by (is_some (inode_at t number)) t _ all (put_keeps number _ t.inodes fits.0 all)
-apply_keeps t now (op.Link dir name number) fits all =
-    add_by (may_link t dir name number) (touched now dir (with_name t dir name number)) t
-    (changed_keeps (with_name t dir name number) dir (inode_at (with_name t dir name number) dir) _ (λ i is. is) all refl) all
-apply_keeps t now op.End fits all = all
-apply_keeps t now (op.Write number offset bytes) fits all = absurd fits
-apply_keeps t now (op.Unlink dir name) fits all = absurd fits
-apply_keeps t now (op.Rename dir name to_dir to_name) fits all = absurd fits
-apply_keeps t now (op.Prepare dir name verf) fits all = absurd fits
-apply_keeps t now (op.Cancel seq) fits all = absurd fits
-apply_keeps t now (op.SetAttrs number change) fits all = absurd fits
-
--- one record more
-pub one_more_directory : (t : Tree) (now : Moment) (o : Op) → IsApplicable o → AreDirectories t → AreDirectories (apply t now o)
-one_more_directory = apply_keeps
-
-pub empty_is_directory : AreDirectories empty_tree
-empty_is_directory = (refl, tt)
-
 kind_is : (k : Kind) → directory_kind k ≡ true → k ≡ Dir
 kind_is Reg h = cc h
 kind_is Dir h = refl
 kind_is Lnk h = cc h
 
-none_is : (xs : List ℕ) → nat_eq (length xs) 0 ≡ true → xs ≡ []
-none_is [] h = refl
-none_is (x ∷ xs) h = absurd (cc (eqb-true (length (x ∷ xs)) 0 h))
+apply_keeps : (t : Tree) (now : Moment) (o : Op) → is_of_directories o ≡ true → AreDirectories t → AreDirectories (apply t now o)
+apply_keeps t now (op.Inode number kind mode uid gid target) of all =
+    add_by (is_some (inode_at t number)) t _ all (put_keeps number _ t.inodes (kind_is kind (left_true (directory_kind kind) (nat_eq (length target) 0) of)) all)
+apply_keeps t now (op.Link dir name number) of all =
+    add_by (may_link t dir name number) (touched now dir (with_name t dir name number)) t
+    (changed_keeps (with_name t dir name number) dir (inode_at (with_name t dir name number) dir) _ (λ i is. is) all refl) all
+apply_keeps t now op.End of all = all
+apply_keeps t now (op.Write number offset bytes) of all = cc of
+apply_keeps t now (op.Unlink dir name) of all = cc of
+apply_keeps t now (op.Rename dir name to_dir to_name) of all = cc of
+apply_keeps t now (op.Prepare dir name verf) of all = cc of
+apply_keeps t now (op.Cancel seq) of all = cc of
+apply_keeps t now (op.SetAttrs number change) of all = cc of
 
+-- one record more
+pub one_more_directory : (t : Tree) (now : Moment) (o : Op) → is_of_directories o ≡ true → AreDirectories t → AreDirectories (apply t now o)
+one_more_directory = apply_keeps
+
+pub empty_is_directory : AreDirectories empty_tree
+empty_is_directory = (refl, tt)
+
+-- such records can be applied
 pub may_apply : (o : Op) → is_of_directories o ≡ true → IsApplicable o
-may_apply (op.Inode number kind mode uid gid target) h = (kind_is kind (left_true (directory_kind kind) (nat_eq (length target) 0) h), none_is target (right_true (directory_kind kind) (nat_eq (length target) 0) h))
+may_apply (op.Inode number kind mode uid gid target) h = tt
 may_apply (op.Link dir name number) h = tt
-may_apply op.End h = cc h
+may_apply op.End h = tt
 may_apply (op.Write number offset bytes) h = cc h
-may_apply (op.Unlink dir name) h = cc h
-may_apply (op.Rename dir name to_dir to_name) h = cc h
-may_apply (op.Prepare dir name verf) h = cc h
-may_apply (op.Cancel seq) h = cc h
+may_apply (op.Unlink dir name) h = tt
+may_apply (op.Rename dir name to_dir to_name) h = tt
+may_apply (op.Prepare dir name verf) h = tt
+may_apply (op.Cancel seq) h = tt
 may_apply (op.SetAttrs number change) h = cc h

@@ -1,0 +1,149 @@
+-- What an operation leaves of the names and of the contents is what it leaves of the tree.
+use Rattle.std.proofs.Common.{◌≡◌, ℕ, List, Option, Some, None, Bool, true, false, cond, not, ◌&&◌, Result, Ok, Err, OnOk, OnErr, Bor, is_some, count_by, refl, sym, ap, ◌∙◌, subst}
+use Rattle.std.specs.Option.{option_copied}
+use Rattle.std.specs.Map.{remove_entry}
+use Rattle.std.specs.FinMap.Entries.{find as value_at, put, is_sorted}
+use Rattle.ivy_base.specs.declared.key.Key.{Key}
+use Rattle.ivy_base.specs.declared.operation.Kind.{Kind}
+use Rattle.ivy_base.specs.declared.operation.Moment.{Moment}
+use Rattle.ivy_base.specs.declared.operation.Change.{Change}
+use Rattle.ivy_base.specs.declared.operation.Op.{Op}
+use Rattle.ivy_base.specs.declared.operation.Op.TheVariants as op
+use Rattle.ivy_base.specs.Naming.{key_cmp}
+use Rattle.tree_model.specs.Tree.{Tree, Inode, IsInOrder, inode_at, entry, same_key, is_directory, subdirectory_count}
+use Rattle.tree_model.specs.Apply.{apply, at_inode, changed_inode, with_name, without_name}
+use Rattle.tree_model.specs.Sound.{IsSound}
+use Rattle.tree_model.proofs.Applied.{sound_apply}
+use Rattle.dir_replay.specs.declared.touched.Touched.{Touched}
+use Rattle.dir_replay.specs.Bare.{bare}
+use Rattle.dir_replay.specs.Effect.{touched_by, names_after, with_names_changed, is_effective, IsOfNames, touched_at}
+use Rattle.dir_replay.proofs.Bare.{sound-bare, sound_if_bare, bare-at_inode, is_directory-bare, touched_by-bare}
+use Rattle.dir_replay.proofs.Effects.{apply_names_is, bare-apply}
+use Rattle.inode_replay.specs.Contents.{made, changed, touched_inode}
+use Rattle.inode_replay.proofs.Applied.{inode-free, inode-used, write-at, attributes-at}
+use Rattle.fs_tree.proofs.Written.{taken_back}
+use Rattle.fs_tree.specs.Contents.{at_content, changed_content, touched_content}
+use Rattle.fs_tree.specs.View.{tree_of}
+use Rattle.fs_tree.specs.Tied.{IsTied}
+
+-- ---- what is left of the inodes
+
+inodes-touched : (now : Moment) (d : Option Key) (t : Tree) → (touched_at now d t).inodes ≡ touched_content now d t.inodes
+inodes-touched now None t = refl
+inodes-touched now (Some dir) t = by (inode_at t dir)
+  where
+    by : (o : Option Inode) → (changed_inode t dir o (touched_inode now)).inodes ≡ changed_content t.inodes dir o (touched_inode now)
+    by None = refl
+    by (Some i) = refl
+
+inodes-names_after : (t : Tree) (o : Op) → (names_after t o).inodes ≡ t.inodes
+inodes-names_after t o = if_kept (is_effective t o) (with_names_changed t o) (kept o)
+  where
+    if_kept : (b : Bool) (u : Tree) → u.inodes ≡ t.inodes → (cond b u t).inodes ≡ t.inodes
+    if_kept true u h = h
+    if_kept false u h = refl
+
+    moved : (dir : Key) (name : List ℕ) (to_dir : Key) (to_name : List ℕ) (e : Option Key) → entry t dir name ≡ e → (with_names_changed t (op.Rename dir name to_dir to_name)).inodes ≡ t.inodes
+    moved dir name to_dir to_name None is = rw (is) refl
+    moved dir name to_dir to_name (Some x) is = rw (is) refl
+
+    kept : (o : Op) → (with_names_changed t o).inodes ≡ t.inodes
+    kept (op.Link dir name number) = refl
+    kept (op.Unlink dir name) = refl
+    kept (op.Rename dir name to_dir to_name) = moved dir name to_dir to_name (entry t dir name) refl
+    kept (op.Inode number kind mode uid gid target) = refl
+    kept (op.Write number offset bytes) = refl
+    kept (op.Prepare dir name verifier) = refl
+    kept (op.Cancel seq) = refl
+    kept (op.SetAttrs number change) = refl
+    kept op.End = refl
+
+inodes-apply : (t : Tree) → is_sorted key_cmp t.inodes ≡ true → (now : Moment) (o : Op) → IsOfNames o → (apply t now o).inodes ≡ touched_content now (touched_by t o).second (touched_content now (touched_by t o).first t.inodes)
+inodes-apply t order now o of =
+    ap (λ (u : Tree). u.inodes) (apply_names_is t order now o of)
+    ∙ inodes-touched now (touched_by t o).second (touched_at now (touched_by t o).first (names_after t o))
+    ∙ ap (λ l. touched_content now (touched_by t o).second l) (inodes-touched now (touched_by t o).first (names_after t o) ∙ ap (λ l. touched_content now (touched_by t o).first l) (inodes-names_after t o))
+
+-- ---- both halves
+
+module _ (names : Tree) (contents : List (Key × Inode)) (tied : IsTied names contents) where
+  abbrev whole : Tree
+  whole = tree_of names contents
+
+  joined : (now : Moment) (o : Op) (new : Tree) (left : List (Key × Inode)) → new ≡ bare (apply whole now o) → left ≡ (apply whole now o).inodes → (tree_of new left ≡ apply whole now o) × IsTied new left
+  joined now o new left names_are contents_are =
+      let is : tree_of new left ≡ apply whole now o = λ i. record { names = ap (λ (u : Tree). u.names) names_are i; inodes = contents_are i } in
+      (is, record { sound = subst (λ (u : Tree). IsSound u) (sym is) (sound_apply whole tied.sound now o); same = ap bare is ∙ sym names_are })
+
+  names_whole : (now : Moment) (o : Op) → bare (apply names now o) ≡ bare (apply whole now o)
+  names_whole now o = ap (λ (u : Tree). bare (apply u now o)) (sym tied.same) ∙ sym (bare-apply whole tied.sound now now o)
+
+  -- other names, and the times of the directories that were touched
+  pub names_changed : (now : Moment) (o : Op) → IsOfNames o → (new : Tree) → new ≡ bare (apply names now o) → (dirs : Touched) → dirs ≡ touched_by names o → (between left : List (Key × Inode)) → between ≡ touched_content now dirs.first contents → left ≡ touched_content now dirs.second between → (tree_of new left ≡ apply whole now o) × IsTied new left
+  names_changed now o of new names_are dirs dirs_are between left first second =
+      joined now o new left (names_are ∙ names_whole now o) (
+        second ∙ ap (λ l. touched_content now dirs.second l) first
+        ∙ ap (λ (d : Touched). touched_content now d.second (touched_content now d.first contents)) (dirs_are ∙ ap (λ (u : Tree). touched_by u o) (sym tied.same) ∙ touched_by-bare whole o)
+        ∙ sym (inodes-apply whole tied.sound.order.inodes now o of)
+      )
+
+  -- another content of one inode
+  pub content_changed : (number : Key) (f : Inode → Inode) → ((i : Inode) → (f i).kind ≡ i.kind) → (left : List (Key × Inode)) → left ≡ at_content contents number f → (tree_of names left ≡ at_inode whole number f) × IsTied names left
+  content_changed number f kept left contents_are =
+      let is : tree_of names left ≡ at_inode whole number f = ap (λ l. tree_of names l) contents_are ∙ by (value_at key_cmp number contents) in
+      let same : bare (tree_of names left) ≡ names = ap bare is ∙ bare-at_inode whole number f tied.sound.order.inodes kept ∙ tied.same in
+      let sound : IsSound names = subst (λ (u : Tree). IsSound u) tied.same (sound-bare whole tied.sound) in
+      (is, record { sound = sound_if_bare (tree_of names left) (subst (λ (u : Tree). IsSound u) (sym same) sound); same = same })
+    where
+      by : (o : Option Inode) → tree_of names (changed_content contents number o f) ≡ changed_inode whole number o f
+      by None = refl
+      by (Some i) = refl
+
+  -- a new inode
+  module _ (now : Moment) (number : Key) (kind : Kind) (mode uid gid : ℕ) (target : List ℕ) (o : Op) (same : o ≡ op.Inode number kind mode uid gid target) where
+    pub inode_added : (i : Inode) → made now o ≡ Some i → value_at key_cmp number contents ≡ None → (new : Tree) → new ≡ bare (apply names now o) → (left : List (Key × Inode)) → left ≡ put key_cmp number i contents → (tree_of new left ≡ apply whole now o) × IsTied new left
+    inode_added i makes free new names_are left contents_are =
+        joined now o new left (names_are ∙ names_whole now o) (
+          contents_are
+          ∙ ap (λ (u : Tree). u.inodes) (sym (inode-free whole now number kind mode uid gid target i free (ap (made now) (sym same) ∙ makes)))
+          ∙ ap (λ (p : Op). (apply whole now p).inodes) (sym same)
+        )
+
+    pub inode_there : (r : Option (Bor Inode)) → option_copied r ≡ value_at key_cmp number contents → true ≡ is_some r → whole ≡ apply whole now o
+    inode_there r found there = by r found there
+      where
+        by : (r : Option (Bor Inode)) → option_copied r ≡ value_at key_cmp number contents → true ≡ is_some r → whole ≡ apply whole now o
+        by None found there = cc
+        by (Some i) found there = sym (inode-used whole now number kind mode uid gid target i.now (sym found)) ∙ ap (λ (p : Op). apply whole now p) (sym same)
+
+  -- an inode that was put in and, as its number got no place among the names, taken out again
+  pub taken_out : (number : Key) (i : Inode) → value_at key_cmp number contents ≡ None → (left : Tree) → left ≡ names → (between after : List (Key × Inode)) → between ≡ put key_cmp number i contents → after ≡ remove_entry (same_key number) between → (tree_of left after ≡ whole) × IsTied left after
+  taken_out number i free left names_are between after put_in taken =
+      let contents_are : after ≡ contents = taken ∙ ap (λ l. remove_entry (same_key number) l) put_in ∙ taken_back number i contents free in
+      (λ j. tree_of (names_are j) (contents_are j), subst (λ (u : Tree). IsTied u after) (sym names_are) (subst (λ l. IsTied names l) (sym contents_are) tied))
+
+  pub subdirectories : (dir : Key) → subdirectory_count names dir ≡ subdirectory_count whole dir
+  subdirectories dir = ap (λ (u : Tree). subdirectory_count u dir) (sym tied.same) ∙ λ i. count_by (λ e. same_key dir e.0.0 && is_directory-bare whole e.1 i) names.names
+
+-- no inode of that number
+pub is_free : {A : Type 0} (r : Option (Bor A)) (o : Option A) → option_copied r ≡ o → false ≡ is_some r → o ≡ None
+is_free None o found none = sym found
+is_free (Some i) o found none = cc
+
+-- ---- operations on one inode
+
+onto : {A E : Type 0} {P Q : Type 0} (r : Result A E) → (P → Q) → OnOk r P → OnOk r Q
+onto (Ok x) f h = f h
+onto (Err e) f h = h
+
+-- a content that was changed, or none for want of memory
+pub content_left : (names : Tree) (contents : List (Key × Inode)) → IsTied names contents → (number : Key) (f : Inode → Inode) → ((i : Inode) → (f i).kind ≡ i.kind) → {A E : Type 0} (r : Result A E) (left : List (Key × Inode)) → OnOk r (left ≡ at_content contents number f) → OnErr r (left ≡ contents) → OnOk r (tree_of names left ≡ at_inode (tree_of names contents) number f) × IsTied names left
+content_left names contents tied number f kept (Ok x) left ok err = content_changed names contents tied number f kept left ok
+content_left names contents tied number f kept (Err e) left ok err = (tt, subst (λ l. IsTied names l) (sym err) tied)
+
+module _ (t : Tree) (order : IsInOrder t) (now : Moment) (number : Key) (o : Op) {A E : Type 0} (r : Result A E) (new : Tree) (ends : OnOk r (new ≡ at_inode t number (changed now o))) where
+  pub written_is : (offset : ℕ) (bytes : List ℕ) → o ≡ op.Write number offset bytes → OnOk r (new ≡ apply t now o)
+  written_is offset bytes same = onto r (λ is. is ∙ ap (λ (p : Op). at_inode t number (changed now p)) same ∙ sym (write-at t order now number offset bytes) ∙ ap (λ (p : Op). apply t now p) (sym same)) ends
+
+  pub attributes_are : (change : Change) → o ≡ op.SetAttrs number change → OnOk r (new ≡ apply t now o)
+  attributes_are change same = onto r (λ is. is ∙ ap (λ (p : Op). at_inode t number (changed now p)) same ∙ sym (attributes-at t order now number change) ∙ ap (λ (p : Op). apply t now p) (sym same)) ends

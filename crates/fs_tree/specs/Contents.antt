@@ -1,0 +1,22 @@
+-- The contents of all inodes, in the order of their numbers.
+use Rattle.std.specs.Prelude.{List, Option, Some, None}
+use Rattle.std.specs.FinMap.Entries.{find as value_at, put}
+use Rattle.ivy_base.specs.declared.key.Key.{Key}
+use Rattle.ivy_base.specs.declared.operation.Moment.{Moment}
+use Rattle.ivy_base.specs.Naming.{key_cmp}
+use Rattle.tree_model.specs.Tree.{Inode}
+use Rattle.inode_replay.specs.Contents.{touched_inode}
+
+-- the contents with that one changed, where it was found
+abbrev pub changed_content : List (Key × Inode) → Key → Option Inode → (Inode → Inode) → List (Key × Inode)
+changed_content contents ino None f = contents
+changed_content contents ino (Some i) f = put key_cmp ino (f i) contents
+
+-- the contents with the one of that number changed, where there is one
+abbrev pub at_content : List (Key × Inode) → Key → (Inode → Inode) → List (Key × Inode)
+at_content contents ino f = changed_content contents ino (value_at key_cmp ino contents) f
+
+-- the contents after a change of the directory's entries, where one is given
+abbrev pub touched_content : Moment → Option Key → List (Key × Inode) → List (Key × Inode)
+touched_content now None contents = contents
+touched_content now (Some dir) contents = at_content contents dir (touched_inode now)
