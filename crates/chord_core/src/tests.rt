@@ -99,3 +99,75 @@ fn a_joining_node_takes_a_list(rt: HostRuntime) -> Result<(), Fail> {
     assert_eq!(rt; nearer.as_slice(), [peer(7), peer(6)].as_slice());
     Ok(())
 }
+
+/// One pass over nodes that lie by their numbers: each asks its first entry, and notifies the first of its new list.
+fn pass(alloc: Global, nodes: &mut [Node], order: &[Peer]) -> Result<(), Memory> {
+    for me in order {
+        let Some(first) = first_of(nodes, *me) else {
+            continue;
+        };
+        let Some(asked) = nodes.get(first.number as usize) else {
+            continue;
+        };
+        let heard = asked.answer(alloc, &Ask::Near)?;
+        let Some(node) = nodes.get_mut(me.number as usize) else {
+            continue;
+        };
+        node.stabilise(alloc, &heard)?;
+        let Some(first) = first_of(nodes, *me) else {
+            continue;
+        };
+        let Some(told) = nodes.get_mut(first.number as usize) else {
+            continue;
+        };
+        told.notify(*me);
+    }
+    Ok(())
+}
+
+/// The first entry of the list of the node of that number.
+fn first_of(nodes: &[Node], peer: Peer) -> Option<Peer> {
+    nodes
+        .get(peer.number as usize)?
+        .list()
+        .as_slice()
+        .first()
+        .copied()
+}
+
+/// The nodes at 0 and 1 of a settled ring of both with r = 1, and one at 2 that has just joined it.
+fn joined(alloc: Global) -> Result<Vec<Node>, Memory> {
+    let (zero, one, two) = (peer(0), peer(1), peer(2));
+    let both = Peers::of(vec![in alloc; zero, one]?);
+    let mut last = Node::alone(alloc, two, 1)?;
+    last.adopt(alloc, &both)?;
+    let mut nodes = Vec::with_capacity(alloc, 3)?;
+    nodes.push(Node::settled(alloc, zero, 1, &both)?)?;
+    nodes.push(Node::settled(alloc, one, 1, &both)?)?;
+    nodes.push(last)?;
+    Ok(nodes)
+}
+
+/// Whether the lists are the next two members.
+fn are_right(nodes: &[Node]) -> bool {
+    let lists = [[peer(1), peer(2)], [peer(2), peer(0)], [peer(0), peer(1)]];
+    for (node, list) in nodes.iter().zip(&lists) {
+        if node.list().as_slice() != list.as_slice() {
+            return false;
+        }
+    }
+    true
+}
+
+#[test]
+fn a_join_takes_three_passes(rt: HostRuntime) -> Result<(), Fail> {
+    let alloc = rt.alloc();
+    let mut nodes = joined(alloc)?;
+    let order = [peer(0), peer(1), peer(2)];
+    pass(alloc, &mut nodes, &order)?;
+    pass(alloc, &mut nodes, &order)?;
+    assert!(rt; !are_right(&nodes));
+    pass(alloc, &mut nodes, &order)?;
+    assert!(rt; are_right(&nodes));
+    Ok(())
+}
