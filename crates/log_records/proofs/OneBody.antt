@@ -106,11 +106,11 @@ one_body kind = record { one = λ x y r s f g e. same x y r s f.1 g.1 (f.0 ∙ s
     same (op.Inode number kind mode uid gid target) (op.Inode number2 kind2 mode2 uid2 gid2 target2) r s f g k e =
         let parts = one_key ▷ one_kind ▷ one_at_most 4095 (omega arith) ▷ one_word ▷ one_word ▷ one_short_opaque 1024 (omega arith) in
         let p = parts.one (((((number, kind), mode), uid), gid), target) (((((number2, kind2), mode2), uid2), gid2), target2) r s
-            (((((f.0, tt), f.1), f.2), f.3), target_fits kind target f.4) (((((g.0, tt), g.1), g.2), g.3), target_fits kind2 target2 g.4) e in
+        (((((f.0, tt), f.1), f.2), f.3), target_fits kind target f.4) (((((g.0, tt), g.1), g.2), g.3), target_fits kind2 target2 g.4) e in
         (ap inode_of p.0, p.1)
     same (op.Write number offset bytes) (op.Write number2 offset2 bytes2) r s f g k e =
         let p = (one_key ▷ one_double_word ▷ one_short_opaque 8192 (omega arith)).one ((number, offset), bytes) ((number2, offset2), bytes2) r s
-            ((f.0, omega (arith, f.3)), f.2) ((g.0, omega (arith, g.3)), g.2) e in
+        ((f.0, omega (arith, f.3)), f.2) ((g.0, omega (arith, g.3)), g.2) e in
         (ap (λ (p : (Key × ℕ) × List ℕ). op.Write p.0.0 p.0.1 p.1) p.0, p.1)
     same (op.Link dir name number) (op.Link dir2 name2 number2) r s f g k e =
         let p = (one_key ▷ one_name ▷ one_key).one ((dir, name), number) ((dir2, name2), number2) r s ((f.0, f.1), f.2) ((g.0, g.1), g.2) e in
@@ -120,7 +120,7 @@ one_body kind = record { one = λ x y r s f g e. same x y r s f.1 g.1 (f.0 ∙ s
         (ap (λ (p : Key × List ℕ). op.Unlink p.0 p.1) p.0, p.1)
     same (op.Rename dir name to_dir to_name) (op.Rename dir2 name2 to_dir2 to_name2) r s f g k e =
         let p = (one_key ▷ one_name ▷ one_key ▷ one_name).one (((dir, name), to_dir), to_name) (((dir2, name2), to_dir2), to_name2) r s
-            (((f.0, f.1), f.2), f.3) (((g.0, g.1), g.2), g.3) e in
+        (((f.0, f.1), f.2), f.3) (((g.0, g.1), g.2), g.3) e in
         (ap (λ (p : ((Key × List ℕ) × Key) × List ℕ). op.Rename p.0.0.0 p.0.0.1 p.0.1 p.1) p.0, p.1)
     same (op.Prepare dir name verifier) (op.Prepare dir2 name2 verifier2) r s f g k e =
         let p = (one_key ▷ one_name ▷ one_block 8).one ((dir, name), verifier) ((dir2, name2), verifier2) r s ((f.0, f.1), f.2) ((g.0, g.1), g.2) e in

@@ -62,13 +62,16 @@ abbrev pub record_with : PubKey → Frame × Op → Record
 record_with owner p = record { owner = owner; seq = p.0.seq; prev = p.0.prev; vector = p.0.vector; moment = p.0.moment; op = p.1 }
 
 parts_fit : (r : Record) → HasSpelling r → AreParts (head_key_of r.owner) (parts_in r)
-parts_fit r f = (record {
-  kind_is = kind_fits r.op;
-  prev_is = f.prev;
-  seq_is = (f.some, f.few);
-  moment_is = f.moment;
-  cited = (record { whole = record { entries = f.entries; in_order = f.in_order }; short = f.short }, f.of_others);
-}, (refl, f.operation))
+parts_fit r f = (
+  record {
+    kind_is = kind_fits r.op;
+    prev_is = f.prev;
+    seq_is = (f.some, f.few);
+    moment_is = f.moment;
+    cited = (record { whole = record { entries = f.entries; in_order = f.in_order }; short = f.short }, f.of_others);
+  },
+  (refl, f.operation),
+)
 
 owned_parts : (owner : PubKey) (r : Record) → r.owner ≡ owner → HasSpelling r → AreParts (head_key_of owner) (parts_in r)
 owned_parts owner r e f = subst (λ (o : PubKey). AreParts (head_key_of o) (parts_in r)) e (parts_fit r f)
@@ -80,7 +83,7 @@ pub one_record : RecordsAreOne
 one_record owner = record {
   one = λ x y r s f g e.
       let p = (one_of_parts (head_key_of owner)).one (parts_in x) (parts_in y) r s (owned_parts owner x f.0 f.1) (owned_parts owner y g.0 g.1)
-          (ap (λ (b : List ℕ). b ++ r) (sym (spelled_by owner x f.0)) ∙ e ∙ ap (λ (b : List ℕ). b ++ s) (spelled_by owner y g.0)) in
+      (ap (λ (b : List ℕ). b ++ r) (sym (spelled_by owner x f.0)) ∙ e ∙ ap (λ (b : List ℕ). b ++ s) (spelled_by owner y g.0)) in
       (same x y (f.0 ∙ sym g.0) p.0, p.1);
 }
   where

@@ -57,12 +57,28 @@ body_short (op.Rename dir name to_dir to_name) f = omega (arith, four dir.0 (opa
 body_short (op.Prepare dir name verifier) f = omega (arith, three dir.0 (opaque name) verifier, opaque_most name, f.0.size, f.1.short, f.2.size)
 body_short (op.Cancel seq) f = omega arith
 body_short (op.SetAttrs number c) f =
-    omega (arith, seven number.0 (optional word c.mode) (optional word c.uid) (optional word c.gid) (optional double_word c.size) (optional moment c.atime) (optional moment c.mtime),
-    words c.mode, words c.uid, words c.gid, double_words c.size, moments c.atime, moments c.mtime, f.0.size)
+    omega (
+      arith,
+      seven number.0 (optional word c.mode) (optional word c.uid) (optional word c.gid) (optional double_word c.size) (optional moment c.atime) (optional moment c.mtime),
+      words c.mode,
+      words c.uid,
+      words c.gid,
+      double_words c.size,
+      moments c.atime,
+      moments c.mtime,
+      f.0.size,
+    )
 body_short op.End f = omega arith
 
 pub short_records : RecordsAreShort
 short_records r f =
     let vector = length-vector r.vector (record { entries = f.entries; in_order = f.in_order }) in
-    omega (arith, seven (73 ∷ 86 ∷ 82 ∷ 49 ∷ word (record_kind r.op)) (head_key_of r.owner).0 r.prev.0 (word r.seq) (moment r.moment) (array vector_entry r.vector) (body r.op),
-    length-name r.owner.0, f.prev.size, vector, f.short, body_short r.op f.operation)
+    omega (
+      arith,
+      seven (73 ∷ 86 ∷ 82 ∷ 49 ∷ word (record_kind r.op)) (head_key_of r.owner).0 r.prev.0 (word r.seq) (moment r.moment) (array vector_entry r.vector) (body r.op),
+      length-name r.owner.0,
+      f.prev.size,
+      vector,
+      f.short,
+      body_short r.op f.operation,
+    )

@@ -61,12 +61,7 @@ impl<'a> Head<'a> {
 }
 
 /// The block of a head with an empty signature, 92 bytes. The error is want of memory.
-pub fn plain_head(
-    alloc: Global,
-    owner: &PubKey,
-    seq: u32,
-    name: &Key,
-) -> Result<Bytes, Memory>
+pub fn plain_head(alloc: Global, owner: &PubKey, seq: u32, name: &Key) -> Result<Bytes, Memory>
     ensures { IfOk result (λ block. block ≡ head_block owner.now (stamp seq name.now) []) }
 {
     Head {

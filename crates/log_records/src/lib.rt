@@ -1,17 +1,19 @@
 //! Records and heads of logs as blocks.
 #![tactic(auto)]
 
-pub mod fault;
 mod body;
 mod body_writing;
 mod change;
 mod change_writing;
+pub mod fault;
 mod frame;
 pub mod head;
-pub mod record;
 pub mod judge;
 mod laws;
 mod parts;
+pub mod record;
+#[cfg(test)]
+mod tests;
 mod writing;
 
 pub use fault::RecordFault;

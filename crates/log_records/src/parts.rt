@@ -134,11 +134,7 @@ pub fn read_place(alloc: Global, reader: &mut XdrRead) -> Result<(Key, Bytes), P
 }
 
 /// The text of a symbolic link, 1 to 1,024 bytes, and nothing for other kinds.
-pub fn read_target(
-    alloc: Global,
-    reader: &mut XdrRead,
-    kind: Kind,
-) -> Result<Bytes, PartFault>
+pub fn read_target(alloc: Global, reader: &mut XdrRead, kind: Kind) -> Result<Bytes, PartFault>
     ensures ok { IfOk result (λ target. IsFront (IsTarget kind) opaque reader.old target reader.new) }
     ensures err { IfErr result (Refuses (IsTarget kind) opaque reader.old) }
 {
