@@ -1,6 +1,6 @@
 -- Each part of a record, and each operation of one kind, has one spelling.
 use Rattle.std.proofs.Common.{◌≡◌, ℕ, ◌^◌, ◌<◌, ◌≤◌, List, ◌++◌, length, Option, refl, sym, ap, ◌∙◌, arith, append_assoc}
-use Rattle.std.specs.Prelude.{IfSome, ⊤, Some, None}
+use Rattle.std.specs.Prelude.{IfSome}
 use Rattle.ivy_base.specs.declared.key.Key.{Key}
 use Rattle.ivy_base.specs.declared.operation.Kind.{Kind}
 use Rattle.ivy_base.specs.declared.operation.Kind.TheVariants.{Reg, Dir, Lnk}
@@ -9,10 +9,10 @@ use Rattle.ivy_base.specs.declared.operation.Change.{Change}
 use Rattle.ivy_base.specs.declared.operation.Op.{Op}
 use Rattle.ivy_base.specs.declared.operation.Op.TheVariants as op
 use Rattle.ivy_base.specs.Naming.{IsFileName}
-use Rattle.wire_model.specs.Xdr.{word, double_word, opaque, optional, moment, IsWord, IsDoubleWord, IsAny, IsUpTo}
+use Rattle.wire_model.specs.Xdr.{word, double_word, opaque, moment, IsAny}
 use Rattle.wire_model.specs.OneReading.{ReadsOne}
 use Rattle.wire_model.proofs.OneReading.{◌▷◌, of_fewer, of_parts, one_word, one_double_word, one_moment, one_raw, one_short_opaque, one_optional}
-use Rattle.log_model.specs.Spelling.{record_kind, body, IsKey, IsBlock, IsMode, IsMoment, IsTarget, IsChange, OperationFits}
+use Rattle.log_model.specs.Spelling.{record_kind, body, IsKey, IsBlock, IsMoment, IsTarget, IsChange, OperationFits}
 use Rattle.log_records.specs.Parts.{key_bytes, kind_word, IsAtMost, place_block, IsPlace, piece_block, IsPiece, change_block, IsOfKind}
 
 pub one_block : (count : ℕ) → ReadsOne (IsBlock count) (λ bytes. bytes)
@@ -46,20 +46,6 @@ one_name = of_fewer (λ bytes f. f.short) (one_short_opaque 255 (omega arith))
 
 pub one_place : ReadsOne IsPlace place_block
 one_place = one_key ▷ one_name
-
-pub one_piece : ReadsOne IsPiece piece_block
-one_piece = of_fewer {Fewer = IsPiece} (λ p f. (omega arith, f.1)) (one_double_word ▷ one_short_opaque 8192 (omega arith))
-
-pub one_target : (kind : Kind) → ReadsOne (IsTarget kind) opaque
-one_target kind = of_fewer (short kind) (one_short_opaque 1024 (omega arith))
-  where
-    short : (kind : Kind) (bytes : List ℕ) → IsTarget kind bytes → length bytes ≤ 1024
-    short Reg bytes f = rw f (omega arith)
-    short Dir bytes f = rw f (omega arith)
-    short Lnk bytes f = f.1
-
-abbrev pub IsOptionalAtMost : ℕ → Option ℕ → Type 0
-IsOptionalAtMost most o = IfSome o (IsAtMost most)
 
 pub one_size : ReadsOne (IsAtMost 16777216) double_word
 one_size = of_fewer {Fewer = IsAtMost 16777216} (λ n f. omega arith) one_double_word

@@ -1,25 +1,23 @@
 -- Records: each has one spelling, and when bytes are none.
-use Rattle.std.proofs.Common.{◌≡◌, ℕ, ◌+◌, ◌<◌, ◌^◌, ◌≤◌, List, [], ◌∷◌, ◌++◌, length, refl, sym, ap, ◌∙◌, arith, subst}
-use Rattle.std.specs.Prelude.{None}
+use Rattle.std.proofs.Common.{◌≡◌, ℕ, ◌<◌, ◌^◌, ◌≤◌, List, ◌++◌, length, refl, sym, ap, ◌∙◌, arith, subst}
 use Rattle.ivy_base.specs.declared.key.Key.{Key}
 use Rattle.ivy_base.specs.declared.key.PubKey.{PubKey}
 use Rattle.ivy_base.specs.declared.operation.Op.{Op}
 use Rattle.ivy_base.specs.declared.operation.Op.TheVariants as op
 use Rattle.ivy_base.specs.Naming.{head_key_of}
-use Rattle.wire_model.specs.OneReading.{ReadsOne, IsFront, HasNoFront}
+use Rattle.wire_model.specs.OneReading.{ReadsOne, IsFront}
 use Rattle.wire_model.proofs.OneReading.{whole}
 use Rattle.log_model.specs.Vector.{stamp_at}
 use Rattle.log_model.specs.Record.{Record}
 use Rattle.log_model.specs.Spelling.{record_kind, body, record_block, HasSpelling, IsRecordOf}
-use Rattle.log_model.specs.Chain.{HasMadeNumber}
 use Rattle.log_records.specs.declared.frame.Frame.{Frame}
-use Rattle.log_records.specs.declared.fault.PartFault.{PartFault}
-use Rattle.log_records.specs.declared.fault.PartFault.TheVariants as part
+use Rattle.log_records.specs.declared.part_fault.PartFault.{PartFault}
+use Rattle.log_records.specs.declared.part_fault.PartFault.TheVariants as part
 use Rattle.log_records.specs.Parts.{IsOfKind}
 use Rattle.log_records.specs.Frames.{IsFrame, frame_block, AreParts, parts_block, IsWellPlaced}
 use Rattle.log_records.specs.Reading.{Refuses, fault_of_part, IsSpelled, RefusesWhole}
 use Rattle.log_records.specs.Records.{ReadFault}
-use Rattle.log_records.specs.Laws.{IsOwned, RecordsAreOne}
+use Rattle.log_records.specs.Laws.{RecordsAreOne}
 use Rattle.log_records.proofs.Chains.{no_first_by, no_second_by, one_by, refused_whole}
 use Rattle.log_records.proofs.OneBody.{one_body}
 use Rattle.log_records.proofs.Frames.{one_frame}

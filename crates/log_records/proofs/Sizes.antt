@@ -1,24 +1,17 @@
 -- No record is too long.
-use Rattle.std.proofs.Common.{◌≡◌, ℕ, ◌+◌, ◌*◌, ◌<◌, ◌≤◌, List, [], ◌∷◌, ◌++◌, length, refl, arith, length-append}
+use Rattle.std.proofs.Common.{◌≡◌, ℕ, ◌+◌, ◌≤◌, List, ◌∷◌, ◌++◌, length, arith, length-append}
 use Rattle.std.specs.Prelude.{Option, Some, None}
-use Rattle.ivy_base.specs.declared.key.Key.{Key}
-use Rattle.ivy_base.specs.declared.operation.Kind.{Kind}
-use Rattle.ivy_base.specs.declared.operation.Kind.TheVariants.{Reg, Dir, Lnk}
 use Rattle.ivy_base.specs.declared.operation.Moment.{Moment}
 use Rattle.ivy_base.specs.declared.operation.Op.{Op}
 use Rattle.ivy_base.specs.declared.operation.Op.TheVariants as op
 use Rattle.ivy_base.specs.Naming.{head_key_of}
 use Rattle.ivy_base.proofs.NameLemmas.{length-name}
 use Rattle.wire_model.specs.Xdr.{word, double_word, opaque, optional, moment, array}
-use Rattle.xdr_codec.specs.Writing.{padded}
 use Rattle.xdr_codec.proofs.Lengths.{length-opaque}
-use Rattle.log_model.specs.Record.{Record}
-use Rattle.log_model.specs.Spelling.{kind_number, record_kind, body, vector_entry, record_block, IsTarget, OperationFits, HasSpelling}
+use Rattle.log_model.specs.Spelling.{kind_number, record_kind, body, vector_entry, OperationFits}
 use Rattle.version_vectors.proofs.Lengths.{length-vector}
 use Rattle.log_records.specs.Laws.{RecordsAreShort}
-use Rattle.log_records.specs.Frames.{frame_block}
 use Rattle.log_records.proofs.OneBody.{target_fits}
-use Rattle.log_records.proofs.OneRecord.{frame_in}
 
 opaque_most : (bytes : List ℕ) → length (opaque bytes) ≤ length bytes + 7
 opaque_most bytes = omega (arith, length-opaque bytes)

@@ -7,7 +7,7 @@ ghost use Rattle.log_model.specs.Vector.{Stamp};
 ghost use Rattle.log_model.specs.Spelling.{head_block, IsHeadOf};
 ghost use Rattle.log_records.specs.Heads.{stamp, IsHead, head_bytes};
 
-use crate::fault::Malformed;
+use crate::part_fault::Malformed;
 use crate::parts::{read_block, read_constant, read_key, read_number};
 use crate::writing::{opaque_len, put_constant, put_key, put_owner};
 use ivy_base::{Bytes, Key, Memory, PubKey};

@@ -1,4 +1,4 @@
--- Where bytes are left behind a block, and where they differ.
+-- What the tests of readers and judges tell.
 use Rattle.std.proofs.Common.{◌≡◌, ℕ, List, [], Bool, true, false, not, refl, sym, ap, ◌∙◌, ◌∷◌, arith}
 use Rattle.std.specs.Prelude.{◌≢◌, ◌↔◌, IsTrue, nat_eq, length, Option, Some, None, option_map}
 use Rattle.std.specs.Option.{is_some}
