@@ -1,10 +1,10 @@
 -- Bytes of a known count: they fill whole words, and each is below 256.
-use Rattle.std.proofs.Common.{◌≡◌, ℕ, zero, suc, ◌<◌, ◌≤◌, ◌-◌, ◌%◌, Bool, true, false, ◌&&◌, List, [], ◌∷◌, ◌++◌, length, get_or, refl, sym, ap, ◌∙◌, arith}
-use Rattle.std.specs.Prelude.{IsTrue, nat_lt, replicate}
+use Rattle.std.proofs.Common.{◌≡◌, ℕ, suc, ◌<◌, ◌-◌, ◌%◌, Bool, true, false, ◌&&◌, List, [], ◌∷◌, ◌++◌, length, get_or, refl, sym, ap, ◌∙◌}
+use Rattle.std.specs.Prelude.{nat_lt, replicate}
 use Rattle.std.specs.List.{list_all}
 use Rattle.std.proofs.lemmas.List.{append-nil}
 use Rattle.std.proofs.lemmas.Bool.{lt-ltb}
-use Rattle.wire_model.specs.Xdr.{fixed, padding, IsOfLength}
+use Rattle.wire_model.specs.Xdr.{fixed, IsOfLength}
 use Rattle.wire_model.specs.OneReading.{IsFront, HasNoFront}
 use Rattle.log_model.specs.Spelling.{IsBlock}
 use Rattle.log_records.specs.Parts.{as_it_stands}

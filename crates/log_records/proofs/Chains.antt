@@ -4,8 +4,8 @@ use Rattle.std.specs.Prelude.{◌≢◌, Result, Ok, Err, OnErr}
 use Rattle.std.proofs.lemmas.List.{append-nil}
 use Rattle.wire_model.specs.OneReading.{ReadsOne, IsFront, HasNoFront}
 use Rattle.wire_model.proofs.OneReading.{regrouped}
-use Rattle.log_records.specs.declared.fault.PartFault.{PartFault}
-use Rattle.log_records.specs.declared.fault.PartFault.TheVariants.{Malformed, Memory}
+use Rattle.log_records.specs.declared.part_fault.PartFault.{PartFault}
+use Rattle.log_records.specs.declared.part_fault.PartFault.TheVariants.{Malformed, Memory}
 use Rattle.log_records.specs.Reading.{Refuses, IsSpelled, RefusesWhole}
 
 -- one part, and then the other

@@ -1,5 +1,5 @@
 -- Bytes that are the same in each block.
-use Rattle.std.proofs.Common.{◌≡◌, ℕ, ◌%◌, List, ◌++◌, length, refl, sym, ap, ◌∙◌}
+use Rattle.std.proofs.Common.{◌≡◌, ℕ, ◌%◌, List, ◌++◌, length, sym, ap, ◌∙◌}
 use Rattle.std.specs.Prelude.{◌≢◌}
 use Rattle.wire_model.specs.Xdr.{fixed, IsAny, IsOfLength}
 use Rattle.wire_model.specs.OneReading.{ReadsOne, IsFront, HasNoFront}

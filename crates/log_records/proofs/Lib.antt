@@ -1,11 +1,11 @@
 pub mod Bytes
 pub mod Chains
 pub mod OneBody
-pub mod Bodies
+pub mod ReadParts
 pub mod Operations
 pub mod Constants
 pub mod OneHead
-pub mod Ends
+pub mod Tested
 pub mod Frames
 pub mod OneRecord
 pub mod Weights

@@ -1,6 +1,6 @@
 -- Each part of a record, and each operation of one kind, has one spelling.
 use Rattle.std.proofs.Common.{◌≡◌, ℕ, ◌^◌, ◌<◌, ◌≤◌, List, ◌++◌, length, Option, refl, sym, ap, ◌∙◌, arith, append_assoc}
-use Rattle.std.specs.Prelude.{IfSome, ⊤, Some, None}
+use Rattle.std.specs.Prelude.{IfSome}
 use Rattle.ivy_base.specs.declared.key.Key.{Key}
 use Rattle.ivy_base.specs.declared.operation.Kind.{Kind}
 use Rattle.ivy_base.specs.declared.operation.Kind.TheVariants.{Reg, Dir, Lnk}
@@ -9,10 +9,10 @@ use Rattle.ivy_base.specs.declared.operation.Change.{Change}
 use Rattle.ivy_base.specs.declared.operation.Op.{Op}
 use Rattle.ivy_base.specs.declared.operation.Op.TheVariants as op
 use Rattle.ivy_base.specs.Naming.{IsFileName}
-use Rattle.wire_model.specs.Xdr.{word, double_word, opaque, optional, moment, IsWord, IsDoubleWord, IsAny, IsUpTo}
+use Rattle.wire_model.specs.Xdr.{word, double_word, opaque, moment, IsAny}
 use Rattle.wire_model.specs.OneReading.{ReadsOne}
 use Rattle.wire_model.proofs.OneReading.{◌▷◌, of_fewer, of_parts, one_word, one_double_word, one_moment, one_raw, one_short_opaque, one_optional}
-use Rattle.log_model.specs.Spelling.{record_kind, body, IsKey, IsBlock, IsMode, IsMoment, IsTarget, IsChange, OperationFits}
+use Rattle.log_model.specs.Spelling.{record_kind, body, IsKey, IsBlock, IsMoment, IsTarget, IsChange, OperationFits}
 use Rattle.log_records.specs.Parts.{key_bytes, kind_word, IsAtMost, place_block, IsPlace, piece_block, IsPiece, change_block, IsOfKind}
 
 pub one_block : (count : ℕ) → ReadsOne (IsBlock count) (λ bytes. bytes)
@@ -46,20 +46,6 @@ one_name = of_fewer (λ bytes f. f.short) (one_short_opaque 255 (omega arith))
 
 pub one_place : ReadsOne IsPlace place_block
 one_place = one_key ▷ one_name
-
-pub one_piece : ReadsOne IsPiece piece_block
-one_piece = of_fewer {Fewer = IsPiece} (λ p f. (omega arith, f.1)) (one_double_word ▷ one_short_opaque 8192 (omega arith))
-
-pub one_target : (kind : Kind) → ReadsOne (IsTarget kind) opaque
-one_target kind = of_fewer (short kind) (one_short_opaque 1024 (omega arith))
-  where
-    short : (kind : Kind) (bytes : List ℕ) → IsTarget kind bytes → length bytes ≤ 1024
-    short Reg bytes f = rw f (omega arith)
-    short Dir bytes f = rw f (omega arith)
-    short Lnk bytes f = f.1
-
-abbrev pub IsOptionalAtMost : ℕ → Option ℕ → Type 0
-IsOptionalAtMost most o = IfSome o (IsAtMost most)
 
 pub one_size : ReadsOne (IsAtMost 16777216) double_word
 one_size = of_fewer {Fewer = IsAtMost 16777216} (λ n f. omega arith) one_double_word
@@ -106,11 +92,11 @@ one_body kind = record { one = λ x y r s f g e. same x y r s f.1 g.1 (f.0 ∙ s
     same (op.Inode number kind mode uid gid target) (op.Inode number2 kind2 mode2 uid2 gid2 target2) r s f g k e =
         let parts = one_key ▷ one_kind ▷ one_at_most 4095 (omega arith) ▷ one_word ▷ one_word ▷ one_short_opaque 1024 (omega arith) in
         let p = parts.one (((((number, kind), mode), uid), gid), target) (((((number2, kind2), mode2), uid2), gid2), target2) r s
-            (((((f.0, tt), f.1), f.2), f.3), target_fits kind target f.4) (((((g.0, tt), g.1), g.2), g.3), target_fits kind2 target2 g.4) e in
+        (((((f.0, tt), f.1), f.2), f.3), target_fits kind target f.4) (((((g.0, tt), g.1), g.2), g.3), target_fits kind2 target2 g.4) e in
         (ap inode_of p.0, p.1)
     same (op.Write number offset bytes) (op.Write number2 offset2 bytes2) r s f g k e =
         let p = (one_key ▷ one_double_word ▷ one_short_opaque 8192 (omega arith)).one ((number, offset), bytes) ((number2, offset2), bytes2) r s
-            ((f.0, omega (arith, f.3)), f.2) ((g.0, omega (arith, g.3)), g.2) e in
+        ((f.0, omega (arith, f.3)), f.2) ((g.0, omega (arith, g.3)), g.2) e in
         (ap (λ (p : (Key × ℕ) × List ℕ). op.Write p.0.0 p.0.1 p.1) p.0, p.1)
     same (op.Link dir name number) (op.Link dir2 name2 number2) r s f g k e =
         let p = (one_key ▷ one_name ▷ one_key).one ((dir, name), number) ((dir2, name2), number2) r s ((f.0, f.1), f.2) ((g.0, g.1), g.2) e in
@@ -120,7 +106,7 @@ one_body kind = record { one = λ x y r s f g e. same x y r s f.1 g.1 (f.0 ∙ s
         (ap (λ (p : Key × List ℕ). op.Unlink p.0 p.1) p.0, p.1)
     same (op.Rename dir name to_dir to_name) (op.Rename dir2 name2 to_dir2 to_name2) r s f g k e =
         let p = (one_key ▷ one_name ▷ one_key ▷ one_name).one (((dir, name), to_dir), to_name) (((dir2, name2), to_dir2), to_name2) r s
-            (((f.0, f.1), f.2), f.3) (((g.0, g.1), g.2), g.3) e in
+        (((f.0, f.1), f.2), f.3) (((g.0, g.1), g.2), g.3) e in
         (ap (λ (p : ((Key × List ℕ) × Key) × List ℕ). op.Rename p.0.0.0 p.0.0.1 p.0.1 p.1) p.0, p.1)
     same (op.Prepare dir name verifier) (op.Prepare dir2 name2 verifier2) r s f g k e =
         let p = (one_key ▷ one_name ▷ one_block 8).one ((dir, name), verifier) ((dir2, name2), verifier2) r s ((f.0, f.1), f.2) ((g.0, g.1), g.2) e in

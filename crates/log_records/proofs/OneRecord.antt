@@ -1,25 +1,23 @@
 -- Records: each has one spelling, and when bytes are none.
-use Rattle.std.proofs.Common.{◌≡◌, ℕ, ◌+◌, ◌<◌, ◌^◌, ◌≤◌, List, [], ◌∷◌, ◌++◌, length, refl, sym, ap, ◌∙◌, arith, subst}
-use Rattle.std.specs.Prelude.{None}
+use Rattle.std.proofs.Common.{◌≡◌, ℕ, ◌<◌, ◌^◌, ◌≤◌, List, ◌++◌, length, refl, sym, ap, ◌∙◌, arith, subst}
 use Rattle.ivy_base.specs.declared.key.Key.{Key}
 use Rattle.ivy_base.specs.declared.key.PubKey.{PubKey}
 use Rattle.ivy_base.specs.declared.operation.Op.{Op}
 use Rattle.ivy_base.specs.declared.operation.Op.TheVariants as op
 use Rattle.ivy_base.specs.Naming.{head_key_of}
-use Rattle.wire_model.specs.OneReading.{ReadsOne, IsFront, HasNoFront}
+use Rattle.wire_model.specs.OneReading.{ReadsOne, IsFront}
 use Rattle.wire_model.proofs.OneReading.{whole}
 use Rattle.log_model.specs.Vector.{stamp_at}
 use Rattle.log_model.specs.Record.{Record}
 use Rattle.log_model.specs.Spelling.{record_kind, body, record_block, HasSpelling, IsRecordOf}
-use Rattle.log_model.specs.Chain.{HasMadeNumber}
 use Rattle.log_records.specs.declared.frame.Frame.{Frame}
-use Rattle.log_records.specs.declared.fault.PartFault.{PartFault}
-use Rattle.log_records.specs.declared.fault.PartFault.TheVariants as part
+use Rattle.log_records.specs.declared.part_fault.PartFault.{PartFault}
+use Rattle.log_records.specs.declared.part_fault.PartFault.TheVariants as part
 use Rattle.log_records.specs.Parts.{IsOfKind}
 use Rattle.log_records.specs.Frames.{IsFrame, frame_block, AreParts, parts_block, IsWellPlaced}
 use Rattle.log_records.specs.Reading.{Refuses, fault_of_part, IsSpelled, RefusesWhole}
 use Rattle.log_records.specs.Records.{ReadFault}
-use Rattle.log_records.specs.Laws.{IsOwned, RecordsAreOne}
+use Rattle.log_records.specs.Laws.{RecordsAreOne}
 use Rattle.log_records.proofs.Chains.{no_first_by, no_second_by, one_by, refused_whole}
 use Rattle.log_records.proofs.OneBody.{one_body}
 use Rattle.log_records.proofs.Frames.{one_frame}
@@ -62,13 +60,16 @@ abbrev pub record_with : PubKey → Frame × Op → Record
 record_with owner p = record { owner = owner; seq = p.0.seq; prev = p.0.prev; vector = p.0.vector; moment = p.0.moment; op = p.1 }
 
 parts_fit : (r : Record) → HasSpelling r → AreParts (head_key_of r.owner) (parts_in r)
-parts_fit r f = (record {
-  kind_is = kind_fits r.op;
-  prev_is = f.prev;
-  seq_is = (f.some, f.few);
-  moment_is = f.moment;
-  cited = (record { whole = record { entries = f.entries; in_order = f.in_order }; short = f.short }, f.of_others);
-}, (refl, f.operation))
+parts_fit r f = (
+  record {
+    kind_is = kind_fits r.op;
+    prev_is = f.prev;
+    seq_is = (f.some, f.few);
+    moment_is = f.moment;
+    cited = (record { whole = record { entries = f.entries; in_order = f.in_order }; short = f.short }, f.of_others);
+  },
+  (refl, f.operation),
+)
 
 owned_parts : (owner : PubKey) (r : Record) → r.owner ≡ owner → HasSpelling r → AreParts (head_key_of owner) (parts_in r)
 owned_parts owner r e f = subst (λ (o : PubKey). AreParts (head_key_of o) (parts_in r)) e (parts_fit r f)
@@ -80,7 +81,7 @@ pub one_record : RecordsAreOne
 one_record owner = record {
   one = λ x y r s f g e.
       let p = (one_of_parts (head_key_of owner)).one (parts_in x) (parts_in y) r s (owned_parts owner x f.0 f.1) (owned_parts owner y g.0 g.1)
-          (ap (λ (b : List ℕ). b ++ r) (sym (spelled_by owner x f.0)) ∙ e ∙ ap (λ (b : List ℕ). b ++ s) (spelled_by owner y g.0)) in
+      (ap (λ (b : List ℕ). b ++ r) (sym (spelled_by owner x f.0)) ∙ e ∙ ap (λ (b : List ℕ). b ++ s) (spelled_by owner y g.0)) in
       (same x y (f.0 ∙ sym g.0) p.0, p.1);
 }
   where

@@ -1,5 +1,5 @@
 -- Where no operation of a kind stands.
-use Rattle.std.proofs.Common.{◌≡◌, ℕ, ◌<◌, ◌^◌, List, ◌++◌, refl, sym, arith, append_assoc}
+use Rattle.std.proofs.Common.{ℕ, List, ◌++◌, refl, arith, append_assoc}
 use Rattle.ivy_base.specs.declared.key.Key.{Key}
 use Rattle.ivy_base.specs.declared.operation.Kind.{Kind}
 use Rattle.ivy_base.specs.declared.operation.Change.{Change}
@@ -9,10 +9,10 @@ use Rattle.wire_model.specs.Xdr.{word, double_word, opaque, IsWord, IsAny}
 use Rattle.wire_model.specs.OneReading.{ReadsOne, IsFront, HasNoFront}
 use Rattle.wire_model.proofs.OneReading.{◌▷◌, one_word}
 use Rattle.wire_model.proofs.Fronts.{both, no_first, no_second}
-use Rattle.log_model.specs.Spelling.{body, IsKey, IsBlock, IsMode, IsTarget, IsChange}
+use Rattle.log_model.specs.Spelling.{body, IsKey, IsBlock, IsTarget, IsChange}
 use Rattle.log_records.specs.Parts.{as_it_stands, key_bytes, kind_word, IsAtMost, place_block, IsPlace, piece_block, IsPiece, change_block, IsOfKind}
 use Rattle.log_records.proofs.Chains.{PartsOf, none_of_some, no_first_by, no_second_by}
-use Rattle.log_records.proofs.OneBody.{one_key, one_kind, one_at_most, one_place, one_piece, one_change, one_block}
+use Rattle.log_records.proofs.OneBody.{one_key, one_kind, one_at_most, one_place}
 
 -- ---- inodes
 

@@ -1,8 +1,7 @@
 -- The plain judge takes each head with an empty signature under its owner's key, and nothing else.
-use Rattle.std.proofs.Common.{◌≡◌, ℕ, ◌+◌, ◌<◌, ◌^◌, ◌≤◌, Bool, true, false, ◌&&◌, List, [], ◌∷◌, ◌++◌, length, take, drop, Option, Some, None, refl, sym, ap, ◌∙◌, arith, append_assoc, length-append, cond, subst, nat_eq}
-use Rattle.std.specs.Prelude.{◌↔◌, nat_le, nat_lt, IfSome, IfNone}
+use Rattle.std.proofs.Common.{◌≡◌, ℕ, ◌<◌, ◌^◌, Bool, true, false, ◌&&◌, List, [], ◌∷◌, ◌++◌, length, take, drop, Option, Some, None, refl, sym, ap, ◌∙◌, arith, append_assoc, length-append, cond, subst}
+use Rattle.std.specs.Prelude.{◌↔◌, nat_le, IfSome, IfNone}
 use Rattle.std.specs.Int.{w32, from_be_bytes}
-use Rattle.std.specs.List.{list_all}
 use Rattle.std.specs.Str.{bytes_eq}
 use Rattle.std.proofs.lemmas.Bool.{eqb-true, eq-eqb, leb-true, le-leb}
 use Rattle.std.proofs.lemmas.Option.{cond_some}
@@ -53,15 +52,17 @@ from_tests key bytes owner seq name h =
     let five = first _ (bytes_eq key.0 (head_key_of owner).0) h in
     let four = first _ (bytes_eq bytes (head_block owner (stamp seq name) [])) five in
     let three = first _ (is_block 20 name.0) four in
-    let two = first _ (nat_le seq 1048576) three in
-    (record {
+    let two = first _ (nat_le seq 1048576) three in (
+      record {
         owner_is_key = block_from 60 owner.0 (first _ (nat_le 1 seq) two);
         some = leb-true 1 seq (second (is_block 60 owner.0) (nat_le 1 seq) two);
         few = leb-true seq 1048576 (second _ (nat_le seq 1048576) three);
         name = block_from 20 name.0 (second _ (is_block 20 name.0) four);
         short = omega arith;
         spelled = (bytes_eq-Decides bytes (head_block owner (stamp seq name) [])).0 (second _ (bytes_eq bytes (head_block owner (stamp seq name) [])) five);
-    }, same_key key (head_key_of owner) ((bytes_eq-Decides key.0 (head_key_of owner).0).0 (second _ (bytes_eq key.0 (head_key_of owner).0) h)))
+      },
+      same_key key (head_key_of owner) ((bytes_eq-Decides key.0 (head_key_of owner).0).0 (second _ (bytes_eq key.0 (head_key_of owner).0) h)),
+    )
 
 to_tests : (key : Key) (bytes : List ℕ) (owner : PubKey) (seq : ℕ) (name : Key) → IsHeadOf owner bytes (stamp seq name) [] → key ≡ head_key_of owner → is_plain key bytes owner seq name ≡ true
 to_tests key bytes owner seq name f e =
@@ -142,7 +143,7 @@ pub other_head : (key : Key) (bytes : List ℕ) (owner : PubKey) (newest : Stamp
     → ((signature ≡ []) × (key ≡ head_key_of owner) → ⊥) → (judged : Judged) → IsPlainHead key bytes judged → ⊥
 other_head key bytes owner newest signature f differs judged g =
     let same = whole one_head ((owner, newest), signature) ((g.owner, stamp judged.seq judged.name), [])
-        (f.owner_is_key, (f.some, f.few), f.name, f.short) (g.head.owner_is_key, (g.head.some, g.head.few), g.head.name, g.head.short) (sym f.spelled ∙ g.head.spelled) in
+    (f.owner_is_key, (f.some, f.few), f.name, f.short) (g.head.owner_is_key, (g.head.some, g.head.few), g.head.name, g.head.short) (sym f.spelled ∙ g.head.spelled) in
     differs (ap (λ (p : Parts). p.1) same, g.key_is ∙ sym (ap (λ (p : Parts). head_key_of p.0.0) same))
 
 pub on_none : {T : Type 0} (o : Option T) {Q : Type 0} → Q → IfNone o Q

@@ -1,24 +1,17 @@
 -- No record is too long.
-use Rattle.std.proofs.Common.{◌≡◌, ℕ, ◌+◌, ◌*◌, ◌<◌, ◌≤◌, List, [], ◌∷◌, ◌++◌, length, refl, arith, length-append}
+use Rattle.std.proofs.Common.{◌≡◌, ℕ, ◌+◌, ◌≤◌, List, ◌∷◌, ◌++◌, length, arith, length-append}
 use Rattle.std.specs.Prelude.{Option, Some, None}
-use Rattle.ivy_base.specs.declared.key.Key.{Key}
-use Rattle.ivy_base.specs.declared.operation.Kind.{Kind}
-use Rattle.ivy_base.specs.declared.operation.Kind.TheVariants.{Reg, Dir, Lnk}
 use Rattle.ivy_base.specs.declared.operation.Moment.{Moment}
 use Rattle.ivy_base.specs.declared.operation.Op.{Op}
 use Rattle.ivy_base.specs.declared.operation.Op.TheVariants as op
 use Rattle.ivy_base.specs.Naming.{head_key_of}
 use Rattle.ivy_base.proofs.NameLemmas.{length-name}
 use Rattle.wire_model.specs.Xdr.{word, double_word, opaque, optional, moment, array}
-use Rattle.xdr_codec.specs.Writing.{padded}
 use Rattle.xdr_codec.proofs.Lengths.{length-opaque}
-use Rattle.log_model.specs.Record.{Record}
-use Rattle.log_model.specs.Spelling.{kind_number, record_kind, body, vector_entry, record_block, IsTarget, OperationFits, HasSpelling}
+use Rattle.log_model.specs.Spelling.{kind_number, record_kind, body, vector_entry, OperationFits}
 use Rattle.version_vectors.proofs.Lengths.{length-vector}
 use Rattle.log_records.specs.Laws.{RecordsAreShort}
-use Rattle.log_records.specs.Frames.{frame_block}
 use Rattle.log_records.proofs.OneBody.{target_fits}
-use Rattle.log_records.proofs.OneRecord.{frame_in}
 
 opaque_most : (bytes : List ℕ) → length (opaque bytes) ≤ length bytes + 7
 opaque_most bytes = omega (arith, length-opaque bytes)
@@ -57,12 +50,28 @@ body_short (op.Rename dir name to_dir to_name) f = omega (arith, four dir.0 (opa
 body_short (op.Prepare dir name verifier) f = omega (arith, three dir.0 (opaque name) verifier, opaque_most name, f.0.size, f.1.short, f.2.size)
 body_short (op.Cancel seq) f = omega arith
 body_short (op.SetAttrs number c) f =
-    omega (arith, seven number.0 (optional word c.mode) (optional word c.uid) (optional word c.gid) (optional double_word c.size) (optional moment c.atime) (optional moment c.mtime),
-    words c.mode, words c.uid, words c.gid, double_words c.size, moments c.atime, moments c.mtime, f.0.size)
+    omega (
+      arith,
+      seven number.0 (optional word c.mode) (optional word c.uid) (optional word c.gid) (optional double_word c.size) (optional moment c.atime) (optional moment c.mtime),
+      words c.mode,
+      words c.uid,
+      words c.gid,
+      double_words c.size,
+      moments c.atime,
+      moments c.mtime,
+      f.0.size,
+    )
 body_short op.End f = omega arith
 
 pub short_records : RecordsAreShort
 short_records r f =
     let vector = length-vector r.vector (record { entries = f.entries; in_order = f.in_order }) in
-    omega (arith, seven (73 ∷ 86 ∷ 82 ∷ 49 ∷ word (record_kind r.op)) (head_key_of r.owner).0 r.prev.0 (word r.seq) (moment r.moment) (array vector_entry r.vector) (body r.op),
-    length-name r.owner.0, f.prev.size, vector, f.short, body_short r.op f.operation)
+    omega (
+      arith,
+      seven (73 ∷ 86 ∷ 82 ∷ 49 ∷ word (record_kind r.op)) (head_key_of r.owner).0 r.prev.0 (word r.seq) (moment r.moment) (array vector_entry r.vector) (body r.op),
+      length-name r.owner.0,
+      f.prev.size,
+      vector,
+      f.short,
+      body_short r.op f.operation,
+    )

@@ -3,8 +3,8 @@ use Rattle.std.specs.Prelude.{◌≡◌, ℕ, List}
 use Rattle.wire_model.specs.OneReading.{HasNoFront}
 use Rattle.version_vectors.specs.declared.fault.VectorFault.{VectorFault}
 use Rattle.version_vectors.specs.declared.fault.VectorFault.TheVariants as vector
-use Rattle.log_records.specs.declared.fault.PartFault.{PartFault}
-use Rattle.log_records.specs.declared.fault.PartFault.TheVariants as part
+use Rattle.log_records.specs.declared.part_fault.PartFault.{PartFault}
+use Rattle.log_records.specs.declared.part_fault.PartFault.TheVariants as part
 use Rattle.log_records.specs.declared.fault.RecordFault.{RecordFault}
 use Rattle.log_records.specs.declared.fault.RecordFault.TheVariants as fault
 

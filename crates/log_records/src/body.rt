@@ -7,7 +7,7 @@ ghost use Rattle.log_records.specs.Parts.{IsOfKind};
 ghost use Rattle.log_records.specs.Reading.{Refuses};
 
 use crate::change::read_change;
-use crate::fault::PartFault;
+use crate::part_fault::PartFault;
 use crate::parts::{
     read_at_most, read_block, read_key, read_kind, read_piece, read_place, read_target,
 };

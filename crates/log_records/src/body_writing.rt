@@ -39,7 +39,9 @@ pub fn body_len(op: &Op) -> Option<usize>
         Op::Write { bytes, .. } => 28 + opaque_len(bytes.as_slice())?,
         Op::Link { name, .. } => 40 + opaque_len(name.as_slice())?,
         Op::Unlink { name, .. } => 20 + opaque_len(name.as_slice())?,
-        Op::Rename { name, to_name, .. } => 40 + opaque_len(name.as_slice())? + opaque_len(to_name.as_slice())?,
+        Op::Rename { name, to_name, .. } => 40
+            + opaque_len(name.as_slice())?
+            + opaque_len(to_name.as_slice())?,
         Op::Prepare { name, .. } => 28 + opaque_len(name.as_slice())?,
         Op::Cancel { .. } => 4,
         Op::SetAttrs { change, .. } => 20 + change_len(change),

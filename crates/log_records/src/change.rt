@@ -6,7 +6,7 @@ ghost use Rattle.wire_model.specs.OneReading.{IsFront, HasNoFront};
 ghost use Rattle.log_model.specs.Spelling.{IsMode, IsMoment, IsChange};
 ghost use Rattle.log_records.specs.Parts.{IsOptional, IsAtMost, change_block};
 
-use crate::fault::Malformed;
+use crate::part_fault::Malformed;
 use crate::parts::{LONGEST_FILE, read_at_most, read_moment};
 use ivy_base::{Change, Moment};
 use xdr_codec::XdrRead;
@@ -33,7 +33,7 @@ pub fn read_change(reader: &mut XdrRead) -> Result<Change, Malformed>
 }
 
 /// A mode of 12 bits, where there is one.
-#[tactic(auto, using(crate::proofs::Bodies::no_flag, crate::proofs::Bodies::no_item))]
+#[tactic(auto, using(crate::proofs::ReadParts::no_flag, crate::proofs::ReadParts::no_item))]
 fn read_optional_mode(reader: &mut XdrRead) -> Result<Option<u32>, Malformed>
     ensures ok { IfOk result (λ o. IsFront (IsOptional IsMode) (optional word) reader.old o reader.new) }
     ensures err { OnErr result (HasNoFront (IsOptional IsMode) (optional word) reader.old) }
@@ -46,7 +46,7 @@ fn read_optional_mode(reader: &mut XdrRead) -> Result<Option<u32>, Malformed>
 }
 
 /// The number of a user or a group, where there is one.
-#[tactic(auto, using(crate::proofs::Bodies::no_flag, crate::proofs::Bodies::no_item))]
+#[tactic(auto, using(crate::proofs::ReadParts::no_flag, crate::proofs::ReadParts::no_item))]
 fn read_optional_id(reader: &mut XdrRead) -> Result<Option<u32>, Malformed>
     ensures ok { IfOk result (λ o. IsFront (IsOptional IsWord) (optional word) reader.old o reader.new) }
     ensures err { OnErr result (HasNoFront (IsOptional IsWord) (optional word) reader.old) }
@@ -59,7 +59,7 @@ fn read_optional_id(reader: &mut XdrRead) -> Result<Option<u32>, Malformed>
 }
 
 /// The size of a file, where there is one.
-#[tactic(auto, using(crate::proofs::Bodies::no_flag, crate::proofs::Bodies::no_item, crate::proofs::Bodies::no_size_behind))]
+#[tactic(auto, using(crate::proofs::ReadParts::no_flag, crate::proofs::ReadParts::no_item, crate::proofs::ReadParts::no_size_behind))]
 fn read_optional_size(reader: &mut XdrRead) -> Result<Option<u64>, Malformed>
     ensures ok { IfOk result (λ o. IsFront (IsOptional (IsAtMost 16777216)) (optional double_word) reader.old o reader.new) }
     ensures err { OnErr result (HasNoFront (IsOptional (IsAtMost 16777216)) (optional double_word) reader.old) }
@@ -75,7 +75,7 @@ fn read_optional_size(reader: &mut XdrRead) -> Result<Option<u64>, Malformed>
 }
 
 /// A moment, where there is one.
-#[tactic(auto, using(crate::proofs::Bodies::no_flag, crate::proofs::Bodies::no_item))]
+#[tactic(auto, using(crate::proofs::ReadParts::no_flag, crate::proofs::ReadParts::no_item))]
 fn read_optional_moment(reader: &mut XdrRead) -> Result<Option<Moment>, Malformed>
     ensures ok { IfOk result (λ o. IsFront (IsOptional IsMoment) (optional moment) reader.old o reader.new) }
     ensures err { OnErr result (HasNoFront (IsOptional IsMoment) (optional moment) reader.old) }

@@ -1,7 +1,4 @@
-use ivy_base::Memory;
 use thiserror::Error;
-use version_vectors::VectorFault;
-use xdr_codec::XdrFault;
 
 /// Why no record was read.
 #[derive(Clone, Copy, Debug, PartialEq, Eq, Error)]
@@ -18,84 +15,4 @@ pub enum RecordFault {
     /// Want of memory. No clause ties this to a cause.
     #[error("out of memory")]
     Memory,
-}
-
-/// The bytes don't begin with what was to be read.
-#[derive(Clone, Copy, Debug, PartialEq, Eq)]
-pub struct Malformed;
-
-impl From<XdrFault> for Malformed {
-    fn from(_: XdrFault) -> Self {
-        Malformed
-    }
-}
-
-/// Why a part of a block was not read, where it takes memory.
-#[derive(Clone, Copy, Debug, PartialEq, Eq)]
-pub enum PartFault {
-    /// The bytes don't begin with such a part.
-    Malformed,
-    /// Want of memory.
-    Memory,
-}
-
-impl From<Malformed> for PartFault {
-    ghost use Rattle.std.specs.Prelude.{◌≡◌};
-    ghost use Rattle.log_records.specs.declared.fault.PartFault.TheVariants.{Malformed};
-
-    ghost from_gives = { λ _ fault. fault ≡ Malformed };
-
-    fn from(_: Malformed) -> Self {
-        PartFault::Malformed
-    }
-}
-
-impl From<XdrFault> for PartFault {
-    ghost use Rattle.std.specs.Prelude.{◌≡◌};
-    ghost use Rattle.log_records.specs.declared.fault.PartFault.TheVariants.{Malformed};
-
-    ghost from_gives = { λ _ fault. fault ≡ Malformed };
-
-    fn from(_: XdrFault) -> Self {
-        PartFault::Malformed
-    }
-}
-
-impl From<Memory> for PartFault {
-    ghost use Rattle.std.specs.Prelude.{◌≡◌};
-    ghost use Rattle.log_records.specs.declared.fault.PartFault.TheVariants.{Memory};
-
-    ghost from_gives = { λ _ fault. fault ≡ Memory };
-
-    fn from(_: Memory) -> Self {
-        PartFault::Memory
-    }
-}
-
-impl From<VectorFault> for PartFault {
-    ghost use Rattle.std.specs.Prelude.{◌≡◌};
-    ghost use Rattle.log_records.specs.Reading.{fault_of_vector};
-
-    ghost from_gives = { λ vector fault. fault ≡ fault_of_vector vector };
-
-    fn from(vector: VectorFault) -> Self {
-        match vector {
-            VectorFault::Malformed => PartFault::Malformed,
-            VectorFault::Memory => PartFault::Memory,
-        }
-    }
-}
-
-impl From<PartFault> for RecordFault {
-    ghost use Rattle.std.specs.Prelude.{◌≡◌};
-    ghost use Rattle.log_records.specs.Reading.{fault_of_part};
-
-    ghost from_gives = { λ part fault. fault ≡ fault_of_part part };
-
-    fn from(part: PartFault) -> Self {
-        match part {
-            PartFault::Malformed => RecordFault::Malformed,
-            PartFault::Memory => RecordFault::Memory,
-        }
-    }
 }

@@ -7,7 +7,7 @@ ghost use Rattle.log_model.specs.Spelling.{vector_entry};
 ghost use Rattle.log_records.specs.Frames.{IsCited, IsFrame, frame_block};
 ghost use Rattle.log_records.specs.Reading.{Refuses};
 
-use crate::fault::PartFault;
+use crate::part_fault::PartFault;
 use crate::parts::{read_constant, read_key, read_moment, read_number};
 use ivy_base::{Key, Moment};
 use std::alloc::Global;

@@ -7,7 +7,7 @@ ghost use Rattle.log_model.specs.Vector.{Stamp};
 ghost use Rattle.log_model.specs.Spelling.{head_block, IsHeadOf};
 ghost use Rattle.log_records.specs.Heads.{stamp, IsHead, head_bytes};
 
-use crate::fault::Malformed;
+use crate::part_fault::Malformed;
 use crate::parts::{read_block, read_constant, read_key, read_number};
 use crate::writing::{opaque_len, put_constant, put_key, put_owner};
 use ivy_base::{Bytes, Key, Memory, PubKey};
@@ -61,12 +61,7 @@ impl<'a> Head<'a> {
 }
 
 /// The block of a head with an empty signature, 92 bytes. The error is want of memory.
-pub fn plain_head(
-    alloc: Global,
-    owner: &PubKey,
-    seq: u32,
-    name: &Key,
-) -> Result<Bytes, Memory>
+pub fn plain_head(alloc: Global, owner: &PubKey, seq: u32, name: &Key) -> Result<Bytes, Memory>
     ensures { IfOk result (λ block. block ≡ head_block owner.now (stamp seq name.now) []) }
 {
     Head {

@@ -9,7 +9,7 @@ ghost use Rattle.log_records.specs.Heads.{IsNumber};
 ghost use Rattle.log_records.specs.Parts.{constant_bytes, as_it_stands, key_bytes, kind_word, IsAtMost, place_block, IsPlace, piece_block, IsPiece, target_bound};
 ghost use Rattle.log_records.specs.Reading.{Refuses};
 
-use crate::fault::{Malformed, PartFault};
+use crate::part_fault::{Malformed, PartFault};
 use ivy_base::{Bytes, Key, Kind, Moment, name_ok};
 use std::alloc::Global;
 use xdr_codec::XdrRead;
@@ -123,7 +123,7 @@ pub fn read_name(alloc: Global, reader: &mut XdrRead) -> Result<Bytes, PartFault
 }
 
 /// A name in a directory, behind the directory's number.
-#[tactic(auto, using(crate::proofs::Bodies::no_name_behind))]
+#[tactic(auto, using(crate::proofs::ReadParts::no_name_behind))]
 pub fn read_place(alloc: Global, reader: &mut XdrRead) -> Result<(Key, Bytes), PartFault>
     ensures ok { IfOk result (λ place. IsFront IsPlace place_block reader.old place reader.new) }
     ensures err { IfErr result (Refuses IsPlace place_block reader.old) }
@@ -134,11 +134,7 @@ pub fn read_place(alloc: Global, reader: &mut XdrRead) -> Result<(Key, Bytes), P
 }
 
 /// The text of a symbolic link, 1 to 1,024 bytes, and nothing for other kinds.
-pub fn read_target(
-    alloc: Global,
-    reader: &mut XdrRead,
-    kind: Kind,
-) -> Result<Bytes, PartFault>
+pub fn read_target(alloc: Global, reader: &mut XdrRead, kind: Kind) -> Result<Bytes, PartFault>
     ensures ok { IfOk result (λ target. IsFront (IsTarget kind) opaque reader.old target reader.new) }
     ensures err { IfErr result (Refuses (IsTarget kind) opaque reader.old) }
 {
@@ -160,7 +156,7 @@ fn longest_target(kind: Kind) -> u32
 }
 
 /// Bytes of a file from an offset on: 1 to 8,192, all within the most that a file may have.
-#[tactic(auto, using(crate::proofs::Bodies::no_piece))]
+#[tactic(auto, using(crate::proofs::ReadParts::no_piece))]
 pub fn read_piece(alloc: Global, reader: &mut XdrRead) -> Result<(u64, Bytes), PartFault>
     ensures ok { IfOk result (λ piece. IsFront IsPiece piece_block reader.old piece reader.new) }
     ensures err { IfErr result (Refuses IsPiece piece_block reader.old) }

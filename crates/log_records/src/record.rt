@@ -13,8 +13,9 @@ ghost use Rattle.log_records.specs.Records.{record_of, IsRead, ReadFault};
 
 use crate::body::read_body;
 use crate::body_writing::{body_len, kind_of, put_body};
-use crate::fault::{PartFault, RecordFault};
+use crate::fault::RecordFault;
 use crate::frame::{Frame, MAGIC, read_frame};
+use crate::part_fault::PartFault;
 use crate::writing::{put_constant, put_key, put_moment};
 use ivy_base::{Bytes, Key, Memory, Moment, Op, PubKey, head_key, name_of, number_of};
 use std::alloc::Global;

@@ -1,5 +1,5 @@
 use Rattle.log_records.proofs.Chains.{on_err}
-use Rattle.log_records.proofs.Bodies.{no_atime, no_gid, no_mode, no_mtime, no_size, no_uid}
+use Rattle.log_records.proofs.ReadParts.{no_atime, no_gid, no_mode, no_mtime, no_size, no_uid}
 use Rattle.log_records.proofs.change.read_change.Goals as goal
 
 pub returns-in_err-mode-clause-err : goal.returns-in_err-mode-clause-err

@@ -1,4 +1,4 @@
-use Rattle.log_records.proofs.Ends.{is_found}
+use Rattle.log_records.proofs.Tested.{is_found}
 use Rattle.log_records.proofs.Frames.{cites_itself}
 use Rattle.log_records.proofs.frame.read_cited.Goals as goal
 

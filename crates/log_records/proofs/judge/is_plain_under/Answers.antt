@@ -1,7 +1,7 @@
 use Rattle.std.proofs.Common.{sym, ◌∙◌, length}
 use Rattle.std.proofs.lemmas.Bool.{eqb-true}
 use Rattle.ivy_base.specs.Naming.{head_key_of}
-use Rattle.log_records.proofs.Ends.{is_empty}
+use Rattle.log_records.proofs.Tested.{is_empty}
 use Rattle.log_records.proofs.PlainHeads.{keys_decide}
 use Rattle.log_records.proofs.judge.is_plain_under.Goals as goal
 

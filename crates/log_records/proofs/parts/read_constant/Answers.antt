@@ -1,4 +1,4 @@
-use Rattle.log_records.proofs.Ends.{not_same}
+use Rattle.log_records.proofs.Tested.{not_same}
 use Rattle.log_records.proofs.Constants.{other_constant}
 use Rattle.log_records.proofs.parts.read_constant.Goals as goal
 

@@ -1,5 +1,5 @@
 use Rattle.std.proofs.Common.{refl}
-use Rattle.log_records.proofs.Ends.{cites_nothing}
+use Rattle.log_records.proofs.Tested.{cites_nothing}
 use Rattle.log_records.proofs.record.cites_nothing.Goals as goal
 
 pub returns-then-eq : goal.returns-then-eq

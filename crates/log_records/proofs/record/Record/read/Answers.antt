@@ -9,12 +9,15 @@ returns-in_err-frame-clause-err c =
     rw (p.1, p.2) (no_record c.args.owner.now c.args.bytes.now c.head_key.result c.head_key.ensures c.if-bytes-gt-LONGEST_RECORD.false _ c.in_err-frame.ensures.err)
 
 pub returns-then-not-is_well_placed-clause-err : goal.returns-then-not-is_well_placed-clause-err
-returns-then-not-is_well_placed-clause-err c =
-    (c.if-bytes-gt-LONGEST_RECORD.false,
-        misplaced c.args.owner.now c.args.bytes.now c.head_key.result (c.in_ok-frame.frame, c.in_ok-frame.op) c.head_key.ensures c.in_ok-frame.ensures.ok (λ w. let no : false ≡ true = c.if-not-is_well_placed.ensures.1 w in absurd (cc no)))
+returns-then-not-is_well_placed-clause-err c = (
+  c.if-bytes-gt-LONGEST_RECORD.false,
+  misplaced c.args.owner.now c.args.bytes.now c.head_key.result (c.in_ok-frame.frame, c.in_ok-frame.op) c.head_key.ensures c.in_ok-frame.ensures.ok (λ w. let no : false ≡ true = c.if-not-is_well_placed.ensures.1 w in absurd (cc no)),
+)
 
 pub returns-then-not-has_made_number-clause-err : goal.returns-then-not-has_made_number-clause-err
-returns-then-not-has_made_number-clause-err c =
-    (c.if-bytes-gt-LONGEST_RECORD.false, record_with c.args.owner.now (c.in_ok-frame.frame, c.in_ok-frame.op),
-        is_record c.args.owner.now c.args.bytes.now c.head_key.result (c.in_ok-frame.frame, c.in_ok-frame.op) c.head_key.ensures c.in_ok-frame.ensures.ok (c.is_well_placed.ensures.0 c.if-not-is_well_placed.false),
-        λ n. let no : false ≡ true = c.if-not-has_made_number.ensures.1 n in absurd (cc no))
+returns-then-not-has_made_number-clause-err c = (
+  c.if-bytes-gt-LONGEST_RECORD.false,
+  record_with c.args.owner.now (c.in_ok-frame.frame, c.in_ok-frame.op),
+  is_record c.args.owner.now c.args.bytes.now c.head_key.result (c.in_ok-frame.frame, c.in_ok-frame.op) c.head_key.ensures c.in_ok-frame.ensures.ok (c.is_well_placed.ensures.0 c.if-not-is_well_placed.false),
+  λ n. let no : false ≡ true = c.if-not-has_made_number.ensures.1 n in absurd (cc no),
+)

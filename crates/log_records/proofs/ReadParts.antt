@@ -1,6 +1,5 @@
 -- Where a part of a record can't be read.
-use Rattle.std.proofs.Common.{◌≡◌, ℕ, ◌^◌, ◌<◌, ◌≤◌, true, false, List, ◌++◌, length, Option, Some, None, refl, sym, ap, ◌∙◌, arith, append_assoc}
-use Rattle.std.specs.Prelude.{IfSome}
+use Rattle.std.proofs.Common.{ℕ, ◌<◌, true, false, List, ◌++◌, Option, Some, None, refl, sym, ◌∙◌, arith}
 use Rattle.ivy_base.specs.declared.key.Key.{Key}
 use Rattle.ivy_base.specs.declared.operation.Moment.{Moment}
 use Rattle.ivy_base.specs.declared.operation.Change.{Change}

@@ -1,4 +1,4 @@
--- Where bytes are left behind a block, and where they differ.
+-- What the tests of readers and judges tell.
 use Rattle.std.proofs.Common.{◌≡◌, ℕ, List, [], Bool, true, false, not, refl, sym, ap, ◌∙◌, ◌∷◌, arith}
 use Rattle.std.specs.Prelude.{◌≢◌, ◌↔◌, IsTrue, nat_eq, length, Option, Some, None, option_map}
 use Rattle.std.specs.Option.{is_some}
@@ -40,6 +40,7 @@ same_key : (a b : Key) → a.0 ≡ b.0 → a ≡ b
 same_key a b e = ap (λ (bytes : List ℕ). record { 0 = bytes }) e
 
 pub cites_nothing : (f : Frame) (same : Bool) (n : ℕ) (b : Bool) → same ≡ bytes_eq f.prev.0 no_name.0 → same ≡ true → n ≡ length f.vector → b ≡ nat_eq n 0 → IsTrue b ↔ CitesNothing f
-cites_nothing f same n b e t size is =
-    (λ h. (same_key f.prev no_name ((bytes_eq-Decides f.prev.0 no_name.0).0 (sym e ∙ t)), is_empty f.vector (sym size ∙ eqb-true n 0 (sym is ∙ h))),
-        λ c. is ∙ ap (λ k. nat_eq k 0) (size ∙ ap length c.1))
+cites_nothing f same n b e t size is = (
+  λ h. (same_key f.prev no_name ((bytes_eq-Decides f.prev.0 no_name.0).0 (sym e ∙ t)), is_empty f.vector (sym size ∙ eqb-true n 0 (sym is ∙ h))),
+  λ c. is ∙ ap (λ k. nat_eq k 0) (size ∙ ap length c.1),
+)
