@@ -86,12 +86,12 @@ heard_step key asked asked2 last last2 rest rest2 waiting waiting2 node given ro
       waiting = w2;
       asked = λ n e. turned ∙ ap (λ p. p ∷ reverse asked) (same_some node n (sym w ∙ e));
       follows = λ n e trail found h.
-        subst (λ q. IsLookup (reverse asked) last q ((n, route_in given) ∷ trail) found) (sym (ap (λ x. to_ask x rest) w))
-        (subst (λ m. IsLookup (reverse asked) last (node ∷ rest) ((m, route_in given) ∷ trail) found) (same_some node n (sym w ∙ e))
-        (subst (λ o. IsLookup (reverse asked) last (node ∷ rest) ((node, o) ∷ trail) found) (sym r)
-        (step trail found
-        (subst (λ q. IsLookup (node ∷ reverse asked) last2 q trail found) (ap (λ x. to_ask x rest2) w2)
-        (subst (λ l. IsLookup l last2 (to_ask waiting2 rest2) trail found) turned h)))));
+          subst (λ q. IsLookup (reverse asked) last q ((n, route_in given) ∷ trail) found) (sym (ap (λ x. to_ask x rest) w))
+          (subst (λ m. IsLookup (reverse asked) last (node ∷ rest) ((m, route_in given) ∷ trail) found) (same_some node n (sym w ∙ e))
+          (subst (λ o. IsLookup (reverse asked) last (node ∷ rest) ((node, o) ∷ trail) found) (sym r)
+          (step trail found
+          (subst (λ q. IsLookup (node ∷ reverse asked) last2 q trail found) (ap (λ x. to_ask x rest2) w2)
+          (subst (λ l. IsLookup l last2 (to_ask waiting2 rest2) trail found) turned h)))));
     }
   where
     turned : reverse asked2 ≡ node ∷ reverse asked

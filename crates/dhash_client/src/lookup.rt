@@ -59,11 +59,7 @@ fn next_of(asked: &[Peer], rest: &mut VecDeque<Peer>) -> Option<Peer>
 }
 
 /// The result of a look-up whose last answer named these owners.
-fn result_of(
-    alloc: Global,
-    key: Key,
-    last: &Option<Peers>,
-) -> Result<Result<Peers, Miss>, Memory>
+fn result_of(alloc: Global, key: Key, last: &Option<Peers>) -> Result<Result<Peers, Miss>, Memory>
     ensures { IfOk result (λ found. found ≡ outcome key last.now) }
 {
     match last {
@@ -75,12 +71,7 @@ fn result_of(
 impl Lookup {
     /// A look-up of the key that begins at these nodes. All machines of a client are started so; a look-up makes
     /// nothing of the number of replicas. The error is want of memory.
-    pub fn start(
-        alloc: Global,
-        key: Key,
-        _replicas: u32,
-        entries: &Peers,
-    ) -> Result<Lookup, Memory>
+    pub fn start(alloc: Global, key: Key, _replicas: u32, entries: &Peers) -> Result<Lookup, Memory>
         ensures { IfOk result (λ lookup. lookup ≡ fresh key entries.now) }
     {
         Ok(Lookup {
