@@ -1,0 +1,78 @@
+-- The machine of a look-up: what it keeps, what it wants, and which asks may still follow.
+use Rattle.std.specs.Prelude.{◌≡◌, ℕ, ◌<◌, List, [], ◌∷◌, ◌++◌, length, Option, Some, None, Result, Ok, Err}
+use Rattle.ivy_base.specs.declared.key.Key.{Key}
+use Rattle.dht_ids.specs.declared.ask.Answer.{Answer}
+use Rattle.dht_ids.specs.declared.ask.Answer.TheVariants as answer
+use Rattle.dht_ids.specs.declared.ask.Ask.TheVariants as ask
+use Rattle.dht_ids.specs.declared.ask.Want.{Want}
+use Rattle.dht_ids.specs.declared.ask.Want.TheVariants as want
+use Rattle.dht_ids.specs.declared.peer.Peer.{Peer}
+use Rattle.ring_model.specs.Members.{IsAmong}
+use Rattle.ring_model.specs.Route.{Route}
+use Rattle.ring_model.specs.Lookup.{IsLookup}
+use Rattle.dhash_client.specs.declared.miss.Miss.{Miss}
+use Rattle.dhash_client.specs.declared.miss.Miss.TheVariants as miss
+
+-- a look-up of a key: the nodes asked and heard, the newest first, the owners that the last answer named, the nodes
+-- still to ask, and the node that was asked and not yet heard
+pub record State : Type 0 where
+  pub key : Key
+  pub asked : List Peer
+  pub last : Option (List Peer)
+  pub rest : List Peer
+  pub waiting : Option Peer
+
+-- a look-up that begins
+abbrev pub fresh : Key → List Peer → State
+fresh key entries = record { key = key; asked = []; last = None; rest = entries; waiting = None }
+
+-- the node to be heard and those still to ask
+abbrev pub to_ask : Option Peer → List Peer → List Peer
+to_ask None rest = rest
+to_ask (Some p) rest = p ∷ rest
+
+-- what a machine was told: the nodes that it asked and their routes, or None of those that were silent
+abbrev pub Trail : Type 0
+Trail = List (Peer × Option (Route Peer))
+
+-- from this state these asks and answers may follow, and then these owners are found
+abbrev pub Follow : State → Trail → Option (List Peer) → Type 0
+Follow s trail found = IsLookup s.asked s.last (to_ask s.waiting s.rest) trail found
+
+-- what may follow from the new state may follow from the old one behind those asks
+abbrev pub FollowsAfter : Trail → State → State → Type 0
+FollowsAfter first old new = (trail : Trail) (found : Option (List Peer)) → Follow new trail found → Follow old (first ++ trail) found
+
+-- with qs to ask no other look-ups follow than with ps
+abbrev pub IsRest : List Peer → List Peer → List Peer → Type 0
+IsRest asked ps qs = (last : Option (List Peer)) (trail : Trail) (found : Option (List Peer)) → IsLookup asked last qs trail found → IsLookup asked last ps trail found
+
+-- the result of a look-up that found these owners
+abbrev pub outcome : Key → Option (List Peer) → Result (List Peer) Miss
+outcome key None = Err (miss.NoRoute key)
+outcome key (Some []) = Err (miss.NoRoute key)
+outcome key (Some (p ∷ ps)) = Ok (p ∷ ps)
+
+-- what the machine wants: to ask a node for the route, that it didn't ask before, as one of 512, or nothing more,
+-- since no ask may follow
+abbrev pub IsWanted : State → State → Want (Result (List Peer) Miss) → Type 0
+IsWanted old new (want.Ask node question) = (question ≡ ask.Route old.key) × (new.waiting ≡ Some node) × (length old.asked < 512) × (IsAmong node old.asked → ⊥)
+IsWanted old new (want.Done result) = (new.waiting ≡ None) × (found : Option (List Peer)) × Follow old [] found × (result ≡ outcome old.key found)
+
+-- the route that was answered: any other answer is silence
+abbrev pub route_in : Answer → Option (Route Peer)
+route_in (answer.Route nearer owners) = Some (record { nearer = nearer; owners = owners })
+route_in (answer.Near before list) = None
+route_in (answer.Found bytes) = None
+route_in answer.Nothing = None
+route_in answer.Stored = None
+route_in (answer.Refused fault) = None
+route_in answer.Noted = None
+route_in answer.Silent = None
+
+-- the node that was to be heard was heard: it counts as asked, and its ask and answer are the next of the look-up
+pub record HasHeard (old new : State) (given : Answer) : Type 0 where
+  pub key : new.key ≡ old.key
+  pub waiting : new.waiting ≡ None
+  pub asked : (node : Peer) → old.waiting ≡ Some node → new.asked ≡ node ∷ old.asked
+  pub follows : (node : Peer) → old.waiting ≡ Some node → FollowsAfter ((node, route_in given) ∷ []) old new

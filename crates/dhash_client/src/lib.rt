@@ -1,0 +1,17 @@
+//! What a client of the ring does to find the owners of a key, as a machine that says whom to ask next and is told
+//! what was answered. Whatever carries asks drives it, so it has no transport of its own.
+//!
+//! Layer: over `dht_ids` and `ring_model`, whose definitions the contracts cite; below whatever drives the machines.
+//! For the layers above: the asks and answers of a driven [`Lookup`] are a look-up of the definition in `ring_model`
+//! (`specs/Lookup.antt`), so that the laws of look-ups hold of it. Each node is asked at most once and at most 512
+//! asks are made, whatever is answered. Definitions: `specs/Machine.antt`.
+#![tactic(auto)]
+
+mod lookup;
+mod miss;
+#[cfg(test)]
+mod tests;
+
+pub use dht_ids::Want;
+pub use lookup::Lookup;
+pub use miss::Miss;
