@@ -3,8 +3,8 @@
 //!
 //! Layer: over `dht_ids` and `ring_model`, whose definitions the contracts cite; below whatever drives the machines.
 //! For the layers above: the asks and answers of a driven [`Lookup`] are a look-up of the definition in `ring_model`
-//! (`specs/Lookup.antt`), so that the laws of look-ups hold of it. Each node is asked at most once and at most 512
-//! asks are made, whatever is answered. Definitions: `specs/Machine.antt`.
+//! (`specs/Lookup.antt`), so that the laws of look-ups hold of it; `proofs/Driven.antt` has what a driver cites. Each node
+//! is asked at most once and at most 512 asks are made, whatever is answered. Definitions: `specs/Machine.antt`.
 #![tactic(auto)]
 
 mod lookup;

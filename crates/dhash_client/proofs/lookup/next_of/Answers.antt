@@ -1,4 +1,4 @@
-use Rattle.std.proofs.Common.{reverse, rules, sym, ◌∙◌}
+use Rattle.std.proofs.Common.{reverse}
 use Rattle.dhash_client.proofs.Asks.{leaves_out}
 use Rattle.dhash_client.proofs.lookup.next_of.Goals as goal
 

@@ -1,4 +1,4 @@
-use Rattle.std.proofs.Common.{rules, reverse, None, [], ◌≡◌, ◌≤◌, length, subst}
+use Rattle.std.proofs.Common.{rules, reverse, [], subst}
 use Rattle.ring_model.specs.Members.{IsAmong}
 use Rattle.dht_ids.specs.declared.peer.Peer.{Peer}
 use Rattle.dhash_client.specs.Machine.{Follow, IsRest, to_ask}
