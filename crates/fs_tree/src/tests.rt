@@ -20,6 +20,11 @@ fn key(last: u8) -> Key {
     ])
 }
 
+// The inode of that number of these tests, of which the root is 0.
+fn numbered(last: u8) -> Key {
+    if last == 0 { ROOT } else { key(last) }
+}
+
 fn at(sec: u32) -> Moment {
     Moment { sec, nsec: 7 }
 }
@@ -223,16 +228,16 @@ fn small_tree(alloc: Global) -> Result<Tree, Memory> {
     for (last, kind, target) in kinds {
         make(&mut tree, alloc, 1, key(last), kind, target)?;
     }
-    let names: [(Key, &[u8], u8); 6] = [
-        (ROOT, b"d", 1),
-        (key(1), b"e", 2),
-        (ROOT, b"f", 3),
-        (ROOT, b"l", 4),
-        (ROOT, b"x", 7),
-        (key(5), b"y", 8),
+    let names: [(u8, &[u8], u8); 6] = [
+        (0, b"d", 1),
+        (1, b"e", 2),
+        (0, b"f", 3),
+        (0, b"l", 4),
+        (0, b"x", 7),
+        (5, b"y", 8),
     ];
     for (dir, name, last) in names {
-        link(&mut tree, alloc, 2, dir, name, key(last))?;
+        link(&mut tree, alloc, 2, numbered(dir), name, key(last))?;
     }
     Ok(tree)
 }
@@ -428,23 +433,23 @@ fn some_inodes_and_links_do_nothing(rt: HostRuntime) -> Result<(), Fail> {
     let before = tree.copy(alloc)?;
     // The number is used.
     make(&mut tree, alloc, 9, key(3), Kind::Dir, b"".as_slice())?;
-    let cases: [(Key, &[u8], Key); 9] = [
+    let cases: [(u8, &[u8], u8); 9] = [
         // The name is taken.
-        (ROOT, b"f", key(6)),
+        (0, b"f", 6),
         // The directory is missing, or none; the inode is missing, or the root.
-        (key(9), b"a", key(6)),
-        (key(3), b"a", key(6)),
-        (ROOT, b"a", key(9)),
-        (key(1), b"a", ROOT),
+        (9, b"a", 6),
+        (3, b"a", 6),
+        (0, b"a", 9),
+        (1, b"a", 0),
         // The directory has a name.
-        (ROOT, b"a", key(2)),
-        (key(2), b"a", key(1)),
+        (0, b"a", 2),
+        (2, b"a", 1),
         // The place is the directory itself, or inside it.
-        (key(5), b"a", key(5)),
-        (key(8), b"a", key(5)),
+        (5, b"a", 5),
+        (8, b"a", 5),
     ];
     for (dir, name, ino) in cases {
-        link(&mut tree, alloc, 9, dir, name, ino)?;
+        link(&mut tree, alloc, 9, numbered(dir), name, numbered(ino))?;
         assert!(rt;
             look_alike(alloc, &before, &tree)?,
             "at {name:?} of {ino:?}"
@@ -462,26 +467,34 @@ fn some_unlinks_and_renames_do_nothing(rt: HostRuntime) -> Result<(), Fail> {
     // The name is missing, or leads to a directory with entries.
     unlink(&mut tree, alloc, 9, ROOT, b"a".as_slice())?;
     unlink(&mut tree, alloc, 9, ROOT, b"d".as_slice())?;
-    let cases: [(Key, &[u8], Key, &[u8]); 11] = [
+    let cases: [(u8, &[u8], u8, &[u8]); 11] = [
         // The source is missing; the target directory is missing, or none.
-        (ROOT, b"a", key(1), b"a"),
-        (key(9), b"a", key(1), b"a"),
-        (ROOT, b"f", key(9), b"a"),
-        (ROOT, b"f", key(3), b"a"),
+        (0, b"a", 1, b"a"),
+        (9, b"a", 1, b"a"),
+        (0, b"f", 9, b"a"),
+        (0, b"f", 3, b"a"),
         // One is a directory, and the other isn't.
-        (ROOT, b"f", ROOT, b"x"),
-        (ROOT, b"x", ROOT, b"f"),
+        (0, b"f", 0, b"x"),
+        (0, b"x", 0, b"f"),
         // The target is a directory with entries.
-        (ROOT, b"x", ROOT, b"d"),
+        (0, b"x", 0, b"d"),
         // The target directory is the moved one, or inside it.
-        (ROOT, b"d", key(1), b"a"),
-        (ROOT, b"d", key(2), b"a"),
+        (0, b"d", 1, b"a"),
+        (0, b"d", 2, b"a"),
         // Both names lead to one inode.
-        (ROOT, b"f", ROOT, b"g"),
-        (ROOT, b"f", ROOT, b"f"),
+        (0, b"f", 0, b"g"),
+        (0, b"f", 0, b"f"),
     ];
     for (dir, name, to_dir, to_name) in cases {
-        rename(&mut tree, alloc, 9, dir, name, to_dir, to_name)?;
+        rename(
+            &mut tree,
+            alloc,
+            9,
+            numbered(dir),
+            name,
+            numbered(to_dir),
+            to_name,
+        )?;
         assert!(rt;
             look_alike(alloc, &before, &tree)?,
             "from {name:?} to {to_name:?}"
@@ -496,7 +509,8 @@ fn some_changes_do_nothing(rt: HostRuntime) -> Result<(), Fail> {
     let mut tree = small_tree(alloc)?;
     let before = tree.copy(alloc)?;
     // No inode, a directory and a link are no regular file.
-    for ino in [key(9), key(1), key(4)] {
+    for last in [9u8, 1, 4] {
+        let ino = key(last);
         write(&mut tree, alloc, 9, ino, 0, b"a".as_slice())?;
         resize(&mut tree, alloc, 9, ino, 2)?;
         assert!(rt; look_alike(alloc, &before, &tree)?, "at {ino:?}");
