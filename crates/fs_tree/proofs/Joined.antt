@@ -82,9 +82,9 @@ module _ (names : Tree) (contents : List (Key × Inode)) (tied : IsTied names co
   pub names_changed : (now : Moment) (o : Op) → IsOfNames o → (new : Tree) → new ≡ bare (apply names now o) → (dirs : Touched) → dirs ≡ touched_by names o → (between left : List (Key × Inode)) → between ≡ touched_content now dirs.first contents → left ≡ touched_content now dirs.second between → (tree_of new left ≡ apply whole now o) × IsTied new left
   names_changed now o of new names_are dirs dirs_are between left first second =
       joined now o new left (names_are ∙ names_whole now o) (
-        second ∙ ap (λ l. touched_content now dirs.second l) first
-        ∙ ap (λ (d : Touched). touched_content now d.second (touched_content now d.first contents)) (dirs_are ∙ ap (λ (u : Tree). touched_by u o) (sym tied.same) ∙ touched_by-bare whole o)
-        ∙ sym (inodes-apply whole tied.sound.order.inodes now o of)
+      second ∙ ap (λ l. touched_content now dirs.second l) first
+      ∙ ap (λ (d : Touched). touched_content now d.second (touched_content now d.first contents)) (dirs_are ∙ ap (λ (u : Tree). touched_by u o) (sym tied.same) ∙ touched_by-bare whole o)
+      ∙ sym (inodes-apply whole tied.sound.order.inodes now o of)
       )
 
   -- another content of one inode
@@ -104,9 +104,9 @@ module _ (names : Tree) (contents : List (Key × Inode)) (tied : IsTied names co
     pub inode_added : (i : Inode) → made now o ≡ Some i → value_at key_cmp number contents ≡ None → (new : Tree) → new ≡ bare (apply names now o) → (left : List (Key × Inode)) → left ≡ put key_cmp number i contents → (tree_of new left ≡ apply whole now o) × IsTied new left
     inode_added i makes free new names_are left contents_are =
         joined now o new left (names_are ∙ names_whole now o) (
-          contents_are
-          ∙ ap (λ (u : Tree). u.inodes) (sym (inode-free whole now number kind mode uid gid target i free (ap (made now) (sym same) ∙ makes)))
-          ∙ ap (λ (p : Op). (apply whole now p).inodes) (sym same)
+        contents_are
+        ∙ ap (λ (u : Tree). u.inodes) (sym (inode-free whole now number kind mode uid gid target i free (ap (made now) (sym same) ∙ makes)))
+        ∙ ap (λ (p : Op). (apply whole now p).inodes) (sym same)
         )
 
     pub inode_there : (r : Option (Bor Inode)) → option_copied r ≡ value_at key_cmp number contents → true ≡ is_some r → whole ≡ apply whole now o

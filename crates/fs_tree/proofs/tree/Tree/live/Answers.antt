@@ -6,6 +6,6 @@ use Rattle.fs_tree.proofs.tree.Tree.live.Goals as goal
 pub returns-else-is_root : goal.returns-else-is_root
 returns-else-is_root c =
     rw (← c.self.view_is) (
-      ap (nat_lt 0) c.names_of.ensures ∙ has_name-counted c.self.inside.names c.args.ino.now
-      ∙ ap (λ b. b || has_name c.self.inside.names c.args.ino.now) c.if-is_root.ensures
+    ap (nat_lt 0) c.names_of.ensures ∙ has_name-counted c.self.inside.names c.args.ino.now
+    ∙ ap (λ b. b || has_name c.self.inside.names c.args.ino.now) c.if-is_root.ensures
     )
