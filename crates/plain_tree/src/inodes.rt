@@ -9,6 +9,7 @@ ghost use Rattle.plain_tree.specs.Search.{IsFoundAt, BelongsAt};
 use crate::keys::same;
 use inode_replay::Content;
 use ivy_base::{Key, Memory};
+use std::alloc::Global;
 use std::cmp::Ordering;
 
 // The inode of that number.
@@ -52,4 +53,18 @@ fn search(inodes: &[(Key, Content)], ino: &Key) -> Result<usize, usize>
         }
     }
     Err(inodes.len())
+}
+
+// The same list, each inode with bytes of its own. The error is want of memory.
+pub(crate) fn copy(
+    inodes: &[(Key, Content)],
+    alloc: Global,
+) -> Result<Vec<(Key, Content)>, Memory>
+    ensures { IfOk result (λ copy. copy.items ≡ inodes.now) }
+{
+    let mut copy = Vec::new(alloc);
+    for entry in inodes {
+        copy.push((entry.0, entry.1.copy(alloc)?))?;
+    }
+    Ok(copy)
 }

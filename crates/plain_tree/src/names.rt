@@ -113,3 +113,14 @@ pub(crate) fn climb_ends(names: &[Name], most: usize, ino: &Key, dir: &Key) -> b
     }
     true
 }
+
+// The same list, each name with bytes of its own. The error is want of memory.
+pub(crate) fn copy(names: &[Name], alloc: Global) -> Result<Vec<Name>, Memory>
+    ensures { IfOk result (λ copy. copy.items ≡ names.now) }
+{
+    let mut copy = Vec::new(alloc);
+    for entry in names {
+        copy.push(((entry.0.0, entry.0.1.copy(alloc)?), entry.1))?;
+    }
+    Ok(copy)
+}

@@ -1,6 +1,6 @@
 //! The tree as two lists, and what an operation does to them.
 
-ghost use Rattle.std.specs.Prelude.{◌≡◌, ◌&&◌, IfOk, OnOk, is_some, not, if◌then◌else◌};
+ghost use Rattle.std.specs.Prelude.{◌≡◌, ◌&&◌, IfOk, OnOk, OnErr, not, if◌then◌else◌};
 ghost use Rattle.std.specs.Option.{option_copied};
 ghost use Rattle.tree_model.specs.Tree.{inode_at, entry, is_directory, is_file, has_name, is_empty_directory, is_inside, subdirectory_count};
 ghost use Rattle.tree_model.specs.Apply.{empty_tree, apply, at_inode, with_inode, with_name, without_name, touched, link, unlink, move, may_link, may_lose_name, may_replace, may_rename};
@@ -55,8 +55,30 @@ impl Plain {
     }
 
     /// Does what the operation does at that moment; one that may not be done changes nothing, and is no error.
-    /// A file's bytes end at 16,777,216 at most. The error is want of memory, and then a part may have been done.
+    /// A file's bytes end at 16,777,216 at most. The error is want of memory, and then the tree is as it was.
     pub fn apply(&mut self, alloc: Global, moment: Moment, op: &Op) -> Result<(), Memory>
+        requires { IsApplicable op.now }
+        ensures ok { OnOk result (self.new ≡ apply self.old moment op.now) }
+        ensures err { OnErr result (self.new ≡ self.old) }
+    {
+        let mut after = self.copy(alloc)?;
+        after.carry_out(alloc, moment, op)?;
+        *self = after;
+        Ok(())
+    }
+
+    /// An equal tree, which later changes of this one don't reach. The error is want of memory.
+    pub fn copy(&self, alloc: Global) -> Result<Plain, Memory>
+        ensures { IfOk result (λ copy. copy ≡ self.now) }
+    {
+        Ok(Plain {
+            names: names::copy(&self.names, alloc)?,
+            inodes: inodes::copy(&self.inodes, alloc)?,
+        })
+    }
+
+    // Does what the operation does. Where memory is short a part of it may have been done.
+    fn carry_out(&mut self, alloc: Global, moment: Moment, op: &Op) -> Result<(), Memory>
         requires { IsApplicable op.now }
         ensures ok { OnOk result (self.new ≡ apply self.old moment op.now) }
     {
