@@ -56,10 +56,7 @@ fn search(inodes: &[(Key, Content)], ino: &Key) -> Result<usize, usize>
 }
 
 // The same list, each inode with bytes of its own. The error is want of memory.
-pub(crate) fn copy(
-    inodes: &[(Key, Content)],
-    alloc: Global,
-) -> Result<Vec<(Key, Content)>, Memory>
+pub(crate) fn copy(inodes: &[(Key, Content)], alloc: Global) -> Result<Vec<(Key, Content)>, Memory>
     ensures { IfOk result (λ copy. copy.items ≡ inodes.now) }
 {
     let mut copy = Vec::new(alloc);

@@ -13,5 +13,7 @@ mod inodes;
 mod keys;
 mod names;
 mod plain;
+#[cfg(test)]
+mod tests;
 
 pub use plain::Plain;

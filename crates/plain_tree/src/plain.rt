@@ -305,13 +305,7 @@ impl Plain {
     }
 
     // Lets the name in the directory lead to that inode.
-    fn set_name(
-        &mut self,
-        alloc: Global,
-        dir: &Key,
-        name: &[u8],
-        ino: &Key,
-    ) -> Result<(), Memory>
+    fn set_name(&mut self, alloc: Global, dir: &Key, name: &[u8], ino: &Key) -> Result<(), Memory>
         ensures ok { OnOk result (self.new ≡ with_name self.old dir.now name.now ino.now) }
     {
         names::put(&mut self.names, alloc, dir, name, ino)

@@ -10,4 +10,4 @@ returns t c =
     let other : same_key c.args.ino.now c.args.dir.now ≡ false = sym c.same.ensures ∙ c.if-same.false in
     let past : length c.args.names.now ≤ c.loop-entry.entry-index = omega (arith, c.loop-entry-test.false) in
     sym (climbs_on c.args.names.now c.args.dir.now c.args.most c.args.ino.now some other ∙ sym c.loop-entry.invariant
-        ∙ ap (λ l. all_end c.args.names.now c.args.dir.now (c.args.most - 1) (parents_in l c.args.ino.now)) (drop_all c.loop-entry.entry-index c.args.names.now past))
+    ∙ ap (λ l. all_end c.args.names.now c.args.dir.now (c.args.most - 1) (parents_in l c.args.ino.now)) (drop_all c.loop-entry.entry-index c.args.names.now past))
