@@ -1,0 +1,19 @@
+//! The tree of the definitions, kept as plainly as they say it: the comparison for a faster one.
+//!
+//! Layer: over `tree_model`, whose definitions it follows line by line, and `inode_replay`, whose inodes it keeps;
+//! nothing of the product stands on it. Its tests run [`Plain`] and `fs_tree` over generated operations.
+//! For whoever compares: contracts see a [`Plain`] as the tree of `tree_model` (`specs/Tree.antt` there), and
+//! [`Plain::apply`] makes of it exactly what `apply` there makes of it. It is kept as the two lists that the
+//! definition has, in the definition's order, and every question is answered by looking through these.
+//!
+//! Costs: a look-up takes the time of all names or of all inodes, and a change copies an inode's bytes.
+#![tactic(auto)]
+
+mod inodes;
+mod keys;
+mod names;
+mod plain;
+#[cfg(test)]
+mod tests;
+
+pub use plain::Plain;
