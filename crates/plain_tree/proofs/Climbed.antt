@@ -1,5 +1,5 @@
 -- One step of going up.
-use Rattle.std.proofs.Common.{◌≡◌, ℕ, zero, suc, ◌-◌, ◌≤◌, List, Bool, true, false, cond, not, ◌&&◌, refl, arith}
+use Rattle.std.proofs.Common.{◌≡◌, ℕ, zero, suc, ◌-◌, ◌≤◌, List, Bool, false, refl, arith}
 use Rattle.std.specs.List.{list_all}
 use Rattle.ivy_base.specs.declared.key.Key.{Key}
 use Rattle.tree_model.specs.Tree.{Place, same_key, parents_in, ends_without}

@@ -1,4 +1,4 @@
-use Rattle.std.proofs.Common.{rules, not, filter, ◌∙◌}
+use Rattle.std.proofs.Common.{rules, not, ◌∙◌}
 use Rattle.std.proofs.lemmas.Fn.{filter_same}
 use Rattle.std.specs.Ordering.{eq_by_cmp}
 use Rattle.tree_model.specs.Tree.{place_cmp}
