@@ -1,5 +1,5 @@
 -- The entries of the map that a cache is made of, and the pairs that contracts see.
-use Rattle.std.proofs.Common.{◌≡◌, ℕ, ◌≤◌, Bool, true, false, not, cond, List, [], ◌∷◌, map, filter, length, take, Option, Some, None, refl, sym, ap, ◌∙◌, subst, arith, Result, Ok, Err, OnOk, OnErr, MatchBool}
+use Rattle.std.proofs.Common.{◌≡◌, ℕ, ◌≤◌, Bool, true, false, not, cond, List, [], ◌∷◌, map, length, take, Option, Some, None, refl, sym, ap, ◌∙◌, subst, arith, Result, Ok, Err, OnOk, OnErr, MatchBool}
 use Rattle.std.specs.List.{IsDistinct}
 use Rattle.std.specs.Map.{keys_of, lookup, lookup_entry, remove_entry}
 use Rattle.std.specs.Option.{option_map, option_map_or}
@@ -15,7 +15,7 @@ use Rattle.lru.specs.LruCache.{LruCache, lru_cache, promoted, put_entries}
 use Rattle.lru.proofs.CallerLemmas.{Contains-lookup_entry}
 use Rattle.lru.proofs.Pairs.{lookup-lookup_entry}
 use Rattle.block_cache.specs.Blocks.{IsCache, same_key, block_of, others, moved_to_front, kept, pair_of}
-use Rattle.block_cache.proofs.Pairs.{same_key_laws, one_key, fewer, kept_valid}
+use Rattle.block_cache.proofs.Pairs.{same_key_laws, one_key, fewer, kept_valid, moved_valid}
 
 module _ (key : Key) where
   abbrev pub is_key : List ℕ → Bool
@@ -72,6 +72,9 @@ module _ (key : Key) where
         by : (o : Option (List ℕ × List ℕ)) → lookup_entry is_key es ≡ o → map pair_of (option_map_or (λ e. e ∷ remove_entry is_key es) o es) ≡ moved_to_front key (map pair_of es)
         by None h = sym (moved_as None h)
         by (Some e) h = same_pair e e.1 h ∙ sym (moved_as (Some e) h)
+
+    pub promoted_valid : IsCache (map pair_of (promoted is_key es))
+    promoted_valid = subst IsCache (sym moved_entries) (moved_valid key (map pair_of es) cache)
 
     -- an entry that was put is a block that was kept
     pub kept_entries : (block : List ℕ) → map pair_of (put_entries bytes_eq (lru_cache es 256) key.0 block) ≡ kept key block (map pair_of es)

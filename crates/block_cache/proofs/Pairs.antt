@@ -1,9 +1,9 @@
 -- What a look-up and a kept block do to the pairs of a cache. For callers: what is found has its key as its name, and a
 -- block that was kept is found.
-use Rattle.std.proofs.Common.{◌≡◌, ℕ, zero, suc, ◌≤◌, ◌<◌, Bool, true, false, not, cond, List, [], ◌∷◌, map, filter, length, take, Option, Some, None, refl, sym, ap, ◌∙◌, subst, arith}
+use Rattle.std.proofs.Common.{◌≡◌, ℕ, zero, suc, ◌≤◌, ◌<◌, Bool, true, false, not, cond, List, [], ◌∷◌, length, take, Option, Some, None, refl, ap, ◌∙◌, subst, arith}
 use Rattle.std.specs.List.{All, AllByRecursion, IsDistinct}
 use Rattle.std.specs.Cmp.{IsEquivalence}
-use Rattle.std.specs.Map.{keys_of, lookup}
+use Rattle.std.specs.Map.{keys_of}
 use Rattle.std.specs.Option.{option_map_or}
 use Rattle.std.proofs.ByRecursion.{All-take as rec_take}
 use Rattle.std.proofs.lemmas.Cmp.{nat_list_eq_equiv}

@@ -1,8 +1,7 @@
 -- What a cache is once a borrow of it ends.
-use Rattle.std.specs.Prelude.{◌≡◌, ⊤, ℕ, List}
+use Rattle.std.specs.Prelude.{◌≡◌, ⊤}
 use Rattle.std.specs.Borrow.{Fml, MutBor, follows_so}
 use mathlib.Core.Option.{none}
-use Rattle.ivy_base.specs.declared.key.Key.{Key}
 use Rattle.block_cache.specs.declared.cache.BlockCache.{BlockCache}
 use Rattle.block_cache.specs.contracts.cache.BlockCache.{the_row}
 

@@ -8,5 +8,7 @@
 #![tactic(auto)]
 
 mod cache;
+#[cfg(test)]
+mod tests;
 
 pub use cache::BlockCache;

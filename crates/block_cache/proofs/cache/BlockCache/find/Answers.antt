@@ -1,11 +1,11 @@
-use Rattle.std.proofs.Common.{rules, ◌≡◌, List, Option, Some, None, map, refl, sym, ap, ◌∙◌, subst}
-use Rattle.block_cache.specs.Blocks.{IsCache, pair_of}
-use Rattle.block_cache.proofs.Pairs.{found_named, moved_valid}
-use Rattle.block_cache.proofs.Entries.{block_held, moved_entries}
+use Rattle.std.proofs.Common.{map, refl, sym, ◌∙◌}
+use Rattle.block_cache.specs.Blocks.{pair_of}
+use Rattle.block_cache.proofs.Pairs.{found_named}
+use Rattle.block_cache.proofs.Entries.{block_held, moved_entries, promoted_valid}
 use Rattle.block_cache.proofs.cache.BlockCache.find.Goals as goal
 
 pub invariant_of-self : goal.invariant_of-self
-invariant_of-self c = rw c.get.follows.holds-at-none (c.self.invariant.0, subst IsCache (sym (moved_entries c.args.key.now c.self.inside.blocks.entries c.self.invariant.1)) (moved_valid c.args.key.now (map pair_of c.self.inside.blocks.entries) c.self.invariant.1))
+invariant_of-self c = rw c.get.follows.holds-at-none (c.self.invariant.0, promoted_valid c.args.key.now c.self.inside.blocks.entries c.self.invariant.1)
 
 pub returns-in_err-block : goal.returns-in_err-block
 returns-in_err-block c = (
@@ -19,7 +19,7 @@ returns-in_err-block c = (
 )
 
 pub invariant_of-self-2 : goal.invariant_of-self-2
-invariant_of-self-2 c = rw c.get.follows.holds-at-none (c.self.invariant.0, subst IsCache (sym (moved_entries c.args.key.now c.self.inside.blocks.entries c.self.invariant.1)) (moved_valid c.args.key.now (map pair_of c.self.inside.blocks.entries) c.self.invariant.1))
+invariant_of-self-2 c = rw c.get.follows.holds-at-none (c.self.invariant.0, promoted_valid c.args.key.now c.self.inside.blocks.entries c.self.invariant.1)
 
 pub returns : goal.returns
 returns c = (

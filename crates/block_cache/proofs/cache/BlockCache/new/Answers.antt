@@ -1,4 +1,4 @@
-use Rattle.std.proofs.Common.{rules, ◌≡◌, refl, arith}
+use Rattle.std.proofs.Common.{rules}
 use Rattle.block_cache.proofs.Pairs.{empty_valid}
 use Rattle.block_cache.proofs.cache.BlockCache.new.Goals as goal
 
