@@ -19,6 +19,14 @@ pub struct Course {
 }
 
 impl Course {
+    /// The first of the owners that were found.
+    pub fn owner(&self) -> Option<Peer> {
+        match &self.found {
+            Ok(owners) => owners.as_slice().first().copied(),
+            Err(_) => None,
+        }
+    }
+
     /// Whether a node was asked twice.
     pub fn asked_twice(&self) -> bool {
         let asked = self.asked.as_slice();

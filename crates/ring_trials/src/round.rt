@@ -78,17 +78,12 @@ fn renew(alloc: Global, nodes: &mut BTreeMap<u32, Node>, me: Peer) -> Result<(),
 /// Has the node fix its fingers by look-ups from itself.
 fn fix_fingers(alloc: Global, nodes: &mut BTreeMap<u32, Node>, me: Peer) -> Result<(), Memory> {
     for k in 1..161 {
-        let Some(course) = look_up(alloc, nodes, finger_start(&me.id, k), me)? else {
-            continue;
-        };
-        let Ok(owners) = course.found else {
-            continue;
-        };
-        let Some(owner) = owners.as_slice().first() else {
-            continue;
-        };
-        if let Some(node) = nodes.get_mut(&me.number) {
-            node.fix_finger(k, *owner);
+        let course = look_up(alloc, nodes, finger_start(&me.id, k), me)?;
+        let owner = course.and_then(|course| course.owner());
+        if let Some(owner) = owner
+            && let Some(node) = nodes.get_mut(&me.number)
+        {
+            node.fix_finger(k, owner);
         }
     }
     Ok(())
