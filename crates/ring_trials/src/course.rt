@@ -1,0 +1,60 @@
+//! Look-ups over the live nodes of a ring.
+
+use crate::ring::answer_of;
+use chord_core::Node;
+use dhash_client::{Lookup, Miss, Want};
+use dht_ids::{Ask, Peer, Peers};
+use ivy_base::{Key, Memory};
+use std::alloc::Global;
+use std::collections::BTreeMap;
+
+/// How often a look-up is told to go on: once more than the asks that it may make.
+const MOST_STEPS: u32 = 513;
+
+/// What a look-up came to: its result and the nodes that it asked, in order.
+#[derive(Drop)]
+pub struct Course {
+    pub found: Result<Peers, Miss>,
+    pub asked: Vec<Peer>,
+}
+
+impl Course {
+    /// The first of the owners that were found.
+    pub fn owner(&self) -> Option<Peer> {
+        match &self.found {
+            Ok(owners) => owners.as_slice().first().copied(),
+            Err(_) => None,
+        }
+    }
+
+    /// Whether a node was asked twice.
+    pub fn asked_twice(&self) -> bool {
+        let asked = self.asked.as_slice();
+        asked.iter().enumerate().any(|(i, node)| asked
+            .iter()
+            .skip(i.saturating_add(1))
+            .any(|other| other == node))
+    }
+}
+
+/// Looks a key up from a node; `None` where the look-up doesn't end.
+pub fn look_up(
+    alloc: Global,
+    nodes: &BTreeMap<u32, Node>,
+    key: Key,
+    entry: Peer,
+) -> Result<Option<Course>, Memory> {
+    let entries = Peers::of(vec![in alloc; entry]?);
+    let mut lookup = Lookup::start(alloc, key, 1, &entries)?;
+    let mut asked = Vec::new(alloc);
+    for _ in 0..MOST_STEPS {
+        match lookup.next(alloc)? {
+            Want::Ask(node, _) => {
+                asked.push(node)?;
+                lookup.heard(answer_of(alloc, nodes, node, &Ask::Route(key))?)?;
+            }
+            Want::Done(found) => return Ok(Some(Course { found, asked })),
+        }
+    }
+    Ok(None)
+}

@@ -1,0 +1,90 @@
+//! Trials of look-ups.
+
+use crate::course::{Course, look_up};
+use crate::ring::Ring;
+use dht_ids::{Peer, node_id};
+use ivy_base::{Key, Memory};
+use std::alloc::Global;
+
+/// The keys are the identifiers that nodes of the numbers from this one on would have.
+const FIRST_KEY: u32 = 1_000_000;
+
+/// What look-ups came to.
+#[derive(Clone, Copy)]
+pub struct Tally {
+    /// How many gave the owners and asked no node twice.
+    pub right: u64,
+    /// The most asks that one made.
+    pub most: usize,
+    /// The asks of all.
+    pub asks: u64,
+}
+
+impl Tally {
+    fn new() -> Tally {
+        Tally {
+            right: 0,
+            most: 0,
+            asks: 0,
+        }
+    }
+
+    fn count(&mut self, right: bool, asks: usize) {
+        if right {
+            self.right = self.right.saturating_add(1);
+        }
+        self.most = self.most.max(asks);
+        self.asks = self.asks.saturating_add(asks as u64);
+    }
+}
+
+/// The key of that number.
+pub fn key(number: u32) -> Key {
+    node_id(FIRST_KEY.saturating_add(number))
+}
+
+/// The nodes that look-ups begin with: the first, the middle and the last of the live ones by number, each once.
+fn entries(alloc: Global, ring: &Ring) -> Result<Vec<Peer>, Memory> {
+    let mut live = ring.live.as_slice().to_vec(alloc)?;
+    live.sort_unstable_by(|a, b| a.number.cmp(&b.number));
+    let mut entries = Vec::new(alloc);
+    for place in [0, live.len() / 2, live.len().saturating_sub(1)] {
+        if let Some(peer) = live.get(place) {
+            entries.push(*peer)?;
+        }
+    }
+    entries.dedup();
+    Ok(entries)
+}
+
+/// Whether the look-up found the owners, perhaps with stopped nodes among them and others behind them, and asked no
+/// node twice.
+fn is_right(course: &Course, ring: &Ring, owners: &[Peer]) -> bool {
+    let Ok(found) = &course.found else {
+        return false;
+    };
+    let mut live = found
+        .as_slice()
+        .iter()
+        .filter(|peer| ring.nodes.contains_key(&peer.number));
+    owners.iter().all(|owner| live.next() == Some(owner)) && !course.asked_twice()
+}
+
+/// Looks so many keys up in a ring.
+pub fn look_up_keys(alloc: Global, ring: &Ring, replicas: u32, keys: u32) -> Result<Tally, Memory> {
+    let entries = entries(alloc, ring)?;
+    let mut tally = Tally::new();
+    for number in 0..keys {
+        let key = key(number);
+        let owners = ring.owners(alloc, key, replicas)?;
+        for entry in &entries {
+            if let Some(course) = look_up(alloc, &ring.nodes, key, *entry)? {
+                tally.count(
+                    is_right(&course, ring, owners.as_slice()),
+                    course.asked.len(),
+                );
+            }
+        }
+    }
+    Ok(tally)
+}

@@ -1,0 +1,166 @@
+//! Rounds of maintenance, and whether a ring is settled after them.
+
+ghost use Rattle.std.specs.Prelude.{◌≤◌};
+
+use crate::course::look_up;
+use crate::lookups::key;
+use crate::ring::{Ring, answer_of, peer};
+use chord_core::Node;
+use dht_ids::{Answer, Ask, Peer, finger_start};
+use ivy_base::{Key, Memory};
+use std::alloc::Global;
+use std::collections::BTreeMap;
+
+/// How many keys the nodes are asked for the routes to.
+const ROUTES: u32 = 20;
+
+/// Has the node forget its predecessor where that is stopped.
+fn forget_stopped(nodes: &mut BTreeMap<u32, Node>, me: Peer) {
+    let before = nodes.get(&me.number).and_then(|node| node.before());
+    let Some(before) = before else {
+        return;
+    };
+    if !nodes.contains_key(&before.number)
+        && let Some(node) = nodes.get_mut(&me.number)
+    {
+        node.forget();
+    }
+}
+
+/// The first entry of the node's list.
+fn first_of(nodes: &BTreeMap<u32, Node>, me: Peer) -> Option<Peer> {
+    nodes.get(&me.number)?.list().as_slice().first().copied()
+}
+
+/// Has the node drop the stopped entries at the head of its list, and gives the first that lives.
+fn first_live(
+    alloc: Global,
+    nodes: &mut BTreeMap<u32, Node>,
+    me: Peer,
+) -> Result<Option<Peer>, Memory> {
+    let Some(node) = nodes.get(&me.number) else {
+        return Ok(None);
+    };
+    for _ in 0..node.list().as_slice().len() {
+        let Some(first) = first_of(nodes, me) else {
+            return Ok(None);
+        };
+        if nodes.contains_key(&first.number) {
+            return Ok(Some(first));
+        }
+        if let Some(node) = nodes.get_mut(&me.number) {
+            node.stabilise(alloc, &Answer::Silent)?;
+        }
+    }
+    Ok(None)
+}
+
+/// What a node does in a pass: it renews its list by its first live entry, and notifies the first of the new list.
+fn renew(alloc: Global, nodes: &mut BTreeMap<u32, Node>, me: Peer) -> Result<(), Memory> {
+    let Some(first) = first_live(alloc, nodes, me)? else {
+        return Ok(());
+    };
+    let Some(asked) = nodes.get(&first.number) else {
+        return Ok(());
+    };
+    let heard = asked.answer(alloc, &Ask::Near)?;
+    if let Some(node) = nodes.get_mut(&me.number) {
+        node.stabilise(alloc, &heard)?;
+    }
+    if let Some(first) = first_of(nodes, me)
+        && let Some(told) = nodes.get_mut(&first.number)
+    {
+        told.notify(me);
+    }
+    Ok(())
+}
+
+/// Has the node fix its fingers by look-ups from itself.
+fn fix_fingers(alloc: Global, nodes: &mut BTreeMap<u32, Node>, me: Peer) -> Result<(), Memory> {
+    for k in 1..161 {
+        let course = look_up(alloc, nodes, finger_start(&me.id, k), me)?;
+        let owner = course.and_then(|course| course.owner());
+        if let Some(owner) = owner
+            && let Some(node) = nodes.get_mut(&me.number)
+        {
+            node.fix_finger(k, owner);
+        }
+    }
+    Ok(())
+}
+
+/// Does a round of maintenance with that many passes.
+pub fn round(alloc: Global, ring: &mut Ring, passes: u32) -> Result<(), Memory> {
+    for me in ring.live.as_slice() {
+        forget_stopped(&mut ring.nodes, *me);
+    }
+    for _ in 0..passes {
+        for me in ring.live.as_slice() {
+            renew(alloc, &mut ring.nodes, *me)?;
+        }
+    }
+    for me in ring.live.as_slice() {
+        fix_fingers(alloc, &mut ring.nodes, *me)?;
+    }
+    Ok(())
+}
+
+/// Has the node of that number join: it finds its first list by a look-up from the live node of the least number.
+pub fn join(alloc: Global, ring: &mut Ring, number: u32, replicas: u32) -> Result<(), Memory>
+    requires { (1 ≤ replicas) × (replicas ≤ 8) }
+{
+    let me = peer(number);
+    let mut node = Node::alone(alloc, me, replicas)?;
+    if let Some(entry) = ring.nodes.keys().next()
+        && let Some(course) = look_up(alloc, &ring.nodes, me.id, peer(*entry))?
+        && let Ok(owners) = &course.found
+    {
+        node.adopt(alloc, owners)?;
+    }
+    ring.add(alloc, me, node)
+}
+
+/// Whether both nodes answer the same to Route.
+fn is_same_route(alloc: Global, node: &Node, other: &Node, key: Key) -> Result<bool, Memory> {
+    let ask = Ask::Route(key);
+    Ok(
+        match (node.answer(alloc, &ask)?, other.answer(alloc, &ask)?) {
+            (
+                Answer::Route { nearer, owners },
+                Answer::Route {
+                    nearer: others,
+                    owners: last,
+                },
+            ) => { nearer.as_slice() == others.as_slice() && owners.as_slice() == last.as_slice() }
+            _ => false,
+        },
+    )
+}
+
+/// Whether both states of the node have one list and one predecessor, and answer the same for a few keys and for the
+/// node's own identifier, for which a node names all that it knows.
+fn is_same(alloc: Global, me: Peer, node: &Node, other: &Node) -> Result<bool, Memory> {
+    if node.list().as_slice() != other.list().as_slice() || node.before() != other.before() {
+        return Ok(false);
+    }
+    for number in 0..ROUTES {
+        if !is_same_route(alloc, node, other, key(number))? {
+            return Ok(false);
+        }
+    }
+    is_same_route(alloc, node, other, me.id)
+}
+
+/// Whether each node is as in a settled ring of the live members.
+pub fn is_settled(alloc: Global, ring: &Ring, replicas: u32) -> Result<bool, Memory>
+    requires { (1 ≤ replicas) × (replicas ≤ 8) }
+{
+    let settled = Ring::settled(alloc, ring.live.as_slice().to_vec(alloc)?, replicas)?;
+    for me in ring.live.as_slice() {
+        match (ring.nodes.get(&me.number), settled.nodes.get(&me.number)) {
+            (Some(node), Some(other)) if is_same(alloc, *me, node, other)? => {}
+            _ => return Ok(false),
+        }
+    }
+    Ok(true)
+}
