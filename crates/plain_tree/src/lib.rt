@@ -6,7 +6,10 @@
 //! [`Plain::apply`] makes of it exactly what `apply` there makes of it. It is kept as the two lists that the
 //! definition has, in the definition's order, and every question is answered by looking through these.
 //!
-//! Costs: a look-up takes the time of all names or of all inodes, and a change copies an inode's bytes.
+//! Definitions: `specs/View.antt` is the tree that the lists are, `specs/Search.antt` where an entry goes in one.
+//!
+//! Costs: a look-up goes through all names or all inodes, and each operation works on a copy of the whole tree, so
+//! that want of memory leaves the tree as it was.
 #![tactic(auto)]
 
 mod inodes;
