@@ -4,7 +4,7 @@
 //! For the layers above: a [`BlockCache`] is the list of its pairs of a key and a block's bytes, the most recently used
 //! first. Each key is the name of its block, each key stands once, and there are at most 256 pairs
 //! (`IsCache`). [`BlockCache::find`] moves what it finds to the front, and [`BlockCache::keep`] puts a block there.
-//! Definitions: `specs/Blocks.antt`.
+//! Definitions: `specs/Blocks.antt`. Lemmas to cite: `proofs/Pairs` (what was kept is found; a cache stays one).
 #![tactic(auto)]
 
 mod cache;
