@@ -1,12 +1,10 @@
 //! Look-ups over the live nodes of a ring.
 
-use crate::ring::answer_of;
-use chord_core::Node;
+use crate::ring::{Nodes, answer_of};
 use dhash_client::{Lookup, Miss, Want};
 use dht_ids::{Ask, Peer, Peers};
 use ivy_base::{Key, Memory};
 use std::alloc::Global;
-use std::collections::BTreeMap;
 
 /// How often a look-up is told to go on: once more than the asks that it may make.
 const MOST_STEPS: u32 = 513;
@@ -40,7 +38,7 @@ impl Course {
 /// Looks a key up from a node; `None` where the look-up doesn't end.
 pub fn look_up(
     alloc: Global,
-    nodes: &BTreeMap<u32, Node>,
+    nodes: &Nodes,
     key: Key,
     entry: Peer,
 ) -> Result<Option<Course>, Memory> {

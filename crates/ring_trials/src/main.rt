@@ -9,9 +9,10 @@
 //!
 //! Of look-ups it tells how many gave the owners and asked no node twice, the most asks that one made, and the asks of
 //! all. Of a round it tells whether each node then has the list, the predecessor and, for a few keys, the answers of a
-//! node in a settled ring of the live members.
+//! node in a settled ring of the live members. `no answer` stands for a line that asks for none of these.
 //!
-//! The stored run's answers were written before the first run, but for the counts of asks.
+//! The stored run has joins after which a pass fewer than 2R + 1 leaves a ring that isn't settled. Its answers are those
+//! of a model of the ring in another language.
 #![tactic(auto)]
 
 mod course;

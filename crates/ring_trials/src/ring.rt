@@ -9,13 +9,16 @@ use ivy_base::{Key, Memory};
 use std::alloc::Global;
 use std::collections::BTreeMap;
 
+/// What the live nodes know, by their numbers.
+pub type Nodes = BTreeMap<u32, Node>;
+
 /// The live nodes of a ring.
 #[derive(Drop)]
 pub struct Ring {
     /// The nodes as others know them, in ascending order of their identifiers.
     pub live: Peers,
-    /// What they know, by their numbers.
-    pub nodes: BTreeMap<u32, Node>,
+    /// What they know.
+    pub nodes: Nodes,
 }
 
 /// The node of that number, as others know it.
@@ -89,12 +92,7 @@ impl Ring {
 }
 
 /// What the node answers to Route or Near: Silent where it doesn't live.
-pub fn answer_of(
-    alloc: Global,
-    nodes: &BTreeMap<u32, Node>,
-    peer: Peer,
-    ask: &Ask,
-) -> Result<Answer, Memory>
+pub fn answer_of(alloc: Global, nodes: &Nodes, peer: Peer, ask: &Ask) -> Result<Answer, Memory>
     requires { IsOfRing ask.now }
 {
     match nodes.get(&peer.number) {

@@ -4,20 +4,18 @@ ghost use Rattle.std.specs.Prelude.{◌≤◌};
 
 use crate::course::look_up;
 use crate::lookups::key;
-use crate::ring::{Ring, answer_of, peer};
+use crate::ring::{Nodes, Ring, peer};
 use chord_core::Node;
 use dht_ids::{Answer, Ask, Peer, finger_start};
 use ivy_base::{Key, Memory};
 use std::alloc::Global;
-use std::collections::BTreeMap;
 
 /// How many keys the nodes are asked for the routes to.
 const ROUTES: u32 = 20;
 
 /// Has the node forget its predecessor where that is stopped.
-fn forget_stopped(nodes: &mut BTreeMap<u32, Node>, me: Peer) {
-    let before = nodes.get(&me.number).and_then(|node| node.before());
-    let Some(before) = before else {
+fn forget_stopped(nodes: &mut Nodes, me: Peer) {
+    let Some(before) = nodes.get(&me.number).and_then(|node| node.before()) else {
         return;
     };
     if !nodes.contains_key(&before.number)
@@ -28,16 +26,12 @@ fn forget_stopped(nodes: &mut BTreeMap<u32, Node>, me: Peer) {
 }
 
 /// The first entry of the node's list.
-fn first_of(nodes: &BTreeMap<u32, Node>, me: Peer) -> Option<Peer> {
+fn first_of(nodes: &Nodes, me: Peer) -> Option<Peer> {
     nodes.get(&me.number)?.list().as_slice().first().copied()
 }
 
 /// Has the node drop the stopped entries at the head of its list, and gives the first that lives.
-fn first_live(
-    alloc: Global,
-    nodes: &mut BTreeMap<u32, Node>,
-    me: Peer,
-) -> Result<Option<Peer>, Memory> {
+fn first_live(alloc: Global, nodes: &mut Nodes, me: Peer) -> Result<Option<Peer>, Memory> {
     let Some(node) = nodes.get(&me.number) else {
         return Ok(None);
     };
@@ -56,7 +50,7 @@ fn first_live(
 }
 
 /// What a node does in a pass: it renews its list by its first live entry, and notifies the first of the new list.
-fn renew(alloc: Global, nodes: &mut BTreeMap<u32, Node>, me: Peer) -> Result<(), Memory> {
+fn renew(alloc: Global, nodes: &mut Nodes, me: Peer) -> Result<(), Memory> {
     let Some(first) = first_live(alloc, nodes, me)? else {
         return Ok(());
     };
@@ -76,7 +70,7 @@ fn renew(alloc: Global, nodes: &mut BTreeMap<u32, Node>, me: Peer) -> Result<(),
 }
 
 /// Has the node fix its fingers by look-ups from itself.
-fn fix_fingers(alloc: Global, nodes: &mut BTreeMap<u32, Node>, me: Peer) -> Result<(), Memory> {
+fn fix_fingers(alloc: Global, nodes: &mut Nodes, me: Peer) -> Result<(), Memory> {
     for k in 1..161 {
         let course = look_up(alloc, nodes, finger_start(&me.id, k), me)?;
         let owner = course.and_then(|course| course.owner());
