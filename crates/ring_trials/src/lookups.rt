@@ -43,20 +43,6 @@ pub fn key(number: u32) -> Key {
     node_id(FIRST_KEY.saturating_add(number))
 }
 
-/// The nodes that look-ups begin with: the first, the middle and the last of the live ones by number, each once.
-fn entries(alloc: Global, ring: &Ring) -> Result<Vec<Peer>, Memory> {
-    let mut live = ring.live.as_slice().to_vec(alloc)?;
-    live.sort_unstable_by(|a, b| a.number.cmp(&b.number));
-    let mut entries = Vec::new(alloc);
-    for place in [0, live.len() / 2, live.len().saturating_sub(1)] {
-        if let Some(peer) = live.get(place) {
-            entries.push(*peer)?;
-        }
-    }
-    entries.dedup();
-    Ok(entries)
-}
-
 /// Whether the look-up found the owners, perhaps with stopped nodes among them and others behind them, and asked no
 /// node twice.
 fn is_right(course: &Course, ring: &Ring, owners: &[Peer]) -> bool {
@@ -70,14 +56,13 @@ fn is_right(course: &Course, ring: &Ring, owners: &[Peer]) -> bool {
     owners.iter().all(|owner| live.next() == Some(owner)) && !course.asked_twice()
 }
 
-/// Looks so many keys up in a ring.
+/// Looks so many keys up in a ring, each from each live node.
 pub fn look_up_keys(alloc: Global, ring: &Ring, replicas: u32, keys: u32) -> Result<Tally, Memory> {
-    let entries = entries(alloc, ring)?;
     let mut tally = Tally::new();
     for number in 0..keys {
         let key = key(number);
         let owners = ring.owners(alloc, key, replicas)?;
-        for entry in &entries {
+        for entry in ring.live.as_slice() {
             if let Some(course) = look_up(alloc, &ring.nodes, key, *entry)? {
                 tally.count(
                     is_right(&course, ring, owners.as_slice()),

@@ -1,8 +1,8 @@
 //! Runs rings of nodes, a trial for each line of the standard input. Nodes have the numbers from 0 on and the
 //! identifiers that these give, and a key has at most R owners:
 //!
-//! - `lookups N R KEYS`: so many keys are looked up in a settled ring of N nodes, each from the first, the middle and
-//!   the last node, and the owners compared with those that sorting the members gives
+//! - `lookups N R KEYS`: so many keys are looked up in a settled ring of N nodes, each from each node, and the owners
+//!   compared with those that sorting the members gives
 //! - `stopped N R KEYS S`: the same after the nodes 1 to S, fewer than R, have stopped
 //! - `round N R S`: the nodes 1 to S of a settled ring stop, and the others do a round of maintenance
 //! - `join N R J P`: the node J joins a settled ring, and all do a round with P passes, 2R + 1 where P is 0
