@@ -41,7 +41,8 @@ use Rattle.turn_model.proofs.Turns.{log_turn-reading, log_turn-refused, log_turn
 use Rattle.ivy_play.specs.declared.participant.Participant.{Participant}
 use Rattle.ivy_play.specs.declared.participant.Written.{Written}
 use Rattle.ivy_play.specs.declared.calls.Answer.{Answer}
-use Rattle.ivy_play.specs.Asked.{null_asked, attributes_asked, look_up_of, directory_of, superuser}
+use Rattle.ivy_play.specs.Asked.{null_asked, attributes_asked, look_up_of, directory_of}
+use Rattle.wire_model.specs.Rpc.{superuser}
 use Rattle.ivy_play.specs.Directories.{AreDirectories}
 use Rattle.ivy_play.specs.Entries.{entry_of}
 use Rattle.ivy_play.specs.Lives.{IsLiveObject, IsStale}

@@ -8,7 +8,7 @@ use Rattle.ivy_base.specs.declared.key.Key.{Key}
 use Rattle.ivy_base.specs.Naming.{IsFileName}
 use Rattle.wire_model.specs.Xdr.{opaque, word}
 use Rattle.log_model.specs.View.{View}
-use Rattle.nfs_model.specs.Arguments.{arguments, set_what}
+use Rattle.nfs_model.specs.Arguments.{arguments, only_mode, set_what}
 use Rattle.nfs_model.specs.Objects.{handle_of}
 use Rattle.run_model.specs.declared.command.Piece.{Piece}
 use Rattle.run_model.specs.declared.command.Piece.TheVariants.{Call, Root, HandleOf, Text, Mode}
@@ -18,7 +18,6 @@ use Rattle.run_model.specs.Calls.{view_of, call_head, is_place, is_file_name, ar
 use Rattle.ivy_play.specs.declared.participant.Participant.{Participant}
 use Rattle.ivy_play.specs.declared.requests.Request.{Request}
 use Rattle.ivy_play.specs.declared.requests.Request.TheVariants.{Nothing, Attributes, LookUp, MakeDirectory}
-use Rattle.ivy_play.specs.Asked.{only_mode}
 use Rattle.ivy_play.specs.Handles.{place_in}
 use Rattle.ivy_play.specs.Participants.{log_of}
 use Rattle.ivy_play.specs.Requests.{asked_of, procedure_of, message_for, name_in, mode_in, procedure_in, null_in, attributes_in, look_up_in, directory_in, call_in, request_in, Asks, IsWellNamed}

@@ -7,7 +7,7 @@ use Rattle.ivy_base.specs.declared.memory.Memory.{Memory}
 use Rattle.ivy_base.specs.declared.key.PubKey.{PubKey}
 use Rattle.ivy_base.specs.declared.operation.Moment.{Moment}
 use Rattle.ivy_base.proofs.NameLemmas.{length-name}
-use Rattle.wire_model.specs.Rpc.{Success, reply}
+use Rattle.wire_model.specs.Rpc.{Success, superuser, reply}
 use Rattle.log_model.specs.View.{View, view_block, view_name}
 use Rattle.log_model.specs.Record.{Record}
 use Rattle.nfs_model.specs.Arguments.{AreArguments, IsHandle, arguments, nfs_program}
@@ -20,7 +20,7 @@ use Rattle.script_driver.specs.Run.{Outcome, Goes}
 use Rattle.run_model.specs.World.{World, Log}
 use Rattle.run_model.specs.Calls.{Answers, served, out_of_memory, agent_of, answered, handle_given, reply_line, view_of}
 use Rattle.run_model.specs.Step.{lacks_memory_line}
-use Rattle.run_model.proofs.Messages.{call_record, caller_is_superuser, head_is_call, superuser}
+use Rattle.run_model.proofs.Messages.{call_record, caller_is_superuser, head_is_call}
 use Rattle.ivy_play.specs.declared.calls.Answer.{Answer}
 use Rattle.ivy_play.specs.declared.participant.Participant.{Participant}
 use Rattle.ivy_play.specs.declared.participant.Written.{Written}

@@ -1,20 +1,12 @@
 -- The calls of the superuser: nothing at all, the attributes of an inode, a look-up, and a new directory.
-use Rattle.std.specs.Prelude.{ℕ, List, [], Some, None}
+use Rattle.std.specs.Prelude.{ℕ, List}
 use Rattle.ivy_base.specs.declared.key.Key.{Key}
-use Rattle.wire_model.specs.Rpc.{Identity}
+use Rattle.wire_model.specs.Rpc.{superuser}
 use Rattle.log_model.specs.View.{View}
 use Rattle.nfs_model.specs.declared.arguments.Args.TheVariants as call
-use Rattle.nfs_model.specs.declared.arguments.SetTime.TheVariants.{Keep}
-use Rattle.nfs_model.specs.declared.arguments.SetWhat.{SetWhat}
+use Rattle.nfs_model.specs.Arguments.{only_mode}
 use Rattle.nfs_model.specs.Objects.{handle_of}
 use Rattle.turn_model.specs.Turn.{Asked}
-
-abbrev pub superuser : Identity
-superuser = record { uid = 0; gid = 0; groups = [] }
-
--- a mode and nothing else
-abbrev pub only_mode : ℕ → SetWhat
-only_mode m = record { mode = Some m; uid = None; gid = None; size = None; atime = Keep; mtime = Keep }
 
 abbrev pub null_asked : Asked
 null_asked = record { caller = superuser; args = call.Null }

@@ -16,7 +16,7 @@ use Rattle.log_records.specs.Parts.{constant_bytes, key_bytes}
 use Rattle.log_records.specs.Heads.{IsNumber}
 use Rattle.log_records.specs.Frames.{IsCited, IsFrame, frame_block}
 use Rattle.log_records.proofs.Constants.{one_constant}
-use Rattle.log_records.proofs.Chains.{PartsOf, none_of_some}
+use Rattle.wire_model.proofs.Dependent.{PartsOf, none_of_some}
 use Rattle.log_records.proofs.OneBody.{one_key, one_record_moment}
 use Rattle.log_records.proofs.OneHead.{one_number}
 

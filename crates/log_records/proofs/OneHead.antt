@@ -14,7 +14,7 @@ use Rattle.log_records.specs.Parts.{constant_bytes, as_it_stands, key_bytes}
 use Rattle.log_records.specs.Heads.{stamp, IsNumber, Parts, IsHead, head_bytes}
 use Rattle.log_records.specs.Laws.{HeadsAreOne}
 use Rattle.log_records.proofs.Constants.{one_constant}
-use Rattle.log_records.proofs.Chains.{PartsOf, none_of_some}
+use Rattle.wire_model.proofs.Dependent.{PartsOf, none_of_some}
 use Rattle.log_records.proofs.OneBody.{one_block, one_key}
 
 -- ---- heads

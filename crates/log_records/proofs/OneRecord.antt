@@ -18,7 +18,8 @@ use Rattle.log_records.specs.Frames.{IsFrame, frame_block, AreParts, parts_block
 use Rattle.log_records.specs.Reading.{Refuses, fault_of_part, IsSpelled, RefusesWhole}
 use Rattle.log_records.specs.Records.{ReadFault}
 use Rattle.log_records.specs.Laws.{RecordsAreOne}
-use Rattle.log_records.proofs.Chains.{no_first_by, no_second_by, one_by, refused_whole}
+use Rattle.wire_model.proofs.Dependent.{no_first_by, no_second_by, one_by}
+use Rattle.log_records.proofs.Chains.{refused_whole}
 use Rattle.log_records.proofs.OneBody.{one_body}
 use Rattle.log_records.proofs.Frames.{one_frame}
 

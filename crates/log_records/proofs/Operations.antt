@@ -11,7 +11,7 @@ use Rattle.wire_model.proofs.OneReading.{◌▷◌, one_word}
 use Rattle.wire_model.proofs.Fronts.{both, no_first, no_second}
 use Rattle.log_model.specs.Spelling.{body, IsKey, IsBlock, IsTarget, IsChange}
 use Rattle.log_records.specs.Parts.{as_it_stands, key_bytes, kind_word, IsAtMost, place_block, IsPlace, piece_block, IsPiece, change_block, IsOfKind}
-use Rattle.log_records.proofs.Chains.{PartsOf, none_of_some, no_first_by, no_second_by}
+use Rattle.wire_model.proofs.Dependent.{PartsOf, none_of_some, no_first_by, no_second_by}
 use Rattle.log_records.proofs.OneBody.{one_key, one_kind, one_at_most, one_place}
 
 -- ---- inodes

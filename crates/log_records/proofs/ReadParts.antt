@@ -10,7 +10,7 @@ use Rattle.wire_model.proofs.OneReading.{◌▷◌, one_boolean, one_word, one_d
 use Rattle.wire_model.proofs.Fronts.{both, no_first, no_second, only_misfit}
 use Rattle.log_model.specs.Spelling.{IsKey, IsMode, IsMoment, IsChange}
 use Rattle.log_records.specs.Parts.{key_bytes, place_block, IsPlace, IsAtMost, IsOptional, piece_block, IsPiece, change_block}
-use Rattle.log_records.proofs.Chains.{PartsOf, none_of_some}
+use Rattle.wire_model.proofs.Dependent.{PartsOf, none_of_some}
 use Rattle.log_records.proofs.OneBody.{one_key, one_at_most, one_size, one_record_moment, ChangeParts, change_parts}
 
 pub no_name_behind : {bytes middle : List ℕ} {k : Key} → IsFront IsKey key_bytes bytes k middle → HasNoFront IsFileName opaque middle → HasNoFront IsPlace place_block bytes

@@ -11,6 +11,8 @@ use Rattle.ivy_base.specs.Naming.{root_number, inode_number}
 use Rattle.tree_model.specs.Tree.{Tree}
 use Rattle.tree_model.specs.Apply.{empty_tree, apply_all}
 use Rattle.log_model.specs.View.{View}
+use Rattle.wire_model.specs.Rpc.{superuser}
+use Rattle.nfs_model.specs.Arguments.{only_mode}
 use Rattle.nfs_model.specs.declared.arguments.Args.TheVariants as call
 use Rattle.nfs_model.specs.declared.replies.NfsStatus.{NfsStatus}
 use Rattle.nfs_model.specs.declared.replies.NfsStatus.TheVariants as status
@@ -23,7 +25,6 @@ use Rattle.nfs_model.specs.Objects.{handle_of, no_cache_data}
 use Rattle.nfs_model.specs.Reading.{answer}
 use Rattle.nfs_model.specs.Changing.{Plan, Refuse, Operations, plan, finish}
 use Rattle.nfs_model.specs.Replies.{IsReplyTo}
-use Rattle.nfs_model.proofs.FirstCalls.{superuser, only_mode}
 
 -- ---- the trees, and what is said of their objects
 

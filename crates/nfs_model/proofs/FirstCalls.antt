@@ -10,16 +10,15 @@ use Rattle.ivy_base.specs.declared.operation.Op.TheVariants as op
 use Rattle.ivy_base.specs.Naming.{IsFileName, inode_number}
 use Rattle.tree_model.specs.Tree.{Tree, Inode, inode_at, entry, directory_kind}
 use Rattle.log_model.specs.View.{View, view_name}
-use Rattle.wire_model.specs.Rpc.{Identity}
+use Rattle.wire_model.specs.Rpc.{superuser}
 use Rattle.nfs_model.specs.declared.arguments.Args.TheVariants as call
-use Rattle.nfs_model.specs.declared.arguments.SetTime.TheVariants.{Keep}
-use Rattle.nfs_model.specs.declared.arguments.SetWhat.{SetWhat}
 use Rattle.nfs_model.specs.declared.replies.NfsStatus.{NfsStatus}
 use Rattle.nfs_model.specs.declared.replies.NfsStatus.TheVariants as status
 use Rattle.nfs_model.specs.declared.replies.Tail.{Tail}
 use Rattle.nfs_model.specs.declared.replies.Tail.TheVariants as tail
 use Rattle.nfs_model.specs.declared.replies.Reply.{Reply}
 use Rattle.nfs_model.specs.declared.replies.Reply.TheVariants as reply
+use Rattle.nfs_model.specs.Arguments.{only_mode}
 use Rattle.nfs_model.specs.Checks.{Check, first_failure, too_long_name, invalid_name, is_dot, is_dot_dot}
 use Rattle.nfs_model.specs.Answers.{about, unless}
 use Rattle.nfs_model.specs.Objects.{Object, handle_of, live_object, attributes, attributes_at, cache_data, no_cache_data, may_search}
@@ -27,13 +26,6 @@ use Rattle.nfs_model.specs.Reading.{answer, target_of, lookup_checks, found, fou
 use Rattle.nfs_model.specs.Changing.{Plan, Refuse, Operations, plan, finish, made, about as about_plan, unless as unless_plan, invalid_times, taken, may_change}
 use Rattle.nfs_model.proofs.NameChecks.{is_short_name, is_valid_name, is_not_dot, is_not_dot_dot}
 use Rattle.nfs_model.proofs.Objects.{object_of_handle}
-
-abbrev pub superuser : Identity
-superuser = record { uid = 0; gid = 0; groups = [] }
-
--- a mode and nothing else
-abbrev pub only_mode : ℕ → SetWhat
-only_mode m = record { mode = Some m; uid = None; gid = None; size = None; atime = Keep; mtime = Keep }
 
 -- ---- checks in a row
 

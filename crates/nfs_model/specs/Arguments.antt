@@ -1,5 +1,5 @@
 -- The bytes of a procedure's arguments (RFC 1813, sections 3.3 and 5.2), and which arguments have a spelling.
-use Rattle.std.specs.Prelude.{◌≡◌, ℕ, ◌<◌, ◌≤◌, ◌^◌, List, [], ◌++◌, length, IfSome, ⊤, ◌⊎◌}
+use Rattle.std.specs.Prelude.{◌≡◌, ℕ, ◌<◌, ◌≤◌, ◌^◌, List, [], ◌++◌, length, Some, None, IfSome, ⊤, ◌⊎◌}
 use Rattle.wire_model.specs.Xdr.{word, double_word, opaque, optional, moment, IsWordMoment}
 use Rattle.nfs_model.specs.declared.arguments.Args.{Args}
 use Rattle.nfs_model.specs.declared.arguments.Args.TheVariants as call
@@ -57,6 +57,10 @@ procedure_of call.Dump = 2
 procedure_of (call.Umnt path) = 3
 procedure_of call.UmntAll = 4
 procedure_of call.Export = 5
+
+-- a mode to be set, and nothing else
+abbrev pub only_mode : ℕ → SetWhat
+only_mode m = record { mode = Some m; uid = None; gid = None; size = None; atime = Keep; mtime = Keep }
 
 -- ---- spellings
 

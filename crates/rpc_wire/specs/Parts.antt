@@ -42,11 +42,6 @@ user u = ((word u.0.0.0 ++ opaque u.0.0.1) ++ word u.0.1) ++ word u.1
 abbrev pub AreGroups : List ℕ → Type 0
 AreGroups groups = (length groups ≤ 16) × AllByRecursion IsWord groups
 
--- so many items
-pub record AreSoMany {A : Type 0} (Fits : A → Type 0) (count : ℕ) (xs : List A) : Type 0 where
-  pub each : AllByRecursion Fits xs
-  pub size : length xs ≡ count
-
 abbrev pub System : Type 0
 System = User × List ℕ
 

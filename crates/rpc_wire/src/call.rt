@@ -2,10 +2,10 @@
 
 ghost use Rattle.std.specs.Prelude.{◌≡◌, ◌≤◌, ℕ, List, length, take, IfOk, OnErr};
 ghost use Rattle.std.specs.List.{AllByRecursion, flat_map};
-ghost use Rattle.wire_model.specs.Xdr.{word, array, IsWord};
+ghost use Rattle.wire_model.specs.Xdr.{word, array, IsWord, AreSoMany};
 ghost use Rattle.wire_model.specs.OneReading.{IsFront, HasNoFront};
 ghost use Rattle.wire_model.specs.Rpc.{Auth, auth, AuthFits};
-ghost use Rattle.rpc_wire.specs.Parts.{AreWords, words, BodyFits, body, auth_of, UserFits, user, AreGroups, AreSoMany, SystemFits, system};
+ghost use Rattle.rpc_wire.specs.Parts.{AreWords, words, BodyFits, body, auth_of, UserFits, user, AreGroups, SystemFits, system};
 ghost use Rattle.rpc_wire.specs.Callers.{IsHeading, IsCallerOf, IsSystemCallerOf};
 
 use xdr_codec::{XdrFault, XdrRead};

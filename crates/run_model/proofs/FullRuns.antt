@@ -15,7 +15,7 @@ use Rattle.ivy_base.specs.declared.operation.Kind.TheVariants.{Dir}
 use Rattle.ivy_base.specs.Naming.{root_number, inode_number}
 use Rattle.ivy_base.proofs.NameLemmas.{length-name}
 use Rattle.wire_model.specs.Xdr.{word, opaque}
-use Rattle.wire_model.specs.Rpc.{Success, IsIdentity, reply}
+use Rattle.wire_model.specs.Rpc.{Success, IsIdentity, superuser, reply}
 use Rattle.tree_model.specs.Tree.{Tree, Inode, inode_at}
 use Rattle.log_model.specs.Record.{Record}
 use Rattle.log_model.specs.Spelling.{IsMoment}
@@ -30,13 +30,12 @@ use Rattle.nfs_model.specs.declared.replies.Reply.TheVariants.{Refused}
 use Rattle.nfs_model.specs.declared.replies.Tail.{Tail}
 use Rattle.nfs_model.specs.declared.replies.Tail.TheVariants.{Attributes, Cache}
 use Rattle.nfs_model.specs.declared.replies.Reply.{Reply}
-use Rattle.nfs_model.specs.Arguments.{ArgumentsFit, arguments, procedure_of}
+use Rattle.nfs_model.specs.Arguments.{ArgumentsFit, arguments, procedure_of, only_mode}
 use Rattle.nfs_model.specs.Checks.{Check, first_failure, too_long_name, invalid_name, is_dot, is_dot_dot}
 use Rattle.nfs_model.specs.Answers.{about, unless}
 use Rattle.nfs_model.specs.Objects.{Object, handle_of, object_of, attributes, cache_data}
 use Rattle.nfs_model.specs.Reading.{lookup_checks, target_of, found, found_inode}
 use Rattle.nfs_model.specs.Changing.{Plan, Refuse, Nothing, Operations, finish, made, made_number, make, set_times, directory_checks, name_checks, invalid_times, taken, about as about_plan, unless as unless_plan}
-use Rattle.nfs_model.proofs.FirstCalls.{only_mode}
 use Rattle.turn_model.specs.Turn.{Agent, Asked, Turned, most_records, own_seq, appended, bare_tail, by_plan, turn_on}
 use Rattle.turn_model.specs.OneLog.{log_from, MayStand}
 use Rattle.turn_model.proofs.OneTurn.{keys-log, lone_turn_goes_on}
@@ -50,7 +49,7 @@ use Rattle.run_model.specs.World.{World, Log, empty_world, goes_if, ring_line, l
 use Rattle.run_model.specs.Calls.{view_of, call_head, handle_numbered, piece_bytes, message_of, is_file_name, is_place, is_form, are_parts, Sending, sending_of, agent_of, handle_given, reply_line, answered, Answers, served}
 use Rattle.run_model.specs.Step.{Does, MayDo, IvyStep, HasMemory, lacks_memory_line}
 use Rattle.run_model.specs.Laws.{EachScriptHasAFullRun}
-use Rattle.run_model.proofs.Messages.{superuser, call_record, head_is_call, caller_is_superuser}
+use Rattle.run_model.proofs.Messages.{call_record, head_is_call, caller_is_superuser}
 use Rattle.run_model.proofs.Sendings.{left_true, right_true, OfForm, null, of_place, of_name, of_directory, which_form, what_is_sent}
 
 -- ---- runs of a step that keeps to valid worlds

@@ -1,12 +1,8 @@
 -- The message of a call's pieces is a call, of the superuser, whose arguments are the bytes behind its head.
 use Rattle.std.proofs.Common.{ℕ, ◌<◌, ◌^◌, List, [], ◌++◌, lit<, lit≤, append_assoc}
-use Rattle.wire_model.specs.Rpc.{CallMessage, IsCall, IsCaller, Identity, system, system_body}
+use Rattle.wire_model.specs.Rpc.{CallMessage, IsCall, IsCaller, superuser, system, system_body}
 use Rattle.nfs_model.specs.Arguments.{nfs_program}
 use Rattle.run_model.specs.Calls.{call_head}
-
--- the superuser alone, of no groups
-abbrev pub superuser : Identity
-superuser = record { uid = 0; gid = 0; groups = [] }
 
 -- the superuser's call of a procedure
 abbrev pub call_record : ℕ → List ℕ → CallMessage

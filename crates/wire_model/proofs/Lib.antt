@@ -1,2 +1,4 @@
 pub mod OneReading
 pub mod Fronts
+pub mod Dependent
+pub mod Arrays

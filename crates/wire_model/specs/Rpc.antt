@@ -63,6 +63,10 @@ system_body stamp machine who = word stamp ++ opaque machine ++ word who.uid ++ 
 abbrev pub nobody : Identity
 nobody = record { uid = 65534; gid = 65534; groups = [] }
 
+-- the superuser alone, of no groups
+abbrev pub superuser : Identity
+superuser = record { uid = 0; gid = 0; groups = [] }
+
 -- numbers of a word, and at most 16 groups
 pub record IsIdentity (who : Identity) : Type 0 where
   pub uid : who.uid < 2 ^ 32

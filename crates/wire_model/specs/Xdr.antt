@@ -1,7 +1,7 @@
 -- The spellings of XDR's items (RFC 4506, section 4).
 use Rattle.std.specs.Prelude.{◌≡◌, ℕ, ◌-◌, ◌%◌, ◌^◌, ◌<◌, ◌≤◌, Bool, true, false, List, ◌++◌, length, replicate, Option, Some, None}
 use Rattle.std.specs.Int.{w32, w64, to_be_bytes}
-use Rattle.std.specs.List.{flat_map}
+use Rattle.std.specs.List.{AllByRecursion, flat_map}
 use Rattle.ivy_base.specs.declared.operation.Moment.{Moment}
 
 -- an unsigned integer (4.2), and an unsigned hyper integer (4.5)
@@ -63,3 +63,8 @@ IsOfLength n bytes = length bytes ≡ n
 
 abbrev pub IsUpTo : ℕ → List ℕ → Type 0
 IsUpTo most bytes = length bytes ≤ most
+
+-- so many items, each of which fits
+pub record AreSoMany {A : Type 0} (Fits : A → Type 0) (count : ℕ) (xs : List A) : Type 0 where
+  pub each : AllByRecursion Fits xs
+  pub size : length xs ≡ count

@@ -1,4 +1,4 @@
-use Rattle.log_records.proofs.Chains.{on_err}
+use Rattle.wire_model.proofs.Dependent.{on_err}
 use Rattle.log_records.proofs.ReadParts.{no_atime, no_gid, no_mode, no_mtime, no_size, no_uid}
 use Rattle.log_records.proofs.change.read_change.Goals as goal
 

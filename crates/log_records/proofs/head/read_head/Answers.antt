@@ -1,4 +1,4 @@
-use Rattle.log_records.proofs.Chains.{on_err}
+use Rattle.wire_model.proofs.Dependent.{on_err}
 use Rattle.log_records.proofs.OneHead.{no_head_magic, no_head_name, no_head_number, no_head_owner, no_head_signature}
 use Rattle.log_records.proofs.head.read_head.Goals as goal
 

@@ -1,7 +1,7 @@
 use Rattle.std.proofs.Common.{arith}
 use Rattle.wire_model.proofs.OneReading.{one_word}
 use Rattle.rpc_wire.proofs.Calls.{on_err}
-use Rattle.rpc_wire.proofs.Arrays.{no_next}
+use Rattle.wire_model.proofs.Arrays.{no_next}
 use Rattle.std.proofs.lemmas.List.{length-take-le}
 use Rattle.rpc_wire.proofs.call.read_each_group.Goals as goal
 

@@ -1,9 +1,8 @@
 -- Items of an array are read one by one.
 use Rattle.std.proofs.Common.{◌≡◌, ℕ, ◌+◌, ◌<◌, ◌≤◌, ◌^◌, List, [], ◌∷◌, ◌++◌, length, refl, sym, ap, ◌∙◌, subst, arith, append_assoc, length-append}
 use Rattle.std.specs.List.{AllByRecursion, flat_map}
-use Rattle.wire_model.specs.Xdr.{word, array, IsWord}
+use Rattle.wire_model.specs.Xdr.{word, array, IsWord, AreSoMany}
 use Rattle.wire_model.specs.OneReading.{ReadsOne, IsFront, HasNoFront}
-use Rattle.rpc_wire.specs.Parts.{AreSoMany}
 use Rattle.wire_model.proofs.OneReading.{one_word, regrouped}
 
 module _ {A : Type 0} {Fits : A → Type 0} {item : A → List ℕ} (reads : ReadsOne Fits item) where
