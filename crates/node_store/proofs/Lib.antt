@@ -1,3 +1,5 @@
+mod Examples
+pub mod Held
 pub mod Maps
-pub mod Sums
 pub mod Puts
+pub mod Sums

@@ -1,10 +1,10 @@
 -- Stores after a put, a removal or damage, and what puts tell of.
-use Rattle.std.proofs.Common.{◌≡◌, ℕ, ◌+◌, ◌-◌, ◌<◌, ◌≤◌, Bool, true, false, List, length, Option, Some, None, option_and_then, Result, MatchBool, not, nat_lt, refl, sym, ap, subst, ◌∙◌, arith, if◌then◌else◌}
+use Rattle.std.proofs.Common.{◌≡◌, ℕ, ◌+◌, ◌-◌, ◌<◌, ◌≤◌, Bool, true, false, length, Option, Some, None, option_and_then, Result, MatchBool, not, nat_lt, refl, sym, ap, subst, ◌∙◌, arith, if◌then◌else◌}
 use Rattle.std.specs.List.Sorted.{IsStrictlySortedBy}
 use Rattle.std.specs.Option.{option_or}
 use Rattle.std.specs.Ordering.{eq_by_cmp}
 use Rattle.std.specs.Str.{bytes_eq}
-use Rattle.std.specs.FinMap.Entries.{find as value_at, put}
+use Rattle.std.specs.FinMap.Entries.{put}
 use Rattle.std.specs.Map.{lookup, keys_of, set_value, remove_entry}
 use Rattle.std.proofs.lemmas.Bool.{lt-ltb, le-ltb}
 use Rattle.std.proofs.lemmas.Map.{keys-set_value}
@@ -19,7 +19,7 @@ use Rattle.dht_ids.specs.declared.ask.StoreFault.TheVariants.{WrongName}
 use Rattle.node_store.specs.declared.fault.PutFault.{PutFault}
 use Rattle.node_store.specs.Stores.{Block, Blocks, IsStore, Tells, bytes_held, capacity, spoiled, with_byte, without}
 use Rattle.node_store.proofs.Maps.{is_key, find-lookup, put-set_value, without-remove_entry}
-use Rattle.node_store.proofs.Sums.{size, size_of, held_after_removal, one_fits}
+use Rattle.node_store.proofs.Sums.{size, size_of, held_after_removal}
 
 -- ---- puts
 

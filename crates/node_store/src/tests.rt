@@ -123,7 +123,7 @@ fn all_is_listed_by_key(rt: HostRuntime) -> Result<(), Fail> {
     Ok(())
 }
 
-/// How many bytes a store holds in 32 blocks when it is full.
+/// A 32nd of what a store may hold.
 const EIGHT_MEBIBYTES: usize = 8_388_608;
 
 /// Puts a head of the number and of so many bytes.

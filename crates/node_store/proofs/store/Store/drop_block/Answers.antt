@@ -1,4 +1,4 @@
-use Rattle.std.proofs.Common.{sym, ap, ◌∙◌, arith}
+use Rattle.std.proofs.Common.{ap, ◌∙◌, arith}
 use Rattle.node_store.proofs.Sums.{size_of, one_fits}
 use Rattle.node_store.proofs.Puts.{dropped, dropped_valid}
 use Rattle.node_store.proofs.store.Store.drop_block.Goals as goal

@@ -1,4 +1,4 @@
-use Rattle.std.proofs.Common.{Some, option_map, sym, ap, ◌∙◌}
+use Rattle.std.proofs.Common.{option_map, sym, ap, ◌∙◌}
 use Rattle.node_store.specs.Stores.{Block}
 use Rattle.node_store.proofs.Maps.{find-lookup}
 use Rattle.node_store.proofs.store.Store.get.Goals as goal

@@ -1,4 +1,4 @@
-use Rattle.std.proofs.Common.{sym, ap, subst}
+use Rattle.std.proofs.Common.{sym, ap}
 use Rattle.node_store.proofs.Puts.{spoilt, spoilt_valid, not_spoilt}
 use Rattle.node_store.proofs.store.Store.spoil.Goals as goal
 use Rattle.node_store.proofs.store.Store.spoil.Goals.{in-Some, in-None}
