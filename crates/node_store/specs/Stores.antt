@@ -1,5 +1,5 @@
 -- What a node's store of blocks holds, and what it takes: content blocks under the SHA-1 of their bytes (CFS, SOSP 2001,
--- section 4), and heads of logs under the SHA-1 of the log's public key, a newer one for an older (Ivy, OSDI 2002, section 3).
+-- section 3), and heads of logs under the SHA-1 of the log's public key, a newer one for an older (Ivy, OSDI 2002, section 3).
 use Rattle.std.specs.Prelude.{◌≡◌, ℕ, ◌≤◌, nat_le, nat_lt, not, List, length, sum_by, Option, Some, None, option_map, option_and_then, Result, Ok, Err, slice_set, if◌then◌else◌}
 use Rattle.std.specs.FinMap.Entries.{find as value_at, put, where_key}
 use Rattle.std.specs.List.Sorted.{IsStrictlySortedBy}

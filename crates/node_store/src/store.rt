@@ -17,8 +17,8 @@ use std::marker::Model;
 /// The most bytes that a store holds: 2^28.
 const CAPACITY: u64 = 268_435_456;
 
-/// The blocks of a node by their keys, at most 2^28 bytes in all. Contracts see it as the list of pairs of a key and a
-/// block, in the order of the keys.
+/// The blocks of a node by their keys, at most 2^28 bytes in all. A key holds what was put last, as what it was put.
+/// Contracts see a store as the list of pairs of a key and a block, in the order of the keys.
 #[derive(Drop)]
 pub struct Store {
     blocks: BTreeMap<Key, Kept>,
