@@ -9,9 +9,12 @@
 #![tactic(auto)]
 
 pub mod call;
+pub mod frames;
 pub mod reply;
+mod stream;
 #[cfg(test)]
 mod tests;
 
 pub use call::{Call, Caller, Heading, read_call};
+pub use frames::{Cut, FrameFault, FrameReader};
 pub use reply::{LONGEST_HEAD, ReplyHead, heads_are_fronts, write_head};
