@@ -1,5 +1,5 @@
 -- The steps of the code, over what it holds.
-use Rattle.std.proofs.Common.{◌≡◌, ℕ, zero, suc, ◌+◌, ◌-◌, ◌<◌, ◌≤◌, Bool, true, false, List, [], ◌∷◌, ◌++◌, length, take, drop, get_or, ◌⊎◌, inl, inr, refl, sym, ap, subst, ◌∙◌, arith, length-append}
+use Rattle.std.proofs.Common.{◌≡◌, ℕ, zero, suc, ◌+◌, ◌-◌, ◌<◌, ◌≤◌, Bool, true, false, List, [], ◌∷◌, ◌++◌, length, take, drop, get_or, ◌⊎◌, inl, inr, refl, sym, ap, subst, ◌∙◌, arith, length-append, append-nil}
 use Rattle.std.proofs.lemmas.List.{take-append-drop, length-take-le, length-drop}
 use Rattle.std.specs.List.{flat_map}
 use Rattle.rpc_wire.specs.Frames.{header, fragment, IsSplit, IsTooLong}
@@ -103,3 +103,18 @@ whole_at p body fed ms e h =
         let none : h.0 ≡ [] = a.spelled ∙ ap (λ (l : List (List ℕ)). flat_map (fragment false) l ++ []) (a.begins refl) in
         let Split : List ℕ → Type 0 = λ rest. IsSplit fed ms rest in
         subst Split none h.1
+
+pub split_at : (p : Part) (fed : List ℕ) (ms : List (List ℕ)) → (p ≡ Exceeded → ⊥) → Stands fed ms p → (rest : List ℕ) × IsSplit fed ms rest
+split_at (Header body begun) fed ms n h = (h.0, h.1)
+split_at (Inside body last left) fed ms n h = (h.0, h.1)
+split_at Exceeded fed ms n h = absurd (n refl)
+
+pub too_long_at : (p : Part) (fed : List ℕ) (ms : List (List ℕ)) → p ≡ Exceeded → Stands fed ms p → IsTooLong fed ms
+too_long_at p fed ms e h = let At : Part → Type 0 = λ q. Stands fed ms q in subst At e h
+
+-- where nothing is left of the piece, all of it was fed
+pub fed_all : (front rest piece : List ℕ) (old new : Frames) → piece ≡ front ++ rest → length rest ≡ 0 → Feeds front old new → Feeds piece old new
+fed_all front rest piece old new w e f =
+    let none : rest ≡ [] = nothing_of rest e in
+    let Fed : List ℕ → Type 0 = λ x. Feeds x old new in
+    subst Fed (sym (w ∙ ap (λ (x : List ℕ). front ++ x) none ∙ append-nil front)) f

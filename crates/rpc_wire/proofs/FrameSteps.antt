@@ -102,7 +102,7 @@ at_header {rest} b a = let r = header_rest a in (rest, record { begins = b; no_m
 inside : {fed rest body : List ℕ} {ms : List (List ℕ)} {last : Bool} {left : ℕ} → Begins fed ms rest → IsInside rest body last left → Stands fed ms (Inside body last left)
 inside {rest} b a = let r = inside_rest a in (rest, record { begins = b; no_message = r.no_message; no_over = r.no_over }, a)
 
-begun_nothing : IsAtHeader [] [] []
+pub begun_nothing : IsAtHeader [] [] []
 begun_nothing = record { earlier = []; spelled = refl; bytes = refl; short = omega arith; cut = omega arith; begins = λ e. refl }
 
 pub after_nothing : IsAfter [] [] nothing

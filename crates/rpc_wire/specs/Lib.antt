@@ -4,3 +4,4 @@ pub mod Callers
 pub mod Frames
 pub mod FrameReading
 pub mod Streams
+pub mod FrameLaws

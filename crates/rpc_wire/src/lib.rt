@@ -16,5 +16,5 @@ mod stream;
 mod tests;
 
 pub use call::{Call, Caller, Heading, read_call};
-pub use frames::{Cut, FrameFault, FrameReader};
+pub use frames::{Cut, FrameFault, FrameReader, frames_are_one};
 pub use reply::{LONGEST_HEAD, ReplyHead, heads_are_fronts, write_head};
