@@ -1,16 +1,15 @@
 -- The steps of the code, over what it holds.
-use Rattle.std.proofs.Common.{◌≡◌, ℕ, zero, suc, ◌+◌, ◌-◌, ◌<◌, ◌≤◌, Bool, true, false, List, [], ◌∷◌, ◌++◌, length, take, drop, get_or, ◌⊎◌, inl, inr, refl, sym, ap, subst, ◌∙◌, arith, length-append, append-nil}
+use Rattle.std.proofs.Common.{◌≡◌, ℕ, ◌+◌, ◌-◌, ◌<◌, ◌≤◌, Bool, false, List, [], ◌∷◌, ◌++◌, length, take, drop, get_or, ◌⊎◌, inl, inr, refl, sym, ap, subst, ◌∙◌, arith, length-append, append-nil}
 use Rattle.std.proofs.lemmas.List.{take-append-drop, length-take-le, length-drop}
 use Rattle.std.specs.List.{flat_map}
 use Rattle.rpc_wire.specs.Frames.{header, fragment, IsSplit, IsTooLong}
-use Rattle.rpc_wire.specs.FrameReading.{Part, Header, Inside, Exceeded, Frames, IsAtHeader, IsInside, Stands, IsAfter, Feeds}
-use Rattle.rpc_wire.specs.Streams.{part_of, frames_of, standing, AfterHeader, FeedsSome, Grows}
+use Rattle.rpc_wire.specs.FrameReading.{Part, Header, Inside, Exceeded, Frames, IsAtHeader, IsInside, Stands, Feeds}
+use Rattle.rpc_wire.specs.Streams.{part_of, frames_of, standing, AfterHeader, FeedsSome}
 use Rattle.rpc_wire.specs.declared.stream.Place.{Place}
 use Rattle.rpc_wire.specs.declared.stream.Place.TheVariants as place
 use Rattle.rpc_wire.specs.declared.stream.Stream.{Stream}
 use Rattle.rpc_wire.proofs.FrameLemmas.{header_length, one_split, not_both}
 use Rattle.rpc_wire.proofs.FrameSteps.{header_more, inside_ended, inside_more, after_header, exceeded_stays}
-use Rattle.rpc_wire.proofs.FrameUndo.{same_row, cut_row, last_of_row, front_of}
 
 pub from_place : (s : Stream) (p : Place) (front : List ℕ) (new : Frames) → s.place ≡ p
     → Feeds front (record { waiting = s.whole.items; part = part_of s.body.items p }) new → Feeds front (frames_of s) new

@@ -1,12 +1,9 @@
 -- Frames: a stream can be split in one way only, and what a reader's steps make of it.
-use Rattle.std.proofs.Common.{◌≡◌, ℕ, zero, suc, ◌+◌, ◌-◌, ◌^◌, ◌<◌, ◌≤◌, Bool, true, false, List, [], ◌∷◌, ◌++◌, length, ◌⊎◌, inl, inr, refl, sym, ap, ◌∙◌, arith, append_assoc, append-nil, length-append}
+use Rattle.std.proofs.Common.{◌≡◌, ℕ, ◌+◌, ◌^◌, ◌<◌, ◌≤◌, Bool, true, false, List, [], ◌∷◌, ◌++◌, length, ◌⊎◌, inl, inr, refl, sym, ap, ◌∙◌, arith, append_assoc, append-nil, length-append}
 use Rattle.std.specs.Prelude.{map}
 use Rattle.std.specs.List.{flat_map, concat, AllByRecursion}
-use Rattle.std.proofs.lemmas.List.{append_cancel_left}
-use Rattle.std.proofs.lemmas.List.Concat.{flat_map-append}
-use Rattle.wire_model.specs.Xdr.{word}
-use Rattle.wire_model.specs.OneReading.{ReadsOne, IsFront, HasNoFront}
-use Rattle.wire_model.proofs.OneReading.{same_fronts, one_word, regrouped}
+use Rattle.wire_model.specs.OneReading.{ReadsOne, HasNoFront}
+use Rattle.wire_model.proofs.OneReading.{same_fronts, one_word}
 use Rattle.rpc_wire.specs.Frames.{header, fragment, Framed, message, marked, Fits, Begins, IsOver, IsSplit, IsTooLong}
 
 -- ---- headers
@@ -76,7 +73,7 @@ compare (x ∷ a) (y ∷ b) tail last n more f g h e =
     let l = length-append x (concat a) in
     let m = length-append y (concat b) in
     let p = one_header false false (length x) (length y) (x ++ (whole a ++ tail)) (y ++ (whole b ++ (header last n ++ more))) (omega (arith, l)) (omega (arith, m))
-        (sym (regroup (header false (length x)) x (whole a) tail) ∙ e ∙ regroup (header false (length y)) y (whole b) (header last n ++ more)) in
+    (sym (regroup (header false (length x)) x (whole a) tail) ∙ e ∙ regroup (header false (length y)) y (whole b) (header last n ++ more)) in
     let q = same_fronts x y (whole a ++ tail) (whole b ++ (header last n ++ more)) p.size p.rest in
     one_more q.0 (compare a b tail last n more (omega (arith, l)) (omega (arith, m)) h q.1)
 
@@ -139,7 +136,7 @@ one_marked = record {
       let x = sizes f h in
       let y = sizes g k in
       one_of_both f g r s x y (compare f.earlier g.earlier (header true (length f.last) ++ (f.last ++ r)) true (length g.last) (g.last ++ s)
-          (omega (arith, x.whole_size)) (omega (arith, y.whole_size)) (omega (arith, y.whole_size)) (sym (marked_parts f r) ∙ e ∙ marked_parts g s));
+      (omega (arith, x.whole_size)) (omega (arith, y.whole_size)) (omega (arith, y.whole_size)) (sym (marked_parts f r) ∙ e ∙ marked_parts g s));
 }
 
 -- ---- rests
@@ -158,8 +155,8 @@ over_no_front o = record {
   none = λ f r g.
       let h = sizes f g.fits in
       over_or f r o.earlier o.last o.size o.more h o.short o.word_fits o.over
-          (compare f.earlier o.earlier (header true (length f.last) ++ (f.last ++ r)) o.last o.size o.more
-              (omega (arith, h.whole_size)) (omega (arith, o.short)) o.word_fits (sym (marked_parts f r) ∙ sym g.spelled ∙ o.spelled));
+      (compare f.earlier o.earlier (header true (length f.last) ++ (f.last ++ r)) o.last o.size o.more
+      (omega (arith, h.whole_size)) (omega (arith, o.short)) o.word_fits (sym (marked_parts f r) ∙ sym g.spelled ∙ o.spelled));
 }
 
 -- ---- splits

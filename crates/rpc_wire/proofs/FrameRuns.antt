@@ -1,10 +1,9 @@
 -- Laws of frames, proved.
-use Rattle.std.proofs.Common.{◌≡◌, ◌≢◌, ℕ, List, [], ◌∷◌, ◌++◌, ◌⊎◌, inl, inr, Result, Ok, Err, refl, sym, ap, subst, ◌∙◌, append_assoc, append-nil}
-use Rattle.std.specs.Prelude.{map}
-use Rattle.std.specs.List.{AllByRecursion, flat_map}
-use Rattle.rpc_wire.specs.Frames.{Framed, message, marked, Fits, Begins, IsSplit, IsTooLong}
-use Rattle.rpc_wire.specs.FrameReading.{Part, Header, Inside, Exceeded, Frames, Stands, IsAfter, Feeds, HasFed}
-use Rattle.rpc_wire.specs.FrameLaws.{WholeAreSplit, Call, Feed, Take, Nothing, Does, DoEach, fed_in, taken_in, AreOf, AllAreGotten, CuttingIsFree}
+use Rattle.std.proofs.Common.{◌≡◌, ◌≢◌, ℕ, List, [], ◌∷◌, ◌++◌, inl, inr, Result, Ok, Err, refl, sym, ap, subst, ◌∙◌, append_assoc, append-nil}
+use Rattle.std.specs.List.{flat_map}
+use Rattle.rpc_wire.specs.Frames.{message, marked}
+use Rattle.rpc_wire.specs.FrameReading.{Part, Header, Inside, Exceeded, Frames, Stands, IsAfter, HasFed}
+use Rattle.rpc_wire.specs.FrameLaws.{WholeAreSplit, Call, Feed, Take, Nothing, DoEach, fed_in, taken_in, AreOf, AllAreGotten, CuttingIsFree}
 use Rattle.rpc_wire.specs.declared.frames.FrameFault.{FrameFault}
 use Rattle.rpc_wire.specs.declared.frames.FrameFault.TheVariants as fault
 use Rattle.rpc_wire.proofs.FrameLemmas.{one_split, one_too_long, not_both}

@@ -3,11 +3,11 @@ use Rattle.std.proofs.Common.{◌≡◌, ℕ, zero, suc, ◌+◌, ◌-◌, ◌^�
 use Rattle.std.specs.Prelude.{map}
 use Rattle.std.specs.List.{flat_map, concat, AllByRecursion}
 use Rattle.std.proofs.lemmas.List.Concat.{flat_map-append}
-use Rattle.wire_model.specs.OneReading.{IsFront, HasNoFront}
-use Rattle.rpc_wire.specs.Frames.{header, fragment, Framed, message, marked, Fits, Begins, IsOver, IsSplit, IsTooLong}
-use Rattle.rpc_wire.specs.FrameReading.{Part, Header, Inside, Exceeded, Frames, IsAtHeader, IsInside, Stands, IsAfter, Feeds}
+use Rattle.wire_model.specs.OneReading.{HasNoFront}
+use Rattle.rpc_wire.specs.Frames.{header, fragment, Framed, message, marked, Fits, Begins, IsOver}
+use Rattle.rpc_wire.specs.FrameReading.{Header, Inside, Exceeded, Frames, IsAtHeader, IsInside, Stands, IsAfter, Feeds}
 use Rattle.rpc_wire.specs.Streams.{nothing, standing, AfterHeader}
-use Rattle.rpc_wire.proofs.FrameLemmas.{header_length, SameHeads, whole, concat-append, AmongThem, BehindThem, compare, no_header, same_header, marked_parts, Sizes, sizes, joined_size}
+use Rattle.rpc_wire.proofs.FrameLemmas.{whole, concat-append, AmongThem, BehindThem, compare, no_header, same_header, marked_parts, Sizes, sizes, joined_size}
 
 -- ---- rests
 
@@ -32,7 +32,7 @@ header_rest {rest} {body} {begun} a =
         none = λ f r g.
             let h = sizes f g.fits in
             no_message_begun a.earlier f.earlier begun (f.last ++ r) (length f.last) a.cut
-                (compare a.earlier f.earlier begun true (length f.last) (f.last ++ r) (omega (arith, s)) (omega (arith, h.whole_size)) (omega (arith, h.whole_size)) (sym a.spelled ∙ g.spelled ∙ marked_parts f r));
+            (compare a.earlier f.earlier begun true (length f.last) (f.last ++ r) (omega (arith, s)) (omega (arith, h.whole_size)) (omega (arith, h.whole_size)) (sym a.spelled ∙ g.spelled ∙ marked_parts f r));
       };
       no_over = λ o. no_over_begun a.earlier o.earlier begun o.more o.last o.size a.cut s o.over
           (compare a.earlier o.earlier begun o.last o.size o.more (omega (arith, s)) (omega (arith, o.short)) o.word_fits (sym a.spelled ∙ o.spelled));
@@ -62,7 +62,7 @@ inside_rest {rest} {body} {last} {left} a =
         none = λ f r g.
             let h = sizes f g.fits in
             no_message_inside a.earlier f a.bytes r last left h s a.more
-                (compare a.earlier f.earlier tail true (length f.last) (f.last ++ r) (omega (arith, s)) (omega (arith, h.whole_size)) (omega (arith, h.whole_size)) (sym a.spelled ∙ g.spelled ∙ marked_parts f r));
+            (compare a.earlier f.earlier tail true (length f.last) (f.last ++ r) (omega (arith, s)) (omega (arith, h.whole_size)) (omega (arith, h.whole_size)) (sym a.spelled ∙ g.spelled ∙ marked_parts f r));
       };
       no_over = λ o. no_over_inside a.earlier o.earlier a.bytes o.more last o.last left o.size s o.short o.word_fits o.over
           (compare a.earlier o.earlier tail o.last o.size o.more (omega (arith, s)) (omega (arith, o.short)) o.word_fits (sym a.spelled ∙ o.spelled));
@@ -215,7 +215,7 @@ inside_more w body front last left l fed taken h =
     let a = h.2 in
     let size : length a.bytes + left ≡ length (a.bytes ++ front) + (left - length front) = omega (arith, length-append a.bytes front) in
     let joined : (header last (length a.bytes + left) ++ a.bytes) ++ front ≡ header last (length (a.bytes ++ front) + (left - length front)) ++ (a.bytes ++ front)
-        = append_assoc (header last (length a.bytes + left)) a.bytes front ∙ ap (λ (n : ℕ). header last n ++ (a.bytes ++ front)) size in
+    = append_assoc (header last (length a.bytes + left)) a.bytes front ∙ ap (λ (n : ℕ). header last n ++ (a.bytes ++ front)) size in
     settled taken w last (left - length front) (begins_on front h.1.begins) (record {
       earlier = a.earlier;
       bytes = a.bytes ++ front;

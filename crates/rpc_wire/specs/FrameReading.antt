@@ -1,5 +1,5 @@
 -- What a reader of frames holds, and what its calls mean for the bytes that it was fed.
-use Rattle.std.specs.Prelude.{◌≡◌, ℕ, ◌+◌, ◌<◌, ◌≤◌, Bool, true, false, List, [], ◌∷◌, ◌++◌, length, Result, Ok, Err}
+use Rattle.std.specs.Prelude.{◌≡◌, ℕ, ◌+◌, ◌<◌, ◌≤◌, Bool, true, false, List, [], ◌++◌, length, Result, Ok, Err}
 use Rattle.std.specs.List.{flat_map, concat}
 use Rattle.rpc_wire.specs.Frames.{header, fragment, IsSplit, IsTooLong}
 use Rattle.rpc_wire.specs.declared.frames.FrameFault.{FrameFault}
@@ -53,5 +53,5 @@ Feeds piece old new = (fed : List ℕ) (taken : List (List ℕ)) → IsAfter fed
 -- what a call of `feed` answers, where all bytes fed are now these
 abbrev pub HasFed : Result (Unit {0}) FrameFault → List ℕ → List (List ℕ) → Frames → Type 0
 HasFed (Ok _) fed taken reader = IsAfter fed taken reader × ((rest : List ℕ) × IsSplit fed (taken ++ reader.waiting) rest)
-HasFed (Err fault.TooLong) fed taken reader = IsAfter fed taken reader × IsTooLong fed (taken ++ reader.waiting)
+HasFed (Err fault.TooLong) fed taken reader = IsAfter fed taken reader × IsTooLong fed (taken ++ reader.waiting) × (reader.part ≡ Exceeded)
 HasFed (Err fault.Memory) fed taken reader = Unit {0}

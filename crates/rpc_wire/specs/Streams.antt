@@ -30,7 +30,7 @@ standing waiting body false left = record { waiting = waiting; part = Inside bod
 abbrev pub AfterHeader : List (List ℕ) → List ℕ → List ℕ → Frames → Type 0
 AfterHeader waiting body bytes new = (last : Bool) × (size : ℕ) × (size < 2 ^ 31) × (bytes ≡ header last size)
     × (((length body + size ≤ 65536) × (new ≡ standing waiting body last size))
-      ⊎ ((65536 < length body + size) × (new ≡ record { waiting = waiting; part = Exceeded })))
+    ⊎ ((65536 < length body + size) × (new ≡ record { waiting = waiting; part = Exceeded })))
 
 -- some bytes of the piece were fed, and the rest wasn't
 pub record FeedsSome (piece rest : List ℕ) (old new : Frames) : Type 0 where

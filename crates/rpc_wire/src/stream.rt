@@ -20,7 +20,7 @@ const LAST: u32 = 0x8000_0000;
 pub enum Place {
     /// Between two messages.
     Between,
-    /// Behind one byte, two or three bytes of a header.
+    /// In a header, behind its first byte, its first two or its first three.
     One(u8),
     Two(u8, u8),
     Three(u8, u8, u8),

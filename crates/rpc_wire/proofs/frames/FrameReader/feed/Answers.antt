@@ -11,10 +11,11 @@ returns-clause-fed c fed taken after =
     let before : IsAfter fed taken (frames_of c.self.inside.stream) = subst After (sym c.self.view_is) after in
     let now = frames_of c.read_whole.new.self in
     elim c.match-read_whole.branch [
-      in-Err w ↦ rw w.result-is tt
+      | in-Err w ↦ rw w.result-is tt
       | in-Ok w ↦
           let stands : IsAfter (fed ++ c.args.piece.now) taken now = w.in-Ok.ensures.ok fed taken before in
-          rw w.result-is (stands, too_long_at now.part (fed ++ c.args.piece.now) (taken ++ now.waiting) (w.if-is_too_long.ensures.0 refl) stands)
+          let over : now.part ≡ Exceeded = w.if-is_too_long.ensures.0 refl in
+          rw w.result-is (stands, too_long_at now.part (fed ++ c.args.piece.now) (taken ++ now.waiting) over stands, over)
       | in-Ok-2 w ↦
           let stands : IsAfter (fed ++ c.args.piece.now) taken now = w.in-Ok.ensures.ok fed taken before in
           rw w.result-is (stands, split_at now.part (fed ++ c.args.piece.now) (taken ++ now.waiting) (λ (e : now.part ≡ Exceeded). let no : false ≡ true = w.if-is_too_long.ensures.1 e in cc no) stands)

@@ -11,4 +11,4 @@ returns-else-is_between c fed taken after split =
     let After : Frames → Type 0 = λ r. IsAfter fed taken r in
     let Split : Frames → Type 0 = λ r. IsSplit fed (taken ++ r.waiting) [] in
     cut_at stream.place stream.body.items fed (taken ++ stream.whole.items) (λ (e : stream.place ≡ place.Between). let no : false ≡ true = c.if-is_between.ensures.1 e in cc no)
-        (subst After (sym c.self.view_is) after) (subst Split (sym c.self.view_is) split)
+    (subst After (sym c.self.view_is) after) (subst Split (sym c.self.view_is) split)

@@ -1,6 +1,5 @@
 use Rattle.std.proofs.Common.{◌≡◌, ℕ, List, [], ◌++◌, refl, sym, ap, ◌∙◌, length, append_assoc}
 use Rattle.std.proofs.lemmas.Bool.{eqb-true}
-use Rattle.rpc_wire.specs.FrameReading.{Feeds}
 use Rattle.rpc_wire.specs.Streams.{frames_of}
 use Rattle.rpc_wire.specs.declared.stream.Place.TheVariants as place
 use Rattle.rpc_wire.proofs.FrameSteps.{feeds_nothing, feeds_then}
@@ -23,8 +22,11 @@ steps-preserved c =
     let f = c.steps.invariant.fed in
     let s = c.in_ok-rest.ensures.ok in
     record {
-      fed = (f.0 ++ s.front, f.1 ∙ ap (λ (x : List ℕ). f.0 ++ x) s.whole ∙ sym (append_assoc f.0 s.front c.in_ok-rest.rest.now),
-          feeds_then f.0 s.front (frames_of c.args.self.now) (frames_of c.steps.self) (frames_of c.step.new.self) f.2 s.feeds);
+      fed = (
+        f.0 ++ s.front,
+        f.1 ∙ ap (λ (x : List ℕ). f.0 ++ x) s.whole ∙ sym (append_assoc f.0 s.front c.in_ok-rest.rest.now),
+        feeds_then f.0 s.front (frames_of c.args.self.now) (frames_of c.steps.self) (frames_of c.step.new.self) f.2 s.feeds,
+      );
       grown = grown_then c.args.self.now c.steps.self c.step.new.self c.steps.invariant.grown c.in_ok-rest.ensures.grown;
       same = λ e.
           let was = c.steps.invariant.same e in

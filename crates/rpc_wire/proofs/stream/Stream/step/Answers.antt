@@ -1,6 +1,6 @@
-use Rattle.std.proofs.Common.{◌≡◌, ◌≤◌, length, refl, arith}
+use Rattle.std.proofs.Common.{◌≤◌, length, refl, arith}
 use Rattle.std.proofs.lemmas.List.{take_rest}
-use Rattle.rpc_wire.proofs.FrameUndo.{grown_same, grown_body, grown_then}
+use Rattle.rpc_wire.proofs.FrameUndo.{grown_same}
 use Rattle.rpc_wire.proofs.FrameCode.{some_bytes, one_byte}
 use Rattle.rpc_wire.proofs.stream.Stream.step.Goals as goal
 

@@ -7,7 +7,7 @@ use Rattle.rpc_wire.proofs.stream.Stream.undo.Goals.{then-whole-len+in-Some, the
 pub returns-clause-messages : goal.returns-clause-messages
 returns-clause-messages c messages bytes l m g =
     elim c.if-whole-len.branch [
-      then-whole-len+in-Some w ↦
+      | then-whole-len+in-Some w ↦
           let before : c.args.whole < length c.args.self.now.whole.items = omega arith in
           let final : c.truncate-2.new.self.items ≡ take c.args.body w.in-Some.message = c.truncate-2.ensures.items ∙ ap (λ (s : Stream). take c.args.body s.body.items) w.self-is ∙ ap (take c.args.body) w.into_vec.ensures in
           let p = undone_cut c.args.self.now messages bytes c.args.whole c.args.body w.pop_back.new.self.items w.truncate.new.self.items w.in-Some.message c.truncate-2.new.self.items l m g before w.truncate.ensures.items w.in-Some.ensures.items final in
