@@ -3,7 +3,7 @@ use Rattle.std.proofs.Common.{◌≡◌, ◌≢◌, ℕ, List, [], ◌∷◌, �
 use Rattle.std.specs.List.{flat_map}
 use Rattle.rpc_wire.specs.Frames.{message, marked}
 use Rattle.rpc_wire.specs.FrameReading.{Part, Header, Inside, Exceeded, Frames, Stands, IsAfter, HasFed}
-use Rattle.rpc_wire.specs.FrameLaws.{WholeAreSplit, Call, Feed, Take, Nothing, DoEach, fed_in, taken_in, AreOf, AllAreGotten, CuttingIsFree}
+use Rattle.rpc_wire.specs.FrameLaws.{WholeAreSplit, Act, Feed, Take, Nothing, DoEach, fed_in, taken_in, AreOf, AllAreGotten, CuttingIsFree}
 use Rattle.rpc_wire.specs.declared.frames.FrameFault.{FrameFault}
 use Rattle.rpc_wire.specs.declared.frames.FrameFault.TheVariants as fault
 use Rattle.rpc_wire.proofs.FrameLemmas.{one_split, one_too_long, not_both}
@@ -14,7 +14,7 @@ whole_are_split framed fit =
     let r = header_rest begun_nothing in
     record { begins = record { framed = framed; fit = fit; are = refl; spelled = sym (append-nil (flat_map marked framed)) }; no_message = r.no_message; no_over = r.no_over }
 
-of_part : (p : Part) (fed : List ℕ) (ms : List (List ℕ)) → Stands fed ms p → AreOf fed ms
+pub of_part : (p : Part) (fed : List ℕ) (ms : List (List ℕ)) → Stands fed ms p → AreOf fed ms
 of_part (Header body begun) fed ms h = inl (h.0, h.1)
 of_part (Inside body last left) fed ms h = inl (h.0, h.1)
 of_part Exceeded fed ms h = inr h
@@ -37,32 +37,32 @@ takes old new message fed taken w p h =
     let At : Part → Type 0 = λ q. Stands fed ((taken ++ message ∷ []) ++ new.waiting) q in
     subst At (sym p) (subst Row row h)
 
-run : (calls : List Call) (start reader : Frames) (fed : List ℕ) (taken : List (List ℕ)) → IsAfter fed taken start → DoEach calls start reader → IsAfter (fed ++ fed_in calls) (taken ++ taken_in calls) reader
+run : (acts : List Act) (start reader : Frames) (fed : List ℕ) (taken : List (List ℕ)) → IsAfter fed taken start → DoEach acts start reader → IsAfter (fed ++ fed_in acts) (taken ++ taken_in acts) reader
 run [] start reader fed taken h d =
     let After : Frames → Type 0 = λ r. IsAfter fed taken r in
     let Fed : List ℕ → Type 0 = λ bytes. IsAfter bytes taken reader in
     let Taken : List (List ℕ) → Type 0 = λ l. IsAfter (fed ++ []) l reader in
     subst Taken (sym (append-nil taken)) (subst Fed (sym (append-nil fed)) (subst After (sym d) h))
-run (Feed piece ∷ calls) start reader fed taken h d =
-    let Fed : List ℕ → Type 0 = λ bytes. IsAfter bytes (taken ++ taken_in calls) reader in
+run (Feed piece ∷ acts) start reader fed taken h d =
+    let Fed : List ℕ → Type 0 = λ bytes. IsAfter bytes (taken ++ taken_in acts) reader in
     let next : IsAfter (fed ++ piece) taken d.0 = has_fed d.1.0 (fed ++ piece) taken d.0 d.1.1 (d.1.2 fed taken h) in
-    subst Fed (append_assoc fed piece (fed_in calls)) (run calls d.0 reader (fed ++ piece) taken next d.2)
-run (Take message ∷ calls) start reader fed taken h d =
-    let Taken : List (List ℕ) → Type 0 = λ l. IsAfter (fed ++ fed_in calls) l reader in
+    subst Fed (append_assoc fed piece (fed_in acts)) (run acts d.0 reader (fed ++ piece) taken next d.2)
+run (Take message ∷ acts) start reader fed taken h d =
+    let Taken : List (List ℕ) → Type 0 = λ l. IsAfter (fed ++ fed_in acts) l reader in
     let next : IsAfter fed (taken ++ message ∷ []) d.0 = takes start d.0 message fed taken d.1.0 d.1.1 h in
-    subst Taken (append_assoc taken (message ∷ []) (taken_in calls)) (run calls d.0 reader fed (taken ++ message ∷ []) next d.2)
-run (Nothing ∷ calls) start reader fed taken h d =
+    subst Taken (append_assoc taken (message ∷ []) (taken_in acts)) (run acts d.0 reader fed (taken ++ message ∷ []) next d.2)
+run (Nothing ∷ acts) start reader fed taken h d =
     let After : Frames → Type 0 = λ r. IsAfter fed taken r in
-    run calls d.0 reader fed taken (subst After (sym d.1) h) d.2
+    run acts d.0 reader fed taken (subst After (sym d.1) h) d.2
 
 pub all_are_gotten : AllAreGotten
-all_are_gotten calls start reader h d =
-    let after : IsAfter (fed_in calls) (taken_in calls) reader = run calls start reader [] [] h d in
-    (after, of_part reader.part (fed_in calls) (taken_in calls ++ reader.waiting) after)
+all_are_gotten acts start reader h d =
+    let after : IsAfter (fed_in acts) (taken_in acts) reader = run acts start reader [] [] h d in
+    (after, of_part reader.part (fed_in acts) (taken_in acts ++ reader.waiting) after)
 
 pub cutting_is_free : CuttingIsFree
-cutting_is_free calls others start reader second other h d k f e =
-    let a = (all_are_gotten calls start reader h d).1 in
+cutting_is_free acts others start reader second other h d k f e =
+    let a = (all_are_gotten acts start reader h d).1 in
     let b = (all_are_gotten others second other k f).1 in
-    let Of : List ℕ → Type 0 = λ bytes. AreOf bytes (taken_in calls ++ reader.waiting) in
-    one_row (fed_in others) (taken_in calls ++ reader.waiting) (taken_in others ++ other.waiting) (subst Of e a) b
+    let Of : List ℕ → Type 0 = λ bytes. AreOf bytes (taken_in acts ++ reader.waiting) in
+    one_row (fed_in others) (taken_in acts ++ reader.waiting) (taken_in others ++ other.waiting) (subst Of e a) b

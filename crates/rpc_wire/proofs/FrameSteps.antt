@@ -148,7 +148,7 @@ header_more w body begun byte l fed taken h =
       begins = λ e. absurd (omega (arith, ap length e, length-append begun (byte ∷ [])));
     })
 
-more_fragments : (earlier : List (List ℕ)) (bytes : List ℕ) → whole earlier ++ fragment false bytes ≡ whole (earlier ++ bytes ∷ [])
+pub more_fragments : (earlier : List (List ℕ)) (bytes : List ℕ) → whole earlier ++ fragment false bytes ≡ whole (earlier ++ bytes ∷ [])
 more_fragments earlier bytes = ap (λ (s : List ℕ). whole earlier ++ s) (sym (append-nil (fragment false bytes))) ∙ sym (flat_map-append (fragment false) earlier (bytes ∷ []))
 
 ended : {fed rest body : List ℕ} {ms : List (List ℕ)} (last : Bool) (byte : ℕ) → Begins fed ms rest → IsInside rest body last 0 → Stands (fed ++ byte ∷ []) ms (Header body (byte ∷ []))

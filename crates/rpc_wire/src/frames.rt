@@ -3,7 +3,7 @@
 ghost use Rattle.std.specs.Prelude.{◌≡◌, ℕ, List, [], ◌∷◌, ◌++◌, MatchOption, MatchResult};
 ghost use Rattle.rpc_wire.specs.Frames.{IsSplit};
 ghost use Rattle.rpc_wire.specs.FrameReading.{Exceeded, IsAfter, HasFed};
-ghost use Rattle.rpc_wire.specs.FrameLaws.{WholeAreSplit, SplitsAreOne, TooLongAreOne, NeverBoth, AllAreGotten, CuttingIsFree};
+ghost use Rattle.rpc_wire.specs.FrameLaws.{WholeAreSplit, SplitsAreOne, TooLongAreOne, NeverBoth, EachHasMessages, RestsAreBeginnings, AllAreGotten, CuttingIsFree};
 
 use crate::stream::Stream;
 use ivy_base::{Bytes, Memory};
@@ -99,14 +99,16 @@ impl FrameReader {
 
 /// A law and no code: what a stream says.
 ///
-/// Bytes can be split into whole messages and a rest in one way only. Whatever pieces a new reader is fed, and whatever
-/// is taken between, the messages taken and those that wait are those of all bytes fed; so it doesn't matter how the
-/// bytes were cut.
+/// Bytes are whole messages and the beginning of a further one, or have a message that is too long, and never both; either
+/// way they determine the messages. Whatever pieces a new reader is fed, and whatever is taken between, the messages taken
+/// and those that wait are those of all bytes fed, so it doesn't matter how the bytes were cut.
 pub fn frames_are_one()
     ensures whole { WholeAreSplit }
     ensures split { SplitsAreOne }
     ensures too_long { TooLongAreOne }
     ensures never_both { NeverBoth }
+    ensures each { EachHasMessages }
+    ensures rests { RestsAreBeginnings }
     ensures gotten { AllAreGotten }
     ensures cutting { CuttingIsFree }
 {}
