@@ -1,4 +1,6 @@
-use crate::{Caller, Heading, LONGEST_HEAD, ReplyHead, read_call, write_head};
+use crate::{
+    Caller, Cut, FrameFault, FrameReader, Heading, LONGEST_HEAD, ReplyHead, read_call, write_head,
+};
 use std::alloc::Global;
 use std::test::Fail;
 use xdr_codec::XdrWrite;
@@ -154,5 +156,121 @@ fn other_messages_are_told_apart(rt: HostRuntime) -> Result<(), Fail> {
         let no_call = matches!(read_call(&bytes), Heading::NotACall);
         assert!(rt; no_call, "at {words:?}");
     }
+    Ok(())
+}
+
+/// Whether the oldest message that waits has these bytes.
+fn takes(reader: &mut FrameReader, message: &[u8]) -> bool {
+    match reader.take() {
+        Some(taken) => taken.as_slice() == message,
+        None => false,
+    }
+}
+
+/// Whether the stream that comes in these two pieces is this one message.
+fn is_one_message(alloc: Global, first: &[u8], second: &[u8], message: &[u8]) -> bool {
+    let mut reader = FrameReader::new(alloc);
+    reader.feed(alloc, first).is_ok()
+        && reader.feed(alloc, second).is_ok()
+        && takes(&mut reader, message)
+        && reader.take().is_none()
+        && reader.finish().is_ok()
+}
+
+/// Whether the stream that comes byte by byte is this one message, which is there behind the last byte alone.
+fn is_one_message_by_bytes(alloc: Global, stream: &[u8], message: &[u8]) -> bool {
+    let mut reader = FrameReader::new(alloc);
+    for i in 0..stream.len() {
+        if i > 0 && reader.finish().is_ok() || reader.take().is_some() {
+            return false;
+        }
+        if reader.feed(alloc, &stream[i..=i]).is_err() {
+            return false;
+        }
+    }
+    takes(&mut reader, message) && reader.finish().is_ok()
+}
+
+/// A call of NULL in one fragment, and in fragments of 16 bytes, of none and of 24 bytes (RFC 5531, section 11).
+#[test]
+fn a_message_comes_in_any_pieces(rt: HostRuntime) -> Result<(), Fail> {
+    let alloc = rt.alloc();
+    let message = bytes_of(alloc, NULL_CALL.as_slice())?;
+    let one = bytes_of(alloc, &[0x8000_0028, 1, 0, 2, 100_003, 3, 0, 0, 0, 0, 0])?;
+    let three = bytes_of(
+        alloc,
+        &[0x10, 1, 0, 2, 100_003, 0, 0x8000_0018, 3, 0, 0, 0, 0, 0],
+    )?;
+    let streams: [&[u8]; 2] = [&one, &three];
+    for stream in streams {
+        for at in 0..=stream.len() {
+            let same = is_one_message(alloc, &stream[..at], &stream[at..], &message);
+            assert!(rt; same, "cut at {at}");
+        }
+        let same = is_one_message_by_bytes(alloc, stream, &message);
+        assert!(rt; same);
+    }
+    Ok(())
+}
+
+/// What the stream of these words answers, fed at once.
+fn answer(alloc: Global, words: &[u32]) -> Result<Result<(), FrameFault>, Fail> {
+    let bytes = bytes_of(alloc, words)?;
+    Ok(FrameReader::new(alloc).feed(alloc, &bytes))
+}
+
+/// Whether a message of so many bytes in a first fragment, and of `size` in the last one, is too long.
+fn is_too_long(alloc: Global, first: &[u8], size: u32) -> bool {
+    let mut reader = FrameReader::new(alloc);
+    let fed = match u32::try_from(first.len()) {
+        Ok(length) => reader.feed(alloc, &length.to_be_bytes()).is_ok(),
+        Err(_) => false,
+    };
+    let last = size | 0x8000_0000;
+    fed && reader.feed(alloc, first).is_ok()
+        && reader.feed(alloc, &last.to_be_bytes()) == Err(FrameFault::TooLong)
+        && reader.feed(alloc, &[]) == Err(FrameFault::TooLong)
+        && reader.finish() == Err(Cut)
+}
+
+/// 65,537 bytes are too long as soon as the header is there, also by two fragments; 65,536 aren't.
+#[test]
+fn long_messages_are_refused(rt: HostRuntime) -> Result<(), Fail> {
+    let alloc = rt.alloc();
+    let long = answer(alloc, &[0x8001_0001])?;
+    assert_eq!(rt; long, Err(FrameFault::TooLong));
+    let longest = answer(alloc, &[0x8001_0000])?;
+    assert_eq!(rt; longest, Ok(()));
+    let most = answer(alloc, &[u32::MAX])?;
+    assert_eq!(rt; most, Err(FrameFault::TooLong));
+    let first = vec![in alloc; 0u8; 65_528]?;
+    let over = is_too_long(alloc, &first, 9);
+    assert!(rt; over);
+    let within = is_too_long(alloc, &first, 8);
+    assert!(rt; !within);
+    Ok(())
+}
+
+/// Two messages in one piece, the first of length 0, and then one that is too long; three bytes are no stream.
+#[test]
+fn messages_wait_in_order(rt: HostRuntime) -> Result<(), Fail> {
+    let alloc = rt.alloc();
+    let bytes = bytes_of(alloc, &[0x8000_0000, 0x8000_0004, 7, 0x8001_0001, 5])?;
+    let mut reader = FrameReader::new(alloc);
+    let cut = reader.finish();
+    assert_eq!(rt; cut, Ok(()));
+    let fed = reader.feed(alloc, &bytes);
+    assert_eq!(rt; fed, Err(FrameFault::TooLong));
+    let empty = takes(&mut reader, &[]);
+    assert!(rt; empty);
+    let seven = takes(&mut reader, &[0, 0, 0, 7]);
+    assert!(rt; seven);
+    let none = reader.take().is_none();
+    assert!(rt; none);
+    let mut short = FrameReader::new(alloc);
+    let fed = short.feed(alloc, &[0x80, 0, 0]);
+    assert_eq!(rt; fed, Ok(()));
+    let cut = short.finish();
+    assert_eq!(rt; cut, Err(Cut));
     Ok(())
 }
