@@ -25,6 +25,8 @@
 
 pub mod batch;
 mod batch_laws;
+#[cfg(test)]
+mod batch_tests;
 mod body;
 mod body_writing;
 mod chain;
