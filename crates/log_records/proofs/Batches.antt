@@ -1,8 +1,7 @@
 -- What a batch keeps when a chain is added, and what its chains are over what is held.
-use Rattle.std.proofs.Common.{◌≡◌, ◌⊎◌, ⊎_elim, ℕ, ◌+◌, List, [], ◌∷◌, ◌++◌, Option, Some, None, refl, sym, ap, ◌∙◌, subst, map, append_assoc, arith, Contains}
-use Rattle.std.specs.List.{AllByRecursion}
-use Rattle.std.proofs.lemmas.List.{map-append}
-use Rattle.std.proofs.lemmas.List.Elements.{Contains-push_cases}
+use Rattle.std.proofs.Common.{◌≡◌, ⊎_elim, ℕ, ◌+◌, List, [], ◌∷◌, ◌++◌, Option, Some, None, refl, sym, ap, ◌∙◌, subst, take, drop, append_assoc, Contains}
+use Rattle.std.proofs.lemmas.List.{map-append, take_more, take-append-drop}
+use Rattle.std.proofs.lemmas.List.Elements.{Contains-append_left, Contains-push, Contains-push_cases}
 use Rattle.ivy_base.specs.declared.key.Key.{Key}
 use Rattle.ivy_base.specs.declared.key.PubKey.{PubKey}
 use Rattle.ivy_base.specs.Naming.{head_key_of}
@@ -11,9 +10,9 @@ use Rattle.log_model.specs.Vector.{Stamp, Vector, reach, Dominates, with_entry}
 use Rattle.log_model.specs.Record.{Record}
 use Rattle.log_model.specs.Spelling.{record_name}
 use Rattle.log_model.specs.Rank.{own_entry, full_vector}
-use Rattle.log_model.specs.Chain.{IsGood, Follows, GoesOn, IsChain}
+use Rattle.log_model.specs.Chain.{GoesOn, IsChain}
 use Rattle.log_model.proofs.Lists.{here, there, in_nothing, each_append}
-use Rattle.log_records.specs.Batches.{Batch, owner_of, stamp_in, owners_in, MayBeNext, KnowsEdge, GoesOnFrom, EndsAt, OldestNames, LinkedFrom, name_or_none, IsSound, IsOnward, Extends, AreApart, IsBatch, AreUnder}
+use Rattle.log_records.specs.Batches.{Batch, owner_of, stamp_in, owners_in, KnowsEdge, GoesOnFrom, EndsAt, OldestNames, HasRecord, LinkedFrom, name_or_none, IsSound, IsOnward, Extends, AreApart, IsBatch, AreUnder}
 use Rattle.log_records.specs.BatchLaws.{ChainsBegin, ChainsGoOn}
 use Rattle.log_records.specs.declared.batch.Chain.{Chain}
 use Rattle.log_records.specs.Heads.{stamp}
@@ -131,3 +130,18 @@ kept_push b kept more c chain view items records is ext new =
   where
     all : chains_of more ≡ b.chains ++ (stamp c.head.seq c.head.name, chain) ∷ []
     all = ap chains_of items ∙ map-append chain_of kept (c ∷ []) ∙ ap (λ cs. cs ++ chain_of c ∷ []) (sym view) ∙ ap (λ (rs : List Record). b.chains ++ (stamp c.head.seq c.head.name, rs) ∷ []) records
+
+-- ---- a chain has a record exactly where a part of it in front ends at it
+
+pub passes_through : (t : Stamp) (chain : List Record) → HasRecord t chain → (front : List Record) × (rest : List Record) × (chain ≡ front ++ rest) × EndsAt t front
+passes_through t chain h =
+    let k = h.1.0 in (
+      take (k + 1) chain,
+      drop (k + 1) chain,
+      sym (take-append-drop (k + 1) chain),
+      (take k chain, h.0, take_more chain k h.0 h.1.1 ∙ ap (λ (r : Record). take k chain ++ r ∷ []) h.1.2, h.2),
+    )
+
+pub has_passed : (t : Stamp) (front rest : List Record) → EndsAt t front → HasRecord t (front ++ rest)
+has_passed t front rest h =
+    (h.1, Contains-append_left front rest h.1 (subst (λ (l : List Record). Contains l h.1) (sym h.2) (Contains-push h.0 h.1)), h.3)

@@ -34,7 +34,7 @@ abbrev pub MayBeNext : Option Stamp → Record → Type 0
 MayBeNext None r = IsFirst r
 MayBeNext (Some t) r = r.seq ≡ t.seq + 1
 
--- it knows all that the stamp's record does, where that one's vector, the edge, is known
+-- it knows all that the stamp's record does, where that one's vector, the edge, is known. Where there is no such record, an edge says nothing
 abbrev pub KnowsEdge : Option Stamp → Option Vector → Record → Type 0
 KnowsEdge (Some t) (Some edge) r = Dominates (full_vector r) (with_entry edge (head_key_of r.owner, t))
 KnowsEdge held edge r = Unit {0}

@@ -1,6 +1,5 @@
-use Rattle.std.proofs.Common.{◌≡◌, ◌<◌, ◌-◌, ◌+◌, ℕ, suc, length, take, sym, ap, ◌∙◌, subst, arith, add-one}
+use Rattle.std.proofs.Common.{◌≡◌, ◌-◌, ◌+◌, ℕ, suc, take, sym, ap, ◌∙◌, subst, arith}
 use Rattle.ivy_base.specs.Naming.{head_key_of}
-use Rattle.log_model.specs.Record.{Record}
 use Rattle.log_model.specs.Spelling.{HasSpelling}
 use Rattle.log_records.specs.Records.{record_of, records_of}
 use Rattle.log_records.specs.Walks.{GoesOnInside}

@@ -1,4 +1,3 @@
-use Rattle.std.proofs.Common.{◌≡◌}
 use Rattle.log_model.specs.Vector.{stamp_at}
 use Rattle.log_records.specs.Records.{record_of, records_of}
 use Rattle.log_records.proofs.Walks.{take_apart}

@@ -1,4 +1,3 @@
-use Rattle.std.proofs.Common.{refl, sym, ◌∙◌, subst}
 use Rattle.log_records.proofs.Walks.{named_by_entries}
 use Rattle.log_records.proofs.chain.names_only.Goals as goal
 

@@ -1,4 +1,4 @@
-use Rattle.std.proofs.Common.{◌∷◌, [], refl, sym, ap, subst, Contains}
+use Rattle.std.proofs.Common.{refl, sym, ap, subst, Contains}
 use Rattle.std.proofs.lemmas.Result.{err_from_is_err_and}
 use Rattle.log_records.specs.Heads.{stamp}
 use Rattle.log_records.specs.Records.{records_of}
