@@ -1,0 +1,4 @@
+pub mod Verifiers
+pub mod PartsReading
+pub mod Tags
+pub mod AttributesReading

@@ -1,0 +1,9 @@
+//! The arguments of NFS version 3 and MOUNT, from bytes and as bytes (RFC 1813).
+#![tactic(auto)]
+
+mod attributes;
+pub mod fault;
+mod parts;
+
+pub use fault::ArgsFault;
+pub use nfs_model::{Args, How, Node, SetTime, SetWhat};
