@@ -37,6 +37,7 @@ tagged_time = record { tag = time_tag; after = time_after; small = small; spelle
     small Keep f = omega arith
     small Server f = omega arith
     small (Client m) f = omega arith
+
     spelled : (x : SetTime) → set_time x ≡ word (time_tag x) ++ time_after x
     spelled Keep = refl
     spelled Server = refl
@@ -129,6 +130,7 @@ tagged_how = record { tag = how_tag; after = how_after; small = small; spelled =
     small (Unchecked s) f = omega arith
     small (Guarded s) f = omega arith
     small (Exclusive verifier) f = omega arith
+
     spelled : (x : How) → create_how x ≡ word (how_tag x) ++ how_after x
     spelled (Unchecked s) = refl
     spelled (Guarded s) = refl
@@ -198,6 +200,7 @@ tagged_node = record { tag = node_tag; after = node_after; small = small; spelle
   where
     small : (x : Node) → IsNode x → node_tag x < 2 ^ 32
     small x f = omega (arith, (node_range x f).1)
+
     spelled : (x : Node) → special_node x ≡ word (node_tag x) ++ node_after x
     spelled (Plain kind) = refl
     spelled (Device kind what major minor) = refl

@@ -1,12 +1,12 @@
 -- Where a part of arguments can't be read.
 use Rattle.std.proofs.Common.{◌≡◌, ℕ, ◌<◌, ◌≤◌, true, false, List, ◌++◌, Option, Some, None, sym, ◌∙◌, arith}
-use Rattle.wire_model.specs.Xdr.{word, double_word, boolean, opaque, optional, IsAny, IsWord, IsDoubleWord}
+use Rattle.wire_model.specs.Xdr.{word, double_word, boolean, opaque, optional, IsAny, IsWord, IsDoubleWord, IsUpTo}
 use Rattle.wire_model.specs.OneReading.{ReadsOne, IsFront, HasNoFront}
 use Rattle.wire_model.proofs.OneReading.{◌▷◌, of_fewer, one_boolean, one_word, one_double_word}
-use Rattle.wire_model.proofs.Fronts.{both, no_first, no_second, only_misfit}
+use Rattle.wire_model.proofs.Fronts.{both, no_first, no_second, none_of_fewer, only_misfit}
 use Rattle.nfs_model.specs.Arguments.{IsHandle, IsShortText, IsVerifier}
 use Rattle.nfs_model.proofs.OneArguments.{one_handle, one_text, one_verifier}
-use Rattle.nfs3_args.specs.Parts.{as_it_stands, IsStable, IsOptional, place, IsPlace, range, IsRange, page, IsPage}
+use Rattle.nfs3_args.specs.Parts.{as_it_stands, IsData, IsStable, IsOptional, place, IsPlace, range, IsRange, page, IsPage}
 
 -- ---- optional data
 
@@ -23,6 +23,11 @@ no_item {A} Fits item {bytes} {middle} flag absent = record { none = options }
     options : (o : Option A) (rest : List ℕ) → IsFront (IsOptional Fits) (optional item) bytes o rest → ⊥
     options None rest f = let p = (one_boolean.one true false middle rest tt tt (sym flag.spelled ∙ f.spelled)).0 in absurd (cc p)
     options (Some x) rest f = absent.none x rest (record { fits = f.fits; spelled = (one_boolean.one true true middle (item x ++ rest) tt tt (sym flag.spelled ∙ f.spelled)).1 })
+
+-- ---- bytes that are to be written
+
+pub no_data : {bytes : List ℕ} → HasNoFront (IsUpTo 4294967295) opaque bytes → HasNoFront IsData opaque bytes
+no_data absent = none_of_fewer {Fewer = IsData} (λ bytes f. omega arith) absent
 
 -- ---- numbers
 

@@ -1,5 +1,5 @@
 -- Parts that the arguments of several procedures share (RFC 1813, sections 2.5 and 3.3), with their bounds.
-use Rattle.std.specs.Prelude.{ℕ, ◌≤◌, List, ◌++◌, length, Option, IfSome}
+use Rattle.std.specs.Prelude.{ℕ, ◌<◌, ◌≤◌, ◌^◌, List, ◌++◌, length, Option, IfSome}
 use Rattle.wire_model.specs.Xdr.{word, double_word, opaque, IsWord, IsDoubleWord}
 use Rattle.nfs_model.specs.declared.arguments.SetWhat.{SetWhat}
 use Rattle.nfs_model.specs.Arguments.{set_what, IsHandle, IsShortText, IsSetWhat, IsVerifier}
@@ -11,6 +11,10 @@ as_it_stands bytes = bytes
 -- the path of a directory to be mounted
 abbrev pub IsPath : List ℕ → Type 0
 IsPath path = length path ≤ 1024
+
+-- the bytes that are to be written: a word holds their count
+abbrev pub IsData : List ℕ → Type 0
+IsData bytes = length bytes < 2 ^ 32
 
 -- how safely bytes are to be written (stable_how)
 abbrev pub IsStable : ℕ → Type 0

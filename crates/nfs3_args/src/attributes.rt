@@ -6,9 +6,7 @@ ghost use Rattle.nfs_model.specs.Arguments.{set_time, set_what, create_how, spec
 ghost use Rattle.nfs3_args.specs.Parts.{IsDevice, device};
 
 use crate::fault::Garbage;
-use crate::parts::{
-    read_moment, read_optional_double_word, read_optional_word, read_verifier,
-};
+use crate::parts::{read_moment, read_optional_double_word, read_optional_word, read_verifier};
 use nfs_model::{How, Node, SetTime, SetWhat};
 use xdr_codec::XdrRead;
 
@@ -27,7 +25,7 @@ pub fn read_set_time(reader: &mut XdrRead) -> Result<SetTime, Garbage>
 }
 
 /// The attributes that are asked for (section 2.5, sattr3).
-#[tactic(auto, using(crate::proofs::AttributesReading::no_mode, crate::proofs::AttributesReading::no_uid, crate::proofs::AttributesReading::no_gid, crate::proofs::AttributesReading::no_size, crate::proofs::AttributesReading::no_atime, crate::proofs::AttributesReading::no_mtime))]
+#[tactic(auto, using(crate::proofs::AttributesReading::no_mode, crate::proofs::AttributesReading::no_uid, crate::proofs::AttributesReading::no_gid))]
 pub fn read_set_what(reader: &mut XdrRead) -> Result<SetWhat, Garbage>
     ensures ok { IfOk result (λ what. IsFront IsSetWhat set_what reader.old what reader.new) }
     ensures err { OnErr result (HasNoFront IsSetWhat set_what reader.old) }
@@ -89,7 +87,7 @@ pub fn read_node(reader: &mut XdrRead) -> Result<Node, Garbage>
 }
 
 /// A device: its attributes and its two numbers (section 2.5, specdata3).
-#[tactic(auto, using(crate::proofs::AttributesReading::no_device_what, crate::proofs::AttributesReading::no_major, crate::proofs::AttributesReading::no_minor))]
+#[tactic(auto, using(crate::proofs::AttributesReading::no_device_what, crate::proofs::AttributesReading::no_major))]
 fn read_device(reader: &mut XdrRead) -> Result<(SetWhat, u32, u32), Garbage>
     ensures ok { IfOk result (λ d. IsFront IsDevice device reader.old ((d.0, d.1), d.2) reader.new) }
     ensures err { OnErr result (HasNoFront IsDevice device reader.old) }

@@ -3,7 +3,11 @@
 
 mod attributes;
 pub mod fault;
+mod mount;
+mod nfs;
 mod parts;
+pub mod read;
 
 pub use fault::ArgsFault;
 pub use nfs_model::{Args, How, Node, SetTime, SetWhat};
+pub use read::{MOUNT_PROGRAM, NFS_PROGRAM, read_args};

@@ -4,7 +4,7 @@ ghost use Rattle.std.specs.Prelude.{◌≡◌, ◌≤◌, length, IfOk, IfErr, O
 ghost use Rattle.wire_model.specs.Xdr.{word, double_word, opaque, optional, moment, IsWordMoment, IsWord, IsDoubleWord, IsUpTo};
 ghost use Rattle.wire_model.specs.OneReading.{IsFront, HasNoFront};
 ghost use Rattle.nfs_model.specs.Arguments.{IsHandle, IsShortText, IsVerifier};
-ghost use Rattle.nfs3_args.specs.Parts.{as_it_stands, IsPath, IsStable, IsOptional, IsPlace, place, IsRange, range, IsPage, page};
+ghost use Rattle.nfs3_args.specs.Parts.{as_it_stands, IsData, IsPath, IsStable, IsOptional, IsPlace, place, IsRange, range, IsPage, page};
 ghost use Rattle.nfs3_args.specs.Reading.{Refuses};
 
 use crate::fault::{ArgsFault, Garbage};
@@ -25,11 +25,7 @@ const LONGEST_PATH: u32 = 1024;
 const FILE_SYNC: u32 = 2;
 
 /// Data or a string of at most `most` bytes.
-pub fn read_opaque(
-    alloc: Global,
-    reader: &mut XdrRead,
-    most: u32,
-) -> Result<Bytes, ArgsFault>
+pub fn read_opaque(alloc: Global, reader: &mut XdrRead, most: u32) -> Result<Bytes, ArgsFault>
     ensures ok { IfOk result (λ bytes. IsFront (IsUpTo most) opaque reader.old bytes reader.new) }
     ensures err { IfErr result (Refuses (IsUpTo most) opaque reader.old) }
 {
@@ -59,6 +55,15 @@ pub fn read_path(alloc: Global, reader: &mut XdrRead) -> Result<Bytes, ArgsFault
     ensures err { IfErr result (Refuses IsPath opaque reader.old) }
 {
     read_opaque(alloc, reader, LONGEST_PATH)
+}
+
+/// The bytes that are to be written.
+#[tactic(auto, using(crate::proofs::PartsReading::no_data))]
+pub fn read_data(alloc: Global, reader: &mut XdrRead) -> Result<Bytes, ArgsFault>
+    ensures ok { IfOk result (λ bytes. IsFront IsData opaque reader.old bytes reader.new) }
+    ensures err { IfErr result (Refuses IsData opaque reader.old) }
+{
+    read_opaque(alloc, reader, u32::MAX)
 }
 
 /// A verifier: eight bytes.
