@@ -14,7 +14,7 @@ use Rattle.nfs_model.specs.Arguments.{nfs_program, mount_program, program_of, pr
 use Rattle.nfs_model.proofs.OneArguments.{one_handle, one_text, one_path, one_set_what, one_how, one_node}
 use Rattle.nfs3_args.specs.declared.fault.ArgsFault.{ArgsFault}
 use Rattle.nfs3_args.specs.declared.fault.ArgsFault.TheVariants.{Garbage, Memory}
-use Rattle.nfs3_args.specs.Reading.{IsCall, IsNfs, IsMount, Refuses, AreNoArguments, RefusesArguments}
+use Rattle.nfs3_args.specs.Reading.{AreOf, AreNfs, AreMount, Refuses, AreNoArguments, RefusesArguments}
 use Rattle.nfs3_args.proofs.PartsReading.{one_stable, one_place, one_range, one_page}
 use Rattle.nfs3_args.proofs.Procedures.{one_guard, one_data, getattr_parts, setattr_parts, lookup_parts, access_parts, readlink_parts, read_parts, write_parts, create_parts, mkdir_parts, symlink_parts, mknod_parts, remove_parts, rmdir_parts, rename_parts, link_parts, readdir_parts, readdirplus_parts, fsstat_parts, fsinfo_parts, pathconf_parts, commit_parts, mnt_parts, umnt_parts, null_parts, mount_null_parts, dump_parts, umntall_parts, export_parts}
 
@@ -37,13 +37,13 @@ program_cases call.UmntAll f g = g refl
 program_cases call.Export f g = g refl
 program_cases a f g = f refl
 
-pub no_such_nfs : {procedure : ℕ} {bytes : List ℕ} → 21 < procedure → HasNoFront (IsNfs procedure) arguments bytes
+pub no_such_nfs : {procedure : ℕ} {bytes : List ℕ} → 21 < procedure → HasNoFront (AreNfs procedure) arguments bytes
 no_such_nfs h = record { none = λ a rest f. let e = f.fits.procedure_is in let b = nfs_bound a (sym f.fits.program_is) in omega (arith, h, e, b) }
 
-pub no_such_mount : {procedure : ℕ} {bytes : List ℕ} → 5 < procedure → HasNoFront (IsMount procedure) arguments bytes
+pub no_such_mount : {procedure : ℕ} {bytes : List ℕ} → 5 < procedure → HasNoFront (AreMount procedure) arguments bytes
 no_such_mount h = record { none = λ a rest f. let e = f.fits.procedure_is in let b = mount_bound a (sym f.fits.program_is) in omega (arith, h, e, b) }
 
-pub no_such_program : {program procedure : ℕ} {bytes : List ℕ} → program ≢ nfs_program → program ≢ mount_program → HasNoFront (IsCall program procedure) arguments bytes
+pub no_such_program : {program procedure : ℕ} {bytes : List ℕ} → program ≢ nfs_program → program ≢ mount_program → HasNoFront (AreOf program procedure) arguments bytes
 no_such_program f g = record { none = λ a rest h. program_cases a (λ e. f (h.fits.program_is ∙ e)) (λ e. g (h.fits.program_is ∙ e)) }
 
 -- ---- what stands behind arguments
@@ -54,13 +54,13 @@ rest_of_parts : {A : Type 0} {Fits : A → Type 0} {spell : A → List ℕ} {v w
 rest_of_parts reads p q r s e =
     (reads.one p.part q.part r s p.fits q.fits (ap (λ (t : List ℕ). t ++ r) (sym p.spelled) ∙ e ∙ ap (λ (t : List ℕ). t ++ s) q.spelled)).1
 
-same_call : {program procedure : ℕ} {a b : Args} → IsCall program procedure a → IsCall program procedure b → IsCall (program_of a) (procedure_of a) b
+same_call : {program procedure : ℕ} {a b : Args} → AreOf program procedure a → AreOf program procedure b → AreOf (program_of a) (procedure_of a) b
 same_call f g = record { program_is = sym f.program_is ∙ g.program_is; procedure_is = sym f.procedure_is ∙ g.procedure_is; fit = g.fit }
 
 nothing : ReadsOne (λ (x : Unit {0}). ⊤) (λ x. [])
 nothing = always []
 
-rest_of : (a b : Args) → IsCall (program_of a) (procedure_of a) a → IsCall (program_of a) (procedure_of a) b → (r s : List ℕ) → arguments a ++ r ≡ arguments b ++ s → r ≡ s
+rest_of : (a b : Args) → AreOf (program_of a) (procedure_of a) a → AreOf (program_of a) (procedure_of a) b → (r s : List ℕ) → arguments a ++ r ≡ arguments b ++ s → r ≡ s
 rest_of call.Null b f g r s e = rest_of_parts nothing (null_parts call.Null f) (null_parts b g) r s e
 rest_of call.MountNull b f g r s e = rest_of_parts nothing (mount_null_parts call.MountNull f) (mount_null_parts b g) r s e
 rest_of call.Dump b f g r s e = rest_of_parts nothing (dump_parts call.Dump f) (dump_parts b g) r s e
@@ -91,7 +91,7 @@ rest_of (call.Mnt path) b f g r s e = rest_of_parts one_path (mnt_parts (call.Mn
 rest_of (call.Umnt path) b f g r s e = rest_of_parts one_path (umnt_parts (call.Umnt path) f) (umnt_parts b g) r s e
 
 -- where nothing follows
-pub no_call : {program procedure : ℕ} {bytes : List ℕ} → HasNoFront (IsCall program procedure) arguments bytes → AreNoArguments program procedure bytes
+pub no_call : {program procedure : ℕ} {bytes : List ℕ} → HasNoFront (AreOf program procedure) arguments bytes → AreNoArguments program procedure bytes
 no_call absent = record {
   none = λ a f. absent.none a [] (record {
     fits = record { program_is = f.program_is; procedure_is = f.procedure_is; fit = f.fit };
@@ -99,7 +99,7 @@ no_call absent = record {
   });
 }
 
-pub refused_call : (program procedure : ℕ) (bytes : List ℕ) (fault : ArgsFault) → Refuses (IsCall program procedure) arguments bytes fault → RefusesArguments program procedure bytes fault
+pub refused_call : (program procedure : ℕ) (bytes : List ℕ) (fault : ArgsFault) → Refuses (AreOf program procedure) arguments bytes fault → RefusesArguments program procedure bytes fault
 refused_call program procedure bytes Garbage f = no_call f
 refused_call program procedure bytes Memory f = tt
 
@@ -110,15 +110,15 @@ ended rest TooLong f = absurd f
 ended rest Padding f = absurd f
 ended rest NotBool f = absurd f
 
-pub more_behind : {program procedure : ℕ} {bytes rest : List ℕ} {a : Args} → IsFront (IsCall program procedure) arguments bytes a rest
+pub more_behind : {program procedure : ℕ} {bytes rest : List ℕ} {a : Args} → IsFront (AreOf program procedure) arguments bytes a rest
     → (fault : XdrFault) → EndFault rest fault → AreNoArguments program procedure bytes
 more_behind {program} {procedure} {rest = rest} {a = a} f fault trails = record {
   none = λ b g.
-      let h : IsCall program procedure b = record { program_is = g.program_is; procedure_is = g.procedure_is; fit = g.fit } in
+      let h : AreOf program procedure b = record { program_is = g.program_is; procedure_is = g.procedure_is; fit = g.fit } in
       ended rest fault trails (rest_of a b (same_call f.fits f.fits) (same_call f.fits h) rest [] (sym f.spelled ∙ g.spelled ∙ sym (append-nil (arguments b))));
 }
 
-pub all_read : {program procedure : ℕ} {bytes rest : List ℕ} {a : Args} → IsFront (IsCall program procedure) arguments bytes a rest → rest ≡ [] → AreArguments program procedure bytes a
+pub all_read : {program procedure : ℕ} {bytes rest : List ℕ} {a : Args} → IsFront (AreOf program procedure) arguments bytes a rest → rest ≡ [] → AreArguments program procedure bytes a
 all_read {a = a} f e = record {
   program_is = f.fits.program_is;
   procedure_is = f.fits.procedure_is;

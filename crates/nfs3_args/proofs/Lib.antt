@@ -5,3 +5,4 @@ pub mod AttributesReading
 pub mod Refusing
 pub mod Procedures
 pub mod Calls
+pub mod Fitting

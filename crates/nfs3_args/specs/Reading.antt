@@ -21,13 +21,13 @@ Refuses Fits spell bytes Garbage = HasNoFront Fits spell bytes
 Refuses Fits spell bytes Memory = Unit {0}
 
 -- arguments of that procedure which have a spelling
-pub record IsCall (program procedure : ℕ) (args : Args) : Type 0 where
+pub record AreOf (program procedure : ℕ) (args : Args) : Type 0 where
   pub program_is : program ≡ program_of args
   pub procedure_is : procedure ≡ procedure_of args
   pub fit : ArgumentsFit args
 
-abbrev pub IsNfs : ℕ → Args → Type 0
-IsNfs procedure args = IsCall nfs_program procedure args
+abbrev pub AreNfs : ℕ → Args → Type 0
+AreNfs procedure args = AreOf nfs_program procedure args
 
-abbrev pub IsMount : ℕ → Args → Type 0
-IsMount procedure args = IsCall mount_program procedure args
+abbrev pub AreMount : ℕ → Args → Type 0
+AreMount procedure args = AreOf mount_program procedure args

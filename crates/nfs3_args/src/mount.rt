@@ -3,7 +3,7 @@
 ghost use Rattle.std.specs.Prelude.{IfOk, IfErr};
 ghost use Rattle.wire_model.specs.OneReading.{IsFront};
 ghost use Rattle.nfs_model.specs.Arguments.{arguments};
-ghost use Rattle.nfs3_args.specs.Reading.{IsMount, Refuses};
+ghost use Rattle.nfs3_args.specs.Reading.{AreMount, Refuses};
 
 use crate::fault::ArgsFault;
 use crate::parts::read_path;
@@ -14,8 +14,8 @@ use xdr_codec::XdrRead;
 /// The arguments of a procedure, by its number.
 #[tactic(auto, using(crate::proofs::Calls::no_such_mount))]
 pub fn read_mount(alloc: Global, reader: &mut XdrRead, procedure: u32) -> Result<Args, ArgsFault>
-    ensures ok { IfOk result (λ args. IsFront (IsMount procedure) arguments reader.old args reader.new) }
-    ensures err { IfErr result (Refuses (IsMount procedure) arguments reader.old) }
+    ensures ok { IfOk result (λ args. IsFront (AreMount procedure) arguments reader.old args reader.new) }
+    ensures err { IfErr result (Refuses (AreMount procedure) arguments reader.old) }
 {
     match procedure {
         0 => Ok(Args::MountNull),
@@ -31,8 +31,8 @@ pub fn read_mount(alloc: Global, reader: &mut XdrRead, procedure: u32) -> Result
 /// MNT (section 5.2.1): a path.
 #[tactic(auto, using(crate::proofs::Procedures::no_mnt))]
 fn read_mnt(alloc: Global, reader: &mut XdrRead) -> Result<Args, ArgsFault>
-    ensures ok { IfOk result (λ args. IsFront (IsMount 1) arguments reader.old args reader.new) }
-    ensures err { IfErr result (Refuses (IsMount 1) arguments reader.old) }
+    ensures ok { IfOk result (λ args. IsFront (AreMount 1) arguments reader.old args reader.new) }
+    ensures err { IfErr result (Refuses (AreMount 1) arguments reader.old) }
 {
     let path = read_path(alloc, reader)?;
     Ok(Args::Mnt { path })
@@ -41,8 +41,8 @@ fn read_mnt(alloc: Global, reader: &mut XdrRead) -> Result<Args, ArgsFault>
 /// UMNT (section 5.2.3): a path.
 #[tactic(auto, using(crate::proofs::Procedures::no_umnt))]
 fn read_umnt(alloc: Global, reader: &mut XdrRead) -> Result<Args, ArgsFault>
-    ensures ok { IfOk result (λ args. IsFront (IsMount 3) arguments reader.old args reader.new) }
-    ensures err { IfErr result (Refuses (IsMount 3) arguments reader.old) }
+    ensures ok { IfOk result (λ args. IsFront (AreMount 3) arguments reader.old args reader.new) }
+    ensures err { IfErr result (Refuses (AreMount 3) arguments reader.old) }
 {
     let path = read_path(alloc, reader)?;
     Ok(Args::Umnt { path })

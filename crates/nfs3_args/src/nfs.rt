@@ -3,7 +3,7 @@
 ghost use Rattle.std.specs.Prelude.{IfOk, IfErr};
 ghost use Rattle.wire_model.specs.OneReading.{IsFront};
 ghost use Rattle.nfs_model.specs.Arguments.{arguments};
-ghost use Rattle.nfs3_args.specs.Reading.{IsNfs, Refuses};
+ghost use Rattle.nfs3_args.specs.Reading.{AreNfs, Refuses};
 
 use crate::attributes::{read_how, read_node, read_set_what};
 use crate::fault::ArgsFault;
@@ -18,8 +18,8 @@ use xdr_codec::XdrRead;
 /// The arguments of a procedure, by its number.
 #[tactic(auto, using(crate::proofs::Calls::no_such_nfs))]
 pub fn read_nfs(alloc: Global, reader: &mut XdrRead, procedure: u32) -> Result<Args, ArgsFault>
-    ensures ok { IfOk result (λ args. IsFront (IsNfs procedure) arguments reader.old args reader.new) }
-    ensures err { IfErr result (Refuses (IsNfs procedure) arguments reader.old) }
+    ensures ok { IfOk result (λ args. IsFront (AreNfs procedure) arguments reader.old args reader.new) }
+    ensures err { IfErr result (Refuses (AreNfs procedure) arguments reader.old) }
 {
     match procedure {
         0 => Ok(Args::Null),
@@ -51,8 +51,8 @@ pub fn read_nfs(alloc: Global, reader: &mut XdrRead, procedure: u32) -> Result<A
 /// GETATTR (section 3.3.1): an object's handle.
 #[tactic(auto, using(crate::proofs::Procedures::no_getattr))]
 fn read_getattr(alloc: Global, reader: &mut XdrRead) -> Result<Args, ArgsFault>
-    ensures ok { IfOk result (λ args. IsFront (IsNfs 1) arguments reader.old args reader.new) }
-    ensures err { IfErr result (Refuses (IsNfs 1) arguments reader.old) }
+    ensures ok { IfOk result (λ args. IsFront (AreNfs 1) arguments reader.old args reader.new) }
+    ensures err { IfErr result (Refuses (AreNfs 1) arguments reader.old) }
 {
     let object = read_handle(alloc, reader)?;
     Ok(Args::GetAttr { object })
@@ -61,8 +61,8 @@ fn read_getattr(alloc: Global, reader: &mut XdrRead) -> Result<Args, ArgsFault>
 /// SETATTR (section 3.3.2): an object, new attributes, and a ctime where it is to be compared.
 #[tactic(auto, using(crate::proofs::Procedures::no_setattr_object))]
 fn read_setattr(alloc: Global, reader: &mut XdrRead) -> Result<Args, ArgsFault>
-    ensures ok { IfOk result (λ args. IsFront (IsNfs 2) arguments reader.old args reader.new) }
-    ensures err { IfErr result (Refuses (IsNfs 2) arguments reader.old) }
+    ensures ok { IfOk result (λ args. IsFront (AreNfs 2) arguments reader.old args reader.new) }
+    ensures err { IfErr result (Refuses (AreNfs 2) arguments reader.old) }
 {
     let object = read_handle(alloc, reader)?;
     let what = read_set_what(reader)?;
@@ -77,8 +77,8 @@ fn read_setattr(alloc: Global, reader: &mut XdrRead) -> Result<Args, ArgsFault>
 /// LOOKUP (section 3.3.3): a name in a directory.
 #[tactic(auto, using(crate::proofs::Procedures::no_lookup))]
 fn read_lookup(alloc: Global, reader: &mut XdrRead) -> Result<Args, ArgsFault>
-    ensures ok { IfOk result (λ args. IsFront (IsNfs 3) arguments reader.old args reader.new) }
-    ensures err { IfErr result (Refuses (IsNfs 3) arguments reader.old) }
+    ensures ok { IfOk result (λ args. IsFront (AreNfs 3) arguments reader.old args reader.new) }
+    ensures err { IfErr result (Refuses (AreNfs 3) arguments reader.old) }
 {
     let (dir, name) = read_place(alloc, reader)?;
     Ok(Args::Lookup { dir, name })
@@ -87,8 +87,8 @@ fn read_lookup(alloc: Global, reader: &mut XdrRead) -> Result<Args, ArgsFault>
 /// ACCESS (section 3.3.4): an object and rights.
 #[tactic(auto, using(crate::proofs::Procedures::no_access_object))]
 fn read_access(alloc: Global, reader: &mut XdrRead) -> Result<Args, ArgsFault>
-    ensures ok { IfOk result (λ args. IsFront (IsNfs 4) arguments reader.old args reader.new) }
-    ensures err { IfErr result (Refuses (IsNfs 4) arguments reader.old) }
+    ensures ok { IfOk result (λ args. IsFront (AreNfs 4) arguments reader.old args reader.new) }
+    ensures err { IfErr result (Refuses (AreNfs 4) arguments reader.old) }
 {
     let object = read_handle(alloc, reader)?;
     let bits = reader.u32()?;
@@ -98,8 +98,8 @@ fn read_access(alloc: Global, reader: &mut XdrRead) -> Result<Args, ArgsFault>
 /// READLINK (section 3.3.5): a symbolic link.
 #[tactic(auto, using(crate::proofs::Procedures::no_readlink))]
 fn read_readlink(alloc: Global, reader: &mut XdrRead) -> Result<Args, ArgsFault>
-    ensures ok { IfOk result (λ args. IsFront (IsNfs 5) arguments reader.old args reader.new) }
-    ensures err { IfErr result (Refuses (IsNfs 5) arguments reader.old) }
+    ensures ok { IfOk result (λ args. IsFront (AreNfs 5) arguments reader.old args reader.new) }
+    ensures err { IfErr result (Refuses (AreNfs 5) arguments reader.old) }
 {
     let link = read_handle(alloc, reader)?;
     Ok(Args::ReadLink { link })
@@ -108,8 +108,8 @@ fn read_readlink(alloc: Global, reader: &mut XdrRead) -> Result<Args, ArgsFault>
 /// READ (section 3.3.6): some bytes of a file.
 #[tactic(auto, using(crate::proofs::Procedures::no_read))]
 fn read_read(alloc: Global, reader: &mut XdrRead) -> Result<Args, ArgsFault>
-    ensures ok { IfOk result (λ args. IsFront (IsNfs 6) arguments reader.old args reader.new) }
-    ensures err { IfErr result (Refuses (IsNfs 6) arguments reader.old) }
+    ensures ok { IfOk result (λ args. IsFront (AreNfs 6) arguments reader.old args reader.new) }
+    ensures err { IfErr result (Refuses (AreNfs 6) arguments reader.old) }
 {
     let (file, offset, count) = read_range(alloc, reader)?;
     Ok(Args::Read {
@@ -122,8 +122,8 @@ fn read_read(alloc: Global, reader: &mut XdrRead) -> Result<Args, ArgsFault>
 /// WRITE (section 3.3.7): where bytes go, how safely, and the bytes.
 #[tactic(auto, using(crate::proofs::Procedures::no_write_range))]
 fn read_write(alloc: Global, reader: &mut XdrRead) -> Result<Args, ArgsFault>
-    ensures ok { IfOk result (λ args. IsFront (IsNfs 7) arguments reader.old args reader.new) }
-    ensures err { IfErr result (Refuses (IsNfs 7) arguments reader.old) }
+    ensures ok { IfOk result (λ args. IsFront (AreNfs 7) arguments reader.old args reader.new) }
+    ensures err { IfErr result (Refuses (AreNfs 7) arguments reader.old) }
 {
     let (file, offset, count) = read_range(alloc, reader)?;
     let stable = read_stable(reader)?;
@@ -140,8 +140,8 @@ fn read_write(alloc: Global, reader: &mut XdrRead) -> Result<Args, ArgsFault>
 /// CREATE (section 3.3.8): a name in a directory, and how the file is to be made.
 #[tactic(auto, using(crate::proofs::Procedures::no_create_place))]
 fn read_create(alloc: Global, reader: &mut XdrRead) -> Result<Args, ArgsFault>
-    ensures ok { IfOk result (λ args. IsFront (IsNfs 8) arguments reader.old args reader.new) }
-    ensures err { IfErr result (Refuses (IsNfs 8) arguments reader.old) }
+    ensures ok { IfOk result (λ args. IsFront (AreNfs 8) arguments reader.old args reader.new) }
+    ensures err { IfErr result (Refuses (AreNfs 8) arguments reader.old) }
 {
     let (dir, name) = read_place(alloc, reader)?;
     let how = read_how(reader)?;
@@ -151,8 +151,8 @@ fn read_create(alloc: Global, reader: &mut XdrRead) -> Result<Args, ArgsFault>
 /// MKDIR (section 3.3.9): a name in a directory, and attributes.
 #[tactic(auto, using(crate::proofs::Procedures::no_mkdir_place))]
 fn read_mkdir(alloc: Global, reader: &mut XdrRead) -> Result<Args, ArgsFault>
-    ensures ok { IfOk result (λ args. IsFront (IsNfs 9) arguments reader.old args reader.new) }
-    ensures err { IfErr result (Refuses (IsNfs 9) arguments reader.old) }
+    ensures ok { IfOk result (λ args. IsFront (AreNfs 9) arguments reader.old args reader.new) }
+    ensures err { IfErr result (Refuses (AreNfs 9) arguments reader.old) }
 {
     let (dir, name) = read_place(alloc, reader)?;
     let what = read_set_what(reader)?;
@@ -162,8 +162,8 @@ fn read_mkdir(alloc: Global, reader: &mut XdrRead) -> Result<Args, ArgsFault>
 /// SYMLINK (section 3.3.10): a name in a directory, attributes and a text.
 #[tactic(auto, using(crate::proofs::Procedures::no_symlink_place))]
 fn read_symlink(alloc: Global, reader: &mut XdrRead) -> Result<Args, ArgsFault>
-    ensures ok { IfOk result (λ args. IsFront (IsNfs 10) arguments reader.old args reader.new) }
-    ensures err { IfErr result (Refuses (IsNfs 10) arguments reader.old) }
+    ensures ok { IfOk result (λ args. IsFront (AreNfs 10) arguments reader.old args reader.new) }
+    ensures err { IfErr result (Refuses (AreNfs 10) arguments reader.old) }
 {
     let (dir, name) = read_place(alloc, reader)?;
     let what = read_set_what(reader)?;
@@ -179,8 +179,8 @@ fn read_symlink(alloc: Global, reader: &mut XdrRead) -> Result<Args, ArgsFault>
 /// MKNOD (section 3.3.11): a name in a directory, and the node.
 #[tactic(auto, using(crate::proofs::Procedures::no_mknod_place))]
 fn read_mknod(alloc: Global, reader: &mut XdrRead) -> Result<Args, ArgsFault>
-    ensures ok { IfOk result (λ args. IsFront (IsNfs 11) arguments reader.old args reader.new) }
-    ensures err { IfErr result (Refuses (IsNfs 11) arguments reader.old) }
+    ensures ok { IfOk result (λ args. IsFront (AreNfs 11) arguments reader.old args reader.new) }
+    ensures err { IfErr result (Refuses (AreNfs 11) arguments reader.old) }
 {
     let (dir, name) = read_place(alloc, reader)?;
     let node = read_node(reader)?;
@@ -190,8 +190,8 @@ fn read_mknod(alloc: Global, reader: &mut XdrRead) -> Result<Args, ArgsFault>
 /// REMOVE (section 3.3.12): a name in a directory.
 #[tactic(auto, using(crate::proofs::Procedures::no_remove))]
 fn read_remove(alloc: Global, reader: &mut XdrRead) -> Result<Args, ArgsFault>
-    ensures ok { IfOk result (λ args. IsFront (IsNfs 12) arguments reader.old args reader.new) }
-    ensures err { IfErr result (Refuses (IsNfs 12) arguments reader.old) }
+    ensures ok { IfOk result (λ args. IsFront (AreNfs 12) arguments reader.old args reader.new) }
+    ensures err { IfErr result (Refuses (AreNfs 12) arguments reader.old) }
 {
     let (dir, name) = read_place(alloc, reader)?;
     Ok(Args::Remove { dir, name })
@@ -200,8 +200,8 @@ fn read_remove(alloc: Global, reader: &mut XdrRead) -> Result<Args, ArgsFault>
 /// RMDIR (section 3.3.13): a name in a directory.
 #[tactic(auto, using(crate::proofs::Procedures::no_rmdir))]
 fn read_rmdir(alloc: Global, reader: &mut XdrRead) -> Result<Args, ArgsFault>
-    ensures ok { IfOk result (λ args. IsFront (IsNfs 13) arguments reader.old args reader.new) }
-    ensures err { IfErr result (Refuses (IsNfs 13) arguments reader.old) }
+    ensures ok { IfOk result (λ args. IsFront (AreNfs 13) arguments reader.old args reader.new) }
+    ensures err { IfErr result (Refuses (AreNfs 13) arguments reader.old) }
 {
     let (dir, name) = read_place(alloc, reader)?;
     Ok(Args::RmDir { dir, name })
@@ -210,8 +210,8 @@ fn read_rmdir(alloc: Global, reader: &mut XdrRead) -> Result<Args, ArgsFault>
 /// RENAME (section 3.3.14): the name that there is, and the one that there is to be.
 #[tactic(auto, using(crate::proofs::Procedures::no_rename_place))]
 fn read_rename(alloc: Global, reader: &mut XdrRead) -> Result<Args, ArgsFault>
-    ensures ok { IfOk result (λ args. IsFront (IsNfs 14) arguments reader.old args reader.new) }
-    ensures err { IfErr result (Refuses (IsNfs 14) arguments reader.old) }
+    ensures ok { IfOk result (λ args. IsFront (AreNfs 14) arguments reader.old args reader.new) }
+    ensures err { IfErr result (Refuses (AreNfs 14) arguments reader.old) }
 {
     let (dir, name) = read_place(alloc, reader)?;
     let (to_dir, to_name) = read_place(alloc, reader)?;
@@ -226,8 +226,8 @@ fn read_rename(alloc: Global, reader: &mut XdrRead) -> Result<Args, ArgsFault>
 /// LINK (section 3.3.15): a file, and a name in a directory.
 #[tactic(auto, using(crate::proofs::Procedures::no_link_file))]
 fn read_link(alloc: Global, reader: &mut XdrRead) -> Result<Args, ArgsFault>
-    ensures ok { IfOk result (λ args. IsFront (IsNfs 15) arguments reader.old args reader.new) }
-    ensures err { IfErr result (Refuses (IsNfs 15) arguments reader.old) }
+    ensures ok { IfOk result (λ args. IsFront (AreNfs 15) arguments reader.old args reader.new) }
+    ensures err { IfErr result (Refuses (AreNfs 15) arguments reader.old) }
 {
     let file = read_handle(alloc, reader)?;
     let (dir, name) = read_place(alloc, reader)?;
@@ -237,8 +237,8 @@ fn read_link(alloc: Global, reader: &mut XdrRead) -> Result<Args, ArgsFault>
 /// READDIR (section 3.3.16): a page of at most `count` bytes.
 #[tactic(auto, using(crate::proofs::Procedures::no_readdir_page))]
 fn read_readdir(alloc: Global, reader: &mut XdrRead) -> Result<Args, ArgsFault>
-    ensures ok { IfOk result (λ args. IsFront (IsNfs 16) arguments reader.old args reader.new) }
-    ensures err { IfErr result (Refuses (IsNfs 16) arguments reader.old) }
+    ensures ok { IfOk result (λ args. IsFront (AreNfs 16) arguments reader.old args reader.new) }
+    ensures err { IfErr result (Refuses (AreNfs 16) arguments reader.old) }
 {
     let (dir, cookie, verifier) = read_page(alloc, reader)?;
     let count = reader.u32()?;
@@ -253,8 +253,8 @@ fn read_readdir(alloc: Global, reader: &mut XdrRead) -> Result<Args, ArgsFault>
 /// READDIRPLUS (section 3.3.17): a page, its most bytes of names, and its most bytes.
 #[tactic(auto, using(crate::proofs::Procedures::no_readdirplus_page))]
 fn read_readdirplus(alloc: Global, reader: &mut XdrRead) -> Result<Args, ArgsFault>
-    ensures ok { IfOk result (λ args. IsFront (IsNfs 17) arguments reader.old args reader.new) }
-    ensures err { IfErr result (Refuses (IsNfs 17) arguments reader.old) }
+    ensures ok { IfOk result (λ args. IsFront (AreNfs 17) arguments reader.old args reader.new) }
+    ensures err { IfErr result (Refuses (AreNfs 17) arguments reader.old) }
 {
     let (dir, cookie, verifier) = read_page(alloc, reader)?;
     let dircount = reader.u32()?;
@@ -271,8 +271,8 @@ fn read_readdirplus(alloc: Global, reader: &mut XdrRead) -> Result<Args, ArgsFau
 /// FSSTAT (section 3.3.18): an object's handle.
 #[tactic(auto, using(crate::proofs::Procedures::no_fsstat))]
 fn read_fsstat(alloc: Global, reader: &mut XdrRead) -> Result<Args, ArgsFault>
-    ensures ok { IfOk result (λ args. IsFront (IsNfs 18) arguments reader.old args reader.new) }
-    ensures err { IfErr result (Refuses (IsNfs 18) arguments reader.old) }
+    ensures ok { IfOk result (λ args. IsFront (AreNfs 18) arguments reader.old args reader.new) }
+    ensures err { IfErr result (Refuses (AreNfs 18) arguments reader.old) }
 {
     let object = read_handle(alloc, reader)?;
     Ok(Args::FsStat { object })
@@ -281,8 +281,8 @@ fn read_fsstat(alloc: Global, reader: &mut XdrRead) -> Result<Args, ArgsFault>
 /// FSINFO (section 3.3.19): an object's handle.
 #[tactic(auto, using(crate::proofs::Procedures::no_fsinfo))]
 fn read_fsinfo(alloc: Global, reader: &mut XdrRead) -> Result<Args, ArgsFault>
-    ensures ok { IfOk result (λ args. IsFront (IsNfs 19) arguments reader.old args reader.new) }
-    ensures err { IfErr result (Refuses (IsNfs 19) arguments reader.old) }
+    ensures ok { IfOk result (λ args. IsFront (AreNfs 19) arguments reader.old args reader.new) }
+    ensures err { IfErr result (Refuses (AreNfs 19) arguments reader.old) }
 {
     let object = read_handle(alloc, reader)?;
     Ok(Args::FsInfo { object })
@@ -291,8 +291,8 @@ fn read_fsinfo(alloc: Global, reader: &mut XdrRead) -> Result<Args, ArgsFault>
 /// PATHCONF (section 3.3.20): an object's handle.
 #[tactic(auto, using(crate::proofs::Procedures::no_pathconf))]
 fn read_pathconf(alloc: Global, reader: &mut XdrRead) -> Result<Args, ArgsFault>
-    ensures ok { IfOk result (λ args. IsFront (IsNfs 20) arguments reader.old args reader.new) }
-    ensures err { IfErr result (Refuses (IsNfs 20) arguments reader.old) }
+    ensures ok { IfOk result (λ args. IsFront (AreNfs 20) arguments reader.old args reader.new) }
+    ensures err { IfErr result (Refuses (AreNfs 20) arguments reader.old) }
 {
     let object = read_handle(alloc, reader)?;
     Ok(Args::PathConf { object })
@@ -301,8 +301,8 @@ fn read_pathconf(alloc: Global, reader: &mut XdrRead) -> Result<Args, ArgsFault>
 /// COMMIT (section 3.3.21): some bytes of a file.
 #[tactic(auto, using(crate::proofs::Procedures::no_commit))]
 fn read_commit(alloc: Global, reader: &mut XdrRead) -> Result<Args, ArgsFault>
-    ensures ok { IfOk result (λ args. IsFront (IsNfs 21) arguments reader.old args reader.new) }
-    ensures err { IfErr result (Refuses (IsNfs 21) arguments reader.old) }
+    ensures ok { IfOk result (λ args. IsFront (AreNfs 21) arguments reader.old args reader.new) }
+    ensures err { IfErr result (Refuses (AreNfs 21) arguments reader.old) }
 {
     let (file, offset, count) = read_range(alloc, reader)?;
     Ok(Args::Commit {

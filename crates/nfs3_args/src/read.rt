@@ -3,7 +3,7 @@
 ghost use Rattle.std.specs.Prelude.{IfOk, IfErr};
 ghost use Rattle.wire_model.specs.OneReading.{IsFront};
 ghost use Rattle.nfs_model.specs.Arguments.{arguments, AreArguments};
-ghost use Rattle.nfs3_args.specs.Reading.{IsCall, Refuses, RefusesArguments};
+ghost use Rattle.nfs3_args.specs.Reading.{AreOf, Refuses, RefusesArguments};
 
 use crate::fault::ArgsFault;
 use crate::mount::read_mount;
@@ -48,8 +48,8 @@ fn read_procedure(
     program: u32,
     procedure: u32,
 ) -> Result<Args, ArgsFault>
-    ensures ok { IfOk result (λ args. IsFront (IsCall program procedure) arguments reader.old args reader.new) }
-    ensures err { IfErr result (Refuses (IsCall program procedure) arguments reader.old) }
+    ensures ok { IfOk result (λ args. IsFront (AreOf program procedure) arguments reader.old args reader.new) }
+    ensures err { IfErr result (Refuses (AreOf program procedure) arguments reader.old) }
 {
     match program {
         NFS_PROGRAM => read_nfs(alloc, reader, procedure),
