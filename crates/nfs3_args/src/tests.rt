@@ -32,9 +32,41 @@ const NONE: SetWhat = SetWhat {
 const CREATE: [u8; 80] =
     *b"\0\0\0\x04abcd\0\0\0\x01f\0\0\0\0\0\0\0\0\0\0\x01\0\0\x01\xed\0\0\0\x01\0\0\x03\xe8\0\0\0\x01\0\0\0d\0\0\0\x01\0\0\0\x05\0\0\0\x06\0\0\0\x02\0\0\0\x07\0\0\0\x08\0\0\0\x02\0\0\0\x09\0\0\0\x0a";
 
+const UNCHECKED: How = How::Unchecked(ALL);
+
+/// CREATE with no attributes, guarded.
+const GUARDED_CREATE: [u8; 44] =
+    *b"\0\0\0\x04abcd\0\0\0\x01f\0\0\0\0\0\0\x01\0\0\0\0\0\0\0\0\0\0\0\0\0\0\0\0\0\0\0\0\0\0\0\0";
+
+const GUARDED: How = How::Guarded(NONE);
+
+/// CREATE under a verifier.
+const EXCLUSIVE_CREATE: [u8; 28] = *b"\0\0\0\x04abcd\0\0\0\x01f\0\0\0\0\0\0\x02verified";
+
+const EXCLUSIVE: How = How::Exclusive(*b"verified");
+
 /// MKNOD of a character device with all attributes.
 const DEVICE: [u8; 88] =
     *b"\0\0\0\x04abcd\0\0\0\x01f\0\0\0\0\0\0\x04\0\0\0\x01\0\0\x01\xed\0\0\0\x01\0\0\x03\xe8\0\0\0\x01\0\0\0d\0\0\0\x01\0\0\0\x05\0\0\0\x06\0\0\0\x02\0\0\0\x07\0\0\0\x08\0\0\0\x02\0\0\0\x09\0\0\0\x0a\0\0\0\x0d\0\0\0\x0e";
+
+const CHARACTERS: Node = Node::Device {
+    kind: 4,
+    what: ALL,
+    major: 13,
+    minor: 14,
+};
+
+/// MKNOD of a named pipe without attributes.
+const PIPE: [u8; 44] =
+    *b"\0\0\0\x04abcd\0\0\0\x01f\0\0\0\0\0\0\x07\0\0\0\0\0\0\0\0\0\0\0\0\0\0\0\0\0\0\0\0\0\0\0\0";
+
+const NAMED_PIPE: Node = Node::Other {
+    kind: 7,
+    what: NONE,
+};
+
+/// MKNOD of a regular file.
+const FILE: [u8; 20] = *b"\0\0\0\x04abcd\0\0\0\x01f\0\0\0\0\0\0\x01";
 
 /// WRITE of five bytes, of which the data alone is to be kept at once (DATA_SYNC).
 const WRITE: [u8; 36] =
@@ -100,21 +132,36 @@ fn is_setattr(args: &Args) -> bool {
     }
 }
 
-/// Whether a file `f` is to be created so.
-fn is_create(args: &Args, wanted: How) -> bool {
+/// Whether the bytes ask for a file `f` to be created so.
+fn creates(alloc: Global, bytes: &[u8], wanted: &How) -> bool {
+    match read_args(alloc, NFS_PROGRAM, 8, bytes) {
+        Ok(args) => is_create(&args, wanted),
+        Err(_) => false,
+    }
+}
+
+fn is_create(args: &Args, wanted: &How) -> bool {
     match args {
         Args::Create { dir, name, how } => {
             dir.as_slice() == b"abcd".as_slice()
                 && name.as_slice() == b"f".as_slice()
-                && *how == wanted
+                && how == wanted
         }
         _ => false,
     }
 }
 
-fn is_mknod(args: &Args, wanted: Node) -> bool {
+/// Whether the bytes ask for that node.
+fn makes(alloc: Global, bytes: &[u8], wanted: &Node) -> bool {
+    match read_args(alloc, NFS_PROGRAM, 11, bytes) {
+        Ok(args) => is_mknod(&args, wanted),
+        Err(_) => false,
+    }
+}
+
+fn is_mknod(args: &Args, wanted: &Node) -> bool {
     match args {
-        Args::MkNod { node, .. } => *node == wanted,
+        Args::MkNod { node, .. } => node == wanted,
         _ => false,
     }
 }
@@ -226,47 +273,27 @@ fn each_call_is_read_and_written(rt: HostRuntime) -> Result<(), Fail> {
 }
 
 #[test]
-fn attributes_and_ways_to_create_are_read(rt: HostRuntime) -> Result<(), Fail> {
+fn attributes_are_read(rt: HostRuntime) -> Result<(), Fail> {
     let alloc = rt.alloc();
     assert!(rt; is_setattr(&read_args(alloc, NFS_PROGRAM, 2, &SETATTR)?));
-    let unchecked = read_args(alloc, NFS_PROGRAM, 8, &CREATE)?;
-    assert!(rt; is_create(&unchecked, How::Unchecked(ALL)));
-    let bytes =
-        b"\0\0\0\x04abcd\0\0\0\x01f\0\0\0\0\0\0\x01\0\0\0\0\0\0\0\0\0\0\0\0\0\0\0\0\0\0\0\0\0\0\0\0";
-    let guarded = read_args(alloc, NFS_PROGRAM, 8, bytes)?;
-    assert!(rt; is_create(&guarded, How::Guarded(NONE)));
-    let bytes = b"\0\0\0\x04abcd\0\0\0\x01f\0\0\0\0\0\0\x02verified";
-    let exclusive = read_args(alloc, NFS_PROGRAM, 8, bytes)?;
-    assert!(rt; is_create(&exclusive, How::Exclusive(*b"verified")));
+    Ok(())
+}
+
+#[test]
+fn ways_to_create_are_read(rt: HostRuntime) -> Result<(), Fail> {
+    let alloc = rt.alloc();
+    assert!(rt; creates(alloc, &CREATE, &UNCHECKED));
+    assert!(rt; creates(alloc, &GUARDED_CREATE, &GUARDED));
+    assert!(rt; creates(alloc, &EXCLUSIVE_CREATE, &EXCLUSIVE));
     Ok(())
 }
 
 #[test]
 fn nodes_are_read(rt: HostRuntime) -> Result<(), Fail> {
     let alloc = rt.alloc();
-    let device = Node::Device {
-        kind: 4,
-        what: ALL,
-        major: 13,
-        minor: 14,
-    };
-    let args = read_args(alloc, NFS_PROGRAM, 11, &DEVICE)?;
-    assert!(rt; is_mknod(&args, device));
-    let bytes =
-        b"\0\0\0\x04abcd\0\0\0\x01f\0\0\0\0\0\0\x07\0\0\0\0\0\0\0\0\0\0\0\0\0\0\0\0\0\0\0\0\0\0\0\0";
-    let args = read_args(alloc, NFS_PROGRAM, 11, bytes)?;
-    assert!(rt;
-        is_mknod(
-            &args,
-            Node::Other {
-                kind: 7,
-                what: NONE
-            }
-        )
-    );
-    let bytes = b"\0\0\0\x04abcd\0\0\0\x01f\0\0\0\0\0\0\x01";
-    let args = read_args(alloc, NFS_PROGRAM, 11, bytes)?;
-    assert!(rt; is_mknod(&args, Node::Plain(1)));
+    assert!(rt; makes(alloc, &DEVICE, &CHARACTERS));
+    assert!(rt; makes(alloc, &PIPE, &NAMED_PIPE));
+    assert!(rt; makes(alloc, &FILE, &Node::Plain(1)));
     Ok(())
 }
 
