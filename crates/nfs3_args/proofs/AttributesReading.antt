@@ -1,6 +1,5 @@
 -- Where attributes, and how files and nodes are to be made, can't be read.
-use Rattle.std.proofs.Common.{◌≡◌, ℕ, ◌<◌, ◌≤◌, ◌^◌, List, [], ◌++◌, Option, ◌⊎◌, refl, sym, ◌∙◌, arith}
-use Rattle.ivy_base.specs.declared.operation.Moment.{Moment}
+use Rattle.std.proofs.Common.{◌≡◌, ℕ, ◌<◌, ◌≤◌, ◌^◌, List, [], ◌++◌, Option, ◌⊎◌, refl, arith}
 use Rattle.wire_model.specs.Xdr.{word, double_word, optional, moment, IsWordMoment, IsWord, IsDoubleWord}
 use Rattle.wire_model.specs.OneReading.{ReadsOne, IsFront, HasNoFront}
 use Rattle.wire_model.proofs.OneReading.{◌▷◌, one_word, one_double_word, one_optional}

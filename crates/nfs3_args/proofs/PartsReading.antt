@@ -1,5 +1,5 @@
 -- Where a part of arguments can't be read.
-use Rattle.std.proofs.Common.{◌≡◌, ℕ, ◌<◌, ◌≤◌, true, false, List, ◌++◌, Option, Some, None, sym, ◌∙◌, arith}
+use Rattle.std.proofs.Common.{ℕ, ◌<◌, true, false, List, ◌++◌, Option, Some, None, sym, ◌∙◌, arith}
 use Rattle.wire_model.specs.Xdr.{word, double_word, boolean, opaque, optional, IsAny, IsWord, IsDoubleWord, IsUpTo}
 use Rattle.wire_model.specs.OneReading.{ReadsOne, IsFront, HasNoFront}
 use Rattle.wire_model.proofs.OneReading.{◌▷◌, of_fewer, one_boolean, one_word, one_double_word}

@@ -1,5 +1,5 @@
 -- Which parts the arguments of each procedure have, and where they can't be read.
-use Rattle.std.proofs.Common.{◌≡◌, ℕ, List, [], ◌++◌, Option, refl, sym, ap, ◌∙◌, arith, append_assoc}
+use Rattle.std.proofs.Common.{ℕ, List, [], ◌++◌, Option, refl, arith, append_assoc}
 use Rattle.std.specs.Prelude.{⊤}
 use Rattle.ivy_base.specs.declared.operation.Moment.{Moment}
 use Rattle.wire_model.specs.Xdr.{word, opaque, optional, moment, IsWordMoment, IsWord}
@@ -13,9 +13,9 @@ use Rattle.nfs_model.specs.declared.arguments.SetWhat.{SetWhat}
 use Rattle.nfs_model.specs.declared.arguments.How.{How}
 use Rattle.nfs_model.specs.declared.arguments.Node.{Node}
 use Rattle.nfs_model.specs.Arguments.{arguments, set_what, create_how, special_node, IsHandle, IsShortText, IsSetWhat, IsHow, IsNode}
-use Rattle.nfs_model.proofs.OneArguments.{one_handle, one_text, one_path, one_set_what, one_how, one_node}
+use Rattle.nfs_model.proofs.OneArguments.{one_handle, one_set_what}
 use Rattle.nfs3_args.specs.Parts.{IsData, IsPath, IsStable, IsOptional, place, IsPlace, range, IsRange, page, IsPage}
-use Rattle.nfs3_args.specs.Reading.{AreOf, AreNfs, AreMount}
+use Rattle.nfs3_args.specs.Reading.{AreNfs, AreMount}
 use Rattle.nfs3_args.proofs.PartsReading.{one_stable, one_place, one_range, one_page}
 
 pub one_guard : ReadsOne (IsOptional IsWordMoment) (optional moment)
