@@ -1,0 +1,13 @@
+use Rattle.std.proofs.lemmas.Result.{err_from_is_err_and}
+use Rattle.nfs3_args.proofs.Procedures.{no_setattr_guard, no_setattr_what}
+use Rattle.nfs3_args.proofs.nfs.read_setattr.Goals as goal
+
+pub returns-in_err-what-clause-err : goal.returns-in_err-what-clause-err
+returns-in_err-what-clause-err c =
+    let p = err_from_is_err_and c.from_residual-in_err-what.result c.from_residual-in_err-what.ensures.1 in
+    rw (p.1, p.2) (no_setattr_what c.in_ok-object.ensures.ok c.in_err-what.ensures.err)
+
+pub returns-in_err-guard-clause-err : goal.returns-in_err-guard-clause-err
+returns-in_err-guard-clause-err c =
+    let p = err_from_is_err_and c.from_residual-in_err-guard.result c.from_residual-in_err-guard.ensures.1 in
+    rw (p.1, p.2) (no_setattr_guard c.in_ok-object.ensures.ok c.in_ok-what.ensures.ok c.in_err-guard.ensures.err)
