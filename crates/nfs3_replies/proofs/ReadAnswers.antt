@@ -1,13 +1,12 @@
 -- Whole results are read: a status, and what stands behind it.
-use Rattle.std.proofs.Common.{◌≡◌, ◌≢◌, ℕ, ◌<◌, ◌≤◌, ◌^◌, Bool, true, false, List, [], ◌∷◌, ◌++◌, drop, length, get_or, zero, suc, ◌+◌, Option, Some, None, ◌⊎◌, inl, inr, refl, sym, ap, ◌∙◌, subst, arith, append_assoc}
-use Rattle.std.specs.Prelude.{nat_eq, nat_le, ◌&&◌, if◌then◌else◌}
-use Rattle.std.proofs.lemmas.List.{append-nil, append_cancel_left}
-use Rattle.wire_model.specs.Xdr.{word, IsAny, IsWord}
+use Rattle.std.proofs.Common.{◌≡◌, ◌≢◌, ℕ, ◌<◌, ◌≤◌, ◌^◌, Bool, true, false, List, [], ◌∷◌, ◌++◌, length, get_or, zero, suc, ◌+◌, Option, Some, None, ◌⊎◌, inl, inr, refl, sym, ap, ◌∙◌, subst, arith, append_assoc}
+use Rattle.std.specs.Prelude.{nat_eq, nat_le, ◌&&◌}
+use Rattle.std.proofs.lemmas.List.{append-nil}
+use Rattle.wire_model.specs.Xdr.{word, IsAny}
 use Rattle.wire_model.specs.OneReading.{ReadsOne, IsFront, HasNoFront}
-use Rattle.wire_model.proofs.OneReading.{◌▷◌, of_parts, one_word}
+use Rattle.wire_model.proofs.OneReading.{of_parts, one_word}
 use Rattle.nfs_model.specs.declared.arguments.Args.{Args}
 use Rattle.nfs_model.specs.declared.arguments.Args.TheVariants as call
-use Rattle.nfs_model.specs.declared.arguments.SetWhat.{SetWhat}
 use Rattle.nfs_model.specs.declared.arguments.How.TheVariants.{Exclusive}
 use Rattle.nfs_model.specs.declared.arguments.Node.TheVariants.{Plain}
 use Rattle.nfs_model.specs.declared.replies.NfsStatus.{NfsStatus}
@@ -19,8 +18,8 @@ use Rattle.nfs_model.specs.declared.replies.Reply.{Reply}
 use Rattle.nfs_model.specs.declared.replies.Reply.TheVariants as reply
 use Rattle.nfs_model.specs.Arguments.{nfs_program, mount_program, program_of, procedure_of, only_mode}
 use Rattle.nfs_model.specs.Results.{status_number, tail, result}
-use Rattle.nfs_model.specs.Replies.{IsTail, ReplyFits, IsReplyTo, tail_form, result_form, tail_form_of, result_form_of}
-use Rattle.nfs_model.proofs.OneReplies.{one_status, status_fits, is_no_ok, statuses_apart, begins_zero, one_fattr, one_wcc, one_post_attributes}
+use Rattle.nfs_model.specs.Replies.{IsTail, IsReplyTo, tail_form, result_form, tail_form_of, result_form_of}
+use Rattle.nfs_model.proofs.OneReplies.{status_fits, is_no_ok, statuses_apart, begins_zero, one_fattr, one_wcc, one_post_attributes}
 use Rattle.std.proofs.lemmas.Bool.{eqb-true, leb-true}
 use Rattle.xdr_codec.specs.Reading.{EndFault}
 use Rattle.xdr_codec.specs.declared.fault.XdrFault.{XdrFault}
@@ -28,7 +27,7 @@ use Rattle.xdr_codec.specs.declared.fault.XdrFault.TheVariants as xdr
 use Rattle.nfs3_replies.specs.declared.fault.ReplyFault.{ReplyFault}
 use Rattle.nfs3_replies.specs.declared.fault.ReplyFault.TheVariants.{Garbage, Memory}
 use Rattle.nfs3_replies.specs.Reading.{IsProcedure, IsReply, NoReply}
-use Rattle.nfs3_replies.specs.ReadParts.{Refuses, AreTwoCaches, two_caches, AreAttributesAndCache, attributes_and_cache, IsOptional, status_or_ok, IsDone, after_status, IsTailOf, IsOfForms, IsAnswer, tail_form_at, result_form_at, mount_form_at, tail_form_for, result_form_for}
+use Rattle.nfs3_replies.specs.ReadParts.{Refuses, AreTwoCaches, two_caches, AreAttributesAndCache, attributes_and_cache, status_or_ok, IsDone, after_status, IsTailOf, IsOfForms, IsAnswer, tail_form_at, result_form_at, tail_form_for, result_form_for}
 use Rattle.nfs3_replies.proofs.Made.{MadeOf, Made, one_made}
 use Rattle.nfs3_replies.proofs.ReadForms.{one_attributes_and_cache, one_two_caches, one_found, one_allowed, one_link_text, one_content, one_written, one_committed, one_made_object, one_numbered, made_attributes, made_changed, made_found, made_allowed, made_text, made_content, made_written, made_object, made_renamed, made_linked, space_words, made_space, limits_words, made_limits, paths_words, made_paths, made_committed}
 use Rattle.nfs3_replies.proofs.ReadPages.{one_directory, made_directory, made_directory_plus}

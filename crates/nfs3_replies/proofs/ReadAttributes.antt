@@ -1,19 +1,16 @@
 -- Attributes and cache data are read part by part.
-use Rattle.std.proofs.Common.{◌≡◌, ℕ, List, [], ◌∷◌, ◌++◌, Option, refl}
-use Rattle.ivy_base.specs.declared.operation.Kind.{Kind}
-use Rattle.ivy_base.specs.declared.operation.Moment.{Moment}
+use Rattle.std.proofs.Common.{ℕ, List, [], ◌∷◌, ◌++◌, Option, refl}
 use Rattle.wire_model.specs.Xdr.{optional, IsAny}
 use Rattle.wire_model.specs.OneReading.{ReadsOne, IsFront, HasNoFront}
-use Rattle.wire_model.proofs.OneReading.{◌▷◌, one_word, one_double_word, one_moment, one_optional}
+use Rattle.wire_model.proofs.OneReading.{◌▷◌, one_word, one_double_word, one_optional}
 use Rattle.wire_model.proofs.Fronts.{both, no_first, no_second}
 use Rattle.nfs_model.specs.declared.replies.Fattr.{Fattr}
-use Rattle.nfs_model.specs.declared.replies.Wcc.{Wcc}
 use Rattle.nfs_model.specs.declared.replies.WccBefore.{WccBefore}
 use Rattle.nfs_model.specs.Results.{fattr, before, wcc}
 use Rattle.nfs_model.specs.Replies.{IsFattr, IsBefore, IsWcc}
-use Rattle.nfs_model.proofs.OneReplies.{one_kind, one_before, one_post_attributes}
-use Rattle.nfs3_replies.specs.ReadParts.{constant, kind_word, IsOptional, Start, IsStart, start, AreWords, words, AreDoubleWords, double_words, Numbers, AreNumbers, numbers, Times, AreTimes, times}
-use Rattle.nfs3_replies.proofs.Made.{MadeOf, Made, made_front, none_made}
+use Rattle.nfs_model.proofs.OneReplies.{one_kind, one_before}
+use Rattle.nfs3_replies.specs.ReadParts.{constant, IsOptional, Start, IsStart, start, AreWords, words, AreDoubleWords, double_words, Numbers, AreNumbers, numbers, Times, AreTimes, times}
+use Rattle.nfs3_replies.proofs.Made.{Made, made_front, none_made}
 use Rattle.nfs3_replies.proofs.ReadConstants.{one_constant}
 
 one_start : ReadsOne IsStart start

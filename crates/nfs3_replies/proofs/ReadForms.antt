@@ -1,5 +1,5 @@
 -- Results after status 0 are read part by part.
-use Rattle.std.proofs.Common.{◌≡◌, ℕ, ◌^◌, Bool, true, false, List, [], ◌∷◌, ◌++◌, Option, Some, None, refl, sym, ap, ◌∙◌, arith, append_assoc}
+use Rattle.std.proofs.Common.{ℕ, ◌^◌, Bool, true, List, [], ◌∷◌, ◌++◌, Option, refl, ap, ◌∙◌, arith, append_assoc}
 use Rattle.wire_model.specs.Xdr.{word, double_word, boolean, opaque, optional, IsWord, IsAny, IsUpTo}
 use Rattle.wire_model.specs.OneReading.{ReadsOne, IsFront, HasNoFront}
 use Rattle.wire_model.proofs.OneReading.{◌▷◌, one_word, one_boolean}
@@ -12,7 +12,7 @@ use Rattle.nfs_model.specs.Arguments.{IsHandle}
 use Rattle.nfs_model.specs.Results.{fattr, wcc, many, write_verifier}
 use Rattle.nfs_model.specs.Replies.{IsFattr, IsWcc, IsText}
 use Rattle.nfs_model.proofs.OneArguments.{one_handle}
-use Rattle.nfs_model.proofs.OneReplies.{one_fattr, one_wcc, one_post_attributes, one_text}
+use Rattle.nfs_model.proofs.OneReplies.{one_wcc, one_post_attributes, one_text}
 use Rattle.nfs3_replies.specs.ReadParts.{constant, IsOptional, AreAttributesAndCache, attributes_and_cache, AreTwoCaches, two_caches, given_handle, Found, IsFound, found, IsAllowedParts, allowed_parts, IsLinkText, link_text, Content, IsContent, content, IsWrittenParts, written_parts, IsCommittedParts, committed_parts, MadeObject, IsMade, made, IsNumbered, numbered, IsDone, after_status}
 use Rattle.nfs3_replies.proofs.Made.{MadeOf, Made}
 use Rattle.nfs3_replies.proofs.ReadConstants.{one_constant}

@@ -1,9 +1,9 @@
 -- Results of MOUNT are read.
-use Rattle.std.proofs.Common.{◌≡◌, ◌≢◌, ℕ, zero, suc, ◌+◌, ◌<◌, List, [], ◌∷◌, ◌++◌, get_or, length, refl, sym, ap, ◌∙◌, subst, arith}
+use Rattle.std.proofs.Common.{◌≡◌, ℕ, zero, suc, ◌<◌, List, [], ◌∷◌, ◌++◌, refl, sym, ap, ◌∙◌, arith}
 use Rattle.wire_model.specs.Xdr.{word, opaque, IsWord, IsAny}
 use Rattle.wire_model.specs.OneReading.{ReadsOne, IsFront, HasNoFront}
 use Rattle.wire_model.proofs.OneReading.{◌▷◌, one_word, always}
-use Rattle.wire_model.proofs.Fronts.{both, no_first, no_second}
+use Rattle.wire_model.proofs.Fronts.{no_first, no_second}
 use Rattle.nfs_model.specs.declared.replies.Reply.{Reply}
 use Rattle.nfs_model.specs.declared.replies.Reply.TheVariants as reply
 use Rattle.nfs_model.specs.Arguments.{IsHandle}

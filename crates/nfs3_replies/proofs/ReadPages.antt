@@ -1,22 +1,21 @@
 -- Pages are read entry by entry.
-use Rattle.std.proofs.Common.{◌≡◌, ℕ, ◌+◌, ◌<◌, ◌^◌, Bool, true, false, List, [], ◌∷◌, ◌++◌, length, Option, Some, None, refl, sym, ap, ◌∙◌, arith, append_assoc, length-append}
+use Rattle.std.proofs.Common.{◌≡◌, ℕ, Bool, true, false, List, [], ◌∷◌, ◌++◌, length, Option, Some, None, refl, sym, ap, ◌∙◌, arith, append_assoc}
 use Rattle.std.specs.List.{flat_map, AllByRecursion}
-use Rattle.std.proofs.lemmas.List.{append-nil, append_cancel_left}
+use Rattle.std.proofs.lemmas.List.{append-nil}
 use Rattle.wire_model.specs.Xdr.{word, double_word, boolean, opaque, optional, fixed, IsDoubleWord, IsAny, IsOfLength, IsUpTo}
 use Rattle.wire_model.specs.OneReading.{ReadsOne, IsFront, HasNoFront}
 use Rattle.wire_model.proofs.OneReading.{◌▷◌, always, regrouped, one_double_word, one_boolean}
 use Rattle.wire_model.proofs.Fronts.{both, no_first, no_second}
-use Rattle.wire_model.proofs.Arrays.{no_items, more_items}
 use Rattle.nfs_model.specs.declared.replies.Fattr.{Fattr}
 use Rattle.nfs_model.specs.declared.replies.Listed.{Listed}
 use Rattle.nfs_model.specs.declared.replies.Reply.{Reply}
 use Rattle.nfs_model.specs.declared.replies.Reply.TheVariants as reply
 use Rattle.nfs_model.specs.Arguments.{IsHandle, IsVerifier}
 use Rattle.nfs_model.specs.Results.{fattr}
-use Rattle.nfs_model.specs.Replies.{IsFattr, IsText, IsPlainEntry, IsPlusEntry}
+use Rattle.nfs_model.specs.Replies.{IsText, IsPlainEntry, IsPlusEntry}
 use Rattle.nfs_model.proofs.OneArguments.{one_verifier}
 use Rattle.nfs_model.proofs.OneReplies.{one_text, one_post_attributes, one_plain, one_plus, one_page}
-use Rattle.nfs3_replies.specs.ReadParts.{IsOptional, given_handle, as_it_stands, EntryParts, AreEntryParts, entry_parts, ArePlusParts, plus_parts, IsEntry, entry_body, flagged_entry, ArePage, page_bytes, IsPageHead, page_head, IsDone, after_status}
+use Rattle.nfs3_replies.specs.ReadParts.{given_handle, as_it_stands, EntryParts, AreEntryParts, entry_parts, ArePlusParts, plus_parts, IsEntry, entry_body, flagged_entry, ArePage, page_bytes, IsPageHead, page_head, IsDone, after_status}
 use Rattle.nfs3_replies.proofs.Made.{MadeOf, Made}
 use Rattle.nfs3_replies.proofs.ReadForms.{long_text}
 

@@ -1,6 +1,6 @@
 -- What is read can be written again.
 use Rattle.std.proofs.Common.{◌≡◌, ℕ, List, [], ◌∷◌, Option, Some, None, arith}
-use Rattle.std.specs.Prelude.{IfSome, IsSomeAnd}
+use Rattle.std.specs.Prelude.{IsSomeAnd}
 use Rattle.std.specs.List.{All, AllByRecursion}
 use Rattle.std.proofs.lemmas.List.Elements.{All-nil, All-cons}
 use Rattle.nfs_model.specs.declared.replies.Listed.{Listed}
@@ -8,7 +8,7 @@ use Rattle.nfs_model.specs.declared.replies.Reply.{Reply}
 use Rattle.nfs_model.specs.declared.replies.Reply.TheVariants as reply
 use Rattle.nfs_model.specs.Arguments.{IsHandle}
 use Rattle.nfs_model.specs.Replies.{IsPlainEntry, IsPlusEntry, ReplyFits}
-use Rattle.nfs3_replies.specs.Writable.{IsShort, IsShortHandle, IsWritableEntry, IsWritable}
+use Rattle.nfs3_replies.specs.Writable.{IsShortHandle, IsWritableEntry, IsWritable}
 
 no_handle : (h : Option (List ℕ)) → h ≡ None → IsShortHandle h
 no_handle None e = tt

@@ -14,7 +14,7 @@ use Rattle.nfs_model.specs.declared.replies.Tail.{Tail}
 use Rattle.nfs_model.specs.declared.replies.Reply.{Reply}
 use Rattle.nfs_model.specs.declared.replies.Reply.TheVariants as reply
 use Rattle.nfs_model.specs.Arguments.{IsHandle, IsVerifier, mount_program}
-use Rattle.nfs_model.specs.Results.{status_number, fattr, wcc, result, listed_entry, listed_entry_plus, many}
+use Rattle.nfs_model.specs.Results.{status_number, fattr, wcc, result, many}
 use Rattle.nfs_model.specs.Replies.{IsFattr, IsWcc, IsTail, IsText, IsPlainEntry, IsPlusEntry, ReplyFits, tail_form, result_form}
 use Rattle.nfs3_replies.specs.declared.fault.ReplyFault.{ReplyFault}
 use Rattle.nfs3_replies.specs.declared.fault.ReplyFault.TheVariants.{Garbage, Memory}

@@ -2,8 +2,8 @@ use Rattle.wire_model.proofs.Dependent.{on_err}
 use Rattle.std.proofs.Common.{Bool, subst}
 use Rattle.wire_model.specs.Xdr.{boolean, IsAny}
 use Rattle.wire_model.specs.OneReading.{IsFront}
-use Rattle.nfs_model.specs.Results.{fattr, before}
-use Rattle.nfs_model.specs.Replies.{IsFattr, IsBefore}
+use Rattle.nfs_model.specs.Results.{fattr}
+use Rattle.nfs_model.specs.Replies.{IsFattr}
 use Rattle.nfs3_replies.proofs.Made.{no_item}
 use Rattle.nfs3_replies.proofs.attributes_reading.read_optional_fattr.Goals as goal
 
