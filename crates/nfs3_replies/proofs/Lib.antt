@@ -1,1 +1,9 @@
 mod Entries
+mod Made
+mod ReadConstants
+mod ReadAttributes
+mod ReadForms
+mod ReadPages
+mod ReadMounts
+mod ReadAnswers
+mod ReadWritable

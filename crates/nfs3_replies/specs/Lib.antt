@@ -1,2 +1,4 @@
 pub mod Room
 pub mod Writable
+pub mod Reading
+pub mod ReadParts

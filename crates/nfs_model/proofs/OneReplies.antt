@@ -40,7 +40,7 @@ kinds_apart Dir Dir e = refl
 kinds_apart Lnk Lnk e = refl
 kinds_apart k l e = absurd (omega (arith, e))
 
-one_kind : ReadsOne (λ (k : Kind). ⊤) (λ k. word (kind_number k))
+pub one_kind : ReadsOne (λ (k : Kind). ⊤) (λ k. word (kind_number k))
 one_kind = of_parts kind_number (λ k f. kind_fits k) (λ k. refl) kinds_apart one_word
 
 abbrev Times : Type 0
@@ -88,12 +88,12 @@ one_wcc = of_parts (λ (w : Wcc). (w.before, w.after)) (λ w f. (f.before, f.aft
 pub one_post_attributes : ReadsOne (λ a. IfSome a IsFattr) (optional fattr)
 one_post_attributes = one_optional one_fattr
 
-one_text : ReadsOne IsText opaque
+pub one_text : ReadsOne IsText opaque
 one_text = one_opaque
 
 -- ---- statuses and what stands after them
 
-status_fits : (s : NfsStatus) → status_number s < 2 ^ 32
+pub status_fits : (s : NfsStatus) → status_number s < 2 ^ 32
 status_fits status.Perm = omega arith
 status_fits status.NoEnt = omega arith
 status_fits status.Io = omega arith
@@ -116,7 +116,7 @@ status_fits status.TooSmall = omega arith
 status_fits status.ServerFault = omega arith
 status_fits status.Jukebox = omega arith
 
-is_no_ok : (s : NfsStatus) → status_number s ≡ 0 → ⊥
+pub is_no_ok : (s : NfsStatus) → status_number s ≡ 0 → ⊥
 is_no_ok status.Perm e = absurd (omega (arith, e))
 is_no_ok status.NoEnt e = absurd (omega (arith, e))
 is_no_ok status.Io e = absurd (omega (arith, e))
@@ -139,7 +139,7 @@ is_no_ok status.TooSmall e = absurd (omega (arith, e))
 is_no_ok status.ServerFault e = absurd (omega (arith, e))
 is_no_ok status.Jukebox e = absurd (omega (arith, e))
 
-statuses_apart : (s t : NfsStatus) → status_number s ≡ status_number t → s ≡ t
+pub statuses_apart : (s t : NfsStatus) → status_number s ≡ status_number t → s ≡ t
 statuses_apart status.Perm status.Perm e = refl
 statuses_apart status.NoEnt status.NoEnt e = refl
 statuses_apart status.Io status.Io e = refl
@@ -186,10 +186,10 @@ one_refusal s s2 t t2 p f g e = let q = one_status.one s s2 (tail t) (tail t2) t
 -- ---- pages
 
 -- entries, each behind a one, and a zero at their end
-abbrev flagged : (Listed → List ℕ) → Listed → List ℕ
+abbrev pub flagged : (Listed → List ℕ) → Listed → List ℕ
 flagged body e = word 1 ++ body e
 
-abbrev entries : (Listed → List ℕ) → List Listed → List ℕ
+abbrev pub entries : (Listed → List ℕ) → List Listed → List ℕ
 entries body es = flat_map (flagged body) es ++ word 0
 
 module _ (Fits : Listed → Type 0) (body : Listed → List ℕ) (reads : ReadsOne Fits body) where
@@ -209,10 +209,10 @@ module _ (Fits : Listed → Type 0) (body : Listed → List ℕ) (reads : ReadsO
       joined : (x y : Listed) (xs ys : List Listed) → x ≡ y → xs ≡ ys → x ∷ xs ≡ y ∷ ys
       joined x y xs ys p q = rw (p, q) refl
 
-  one_page : ReadsOne (AllByRecursion Fits) (entries body)
+  pub one_page : ReadsOne (AllByRecursion Fits) (entries body)
   one_page = record { one = entries_from }
 
-abbrev plain_body : Listed → List ℕ
+abbrev pub plain_body : Listed → List ℕ
 plain_body e = double_word e.fileid ++ opaque e.name ++ double_word e.cookie
 
 abbrev Plain : Type 0
@@ -229,14 +229,14 @@ is_plain e f =
     ap (λ (a : Option Fattr). record { fileid = e.fileid; name = e.name; cookie = e.cookie; attributes = a; handle = e.handle }) f.no_attributes
     ∙ ap (λ (h : Option (List ℕ)). record { fileid = e.fileid; name = e.name; cookie = e.cookie; attributes = None; handle = h }) f.no_handle
 
-one_plain : ReadsOne IsPlainEntry plain_body
+pub one_plain : ReadsOne IsPlainEntry plain_body
 one_plain = record {
   one = λ x y r s f g e.
       let p = (one_double_word ▷ one_text ▷ one_double_word).one (plain_of x) (plain_of y) r s ((f.fileid, f.name), f.cookie) ((g.fileid, g.name), g.cookie) e in
       (is_plain x f ∙ ap with_plain p.0 ∙ sym (is_plain y g), p.1);
 }
 
-abbrev plus_body : Listed → List ℕ
+abbrev pub plus_body : Listed → List ℕ
 plus_body e = plain_body e ++ optional fattr e.attributes ++ optional opaque e.handle
 
 handle_fits : (o : Option (List ℕ)) → IsSomeAnd o IsHandle → IfSome o IsHandle
@@ -249,7 +249,7 @@ Plus = (Plain × Option Fattr) × Option (List ℕ)
 abbrev with_plus : Plus → Listed
 with_plus p = record { fileid = p.0.0.0.0; name = p.0.0.0.1; cookie = p.0.0.1; attributes = p.0.1; handle = p.1 }
 
-one_plus : ReadsOne IsPlusEntry plus_body
+pub one_plus : ReadsOne IsPlusEntry plus_body
 one_plus = of_parts (λ (e : Listed). ((plain_of e, e.attributes), e.handle))
     (λ e f. ((((f.fileid, f.name), f.cookie), f.attributes), handle_fits e.handle f.handle)) (λ e. refl) (λ d e p. ap with_plus p)
     (one_double_word ▷ one_text ▷ one_double_word ▷ one_post_attributes ▷ one_optional one_handle)
@@ -279,7 +279,7 @@ module _ (Fits : Listed → Type 0) (body : Listed → List ℕ) (reads : ReadsO
 -- ---- results
 
 -- a result that is no refusal begins with a zero
-begins_zero : (r : Reply) → 1 ≤ result_form r → result_form r ≤ 100 → result r ≡ word 0 ++ drop 4 (result r)
+pub begins_zero : (r : Reply) → 1 ≤ result_form r → result_form r ≤ 100 → result r ≡ word 0 ++ drop 4 (result r)
 begins_zero (reply.Attributes object) f g = refl
 begins_zero (reply.Changed cache) f g = refl
 begins_zero (reply.Found handle object dir) f g = refl
@@ -306,7 +306,7 @@ abbrev IsOfForms : ℕ → ℕ → Reply → Type 0
 IsOfForms a b (reply.Refused s t) = tail_form t ≡ a
 IsOfForms a b r = result_form r ≡ b
 
-tail_below : (t : Tail) → tail_form t < 5
+pub tail_below : (t : Tail) → tail_form t < 5
 tail_below tails.Empty = omega arith
 tail_below (tails.Attributes a) = omega arith
 tail_below (tails.Cache w) = omega arith

@@ -1,0 +1,9 @@
+use Rattle.wire_model.proofs.Dependent.{on_err}
+use Rattle.nfs3_replies.proofs.ReadForms.{no_committed_cache, no_write_verifier}
+use Rattle.nfs3_replies.proofs.forms_reading.read_committed_parts.Goals as goal
+
+pub returns-in_err-cache-clause-err : goal.returns-in_err-cache-clause-err
+returns-in_err-cache-clause-err c = on_err c.from_residual.result (no_committed_cache c.in_err-cache.ensures.err)
+
+pub returns-in_err-read_constant-clause-err : goal.returns-in_err-read_constant-clause-err
+returns-in_err-read_constant-clause-err c = on_err c.from_residual-in_err-read_constant.result (no_write_verifier c.in_ok-cache.ensures.ok c.in_err-read_constant.ensures.err)
