@@ -7,11 +7,15 @@
 //! is asked at most once and at most 512 asks are made, whatever is answered. Definitions: `specs/Machine.antt`.
 #![tactic(auto)]
 
+mod course;
+mod get_block;
 mod lookup;
 mod miss;
+mod round;
 #[cfg(test)]
 mod tests;
 
 pub use dht_ids::Want;
+pub use get_block::GetBlock;
 pub use lookup::Lookup;
 pub use miss::Miss;

@@ -1,0 +1,11 @@
+-- What a driver of a get or a put keeps: behind the trail that it was told so far the machine may be in its state. So
+-- it is at the start; `next` and `heard` keep it; and with the result the trail is a whole get or put.
+use Rattle.std.proofs.Common.{ℕ, List, [], None, refl}
+use Rattle.ivy_base.specs.declared.key.Key.{Key}
+use Rattle.dht_ids.specs.declared.ask.Ask.TheVariants as ask
+use Rattle.dht_ids.specs.declared.peer.Peer.{Peer}
+use Rattle.dhash_client.specs.GetBlock.{is_of_get, IsEnoughBlock, SumsBlock, BlockIsAfter, block_begun}
+use Rattle.dhash_client.proofs.Courses.{begins}
+
+pub block_begins : (key : Key) (r : ℕ) (entries : List Peer) → BlockIsAfter entries [] (block_begun key r entries)
+block_begins key r entries = begins (λ key. ask.Get key) is_of_get IsEnoughBlock (λ key. SumsBlock key None None) entries key r (λ h. h.1.1, refl)
