@@ -22,7 +22,7 @@ use Rattle.dhash_client.specs.GetBlock.{BlockState, is_of_get, block_in, EndsGet
 use Rattle.dhash_client.specs.declared.course.Step.TheVariants as step
 use Rattle.dhash_client.specs.declared.miss.Miss.{Miss}
 use Rattle.dhash_client.specs.declared.miss.Miss.TheVariants as miss
-use Rattle.dhash_client.proofs.Courses.{moved, looks_on, asks_on, hears_route, hears_owner, asks_over, owners_over, no_route_at}
+use Rattle.dhash_client.proofs.Courses.{looks_on, hears_route, hears_owner, asks_over, no_route_at, route_awaited, owner_awaited, owner_on, over_ends}
 
 -- nothing was found where a node is to be heard
 not_found : (found : Option (List ℕ)) (c : CourseState) (x : Peer × Ask) → block_awaited_at found c ≡ Some x → (found ≡ None) × (awaited (ask.Get c.look.key) c ≡ Some x)
@@ -47,6 +47,11 @@ gave_right : (key : Key) (wrong : Option Peer) (node : Peer) (heard : Answer) (b
 gave_right key wrong node heard bytes e right asks =
     (node, subst (λ l. IsAmong {X = Peer × List ℕ} (node, bytes) l) (sym (given_some block_in asks node heard bytes e)) (among-right (node, bytes) (given block_in asks) ((node, bytes) ∷ []) (inl refl)), right)
 
+-- the first node that gave something, behind one more
+pub giver_more : (l : List (Peer × List ℕ)) (w : Option Peer) (node : Peer) (bytes : List ℕ) → w ≡ first (nodes l) → or_node w node ≡ first (nodes (l ++ (node, bytes) ∷ []))
+giver_more l None node bytes e = sym (first_none (nodes l) node (sym e)) ∙ ap (λ m. first m) (sym (map-append (λ s. s.0) l ((node, bytes) ∷ [])))
+giver_more l (Some before) node bytes e = sym (first_some (nodes l) node before (sym e)) ∙ ap (λ m. first m) (sym (map-append (λ s. s.0) l ((node, bytes) ∷ [])))
+
 -- an owner gave other bytes
 gave_wrong : (key : Key) (found : Option (List ℕ)) (wrong : Option Peer) (node : Peer) (heard : Answer) (bytes : List ℕ) → found ≡ None → block_in heard ≡ Some bytes → (name bytes ≡ key → ⊥) → (asks : Told)
     → SumsBlock key found wrong asks → SumsBlock key found (or_node wrong node) (asks ++ (node, heard) ∷ [])
@@ -55,7 +60,7 @@ gave_wrong key found wrong node heard bytes none e bad asks sums =
     let more : given block_in (asks ++ (node, heard) ∷ []) ≡ given block_in asks ++ (node, bytes) ∷ [] = given_some block_in asks node heard bytes e in
     subst (λ f. SumsBlock key f (or_node wrong node) (asks ++ (node, heard) ∷ [])) (sym none) (
       (λ h. by_place now.0 h.0 h.1.0 (among-cases (h.1.0, h.0) (given block_in asks) ((node, bytes) ∷ []) (subst (λ l. IsAmong {X = Peer × List ℕ} (h.1.0, h.0) l) more h.1.1)) h.1.2),
-      by_first (given block_in asks) wrong now.1 ∙ ap (λ l. first (nodes l)) (sym more),
+      giver_more (given block_in asks) wrong node bytes now.1 ∙ ap (λ l. first (nodes l)) (sym more),
     )
   where
     by_place : (HasBlock block_in key asks → ⊥) → (b : List ℕ) (p : Peer) → IsAmong {X = Peer × List ℕ} (p, b) (given block_in asks) ⊎ IsAmong {X = Peer × List ℕ} (p, b) ((node, bytes) ∷ []) → name b ≡ key → ⊥
@@ -63,14 +68,10 @@ gave_wrong key found wrong node heard bytes none e bad asks sums =
     by_place before b p (inr (inl same)) right = bad (ap (λ s. name s.1) same ∙ right)
     by_place before b p (inr (inr h)) right = h
 
-    by_first : (l : List (Peer × List ℕ)) (w : Option Peer) → w ≡ first (nodes l) → or_node w node ≡ first (nodes (l ++ (node, bytes) ∷ []))
-    by_first l None e = sym (first_none (nodes l) node (sym e)) ∙ ap (λ m. first m) (sym (map-append (λ s. s.0) l ((node, bytes) ∷ [])))
-    by_first l (Some before) e = sym (first_some (nodes l) node before (sym e)) ∙ ap (λ m. first m) (sym (map-append (λ s. s.0) l ((node, bytes) ∷ [])))
-
 pub block_heard_route : (old new : CourseState) (found : Option (List ℕ)) (wrong : Option Peer) (heard : Answer) (counts : Bool) → Hears old new heard counts None
     → BlockHasHeard (record { course = old; found = found; wrong = wrong }) (record { course = new; found = found; wrong = wrong }) heard
-block_heard_route old new found wrong heard counts hears = λ entries trail node q w h.
-    hears_route (λ key. ask.Get key) is_of_get IsEnoughBlock (λ key. SumsBlock key found wrong) entries trail old new node q heard counts hears (not_found found old (node, q) w).1 h
+block_heard_route old new found wrong heard counts hears = ((hears.3.key, hears.2), λ entries trail node q w h.
+    hears_route (λ key. ask.Get key) is_of_get IsEnoughBlock (λ key. SumsBlock key found wrong) entries trail old new node q heard counts hears (not_found found old (node, q) w).1 h)
 
 takes_sums : (key : Key) (old new : BlockState) (owner : Peer) (heard : Answer) → old.found ≡ None → (given : Option (List ℕ)) → block_in heard ≡ given → BlockTakes key old new owner given → (asks : Told)
     → SumsBlock key old.found old.wrong asks → SumsBlock key new.found new.wrong (asks ++ (owner, heard) ∷ [])
@@ -85,14 +86,14 @@ takes_sums key old new owner heard none (Some bytes) e (inr bad) asks sums =
 pub block_heard_owner : (old new : CourseState) (found : Option (List ℕ)) (wrong : Option Peer) (last : BlockState) (owner : Peer) (heard answer : Answer) (counts : Bool) → Hears old new heard counts (Some (owner, answer)) → counts ≡ is_of_get heard
     → last.course ≡ new → BlockTakes new.look.key (record { course = new; found = found; wrong = wrong }) last owner (block_in answer)
     → BlockHasHeard (record { course = old; found = found; wrong = wrong }) last heard
-block_heard_owner old new found wrong last owner heard answer counts hears count same takes = λ entries trail node q w h.
+block_heard_owner old new found wrong last owner heard answer counts hears count same takes = ((ap (λ c. c.look.key) same ∙ ap (λ s. s.key) hears.1.look, ap (λ c. c.replicas) same ∙ hears.1.replicas), λ entries trail node q w h.
     let none : (found ≡ None) × (awaited (ask.Get old.look.key) old ≡ Some (node, q)) = not_found found old (node, q) w in
     let before : BlockState = record { course = new; found = found; wrong = wrong } in
     let takes : BlockTakes old.look.key before last owner (block_in heard) =
     subst (λ k. BlockTakes k before last owner (block_in heard)) (ap (λ s. s.key) hears.1.look) (subst (λ a. BlockTakes new.look.key before last owner (block_in a)) hears.0 takes) in
     subst (λ c. IsBehind (λ key. ask.Get key) is_of_get IsEnoughBlock (λ key. SumsBlock key last.found last.wrong) entries (trail ++ told node q heard) c.look.key c.replicas c.look c.asking) (sym same)
     (hears_owner (λ key. ask.Get key) is_of_get IsEnoughBlock (λ key. SumsBlock key found wrong) entries (λ key. SumsBlock key last.found last.wrong) trail old new node owner q heard counts hears.1 none.1 count
-    (goes_on old.look.key old.replicas found wrong none.0) (takes_sums old.look.key before last owner heard none.0 (block_in heard) refl takes) h)
+    (goes_on old.look.key old.replicas found wrong none.0) (takes_sums old.look.key before last owner heard none.0 (block_in heard) refl takes) h))
 
 -- the block was given, and is the result
 pub block_right : (c : CourseState) (bytes : List ℕ) (wrong : Option Peer) (entries : List Peer) (trail : List Heard) → BlockIsAfter entries trail (record { course = c; found = Some bytes; wrong = wrong }) → IsGetOfBlock c.look.key c.replicas entries trail (Ok bytes)
@@ -109,40 +110,19 @@ lost : (key : Key) (r : ℕ) (owners : List Peer) (asks : Told) (asked : List Pe
 lost key r owners asks asked e none None w made = (Missing asked, record { asks = made; ends = (none, (sym w, e)) }, refl)
 lost key r owners asks asked e none (Some node) w made = (Damaged node, record { asks = made; ends = (none, sym w) }, refl)
 
--- nobody else is asked, and the block wasn't given
-pub block_over : (old new : CourseState) (wrong : Option Peer) (entries : List Peer) (trail : List Heard) → Goes old new step.Over → BlockIsAfter entries trail (record { course = old; found = None; wrong = wrong })
-    → IsGetOfBlock old.look.key old.replicas entries trail (Err (miss_of new.look.key (asked_of new.asking) wrong))
-block_over old new wrong entries trail g h =
-    subst (λ key. IsGetOfBlock old.look.key old.replicas entries trail (Err (miss_of key (asked_of new.asking) wrong))) (sym g.1.key)
-    (subst (λ o. IsGetOfBlock old.look.key old.replicas entries trail (Err (miss_of old.look.key (asked_of o) wrong))) (sym g.1.asking)
-    (by_asks g.0 (owners_over old.replicas g.0 g.2)
-    (moved (λ key. ask.Get key) is_of_get IsEnoughBlock (λ key. SumsBlock key None wrong) entries trail new.look.key old.look.key new.replicas old.replicas new.look (Some g.0) (Some g.0) (sym g.1.key) (sym g.1.replicas) refl
-    (asks_on (λ key. ask.Get key) is_of_get IsEnoughBlock (λ key. SumsBlock key None wrong) entries trail old new g.0 g.1 h))))
-  where
-    by_asks : (a : Asking) → (old.replicas ≤ a.answered) ⊎ (a.rest ≡ []) → IsBehind (λ key. ask.Get key) is_of_get IsEnoughBlock (λ key. SumsBlock key None wrong) entries trail old.look.key old.replicas new.look (Some a)
-        → IsGetOfBlock old.look.key old.replicas entries trail (Err (miss_of old.look.key a.asked wrong))
-    by_asks a over h =
-        of_owners h.looks h.asks h.stage.found h.stage.owners h.told h.stage.looked h.stage.some
-        (lost old.look.key old.replicas h.stage.owners h.asks a.asked h.stage.asked h.sums.0 wrong h.sums.1 (asks_over (λ key. ask.Get key) is_of_get IsEnoughBlock (λ key. SumsBlock key None wrong) entries old.look.key old.replicas h.looks h.asks a h.stage
-        (⊎_elim (λ e. inl (inl (subst (λ n. old.replicas ≤ n) h.stage.answered e))) (λ e. inr e) over)))
-
 pub wants_route : (old new : CourseState) (found found2 : Option (List ℕ)) (wrong : Option Peer) (node : Peer) (key : Key) → found ≡ None → found2 ≡ None → key ≡ new.look.key → Goes old new (step.Route node)
     → BlockIsWanted (record { course = old; found = found; wrong = wrong }) (record { course = new; found = found2; wrong = wrong }) (want.Ask node (ask.Route key))
-wants_route old new found found2 wrong node key e e2 k l = (
-  subst (λ f. block_awaited_at f new ≡ Some (node, ask.Route key)) (sym e2) (subst (λ o. awaited_at (ask.Get new.look.key) new o ≡ Some (node, ask.Route key)) (sym l.after) (ap (λ w. option_map {U = Peer × Ask} (λ p. (p, ask.Route new.look.key)) w) l.waiting ∙ ap (λ k. Some (node, ask.Route k)) (sym k))),
-  λ entries trail h. subst (λ f. BlockIsAfter entries trail (record { course = new; found = f; wrong = wrong })) (e ∙ sym e2)
-      (looks_on (λ key. ask.Get key) is_of_get IsEnoughBlock (λ key. SumsBlock key found wrong) entries trail old new node l h),
-)
+wants_route old new found found2 wrong node key e e2 k l =
+    ((l.key, l.replicas), subst (λ f. block_awaited_at f new ≡ Some (node, ask.Route key)) (sym e2) (route_awaited (λ key. ask.Get key) is_of_get IsEnoughBlock (λ key. SumsBlock key found wrong) [] old new node key k l),
+    λ entries trail h. subst (λ f. BlockIsAfter entries trail (record { course = new; found = f; wrong = wrong })) (e ∙ sym e2)
+        (looks_on (λ key. ask.Get key) is_of_get IsEnoughBlock (λ key. SumsBlock key found wrong) entries trail old new node l h))
 
 pub wants_owner : (old new : CourseState) (found found2 : Option (List ℕ)) (wrong : Option Peer) (node : Peer) (key : Key) → found ≡ None → found2 ≡ None → key ≡ new.look.key → Goes old new (step.Owner node)
     → BlockIsWanted (record { course = old; found = found; wrong = wrong }) (record { course = new; found = found2; wrong = wrong }) (want.Ask node (ask.Get key))
-wants_owner old new found found2 wrong node key e e2 k g = (
-  subst (λ f. block_awaited_at f new ≡ Some (node, ask.Get key)) (sym e2) (subst (λ o. awaited_at (ask.Get new.look.key) new o ≡ Some (node, ask.Get key)) (sym g.1.asking)
-      (ap (λ w. option_map {U = Peer × Ask} (λ p. (p, ask.Get new.look.key)) w) (ap (λ r. next_owner r g.0) g.1.replicas ∙ g.2) ∙ ap (λ k. Some (node, ask.Get k)) (sym k))),
-  λ entries trail h. subst (λ f. BlockIsAfter entries trail (record { course = new; found = f; wrong = wrong })) (e ∙ sym e2)
-      (moved (λ key. ask.Get key) is_of_get IsEnoughBlock (λ key. SumsBlock key found wrong) entries trail new.look.key new.look.key new.replicas new.replicas new.look (Some g.0) new.asking refl refl g.1.asking
-      (asks_on (λ key. ask.Get key) is_of_get IsEnoughBlock (λ key. SumsBlock key found wrong) entries trail old new g.0 g.1 h)),
-)
+wants_owner old new found found2 wrong node key e e2 k g =
+    ((g.1.key, g.1.replicas), subst (λ f. block_awaited_at f new ≡ Some (node, ask.Get key)) (sym e2) (owner_awaited (λ key. ask.Get key) is_of_get IsEnoughBlock (λ key. SumsBlock key found wrong) [] old new node key k g),
+    λ entries trail h. subst (λ f. BlockIsAfter entries trail (record { course = new; found = f; wrong = wrong })) (e ∙ sym e2)
+        (owner_on (λ key. ask.Get key) is_of_get IsEnoughBlock (λ key. SumsBlock key found wrong) entries trail old new node g h))
 
 pub wants_nothing : (old new : CourseState) (found : Option (List ℕ)) (wrong : Option Peer) (last : BlockState) (key : Key) → key ≡ new.look.key → Goes old new step.NoRoute
     → BlockIsWanted (record { course = old; found = found; wrong = wrong }) last (want.Done (Err (miss.NoRoute key)))
@@ -154,7 +134,10 @@ pub wants_over : (old new : CourseState) (found : Option (List ℕ)) (wrong : Op
     → BlockIsWanted (record { course = old; found = found; wrong = wrong }) last (want.Done (Err given))
 wants_over old new found wrong last given e m g = λ entries trail h.
     subst (λ m. IsGetOfBlock old.look.key old.replicas entries trail (Err m)) (sym m)
-    (block_over old new wrong entries trail g (subst (λ f. BlockIsAfter entries trail (record { course = old; found = f; wrong = wrong })) e h))
+    (subst (λ key. IsGetOfBlock old.look.key old.replicas entries trail (Err (miss_of key (asked_of new.asking) wrong))) (sym g.1.key)
+    (over_ends (λ key. ask.Get key) is_of_get IsEnoughBlock (λ key. SumsBlock key None wrong) entries (EndsGet old.look.key old.replicas) trail old new (Err (miss_of old.look.key (asked_of new.asking) wrong)) g (λ asks few. inl few)
+    (λ a owners asks made is once asked sums. lost old.look.key old.replicas owners asks (asked_of new.asking) (ap (λ o. asked_of o) is ∙ asked) sums.0 wrong sums.1 made)
+    (subst (λ f. BlockIsAfter entries trail (record { course = old; found = f; wrong = wrong })) e h)))
 
 pub wants_bytes : (old : CourseState) (found : Option (List ℕ)) (wrong : Option Peer) (last : BlockState) (bytes : List ℕ) → found ≡ Some bytes → BlockIsWanted (record { course = old; found = found; wrong = wrong }) last (want.Done (Ok bytes))
 wants_bytes old found wrong last bytes e = λ entries trail h. block_right old bytes wrong entries trail (subst (λ f. BlockIsAfter entries trail (record { course = old; found = f; wrong = wrong })) e h)

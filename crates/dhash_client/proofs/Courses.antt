@@ -17,8 +17,9 @@ use Rattle.ring_model.specs.Gets.{AreFirsts, AreAsks, nodes, answered_in}
 use Rattle.ring_model.proofs.Gets.{answered_more}
 use Rattle.ring_model.proofs.Lists.{cons_head, some_same, none_some}
 use Rattle.dhash_client.specs.Machine.{State, Trail, Follow, FollowsAfter, HasHeard, fresh, outcome, route_in}
-use Rattle.dhash_client.specs.Course.{Told, told_all, routes, Asking, CourseState, next_owner, awaited, awaited_at, HasAsked, IsStage, IsBehind, IsOnCourse, IsAskingOf, Reaches, Looks, HearsOwner, Hears, begun, IsCourse}
-use Rattle.dhash_client.specs.Course.IsCourse.{no_route}
+use Rattle.dhash_client.specs.Course.{Told, told_all, routes, Asking, CourseState, next_owner, awaited, awaited_at, HasAsked, IsStage, IsBehind, IsOnCourse, IsAskingOf, Reaches, Looks, HearsOwner, Hears, Goes, begun, IsCourse}
+use Rattle.dhash_client.specs.Course.IsCourse.{no_route, of_owners}
+use Rattle.dhash_client.specs.declared.course.Step.TheVariants as step
 use Rattle.dhash_client.specs.declared.miss.Miss.{Miss}
 use Rattle.dhash_client.specs.declared.miss.Miss.TheVariants as miss
 use Rattle.dhash_client.proofs.Driven.{follows_both, is_look_up}
@@ -199,3 +200,43 @@ module _ (question : Key → Ask) (answers : Answer → Bool) (IsEnough : Key �
       by_stage h =
           no_route h.looks found (subst (λ l. trail ≡ told_all (ask.Route c.look.key) h.looks ++ told_all (question c.look.key) l) h.stage.0 h.told ∙ append-nil (told_all (ask.Route c.look.key) h.looks))
           (is_look_up c.look.key entries (routes h.looks) found c.look h.stage.1 follows) e refl
+
+  -- what is to be heard behind a step
+  pub route_awaited : (old new : CourseState) (node : Peer) (key : Key) → key ≡ new.look.key → Looks old new node → awaited (question new.look.key) new ≡ Some (node, ask.Route key)
+  route_awaited old new node key k l =
+      subst (λ o. awaited_at (question new.look.key) new o ≡ Some (node, ask.Route key)) (sym l.after)
+      (ap (λ w. option_map {U = Peer × Ask} (λ p. (p, ask.Route new.look.key)) w) l.waiting ∙ ap (λ k. Some (node, ask.Route k)) (sym k))
+
+  pub owner_awaited : (old new : CourseState) (node : Peer) (key : Key) → key ≡ new.look.key → Goes old new (step.Owner node) → awaited (question new.look.key) new ≡ Some (node, question key)
+  owner_awaited old new node key k g =
+      subst (λ o. awaited_at (question new.look.key) new o ≡ Some (node, question key)) (sym g.1.asking)
+      (ap (λ w. option_map {U = Peer × Ask} (λ p. (p, question new.look.key)) w) (ap (λ r. next_owner r g.0) g.1.replicas ∙ g.2) ∙ ap (λ k. Some (node, question k)) (sym k))
+
+  pub owner_on : (trail : List Heard) (old new : CourseState) (node : Peer) → Goes old new (step.Owner node) → IsOnCourse question answers IsEnough Sums entries trail old → IsOnCourse question answers IsEnough Sums entries trail new
+  owner_on trail old new node g h = moved trail new.look.key new.look.key new.replicas new.replicas new.look (Some g.0) new.asking refl refl g.1.asking (asks_on trail old new g.0 g.1 h)
+
+  asks_made : (key : Key) (r : ℕ) (looks asks : Told) (a : Asking) (h : HasAsked answers (IsEnough key r) key entries looks asks a) → IsEnough key r asks ⊎ (a.rest ≡ [])
+      → (made : AreAsks h.owners (IsEnough key r) asks) × (made.once ≡ a.asked ++ a.rest)
+  asks_made key r looks asks a h over =
+      (record {
+        once = a.asked ++ a.rest;
+        firsts = h.firsts;
+        order = sym h.asked ∙ sym (take_at a.asked a.rest (length asks) (ap (λ l. length l) h.asked ∙ length-map asks (λ s. s.0)));
+        needed = h.needed;
+        over = ⊎_elim (λ e. inl e) (λ e. inr (sym h.asked ∙ sym (ap (λ l. a.asked ++ l) e ∙ append-nil a.asked))) over;
+      }, refl)
+
+  -- nobody else is asked
+  pub over_ends : {T : Type 0} (Ends : List Peer → Told → Result T Miss → Type 0) (trail : List Heard) (old new : CourseState) (result : Result T Miss) → Goes old new step.Over
+      → ((asks : Told) → old.replicas ≤ answered_in answers asks → IsEnough old.look.key old.replicas asks)
+      → ((a : Asking) (owners : List Peer) (asks : Told) (made : AreAsks owners (IsEnough old.look.key old.replicas) asks) → new.asking ≡ Some a → made.once ≡ a.asked ++ a.rest → a.asked ≡ nodes asks → Sums old.look.key asks → Ends owners asks result)
+      → IsOnCourse question answers IsEnough Sums entries trail old → IsCourse old.look.key (question old.look.key) entries Ends trail result
+  over_ends Ends trail old new result g enough make h =
+      by_asks g.0 g.1.asking (owners_over old.replicas g.0 g.2)
+      (moved trail new.look.key old.look.key new.replicas old.replicas new.look (Some g.0) (Some g.0) (sym g.1.key) (sym g.1.replicas) refl (asks_on trail old new g.0 g.1 h))
+    where
+      by_asks : (a : Asking) → new.asking ≡ Some a → (old.replicas ≤ a.answered) ⊎ (a.rest ≡ []) → IsBehind question answers IsEnough Sums entries trail old.look.key old.replicas new.look (Some a) → IsCourse old.look.key (question old.look.key) entries Ends trail result
+      by_asks a is over h =
+          let made : (m : AreAsks h.stage.owners (IsEnough old.look.key old.replicas) h.asks) × (m.once ≡ a.asked ++ a.rest) =
+              asks_made old.look.key old.replicas h.looks h.asks a h.stage (⊎_elim (λ e. inl (enough h.asks (subst (λ n. old.replicas ≤ n) h.stage.answered e))) (λ e. inr e) over) in
+          of_owners h.looks h.asks h.stage.found h.stage.owners h.told h.stage.looked h.stage.some (make a h.stage.owners h.asks made.0 is made.1 h.stage.asked h.sums)

@@ -59,6 +59,10 @@ pub record CourseState : Type 0 where
 abbrev pub begun : Key → ℕ → List Peer → CourseState
 begun key r entries = record { look = fresh key entries; replicas = r; asking = None }
 
+-- the key and the number of answers are the same
+abbrev pub IsSameCourse : CourseState → CourseState → Type 0
+IsSameCourse old new = (new.look.key ≡ old.look.key) × (new.replicas ≡ old.replicas)
+
 -- the owner to be asked, while fewer than r have answered
 abbrev pub next_owner : ℕ → Asking → Option Peer
 next_owner r a = if nat_lt a.answered r then first a.rest else None
@@ -152,3 +156,12 @@ asked_of (Some a) = a.asked
 abbrev pub miss_of : Key → List Peer → Option Peer → Miss
 miss_of key asked None = miss.Missing key asked
 miss_of key asked (Some node) = miss.Damaged key node
+
+-- all owners were asked
+abbrev pub IsThrough : Option Asking → Type 0
+IsThrough None = ⊥
+IsThrough (Some a) = a.rest ≡ []
+
+-- of that many holders, r are enough, or one where all owners were asked
+abbrev pub AreHolders : CourseState → ℕ → Type 0
+AreHolders c holders = (c.replicas ≤ holders) ⊎ ((1 ≤ holders) × IsThrough c.asking)

@@ -12,7 +12,7 @@ use Rattle.dht_ids.specs.declared.ask.Want.{Want}
 use Rattle.dht_ids.specs.declared.ask.Want.TheVariants as want
 use Rattle.dht_ids.specs.declared.peer.Peer.{Peer}
 use Rattle.ring_model.specs.Gets.{Got, answered_in, first_giver, IsGiven, HasBlock, IsBlockGet}
-use Rattle.dhash_client.specs.Course.{Told, CourseState, IsCourse, IsOnCourse, begun, awaited, result_of}
+use Rattle.dhash_client.specs.Course.{Told, CourseState, IsCourse, IsOnCourse, IsSameCourse, begun, awaited, result_of}
 use Rattle.dhash_client.specs.declared.miss.Miss.{Miss}
 
 -- a get is answered by a block or by the word that there is none; anything else is silence
@@ -75,12 +75,12 @@ BlockIsAfter entries trail s = IsOnCourse (λ key. ask.Get key) is_of_get IsEnou
 
 -- what the machine wants: to ask a node, which is then to be heard, or nothing more, since its trail is a whole get
 abbrev pub BlockIsWanted : BlockState → BlockState → Want (Result (List ℕ) Miss) → Type 0
-BlockIsWanted old new (want.Ask node question) = (block_awaited new ≡ Some (node, question)) × ((entries : List Peer) (trail : List Heard) → BlockIsAfter entries trail old → BlockIsAfter entries trail new)
+BlockIsWanted old new (want.Ask node question) = IsSameCourse old.course new.course × (block_awaited new ≡ Some (node, question)) × ((entries : List Peer) (trail : List Heard) → BlockIsAfter entries trail old → BlockIsAfter entries trail new)
 BlockIsWanted old new (want.Done result) = (entries : List Peer) (trail : List Heard) → BlockIsAfter entries trail old → IsGetOfBlock old.course.look.key old.course.replicas entries trail result
 
 -- the node that was to be heard was heard: its ask and answer are the next of the trail
 abbrev pub BlockHasHeard : BlockState → BlockState → Answer → Type 0
-BlockHasHeard old new given = (entries : List Peer) (trail : List Heard) (node : Peer) (question : Ask) → block_awaited old ≡ Some (node, question) → BlockIsAfter entries trail old → BlockIsAfter entries (trail ++ told node question given) new
+BlockHasHeard old new given = IsSameCourse old.course new.course × ((entries : List Peer) (trail : List Heard) (node : Peer) (question : Ask) → block_awaited old ≡ Some (node, question) → BlockIsAfter entries trail old → BlockIsAfter entries (trail ++ told node question given) new)
 
 -- the node is the first, where there was none
 abbrev pub or_node : Option Peer → Peer → Option Peer

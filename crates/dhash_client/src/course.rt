@@ -1,8 +1,8 @@
 //! What gets and puts share: a look-up, and then asks of the owners that it found.
 
-ghost use Rattle.std.specs.Prelude.{◌≡◌, ◌≢◌, None, IfOk};
+ghost use Rattle.std.specs.Prelude.{◌≡◌, ◌≢◌, ◌<◌, ◌^◌, None, IfOk, MatchBool};
 ghost use Rattle.dht_ids.specs.declared.ask.Ask.TheVariants as ask;
-ghost use Rattle.dhash_client.specs.Course.{begun, awaited, asked_of, miss_of, Goes, Hears};
+ghost use Rattle.dhash_client.specs.Course.{begun, awaited, asked_of, miss_of, Goes, Hears, IsThrough, AreHolders};
 
 use crate::lookup::Lookup;
 use crate::miss::Miss;
@@ -110,6 +110,24 @@ impl Course {
         match &self.round {
             Some(round) => round.asked(alloc),
             None => Ok(Peers::of(Vec::new(alloc))),
+        }
+    }
+
+    /// Whether a put is acknowledged that so many owners hold.
+    pub(crate) fn are_holders(&self, holders: u32) -> bool
+        ensures word { self.entry.now.replicas < 2 ^ 32 }
+        ensures holders { MatchBool result (AreHolders self.entry.now holders) (AreHolders self.entry.now holders → ⊥) }
+    {
+        self.replicas <= holders || (holders > 0 && self.is_through())
+    }
+
+    /// Whether all owners were asked.
+    fn is_through(&self) -> bool
+        ensures { MatchBool result (IsThrough self.entry.now.asking) (IsThrough self.entry.now.asking → ⊥) }
+    {
+        match &self.round {
+            Some(round) => round.is_through(),
+            None => false,
         }
     }
 

@@ -9,13 +9,20 @@
 
 mod course;
 mod get_block;
+mod get_head;
 mod lookup;
 mod miss;
+mod put;
+mod put_block;
+mod put_head;
 mod round;
 #[cfg(test)]
 mod tests;
 
 pub use dht_ids::Want;
 pub use get_block::GetBlock;
+pub use get_head::GetHead;
 pub use lookup::Lookup;
 pub use miss::Miss;
+pub use put_block::PutBlock;
+pub use put_head::PutHead;

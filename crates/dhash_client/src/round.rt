@@ -1,6 +1,6 @@
 //! The owners of a key, asked in their order.
 
-ghost use Rattle.std.specs.Prelude.{◌≡◌, ◌≢◌, ◌+◌, [], ◌∷◌, ◌++◌, if◌then◌else◌, IfOk};
+ghost use Rattle.std.specs.Prelude.{◌≡◌, ◌≢◌, ◌+◌, [], ◌∷◌, ◌++◌, if◌then◌else◌, IfOk, MatchBool};
 ghost use Rattle.ring_model.specs.Gets.{AreFirsts};
 ghost use Rattle.dhash_client.specs.Course.{next_owner};
 
@@ -80,6 +80,13 @@ impl Round {
             self.answered += 1;
         }
         node
+    }
+
+    /// Whether all owners were asked.
+    pub(crate) fn is_through(&self) -> bool
+        ensures { MatchBool result (self.now.rest ≡ []) (self.now.rest ≡ [] → ⊥) }
+    {
+        self.at == self.owners.len()
     }
 
     /// A copy of the owners that were asked, in order. The error is want of memory.
