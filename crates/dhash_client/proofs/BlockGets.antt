@@ -22,7 +22,7 @@ use Rattle.dhash_client.specs.GetBlock.{BlockState, is_of_get, block_in, EndsGet
 use Rattle.dhash_client.specs.declared.course.Step.TheVariants as step
 use Rattle.dhash_client.specs.declared.miss.Miss.{Miss}
 use Rattle.dhash_client.specs.declared.miss.Miss.TheVariants as miss
-use Rattle.dhash_client.proofs.Courses.{looks_on, hears_route, hears_owner, asks_over, no_route_at, route_awaited, owner_awaited, owner_on, over_ends}
+use Rattle.dhash_client.proofs.Courses.{looks_on, hears_route, hears_owner, asks_made, no_route_at, route_awaited, owner_awaited, owner_on, over_ends}
 
 -- nothing was found where a node is to be heard
 not_found : (found : Option (List ℕ)) (c : CourseState) (x : Peer × Ask) → block_awaited_at found c ≡ Some x → (found ≡ None) × (awaited (ask.Get c.look.key) c ≡ Some x)
@@ -70,8 +70,11 @@ gave_wrong key found wrong node heard bytes none e bad asks sums =
 
 pub block_heard_route : (old new : CourseState) (found : Option (List ℕ)) (wrong : Option Peer) (heard : Answer) (counts : Bool) → Hears old new heard counts None
     → BlockHasHeard (record { course = old; found = found; wrong = wrong }) (record { course = new; found = found; wrong = wrong }) heard
-block_heard_route old new found wrong heard counts hears = ((hears.3.key, hears.2), λ entries trail node q w h.
-    hears_route (λ key. ask.Get key) is_of_get IsEnoughBlock (λ key. SumsBlock key found wrong) entries trail old new node q heard counts hears (not_found found old (node, q) w).1 h)
+block_heard_route old new found wrong heard counts hears = (
+  (hears.3.key, hears.2),
+  λ entries trail node q w h.
+      hears_route (λ key. ask.Get key) is_of_get IsEnoughBlock (λ key. SumsBlock key found wrong) entries trail old new node q heard counts hears (not_found found old (node, q) w).1 h,
+)
 
 takes_sums : (key : Key) (old new : BlockState) (owner : Peer) (heard : Answer) → old.found ≡ None → (given : Option (List ℕ)) → block_in heard ≡ given → BlockTakes key old new owner given → (asks : Told)
     → SumsBlock key old.found old.wrong asks → SumsBlock key new.found new.wrong (asks ++ (owner, heard) ∷ [])
@@ -86,14 +89,17 @@ takes_sums key old new owner heard none (Some bytes) e (inr bad) asks sums =
 pub block_heard_owner : (old new : CourseState) (found : Option (List ℕ)) (wrong : Option Peer) (last : BlockState) (owner : Peer) (heard answer : Answer) (counts : Bool) → Hears old new heard counts (Some (owner, answer)) → counts ≡ is_of_get heard
     → last.course ≡ new → BlockTakes new.look.key (record { course = new; found = found; wrong = wrong }) last owner (block_in answer)
     → BlockHasHeard (record { course = old; found = found; wrong = wrong }) last heard
-block_heard_owner old new found wrong last owner heard answer counts hears count same takes = ((ap (λ c. c.look.key) same ∙ ap (λ s. s.key) hears.1.look, ap (λ c. c.replicas) same ∙ hears.1.replicas), λ entries trail node q w h.
-    let none : (found ≡ None) × (awaited (ask.Get old.look.key) old ≡ Some (node, q)) = not_found found old (node, q) w in
-    let before : BlockState = record { course = new; found = found; wrong = wrong } in
-    let takes : BlockTakes old.look.key before last owner (block_in heard) =
-    subst (λ k. BlockTakes k before last owner (block_in heard)) (ap (λ s. s.key) hears.1.look) (subst (λ a. BlockTakes new.look.key before last owner (block_in a)) hears.0 takes) in
-    subst (λ c. IsBehind (λ key. ask.Get key) is_of_get IsEnoughBlock (λ key. SumsBlock key last.found last.wrong) entries (trail ++ told node q heard) c.look.key c.replicas c.look c.asking) (sym same)
-    (hears_owner (λ key. ask.Get key) is_of_get IsEnoughBlock (λ key. SumsBlock key found wrong) entries (λ key. SumsBlock key last.found last.wrong) trail old new node owner q heard counts hears.1 none.1 count
-    (goes_on old.look.key old.replicas found wrong none.0) (takes_sums old.look.key before last owner heard none.0 (block_in heard) refl takes) h))
+block_heard_owner old new found wrong last owner heard answer counts hears count same takes = (
+  (ap (λ c. c.look.key) same ∙ ap (λ s. s.key) hears.1.look, ap (λ c. c.replicas) same ∙ hears.1.replicas),
+  λ entries trail node q w h.
+      let none : (found ≡ None) × (awaited (ask.Get old.look.key) old ≡ Some (node, q)) = not_found found old (node, q) w in
+      let before : BlockState = record { course = new; found = found; wrong = wrong } in
+      let takes : BlockTakes old.look.key before last owner (block_in heard) =
+      subst (λ k. BlockTakes k before last owner (block_in heard)) (ap (λ s. s.key) hears.1.look) (subst (λ a. BlockTakes new.look.key before last owner (block_in a)) hears.0 takes) in
+      subst (λ c. IsBehind (λ key. ask.Get key) is_of_get IsEnoughBlock (λ key. SumsBlock key last.found last.wrong) entries (trail ++ told node q heard) c.look.key c.replicas c.look c.asking) (sym same)
+      (hears_owner (λ key. ask.Get key) is_of_get IsEnoughBlock (λ key. SumsBlock key found wrong) entries (λ key. SumsBlock key last.found last.wrong) trail old new node owner q heard counts hears.1 none.1 count
+      (goes_on old.look.key old.replicas found wrong none.0) (takes_sums old.look.key before last owner heard none.0 (block_in heard) refl takes) h),
+)
 
 -- the block was given, and is the result
 pub block_right : (c : CourseState) (bytes : List ℕ) (wrong : Option Peer) (entries : List Peer) (trail : List Heard) → BlockIsAfter entries trail (record { course = c; found = Some bytes; wrong = wrong }) → IsGetOfBlock c.look.key c.replicas entries trail (Ok bytes)
@@ -103,7 +109,7 @@ block_right c bytes wrong entries trail h = by_stage c.asking h
     by_stage None h = absurd (subst (λ l. IsGiven block_in c.look.key l bytes) h.stage.0 h.sums).1
     by_stage (Some a) h =
         of_owners h.looks h.asks h.stage.found h.stage.owners h.told h.stage.looked h.stage.some
-        (Right bytes, record { asks = asks_over (λ key. ask.Get key) is_of_get IsEnoughBlock (λ key. SumsBlock key (Some bytes) wrong) entries c.look.key c.replicas h.looks h.asks a h.stage (inl (inr (bytes, h.sums))); ends = h.sums }, refl)
+        (Right bytes, record { asks = (asks_made (λ key. ask.Get key) is_of_get IsEnoughBlock (λ key. SumsBlock key (Some bytes) wrong) entries c.look.key c.replicas h.looks h.asks a h.stage (inl (inr (bytes, h.sums)))).0; ends = h.sums }, refl)
 
 lost : (key : Key) (r : ℕ) (owners : List Peer) (asks : Told) (asked : List Peer) → asked ≡ nodes asks → (HasBlock block_in key asks → ⊥) → (wrong : Option Peer) → wrong ≡ first_giver block_in asks → AreAsks owners (IsEnoughBlock key r) asks
     → (got : Got Peer (List ℕ)) × IsBlockGet is_of_get block_in key r owners asks got × (Err (miss_of key asked wrong) ≡ result_of {B = List ℕ} key got)
@@ -112,17 +118,21 @@ lost key r owners asks asked e none (Some node) w made = (Damaged node, record {
 
 pub wants_route : (old new : CourseState) (found found2 : Option (List ℕ)) (wrong : Option Peer) (node : Peer) (key : Key) → found ≡ None → found2 ≡ None → key ≡ new.look.key → Goes old new (step.Route node)
     → BlockIsWanted (record { course = old; found = found; wrong = wrong }) (record { course = new; found = found2; wrong = wrong }) (want.Ask node (ask.Route key))
-wants_route old new found found2 wrong node key e e2 k l =
-    ((l.key, l.replicas), subst (λ f. block_awaited_at f new ≡ Some (node, ask.Route key)) (sym e2) (route_awaited (λ key. ask.Get key) is_of_get IsEnoughBlock (λ key. SumsBlock key found wrong) [] old new node key k l),
-    λ entries trail h. subst (λ f. BlockIsAfter entries trail (record { course = new; found = f; wrong = wrong })) (e ∙ sym e2)
-        (looks_on (λ key. ask.Get key) is_of_get IsEnoughBlock (λ key. SumsBlock key found wrong) entries trail old new node l h))
+wants_route old new found found2 wrong node key e e2 k l = (
+  (l.key, l.replicas),
+  subst (λ f. block_awaited_at f new ≡ Some (node, ask.Route key)) (sym e2) (route_awaited (λ key. ask.Get key) is_of_get IsEnoughBlock (λ key. SumsBlock key found wrong) [] old new node key k l),
+  λ entries trail h. subst (λ f. BlockIsAfter entries trail (record { course = new; found = f; wrong = wrong })) (e ∙ sym e2)
+      (looks_on (λ key. ask.Get key) is_of_get IsEnoughBlock (λ key. SumsBlock key found wrong) entries trail old new node l h),
+)
 
 pub wants_owner : (old new : CourseState) (found found2 : Option (List ℕ)) (wrong : Option Peer) (node : Peer) (key : Key) → found ≡ None → found2 ≡ None → key ≡ new.look.key → Goes old new (step.Owner node)
     → BlockIsWanted (record { course = old; found = found; wrong = wrong }) (record { course = new; found = found2; wrong = wrong }) (want.Ask node (ask.Get key))
-wants_owner old new found found2 wrong node key e e2 k g =
-    ((g.1.key, g.1.replicas), subst (λ f. block_awaited_at f new ≡ Some (node, ask.Get key)) (sym e2) (owner_awaited (λ key. ask.Get key) is_of_get IsEnoughBlock (λ key. SumsBlock key found wrong) [] old new node key k g),
-    λ entries trail h. subst (λ f. BlockIsAfter entries trail (record { course = new; found = f; wrong = wrong })) (e ∙ sym e2)
-        (owner_on (λ key. ask.Get key) is_of_get IsEnoughBlock (λ key. SumsBlock key found wrong) entries trail old new node g h))
+wants_owner old new found found2 wrong node key e e2 k g = (
+  (g.1.key, g.1.replicas),
+  subst (λ f. block_awaited_at f new ≡ Some (node, ask.Get key)) (sym e2) (owner_awaited (λ key. ask.Get key) is_of_get IsEnoughBlock (λ key. SumsBlock key found wrong) [] old new node key k g),
+  λ entries trail h. subst (λ f. BlockIsAfter entries trail (record { course = new; found = f; wrong = wrong })) (e ∙ sym e2)
+      (owner_on (λ key. ask.Get key) is_of_get IsEnoughBlock (λ key. SumsBlock key found wrong) entries trail old new node g h),
+)
 
 pub wants_nothing : (old new : CourseState) (found : Option (List ℕ)) (wrong : Option Peer) (last : BlockState) (key : Key) → key ≡ new.look.key → Goes old new step.NoRoute
     → BlockIsWanted (record { course = old; found = found; wrong = wrong }) last (want.Done (Err (miss.NoRoute key)))

@@ -180,17 +180,6 @@ module _ (question : Key → Ask) (answers : Answer → Bool) (IsEnough : Key �
       (hears_owner_at Sums2 trail old.replicas old.look new.look l.before l.after owner given l.turn l.asked (l.answered ∙ ap (λ b. l.before.answered + (if b then 1 else 0)) count) turn.0 goes_on sums
       (moved trail old.look.key old.look.key old.replicas old.replicas old.look old.asking (Some l.before) refl refl (sym l.was) h))))
 
-  -- the asks of owners, where nobody else is asked
-  pub asks_over : (key : Key) (r : ℕ) (looks asks : Told) (a : Asking) (h : HasAsked answers (IsEnough key r) key entries looks asks a) → IsEnough key r asks ⊎ (a.rest ≡ []) → AreAsks h.owners (IsEnough key r) asks
-  asks_over key r looks asks a h over =
-      record {
-        once = a.asked ++ a.rest;
-        firsts = h.firsts;
-        order = sym h.asked ∙ sym (take_at a.asked a.rest (length asks) (ap (λ l. length l) h.asked ∙ length-map asks (λ s. s.0)));
-        needed = h.needed;
-        over = ⊎_elim (λ e. inl e) (λ e. inr (sym h.asked ∙ sym (ap (λ l. a.asked ++ l) e ∙ append-nil a.asked))) over;
-      }
-
   -- no owner was found
   pub no_route_at : {T : Type 0} (Ends : List Peer → Told → Result T Miss → Type 0) (trail : List Heard) (c : CourseState) (found : Option (List Peer)) → c.asking ≡ None → Follow c.look [] found → outcome c.look.key found ≡ Err (miss.NoRoute c.look.key)
       → IsOnCourse question answers IsEnough Sums entries trail c → IsCourse c.look.key (question c.look.key) entries Ends trail (Err (miss.NoRoute c.look.key))
@@ -215,16 +204,19 @@ module _ (question : Key → Ask) (answers : Answer → Bool) (IsEnough : Key �
   pub owner_on : (trail : List Heard) (old new : CourseState) (node : Peer) → Goes old new (step.Owner node) → IsOnCourse question answers IsEnough Sums entries trail old → IsOnCourse question answers IsEnough Sums entries trail new
   owner_on trail old new node g h = moved trail new.look.key new.look.key new.replicas new.replicas new.look (Some g.0) new.asking refl refl g.1.asking (asks_on trail old new g.0 g.1 h)
 
-  asks_made : (key : Key) (r : ℕ) (looks asks : Told) (a : Asking) (h : HasAsked answers (IsEnough key r) key entries looks asks a) → IsEnough key r asks ⊎ (a.rest ≡ [])
+  -- the asks of owners, where nobody else is asked
+  pub asks_made : (key : Key) (r : ℕ) (looks asks : Told) (a : Asking) (h : HasAsked answers (IsEnough key r) key entries looks asks a) → IsEnough key r asks ⊎ (a.rest ≡ [])
       → (made : AreAsks h.owners (IsEnough key r) asks) × (made.once ≡ a.asked ++ a.rest)
-  asks_made key r looks asks a h over =
-      (record {
-        once = a.asked ++ a.rest;
-        firsts = h.firsts;
-        order = sym h.asked ∙ sym (take_at a.asked a.rest (length asks) (ap (λ l. length l) h.asked ∙ length-map asks (λ s. s.0)));
-        needed = h.needed;
-        over = ⊎_elim (λ e. inl e) (λ e. inr (sym h.asked ∙ sym (ap (λ l. a.asked ++ l) e ∙ append-nil a.asked))) over;
-      }, refl)
+  asks_made key r looks asks a h over = (
+    record {
+      once = a.asked ++ a.rest;
+      firsts = h.firsts;
+      order = sym h.asked ∙ sym (take_at a.asked a.rest (length asks) (ap (λ l. length l) h.asked ∙ length-map asks (λ s. s.0)));
+      needed = h.needed;
+      over = ⊎_elim (λ e. inl e) (λ e. inr (sym h.asked ∙ sym (ap (λ l. a.asked ++ l) e ∙ append-nil a.asked))) over;
+    },
+    refl,
+  )
 
   -- nobody else is asked
   pub over_ends : {T : Type 0} (Ends : List Peer → Told → Result T Miss → Type 0) (trail : List Heard) (old new : CourseState) (result : Result T Miss) → Goes old new step.Over
@@ -238,5 +230,5 @@ module _ (question : Key → Ask) (answers : Answer → Bool) (IsEnough : Key �
       by_asks : (a : Asking) → new.asking ≡ Some a → (old.replicas ≤ a.answered) ⊎ (a.rest ≡ []) → IsBehind question answers IsEnough Sums entries trail old.look.key old.replicas new.look (Some a) → IsCourse old.look.key (question old.look.key) entries Ends trail result
       by_asks a is over h =
           let made : (m : AreAsks h.stage.owners (IsEnough old.look.key old.replicas) h.asks) × (m.once ≡ a.asked ++ a.rest) =
-              asks_made old.look.key old.replicas h.looks h.asks a h.stage (⊎_elim (λ e. inl (enough h.asks (subst (λ n. old.replicas ≤ n) h.stage.answered e))) (λ e. inr e) over) in
+          asks_made old.look.key old.replicas h.looks h.asks a h.stage (⊎_elim (λ e. inl (enough h.asks (subst (λ n. old.replicas ≤ n) h.stage.answered e))) (λ e. inr e) over) in
           of_owners h.looks h.asks h.stage.found h.stage.owners h.told h.stage.looked h.stage.some (make a h.stage.owners h.asks made.0 is made.1 h.stage.asked h.sums)

@@ -36,12 +36,14 @@ not_empty (h ∷ heads) head e = nil_cons h (heads ++ head ∷ []) (sym e)
 
 takes_judged : {J : Type 0} (judges : Judges J) (key : Key) (old new : HeadState J) (owner : Peer) (heard : Answer) (bytes : List ℕ) → block_in heard ≡ Some bytes → (said : Option Judged) → judges old.judge key bytes ≡ said
     → TakesJudged old new owner said → (asks : Told) → SumsHead (judges old.judge key) old.heads old.wrong asks → SumsHead (judges old.judge key) new.heads new.wrong (asks ++ (owner, heard) ∷ [])
-takes_judged judges key old new owner heard bytes e None said t asks sums =
-    (t.0 ∙ sums.0 ∙ sym (judged_more (judges old.judge key) asks owner heard bytes e ∙ ap (λ o. judged block_in (judges old.judge key) asks ++ cons_option o []) said ∙ append-nil (judged block_in (judges old.judge key) asks)),
-    λ none. t.1 ∙ giver_more (given block_in asks) old.wrong owner bytes (sums.1 (sym t.0 ∙ none)) ∙ ap (λ l. first (nodes l)) (sym (given_some block_in asks owner heard bytes e)))
-takes_judged judges key old new owner heard bytes e (Some head) said t asks sums =
-    (t ∙ ap (λ l. l ++ head ∷ []) sums.0 ∙ sym (judged_more (judges old.judge key) asks owner heard bytes e ∙ ap (λ o. judged block_in (judges old.judge key) asks ++ cons_option o []) said),
-    λ none. absurd (not_empty old.heads head (sym t ∙ none)))
+takes_judged judges key old new owner heard bytes e None said t asks sums = (
+  t.0 ∙ sums.0 ∙ sym (judged_more (judges old.judge key) asks owner heard bytes e ∙ ap (λ o. judged block_in (judges old.judge key) asks ++ cons_option o []) said ∙ append-nil (judged block_in (judges old.judge key) asks)),
+  λ none. t.1 ∙ giver_more (given block_in asks) old.wrong owner bytes (sums.1 (sym t.0 ∙ none)) ∙ ap (λ l. first (nodes l)) (sym (given_some block_in asks owner heard bytes e)),
+)
+takes_judged judges key old new owner heard bytes e (Some head) said t asks sums = (
+  t ∙ ap (λ l. l ++ head ∷ []) sums.0 ∙ sym (judged_more (judges old.judge key) asks owner heard bytes e ∙ ap (λ o. judged block_in (judges old.judge key) asks ++ cons_option o []) said),
+  λ none. absurd (not_empty old.heads head (sym t ∙ none)),
+)
 
 takes_sums : {J : Type 0} (judges : Judges J) (key : Key) (old new : HeadState J) (owner : Peer) (heard : Answer) (gave : Option (List ℕ)) → block_in heard ≡ gave → HeadTakes judges key old new owner gave
     → (asks : Told) → SumsHead (judges old.judge key) old.heads old.wrong asks → SumsHead (judges old.judge key) new.heads new.wrong (asks ++ (owner, heard) ∷ [])
@@ -52,32 +54,42 @@ takes_sums judges key old new owner heard (Some bytes) e t asks sums = takes_jud
 
 pub head_heard_route : {J : Type 0} (judges : Judges J) (old new : CourseState) (judge : J) (heads : List Judged) (wrong : Option Peer) (heard : Answer) (counts : Bool) → Hears old new heard counts None
     → HeadHasHeard judges (record { course = old; judge = judge; heads = heads; wrong = wrong }) (record { course = new; judge = judge; heads = heads; wrong = wrong }) heard
-head_heard_route judges old new judge heads wrong heard counts hears = (((hears.3.key, hears.2), refl), λ entries trail node q w h.
-    hears_route (λ key. ask.Get key) is_of_get IsEnoughHead (λ key. SumsHead (judges judge key) heads wrong) entries trail old new node q heard counts hears w h)
+head_heard_route judges old new judge heads wrong heard counts hears = (
+  ((hears.3.key, hears.2), refl),
+  λ entries trail node q w h.
+      hears_route (λ key. ask.Get key) is_of_get IsEnoughHead (λ key. SumsHead (judges judge key) heads wrong) entries trail old new node q heard counts hears w h,
+)
 
 pub head_heard_owner : {J : Type 0} (judges : Judges J) (old new : CourseState) (judge : J) (heads : List Judged) (wrong : Option Peer) (last : HeadState J) (owner : Peer) (heard answer : Answer) (counts : Bool)
     → Hears old new heard counts (Some (owner, answer)) → counts ≡ is_of_get heard → last.course ≡ new → last.judge ≡ judge → HeadTakes judges new.look.key (record { course = new; judge = judge; heads = heads; wrong = wrong }) last owner (block_in answer)
     → HeadHasHeard judges (record { course = old; judge = judge; heads = heads; wrong = wrong }) last heard
-head_heard_owner {J = J} judges old new judge heads wrong last owner heard answer counts hears count same same_judge takes = (((ap (λ c. c.look.key) same ∙ ap (λ s. s.key) hears.1.look, ap (λ c. c.replicas) same ∙ hears.1.replicas), same_judge), λ entries trail node q w h.
-    let before : HeadState J = record { course = new; judge = judge; heads = heads; wrong = wrong } in
-    let takes : HeadTakes judges old.look.key before last owner (block_in heard) =
-        subst (λ k. HeadTakes judges k before last owner (block_in heard)) (ap (λ s. s.key) hears.1.look) (subst (λ a. HeadTakes judges new.look.key before last owner (block_in a)) hears.0 takes) in
-    subst (λ c. IsBehind (λ key. ask.Get key) is_of_get IsEnoughHead (λ key. SumsHead (judges last.judge key) last.heads last.wrong) entries (trail ++ told node q heard) c.look.key c.replicas c.look c.asking) (sym same)
-    (subst (λ j. IsBehind (λ key. ask.Get key) is_of_get IsEnoughHead (λ key. SumsHead (judges j key) last.heads last.wrong) entries (trail ++ told node q heard) new.look.key new.replicas new.look new.asking) (sym same_judge)
-    (hears_owner (λ key. ask.Get key) is_of_get IsEnoughHead (λ key. SumsHead (judges judge key) heads wrong) entries (λ key. SumsHead (judges judge key) last.heads last.wrong) trail old new node owner q heard counts hears.1 w count
-    (λ asks few sums e. absurd (omega (arith, few, e))) (takes_sums judges old.look.key before last owner heard (block_in heard) refl takes) h)))
+head_heard_owner {J = J} judges old new judge heads wrong last owner heard answer counts hears count same same_judge takes = (
+  ((ap (λ c. c.look.key) same ∙ ap (λ s. s.key) hears.1.look, ap (λ c. c.replicas) same ∙ hears.1.replicas), same_judge),
+  λ entries trail node q w h.
+      let before : HeadState J = record { course = new; judge = judge; heads = heads; wrong = wrong } in
+      let takes : HeadTakes judges old.look.key before last owner (block_in heard) =
+      subst (λ k. HeadTakes judges k before last owner (block_in heard)) (ap (λ s. s.key) hears.1.look) (subst (λ a. HeadTakes judges new.look.key before last owner (block_in a)) hears.0 takes) in
+      subst (λ c. IsBehind (λ key. ask.Get key) is_of_get IsEnoughHead (λ key. SumsHead (judges last.judge key) last.heads last.wrong) entries (trail ++ told node q heard) c.look.key c.replicas c.look c.asking) (sym same)
+      (subst (λ j. IsBehind (λ key. ask.Get key) is_of_get IsEnoughHead (λ key. SumsHead (judges j key) last.heads last.wrong) entries (trail ++ told node q heard) new.look.key new.replicas new.look new.asking) (sym same_judge)
+      (hears_owner (λ key. ask.Get key) is_of_get IsEnoughHead (λ key. SumsHead (judges judge key) heads wrong) entries (λ key. SumsHead (judges judge key) last.heads last.wrong) trail old new node owner q heard counts hears.1 w count
+      (λ asks few sums e. absurd (omega (arith, few, e))) (takes_sums judges old.look.key before last owner heard (block_in heard) refl takes) h)),
+)
 
 pub head_wants_route : {J : Type 0} (judges : Judges J) (old new : CourseState) (judge : J) (heads : List Judged) (wrong : Option Peer) (node : Peer) (key : Key) → key ≡ new.look.key → Goes old new (step.Route node)
     → HeadIsWanted judges (record { course = old; judge = judge; heads = heads; wrong = wrong }) (record { course = new; judge = judge; heads = heads; wrong = wrong }) (want.Ask node (ask.Route key))
-head_wants_route judges old new judge heads wrong node key k l =
-    (((l.key, l.replicas), refl), route_awaited (λ key. ask.Get key) is_of_get IsEnoughHead (λ key. SumsHead (judges judge key) heads wrong) [] old new node key k l,
-    λ entries trail h. looks_on (λ key. ask.Get key) is_of_get IsEnoughHead (λ key. SumsHead (judges judge key) heads wrong) entries trail old new node l h)
+head_wants_route judges old new judge heads wrong node key k l = (
+  ((l.key, l.replicas), refl),
+  route_awaited (λ key. ask.Get key) is_of_get IsEnoughHead (λ key. SumsHead (judges judge key) heads wrong) [] old new node key k l,
+  λ entries trail h. looks_on (λ key. ask.Get key) is_of_get IsEnoughHead (λ key. SumsHead (judges judge key) heads wrong) entries trail old new node l h,
+)
 
 pub head_wants_owner : {J : Type 0} (judges : Judges J) (old new : CourseState) (judge : J) (heads : List Judged) (wrong : Option Peer) (node : Peer) (key : Key) → key ≡ new.look.key → Goes old new (step.Owner node)
     → HeadIsWanted judges (record { course = old; judge = judge; heads = heads; wrong = wrong }) (record { course = new; judge = judge; heads = heads; wrong = wrong }) (want.Ask node (ask.Get key))
-head_wants_owner judges old new judge heads wrong node key k g =
-    (((g.1.key, g.1.replicas), refl), owner_awaited (λ key. ask.Get key) is_of_get IsEnoughHead (λ key. SumsHead (judges judge key) heads wrong) [] old new node key k g,
-    λ entries trail h. owner_on (λ key. ask.Get key) is_of_get IsEnoughHead (λ key. SumsHead (judges judge key) heads wrong) entries trail old new node g h)
+head_wants_owner judges old new judge heads wrong node key k g = (
+  ((g.1.key, g.1.replicas), refl),
+  owner_awaited (λ key. ask.Get key) is_of_get IsEnoughHead (λ key. SumsHead (judges judge key) heads wrong) [] old new node key k g,
+  λ entries trail h. owner_on (λ key. ask.Get key) is_of_get IsEnoughHead (λ key. SumsHead (judges judge key) heads wrong) entries trail old new node g h,
+)
 
 pub head_wants_nothing : {J : Type 0} (judges : Judges J) (old new : CourseState) (judge : J) (heads : List Judged) (wrong : Option Peer) (last : HeadState J) (key : Key) → key ≡ new.look.key → Goes old new step.NoRoute
     → HeadIsWanted judges (record { course = old; judge = judge; heads = heads; wrong = wrong }) last (want.Done (Err (miss.NoRoute key)))

@@ -28,31 +28,40 @@ takes_sums holders holders2 owner heard e asks sums = e ∙ by_test (holds heard
 
 pub put_heard_route : (old new : CourseState) (what : PutKind) (bytes : List ℕ) (holders : ℕ) (heard : Answer) (counts : Bool) → Hears old new heard counts None
     → PutHasHeard (record { what = what; course = old; bytes = bytes; holders = holders }) (record { what = what; course = new; bytes = bytes; holders = holders }) heard
-put_heard_route old new what bytes holders heard counts hears = (((hears.3.key, hears.2), refl, refl), λ entries trail node q w h.
-    hears_route (question_of what bytes) is_of_put IsEnoughPut (λ key. SumsPut holders) entries trail old new node q heard counts hears w h)
+put_heard_route old new what bytes holders heard counts hears = (
+  ((hears.3.key, hears.2), refl, refl),
+  λ entries trail node q w h.
+      hears_route (question_of what bytes) is_of_put IsEnoughPut (λ key. SumsPut holders) entries trail old new node q heard counts hears w h,
+)
 
 pub put_heard_owner : (old new : CourseState) (what : PutKind) (bytes : List ℕ) (holders : ℕ) (last : PutState) (owner : Peer) (heard answer : Answer) (counts : Bool) → Hears old new heard counts (Some (owner, answer)) → counts ≡ is_of_put heard
     → last.course ≡ new → last.what ≡ what → last.bytes ≡ bytes → last.holders ≡ one_more (holds answer) holders
     → PutHasHeard (record { what = what; course = old; bytes = bytes; holders = holders }) last heard
-put_heard_owner old new what bytes holders last owner heard answer counts hears count same same_what same_bytes takes =
-    (((ap (λ c. c.look.key) same ∙ ap (λ s. s.key) hears.1.look, ap (λ c. c.replicas) same ∙ hears.1.replicas), same_what, same_bytes), λ entries trail node q w h.
-    subst (λ c. IsBehind (question_of last.what last.bytes) is_of_put IsEnoughPut (λ key. SumsPut last.holders) entries (trail ++ told node q heard) c.look.key c.replicas c.look c.asking) (sym same)
-    (subst (λ k. IsBehind (question_of k last.bytes) is_of_put IsEnoughPut (λ key. SumsPut last.holders) entries (trail ++ told node q heard) new.look.key new.replicas new.look new.asking) (sym same_what)
-    (subst (λ b. IsBehind (question_of what b) is_of_put IsEnoughPut (λ key. SumsPut last.holders) entries (trail ++ told node q heard) new.look.key new.replicas new.look new.asking) (sym same_bytes)
-    (hears_owner (question_of what bytes) is_of_put IsEnoughPut (λ key. SumsPut holders) entries (λ key. SumsPut last.holders) trail old new node owner q heard counts hears.1 w count
-    (λ asks few sums e. absurd (omega (arith, few, e))) (takes_sums holders last.holders owner heard (takes ∙ ap (λ a. one_more (holds a) holders) hears.0)) h))))
+put_heard_owner old new what bytes holders last owner heard answer counts hears count same same_what same_bytes takes = (
+  ((ap (λ c. c.look.key) same ∙ ap (λ s. s.key) hears.1.look, ap (λ c. c.replicas) same ∙ hears.1.replicas), same_what, same_bytes),
+  λ entries trail node q w h.
+      subst (λ c. IsBehind (question_of last.what last.bytes) is_of_put IsEnoughPut (λ key. SumsPut last.holders) entries (trail ++ told node q heard) c.look.key c.replicas c.look c.asking) (sym same)
+      (subst (λ k. IsBehind (question_of k last.bytes) is_of_put IsEnoughPut (λ key. SumsPut last.holders) entries (trail ++ told node q heard) new.look.key new.replicas new.look new.asking) (sym same_what)
+      (subst (λ b. IsBehind (question_of what b) is_of_put IsEnoughPut (λ key. SumsPut last.holders) entries (trail ++ told node q heard) new.look.key new.replicas new.look new.asking) (sym same_bytes)
+      (hears_owner (question_of what bytes) is_of_put IsEnoughPut (λ key. SumsPut holders) entries (λ key. SumsPut last.holders) trail old new node owner q heard counts hears.1 w count
+      (λ asks few sums e. absurd (omega (arith, few, e))) (takes_sums holders last.holders owner heard (takes ∙ ap (λ a. one_more (holds a) holders) hears.0)) h))),
+)
 
 pub put_wants_route : (old new : CourseState) (what : PutKind) (bytes : List ℕ) (holders : ℕ) (node : Peer) (key : Key) → key ≡ new.look.key → Goes old new (step.Route node)
     → PutIsWanted (record { what = what; course = old; bytes = bytes; holders = holders }) (record { what = what; course = new; bytes = bytes; holders = holders }) (want.Ask node (ask.Route key))
-put_wants_route old new what bytes holders node key k l =
-    (((l.key, l.replicas), refl, refl), route_awaited (question_of what bytes) is_of_put IsEnoughPut (λ key. SumsPut holders) [] old new node key k l,
-    λ entries trail h. looks_on (question_of what bytes) is_of_put IsEnoughPut (λ key. SumsPut holders) entries trail old new node l h)
+put_wants_route old new what bytes holders node key k l = (
+  ((l.key, l.replicas), refl, refl),
+  route_awaited (question_of what bytes) is_of_put IsEnoughPut (λ key. SumsPut holders) [] old new node key k l,
+  λ entries trail h. looks_on (question_of what bytes) is_of_put IsEnoughPut (λ key. SumsPut holders) entries trail old new node l h,
+)
 
 pub put_wants_owner : (old new : CourseState) (what : PutKind) (bytes : List ℕ) (holders : ℕ) (node : Peer) (key : Key) (asked : Ask) → key ≡ new.look.key → asked ≡ question_of what bytes key → Goes old new (step.Owner node)
     → PutIsWanted (record { what = what; course = old; bytes = bytes; holders = holders }) (record { what = what; course = new; bytes = bytes; holders = holders }) (want.Ask node asked)
-put_wants_owner old new what bytes holders node key asked k q g =
-    (((g.1.key, g.1.replicas), refl, refl), owner_awaited (question_of what bytes) is_of_put IsEnoughPut (λ key. SumsPut holders) [] old new node key k g ∙ ap (λ a. Some (node, a)) (sym q),
-    λ entries trail h. owner_on (question_of what bytes) is_of_put IsEnoughPut (λ key. SumsPut holders) entries trail old new node g h)
+put_wants_owner old new what bytes holders node key asked k q g = (
+  ((g.1.key, g.1.replicas), refl, refl),
+  owner_awaited (question_of what bytes) is_of_put IsEnoughPut (λ key. SumsPut holders) [] old new node key k g ∙ ap (λ a. Some (node, a)) (sym q),
+  λ entries trail h. owner_on (question_of what bytes) is_of_put IsEnoughPut (λ key. SumsPut holders) entries trail old new node g h,
+)
 
 pub put_wants_nothing : (old new : CourseState) (what : PutKind) (bytes : List ℕ) (holders : ℕ) (last : PutState) (key : Key) → key ≡ new.look.key → Goes old new step.NoRoute
     → PutIsWanted (record { what = what; course = old; bytes = bytes; holders = holders }) last (want.Done (Err (miss.NoRoute key)))
@@ -86,5 +95,5 @@ pub put_wants_over : (old new : CourseState) (what : PutKind) (bytes : List ℕ)
 put_wants_over old new what bytes holders last b word acks g = λ entries trail h.
     over_ends (question_of what bytes) is_of_put IsEnoughPut (λ key. SumsPut holders) entries (EndsPut old.replicas) trail old new (Ok b) g (λ asks few. few)
     (λ a owners asks made is once asked sums. put_end old.replicas owners asks a holders b (subst (λ r. r < 2 ^ 32) g.1.replicas word) made once asked sums
-        (subst (λ r. MatchBool b ((r ≤ holders) ⊎ ((1 ≤ holders) × (a.rest ≡ []))) ((r ≤ holders) ⊎ ((1 ≤ holders) × (a.rest ≡ [])) → ⊥)) g.1.replicas
-        (subst (λ o. MatchBool b ((new.replicas ≤ holders) ⊎ ((1 ≤ holders) × IsThrough o)) ((new.replicas ≤ holders) ⊎ ((1 ≤ holders) × IsThrough o) → ⊥)) is acks))) h
+    (subst (λ r. MatchBool b ((r ≤ holders) ⊎ ((1 ≤ holders) × (a.rest ≡ []))) ((r ≤ holders) ⊎ ((1 ≤ holders) × (a.rest ≡ [])) → ⊥)) g.1.replicas
+    (subst (λ o. MatchBool b ((new.replicas ≤ holders) ⊎ ((1 ≤ holders) × IsThrough o)) ((new.replicas ≤ holders) ⊎ ((1 ≤ holders) × IsThrough o) → ⊥)) is acks))) h

@@ -29,4 +29,3 @@ through xs at n within e = by_test (nat_eq at n) refl
     by_test : (b : Bool) → nat_eq at n ≡ b → MatchBool b (drop at xs ≡ []) (drop at xs ≡ [] → ⊥)
     by_test true h = nil_from_length (drop at xs) (length-drop at xs ∙ omega (arith, eqb-true at n h, e))
     by_test false h = λ none. true≢false (sym (eq-eqb at n (omega (arith, within, e, length-drop at xs, ap (λ l. length l) none))) ∙ h)
-

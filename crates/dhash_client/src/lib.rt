@@ -10,6 +10,8 @@
 mod course;
 mod get_block;
 mod get_head;
+#[cfg(test)]
+mod get_tests;
 mod lookup;
 mod miss;
 mod put;

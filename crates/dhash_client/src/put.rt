@@ -48,7 +48,10 @@ fn answers_put(answer: &Answer) -> bool
 fn is_held(answer: &Answer) -> bool
     ensures { result ≡ holds answer.now }
 {
-    matches!(answer, Answer::Stored | Answer::Refused(StoreFault::Older(_)))
+    matches!(
+        answer,
+        Answer::Stored | Answer::Refused(StoreFault::Older(_))
+    )
 }
 
 impl Put {
