@@ -1,12 +1,10 @@
 -- The steps of a get of a content block.
-use Rattle.std.proofs.Common.{◌≡◌, ◌≢◌, ℕ, ◌+◌, ◌<◌, ◌≤◌, Bool, true, false, List, [], ◌∷◌, ◌++◌, map, Option, Some, None, Result, Ok, Err, refl, ap, sym, ◌∙◌, subst, inl, inr, ⊎_elim, ◌⊎◌, arith}
-use Rattle.std.specs.Option.{option_map}
+use Rattle.std.proofs.Common.{◌≡◌, ℕ, ◌<◌, Bool, List, [], ◌∷◌, ◌++◌, Option, Some, None, Ok, Err, refl, ap, sym, ◌∙◌, subst, inl, inr, ◌⊎◌, arith}
 use Rattle.std.proofs.lemmas.List.{map-append}
 use Rattle.ivy_base.specs.declared.key.Key.{Key}
 use Rattle.ivy_base.specs.Naming.{name}
 use Rattle.dht_ids.specs.Asked.{told}
 use Rattle.dht_ids.specs.declared.ask.Answer.{Answer}
-use Rattle.dht_ids.specs.declared.ask.Answer.TheVariants as answer
 use Rattle.dht_ids.specs.declared.ask.Ask.{Ask}
 use Rattle.dht_ids.specs.declared.ask.Ask.TheVariants as ask
 use Rattle.dht_ids.specs.declared.ask.Heard.{Heard}
@@ -15,9 +13,9 @@ use Rattle.dht_ids.specs.declared.peer.Peer.{Peer}
 use Rattle.ring_model.specs.Members.{IsAmong, first}
 use Rattle.ring_model.specs.Gets.{Got, Right, Damaged, Missing, nodes, answered_in, given, first_giver, HasBlock, IsGiven, AreAsks, IsBlockGet}
 use Rattle.ring_model.proofs.Gets.{given_none, given_some, first_none, first_some}
-use Rattle.ring_model.proofs.Lists.{among-left, among-right, among-cases, none_some}
-use Rattle.dhash_client.specs.Course.{Told, Asking, CourseState, next_owner, awaited, awaited_at, asked_of, miss_of, HasAsked, IsBehind, IsOnCourse, IsCourse, Reaches, Looks, HearsOwner, Hears, Goes, result_of}
-use Rattle.dhash_client.specs.Course.IsCourse.{no_route, of_owners}
+use Rattle.ring_model.proofs.Lists.{among-right, among-cases, none_some}
+use Rattle.dhash_client.specs.Course.{Told, Asking, CourseState, awaited, asked_of, miss_of, IsBehind, Hears, Goes, result_of}
+use Rattle.dhash_client.specs.Course.IsCourse.{of_owners}
 use Rattle.dhash_client.specs.GetBlock.{BlockState, is_of_get, block_in, EndsGet, IsGetOfBlock, IsEnoughBlock, SumsBlock, block_awaited_at, BlockIsAfter, BlockIsWanted, BlockHasHeard, BlockTakes, or_node}
 use Rattle.dhash_client.specs.declared.course.Step.TheVariants as step
 use Rattle.dhash_client.specs.declared.miss.Miss.{Miss}
@@ -113,7 +111,7 @@ block_right c bytes wrong entries trail h = by_stage c.asking h
 
 lost : (key : Key) (r : ℕ) (owners : List Peer) (asks : Told) (asked : List Peer) → asked ≡ nodes asks → (HasBlock block_in key asks → ⊥) → (wrong : Option Peer) → wrong ≡ first_giver block_in asks → AreAsks owners (IsEnoughBlock key r) asks
     → (got : Got Peer (List ℕ)) × IsBlockGet is_of_get block_in key r owners asks got × (Err (miss_of key asked wrong) ≡ result_of {B = List ℕ} key got)
-lost key r owners asks asked e none None w made = (Missing asked, record { asks = made; ends = (none, (sym w, e)) }, refl)
+lost key r owners asks asked e none None w made = (Missing asked, record { asks = made; ends = (none, sym w, e) }, refl)
 lost key r owners asks asked e none (Some node) w made = (Damaged node, record { asks = made; ends = (none, sym w) }, refl)
 
 pub wants_route : (old new : CourseState) (found found2 : Option (List ℕ)) (wrong : Option Peer) (node : Peer) (key : Key) → found ≡ None → found2 ≡ None → key ≡ new.look.key → Goes old new (step.Route node)

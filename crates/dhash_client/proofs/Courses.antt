@@ -1,5 +1,5 @@
 -- How a course goes on behind a trail, whatever it asks of owners and keeps of their answers.
-use Rattle.std.proofs.Common.{◌≡◌, ◌≢◌, ℕ, ◌+◌, ◌<◌, ◌≤◌, nat_lt, Bool, true, false, if◌then◌else◌, List, [], ◌∷◌, ◌++◌, length, take, map, flat_map, Option, Some, None, Result, Ok, Err, refl, ap, sym, ◌∙◌, subst, inl, inr, ⊎_elim, ◌⊎◌, arith}
+use Rattle.std.proofs.Common.{◌≡◌, ℕ, ◌+◌, ◌<◌, ◌≤◌, nat_lt, Bool, true, false, if◌then◌else◌, List, [], ◌∷◌, ◌++◌, length, take, Option, Some, None, Result, Err, refl, ap, sym, ◌∙◌, subst, inl, inr, ⊎_elim, ◌⊎◌, arith}
 use Rattle.std.specs.Option.{option_map}
 use Rattle.std.proofs.lemmas.List.{append_assoc, append-nil, map-append, length-map, take_at, take-append-le, length-append}
 use Rattle.std.proofs.lemmas.Grind.{flat_map-append}
@@ -12,12 +12,11 @@ use Rattle.dht_ids.specs.declared.ask.Ask.TheVariants as ask
 use Rattle.dht_ids.specs.declared.ask.Heard.{Heard}
 use Rattle.dht_ids.specs.declared.peer.Peer.{Peer}
 use Rattle.ring_model.specs.Members.{first}
-use Rattle.ring_model.specs.Lookup.{IsLookup}
 use Rattle.ring_model.specs.Gets.{AreFirsts, AreAsks, nodes, answered_in}
 use Rattle.ring_model.proofs.Gets.{answered_more}
-use Rattle.ring_model.proofs.Lists.{cons_head, some_same, none_some}
-use Rattle.dhash_client.specs.Machine.{State, Trail, Follow, FollowsAfter, HasHeard, fresh, outcome, route_in}
-use Rattle.dhash_client.specs.Course.{Told, told_all, routes, Asking, CourseState, next_owner, awaited, awaited_at, HasAsked, IsStage, IsBehind, IsOnCourse, IsAskingOf, Reaches, Looks, HearsOwner, Hears, Goes, begun, IsCourse}
+use Rattle.ring_model.proofs.Lists.{some_same, none_some}
+use Rattle.dhash_client.specs.Machine.{State, Follow, FollowsAfter, HasHeard, fresh, outcome, route_in}
+use Rattle.dhash_client.specs.Course.{Told, told_all, routes, Asking, CourseState, next_owner, awaited, awaited_at, HasAsked, IsBehind, IsOnCourse, IsAskingOf, Reaches, Looks, HearsOwner, Hears, Goes, begun, IsCourse}
 use Rattle.dhash_client.specs.Course.IsCourse.{no_route, of_owners}
 use Rattle.dhash_client.specs.declared.course.Step.TheVariants as step
 use Rattle.dhash_client.specs.declared.miss.Miss.{Miss}

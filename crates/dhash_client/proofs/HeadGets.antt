@@ -1,24 +1,22 @@
 -- The steps of a get of a log's head.
-use Rattle.std.proofs.Common.{◌≡◌, ◌≢◌, ℕ, ◌+◌, ◌<◌, ◌≤◌, Bool, true, false, List, [], ◌∷◌, ◌++◌, filter_map, Option, Some, None, Result, Ok, Err, refl, ap, sym, ◌∙◌, subst, arith}
+use Rattle.std.proofs.Common.{◌≡◌, ℕ, Bool, List, [], ◌∷◌, ◌++◌, filter_map, Option, Some, None, Result, Err, refl, ap, sym, ◌∙◌, subst, arith}
 use Rattle.std.specs.List.{cons_option}
 use Rattle.std.proofs.lemmas.List.{append-nil}
 use Rattle.std.proofs.lemmas.List.Elements.{filter_map-append}
 use Rattle.ivy_base.specs.declared.key.Key.{Key}
 use Rattle.dht_ids.specs.Asked.{told}
 use Rattle.dht_ids.specs.declared.ask.Answer.{Answer}
-use Rattle.dht_ids.specs.declared.ask.Ask.{Ask}
 use Rattle.dht_ids.specs.declared.ask.Ask.TheVariants as ask
-use Rattle.dht_ids.specs.declared.ask.Heard.{Heard}
 use Rattle.dht_ids.specs.declared.ask.Want.TheVariants as want
 use Rattle.dht_ids.specs.declared.judge.Judged.{Judged}
 use Rattle.dht_ids.specs.declared.peer.Peer.{Peer}
 use Rattle.ring_model.specs.Members.{first}
-use Rattle.ring_model.specs.Gets.{Got, Right, Damaged, Missing, AreAsks, IsHeadGet, nodes, answered_in, given, first_giver, judged}
+use Rattle.ring_model.specs.Gets.{Right, Damaged, Missing, AreAsks, nodes, given, judged}
 use Rattle.ring_model.proofs.Gets.{given_none, given_some}
 use Rattle.ring_model.proofs.Lists.{nil_cons}
-use Rattle.dhash_client.specs.Course.{Told, Asking, CourseState, awaited, asked_of, miss_of, IsBehind, Looks, Hears, Goes, result_of}
-use Rattle.dhash_client.specs.GetBlock.{is_of_get, block_in, or_node}
-use Rattle.dhash_client.specs.GetHead.{Judges, HeadState, EndsHeadGet, IsGetOfHead, IsEnoughHead, SumsHead, HeadIsAfter, HeadIsWanted, HeadHasHeard, TakesJudged, HeadTakes, heads_result}
+use Rattle.dhash_client.specs.Course.{Told, CourseState, asked_of, IsBehind, Hears, Goes}
+use Rattle.dhash_client.specs.GetBlock.{is_of_get, block_in}
+use Rattle.dhash_client.specs.GetHead.{Judges, HeadState, EndsHeadGet, IsGetOfHead, IsEnoughHead, SumsHead, HeadIsWanted, HeadHasHeard, TakesJudged, HeadTakes, heads_result}
 use Rattle.dhash_client.specs.declared.course.Step.TheVariants as step
 use Rattle.dhash_client.specs.declared.miss.Miss.{Miss}
 use Rattle.dhash_client.specs.declared.miss.Miss.TheVariants as miss
@@ -99,7 +97,7 @@ head_wants_nothing judges old new judge heads wrong last key k g = λ entries tr
 
 heads_end : (judge : List ℕ → Option Judged) (key : Key) (r : ℕ) (owners : List Peer) (asks : Told) (asked : List Peer) (heads : List Judged) (wrong : Option Peer) → asked ≡ nodes asks → SumsHead judge heads wrong asks → AreAsks owners (IsEnoughHead key r) asks
     → EndsHeadGet judge key r owners asks (heads_result key asked heads wrong)
-heads_end judge key r owners asks asked [] None e sums made = (Missing asked, record { asks = made; ends = (sym sums.0, (sym (sums.1 refl), e)) }, refl)
+heads_end judge key r owners asks asked [] None e sums made = (Missing asked, record { asks = made; ends = (sym sums.0, sym (sums.1 refl), e) }, refl)
 heads_end judge key r owners asks asked [] (Some node) e sums made = (Damaged node, record { asks = made; ends = (sym sums.0, sym (sums.1 refl)) }, refl)
 heads_end judge key r owners asks asked (head ∷ heads) wrong e sums made = (Right (head ∷ heads), record { asks = made; ends = ((λ none. nil_cons head heads (sym none)), sums.0) }, refl)
 

@@ -1,21 +1,19 @@
 -- The steps of a put.
-use Rattle.std.proofs.Common.{◌≡◌, ◌≢◌, ℕ, ◌+◌, ◌-◌, ◌^◌, ◌<◌, ◌≤◌, min, Bool, true, false, if◌then◌else◌, MatchBool, List, [], ◌∷◌, ◌++◌, length, Option, Some, None, Result, Ok, Err, refl, ap, sym, ◌∙◌, subst, inl, inr, ⊎_elim, ◌⊎◌, arith, length-append}
+use Rattle.std.proofs.Common.{◌≡◌, ℕ, ◌+◌, ◌-◌, ◌^◌, ◌<◌, ◌≤◌, min, Bool, true, false, if◌then◌else◌, MatchBool, List, [], ◌∷◌, ◌++◌, length, Some, None, Ok, Err, refl, ap, sym, ◌∙◌, subst, inl, inr, ◌⊎◌, arith, length-append}
 use Rattle.std.proofs.lemmas.List.{append-nil}
 use Rattle.ivy_base.specs.declared.key.Key.{Key}
 use Rattle.dht_ids.specs.Asked.{told}
 use Rattle.dht_ids.specs.declared.ask.Answer.{Answer}
 use Rattle.dht_ids.specs.declared.ask.Ask.{Ask}
 use Rattle.dht_ids.specs.declared.ask.Ask.TheVariants as ask
-use Rattle.dht_ids.specs.declared.ask.Heard.{Heard}
 use Rattle.dht_ids.specs.declared.ask.Want.TheVariants as want
 use Rattle.dht_ids.specs.declared.peer.Peer.{Peer}
-use Rattle.ring_model.specs.Gets.{AreAsks, IsPut, IsAcknowledged, nodes, answered_in}
+use Rattle.ring_model.specs.Gets.{AreAsks, IsAcknowledged, nodes, answered_in}
 use Rattle.ring_model.proofs.Gets.{answered_more}
-use Rattle.dhash_client.specs.Course.{Told, Asking, CourseState, awaited, asked_of, IsBehind, Looks, Hears, Goes, IsThrough, AreHolders}
-use Rattle.dhash_client.specs.Puts.{is_of_put, holds, question_of, EndsPut, IsPutOf, PutState, IsEnoughPut, SumsPut, PutIsAfter, PutIsWanted, PutHasHeard, one_more}
+use Rattle.dhash_client.specs.Course.{Told, Asking, CourseState, IsBehind, Hears, Goes, IsThrough, AreHolders}
+use Rattle.dhash_client.specs.Puts.{is_of_put, holds, question_of, EndsPut, IsPutOf, PutState, IsEnoughPut, SumsPut, PutIsWanted, PutHasHeard, one_more}
 use Rattle.dhash_client.specs.declared.put.PutKind.{PutKind}
 use Rattle.dhash_client.specs.declared.course.Step.TheVariants as step
-use Rattle.dhash_client.specs.declared.miss.Miss.{Miss}
 use Rattle.dhash_client.specs.declared.miss.Miss.TheVariants as miss
 use Rattle.dhash_client.proofs.Courses.{looks_on, hears_route, hears_owner, no_route_at, route_awaited, owner_awaited, owner_on, over_ends}
 

@@ -1,5 +1,5 @@
 -- The machines of puts, of content blocks and of heads.
-use Rattle.std.specs.Prelude.{◌≡◌, ℕ, ◌+◌, ◌-◌, ◌^◌, ◌≤◌, min, Bool, true, false, if◌then◌else◌, List, [], ◌++◌, Option, Some, None, Result, Ok, ◌⊎◌}
+use Rattle.std.specs.Prelude.{◌≡◌, ℕ, ◌+◌, ◌-◌, ◌^◌, ◌≤◌, min, Bool, true, false, if◌then◌else◌, List, ◌++◌, Option, Some, Result, Ok}
 use Rattle.ivy_base.specs.declared.key.Key.{Key}
 use Rattle.dht_ids.specs.Asked.{told}
 use Rattle.dht_ids.specs.declared.ask.Answer.{Answer}
@@ -13,7 +13,7 @@ use Rattle.dht_ids.specs.declared.ask.Want.{Want}
 use Rattle.dht_ids.specs.declared.ask.Want.TheVariants as want
 use Rattle.dht_ids.specs.declared.peer.Peer.{Peer}
 use Rattle.ring_model.specs.Gets.{answered_in, IsPut}
-use Rattle.dhash_client.specs.Course.{Told, Asking, CourseState, IsCourse, IsOnCourse, IsSameCourse, begun, awaited}
+use Rattle.dhash_client.specs.Course.{Told, CourseState, IsCourse, IsOnCourse, IsSameCourse, begun, awaited}
 use Rattle.dhash_client.specs.declared.miss.Miss.{Miss}
 use Rattle.dhash_client.specs.declared.put.PutKind.{PutKind}
 use Rattle.dhash_client.specs.declared.put.PutKind.TheVariants as kind

@@ -45,12 +45,6 @@ pub data Got (A B : Type 0) : Type 0 where
   Damaged : A → Got A B
   Missing : List A → Got A B
 
--- how a get ends that met nothing right
-abbrev pub IsLoss : {A X B : Type 0} → (X → Option (List ℕ)) → List (A × X) → Got A B → Type 0
-IsLoss block trail (Right found) = ⊥
-IsLoss block trail (Damaged node) = first_giver block trail ≡ Some node
-IsLoss block trail (Missing asked) = (first_giver block trail ≡ None) × (asked ≡ nodes trail)
-
 -- a node gave these bytes, whose name is the key
 abbrev pub IsGiven : {A X : Type 0} → (X → Option (List ℕ)) → Key → List (A × X) → List ℕ → Type 0
 IsGiven {A = A} block key trail bytes = (node : A) × IsAmong (node, bytes) (given block trail) × (name bytes ≡ key)
@@ -62,8 +56,8 @@ HasBlock block key trail = (bytes : List ℕ) × IsGiven block key trail bytes
 -- a get of a content block asks until r nodes have answered or the block was given; and the block is what it is for
 abbrev pub EndsBlock : {A X : Type 0} → (X → Option (List ℕ)) → Key → List (A × X) → Got A (List ℕ) → Type 0
 EndsBlock block key trail (Right bytes) = IsGiven block key trail bytes
-EndsBlock block key trail (Damaged node) = (HasBlock block key trail → ⊥) × IsLoss {B = List ℕ} block trail (Damaged node)
-EndsBlock block key trail (Missing asked) = (HasBlock block key trail → ⊥) × IsLoss {B = List ℕ} block trail (Missing asked)
+EndsBlock block key trail (Damaged node) = (HasBlock block key trail → ⊥) × (first_giver block trail ≡ Some node)
+EndsBlock block key trail (Missing asked) = (HasBlock block key trail → ⊥) × (first_giver block trail ≡ None) × (asked ≡ nodes trail)
 
 pub record IsBlockGet {A X : Type 0} (answers : X → Bool) (block : X → Option (List ℕ)) (key : Key) (r : ℕ) (owners : List A) (trail : List (A × X)) (got : Got A (List ℕ)) : Type 0 where
   pub asks : AreAsks owners (λ t. (r ≤ answered_in answers t) ⊎ HasBlock block key t) trail
@@ -76,8 +70,8 @@ judged block judge trail = filter_map (λ b. judge b.1) (given block trail)
 -- a get of a log's head asks until r nodes have answered; and all heads that the judge takes are what it is for
 abbrev pub EndsHeads : {A X B : Type 0} → (X → Option (List ℕ)) → (List ℕ → Option B) → List (A × X) → Got A (List B) → Type 0
 EndsHeads block judge trail (Right heads) = (heads ≢ []) × (heads ≡ judged block judge trail)
-EndsHeads {B = B} block judge trail (Damaged node) = (judged block judge trail ≡ []) × IsLoss {B = List B} block trail (Damaged node)
-EndsHeads {B = B} block judge trail (Missing asked) = (judged block judge trail ≡ []) × IsLoss {B = List B} block trail (Missing asked)
+EndsHeads block judge trail (Damaged node) = (judged block judge trail ≡ []) × (first_giver block trail ≡ Some node)
+EndsHeads block judge trail (Missing asked) = (judged block judge trail ≡ []) × (first_giver block trail ≡ None) × (asked ≡ nodes trail)
 
 pub record IsHeadGet {A X B : Type 0} (answers : X → Bool) (block : X → Option (List ℕ)) (judge : List ℕ → Option B) (r : ℕ) (owners : List A) (trail : List (A × X)) (got : Got A (List B)) : Type 0 where
   pub asks : AreAsks owners (λ t. r ≤ answered_in answers t) trail

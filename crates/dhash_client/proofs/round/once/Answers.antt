@@ -1,4 +1,4 @@
-use Rattle.std.proofs.Common.{rules, ap, ◌∙◌, ◌++◌, ◌∷◌, []}
+use Rattle.std.proofs.Common.{rules, ap, ◌∙◌}
 use Rattle.dhash_client.proofs.Rounds.{once_begins, once_again, once_new}
 use Rattle.dhash_client.proofs.round.once.Goals as goal
 use Rattle.dhash_client.proofs.round.once.Goals.{then-not-was_asked+in_ok-push, else-not-was_asked}

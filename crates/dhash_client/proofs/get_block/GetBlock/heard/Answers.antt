@@ -1,4 +1,4 @@
-use Rattle.std.proofs.Common.{subst, Some, None}
+use Rattle.std.proofs.Common.{subst}
 use Rattle.dhash_client.specs.Course.{Hears}
 use Rattle.dhash_client.specs.GetBlock.{BlockState, BlockHasHeard}
 use Rattle.dhash_client.proofs.BlockGets.{block_heard_route, block_heard_owner}

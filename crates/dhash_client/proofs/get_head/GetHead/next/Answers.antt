@@ -1,6 +1,6 @@
-use Rattle.std.proofs.Common.{rules, subst}
+use Rattle.std.proofs.Common.{subst}
 use Rattle.dhash_client.specs.Course.{Goes}
-use Rattle.dhash_client.specs.GetHead.{HeadState, HeadIsWanted}
+use Rattle.dhash_client.specs.GetHead.{HeadIsWanted}
 use Rattle.dhash_client.proofs.HeadGets.{head_wants_route, head_wants_owner, head_wants_nothing, head_wants_over}
 use Rattle.dhash_client.proofs.get_head.GetHead.next.Goals as goal
 use Rattle.dhash_client.proofs.get_head.GetHead.next.Goals.{in-Route, in-Owner, in-NoRoute, in-Over+in_ok-result-in-Over}

@@ -1,6 +1,6 @@
 use Rattle.std.proofs.Common.{subst}
 use Rattle.dhash_client.specs.Course.{Goes}
-use Rattle.dhash_client.specs.Puts.{PutState, PutIsWanted}
+use Rattle.dhash_client.specs.Puts.{PutIsWanted}
 use Rattle.dhash_client.proofs.Puts.{put_wants_route, put_wants_owner, put_wants_nothing, put_wants_over}
 use Rattle.dhash_client.proofs.put.Put.next.Goals as goal
 use Rattle.dhash_client.proofs.put.Put.next.Goals.{in-Route, in-Owner+in_ok-question-in-Owner, in-NoRoute, in-Over}
