@@ -19,12 +19,12 @@ use Rattle.ring_model.specs.Lookup.IsLookup.{over, spent, known, silent, answere
 use Rattle.ring_model.proofs.Lists.{among-left, among-right}
 use Rattle.dhash_client.specs.Machine.{State, Trail, to_ask, route_in, IsRest, HasHeard}
 
-among_reverse : {X : Type 0} (x : X) (xs : List X) → IsAmong x xs → IsAmong x (reverse xs)
+pub among_reverse : {X : Type 0} (x : X) (xs : List X) → IsAmong x xs → IsAmong x (reverse xs)
 among_reverse x [] h = h
 among_reverse x (y ∷ ys) (inl e) = subst (IsAmong x) (sym (reverse_onto ys y [])) (among-right x (reverse ys) (y ∷ []) (inl e))
 among_reverse x (y ∷ ys) (inr h) = subst (IsAmong x) (sym (reverse_onto ys y [])) (among-left x (reverse ys) (y ∷ []) (among_reverse x ys h))
 
-among_reversed : {X : Type 0} (x : X) (xs : List X) → IsAmong x (reverse xs) → IsAmong x xs
+pub among_reversed : {X : Type 0} (x : X) (xs : List X) → IsAmong x (reverse xs) → IsAmong x xs
 among_reversed x xs h = subst (IsAmong x) (reverse-reverse xs) (among_reverse x (reverse xs) h)
 
 -- the test that `==` of peers is

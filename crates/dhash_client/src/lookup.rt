@@ -39,7 +39,7 @@ impl Model for Lookup {
 }
 
 /// Whether the node was asked.
-fn was_asked(asked: &[Peer], node: &Peer) -> bool
+pub(crate) fn was_asked(asked: &[Peer], node: &Peer) -> bool
     ensures { MatchBool result (IsAmong node.now (reverse asked.now)) (IsAmong node.now (reverse asked.now) → ⊥) }
 {
     asked.contains(node)
@@ -81,6 +81,13 @@ impl Lookup {
             rest: VecDeque::from(entries.copy(alloc)?.into_vec()),
             waiting: None,
         })
+    }
+
+    /// The key.
+    pub(crate) fn key(&self) -> Key
+        ensures { result ≡ self.now.key }
+    {
+        self.key
     }
 
     /// What the look-up wants next: an ask for the route to the key, of a node that it didn't ask before, or nothing

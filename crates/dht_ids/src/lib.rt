@@ -6,7 +6,7 @@
 //! For the layers above: [`node_id`] is the SHA-1 that the definition gives; [`distance`], [`between`] and
 //! [`finger_start`] are arithmetic modulo 2^160 on the identifiers' numbers, and [`order`], [`same`] and [`inside`]
 //! compare these numbers; a [`Judge`] gives the same answer for the same arguments; a [`Mesh`] answers Silent only
-//! where its count of silences rose. Contracts see [`Peers`], [`Posts`] and [`Acks`] as lists, and a [`Signature`] as
+//! where its count of silences rose. Contracts see [`Peers`], [`Posts`], [`Acks`] and [`Heads`] as lists, and a [`Signature`] as
 //! its bytes. Definitions: `specs/Peers.antt` (identifiers and places of nodes), `specs/Asked.antt` (what a mesh may
 //! be asked and what it tells), and `ring_model`'s `specs/Circle.antt` and `specs/Arc.antt`.
 #![tactic(auto)]
@@ -25,7 +25,7 @@ mod tests;
 pub use ask::{Answer, Ask, AskKind, Heard, StoreFault, Want};
 pub use circle::{between, distance, finger_start, inside, order, same};
 pub use judge::{Judge, Judged};
-pub use lists::{Acks, Peers, Posts};
+pub use lists::{Acks, Heads, Peers, Posts};
 pub use mesh::Mesh;
 pub use peer::{Peer, node_id};
 pub use post::{Ack, Post, PostKind};

@@ -2,6 +2,7 @@
 
 ghost use Rattle.std.specs.Prelude.{◌≡◌, IfOk};
 
+use crate::judge::Judged;
 use crate::peer::Peer;
 use crate::post::{Ack, Post};
 use ivy_base::Memory;
@@ -98,6 +99,53 @@ impl Acks {
     {
         Ok(Acks {
             acks: self.as_slice().to_vec(alloc)?,
+        })
+    }
+}
+
+/// Heads in a row, each by what its judge said of it.
+#[derive(Drop)]
+pub struct Heads {
+    heads: Vec<Judged>,
+}
+
+impl Model for Heads {
+    ghost use Rattle.std.specs.Prelude.{List};
+    ghost use Rattle.dht_ids.specs.declared.judge.Judged.{Judged};
+
+    ghost Value = { List Judged };
+
+    ghost view = { λ h. h.heads.items };
+}
+
+impl Heads {
+    /// The heads of a vector, which is not copied.
+    pub fn of(items: Vec<Judged>) -> Heads
+        ensures { result ≡ items.items }
+    {
+        Heads { heads: items }
+    }
+
+    /// The heads as a vector, which is not copied.
+    pub fn into_vec(self) -> Vec<Judged>
+        ensures { result.items ≡ self }
+    {
+        self.heads
+    }
+
+    /// The heads as a slice.
+    pub fn as_slice(&self) -> &[Judged]
+        ensures { result.now ≡ self.now }
+    {
+        self.heads.as_slice()
+    }
+
+    /// A copy of these heads. The error is want of memory.
+    pub fn copy(&self, alloc: Global) -> Result<Heads, Memory>
+        ensures { IfOk result (λ copy. copy ≡ self.now) }
+    {
+        Ok(Heads {
+            heads: self.as_slice().to_vec(alloc)?,
         })
     }
 }

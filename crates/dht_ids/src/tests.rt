@@ -1,6 +1,6 @@
 use crate::{
-    Ack, Acks, Answer, Ask, Judge, Judged, Mesh, Peer, Peers, Post, PostKind, Posts, Signature,
-    StoreFault, between, distance, finger_start, inside, node_id, order, same,
+    Ack, Acks, Answer, Ask, Heads, Judge, Judged, Mesh, Peer, Peers, Post, PostKind, Posts,
+    Signature, StoreFault, between, distance, finger_start, inside, node_id, order, same,
 };
 use ivy_base::{Bytes, Key, Memory};
 use std::alloc::Global;
@@ -107,6 +107,13 @@ fn lists_are_copied(rt: HostRuntime) -> Result<(), Fail> {
     let acks = Acks::of(vec![in alloc; ack; 2]?);
     assert_eq!(rt; acks.copy(alloc)?.as_slice(), acks.as_slice());
     assert_eq!(rt; acks.into_vec().as_slice(), [ack, ack].as_slice());
+    let head = Judged {
+        seq: 3,
+        name: place(4),
+    };
+    let heads = Heads::of(vec![in alloc; head; 2]?);
+    assert_eq!(rt; heads.copy(alloc)?.as_slice(), heads.as_slice());
+    assert_eq!(rt; heads.into_vec().as_slice(), [head, head].as_slice());
     Ok(())
 }
 

@@ -11,5 +11,6 @@ pub mod Rounds
 pub mod Fingers
 pub mod Settled
 pub mod Blocks
+pub mod Gets
 pub mod Ties
 mod Examples

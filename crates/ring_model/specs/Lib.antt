@@ -8,4 +8,5 @@ pub mod Pass
 pub mod Round
 pub mod Change
 pub mod Blocks
+pub mod Gets
 pub mod Laws

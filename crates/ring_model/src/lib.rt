@@ -7,7 +7,8 @@
 //! ([`block_laws`]).
 //! Definitions: `specs/Circle.antt` (identifiers), `specs/Arc.antt`, `specs/Members.antt` (the order on the circle,
 //! owners), `specs/Ring.antt` (covered and settled rings), `specs/Route.antt`, `specs/Lookup.antt`,
-//! `specs/Pass.antt`, `specs/Round.antt`, `specs/Change.antt` (stops and joins), `specs/Blocks.antt`; the laws:
+//! `specs/Pass.antt`, `specs/Round.antt`, `specs/Change.antt` (stops and joins), `specs/Blocks.antt`,
+//! `specs/Gets.antt` (gets and puts); the laws:
 //! `specs/Laws.antt`.
 #![tactic(auto)]
 

@@ -1,0 +1,93 @@
+-- The machine of a get of a content block.
+use Rattle.std.specs.Prelude.{◌≡◌, ℕ, ◌≤◌, Bool, true, false, List, ◌++◌, Option, Some, None, Result, ◌⊎◌}
+use Rattle.ivy_base.specs.declared.key.Key.{Key}
+use Rattle.ivy_base.specs.Naming.{name}
+use Rattle.dht_ids.specs.Asked.{told}
+use Rattle.dht_ids.specs.declared.ask.Answer.{Answer}
+use Rattle.dht_ids.specs.declared.ask.Answer.TheVariants as answer
+use Rattle.dht_ids.specs.declared.ask.Ask.{Ask}
+use Rattle.dht_ids.specs.declared.ask.Ask.TheVariants as ask
+use Rattle.dht_ids.specs.declared.ask.Heard.{Heard}
+use Rattle.dht_ids.specs.declared.ask.Want.{Want}
+use Rattle.dht_ids.specs.declared.ask.Want.TheVariants as want
+use Rattle.dht_ids.specs.declared.peer.Peer.{Peer}
+use Rattle.ring_model.specs.Gets.{Got, answered_in, first_giver, IsGiven, HasBlock, IsBlockGet}
+use Rattle.dhash_client.specs.Course.{Told, CourseState, IsCourse, IsOnCourse, IsSameCourse, begun, awaited, result_of}
+use Rattle.dhash_client.specs.declared.miss.Miss.{Miss}
+
+-- a get is answered by a block or by the word that there is none; anything else is silence
+abbrev pub is_of_get : Answer → Bool
+is_of_get (answer.Route nearer owners) = false
+is_of_get (answer.Near before list) = false
+is_of_get (answer.Found bytes) = true
+is_of_get answer.Nothing = true
+is_of_get answer.Stored = false
+is_of_get (answer.Refused fault) = false
+is_of_get answer.Noted = false
+is_of_get answer.Silent = false
+
+-- the block that was given
+abbrev pub block_in : Answer → Option (List ℕ)
+block_in (answer.Route nearer owners) = None
+block_in (answer.Near before list) = None
+block_in (answer.Found bytes) = Some bytes
+block_in answer.Nothing = None
+block_in answer.Stored = None
+block_in (answer.Refused fault) = None
+block_in answer.Noted = None
+block_in answer.Silent = None
+
+-- the asks of the owners are a get of the content block of that name, which ends with this result
+abbrev pub EndsGet : Key → ℕ → List Peer → Told → Result (List ℕ) Miss → Type 0
+EndsGet key r owners asks result = (got : Got Peer (List ℕ)) × IsBlockGet is_of_get block_in key r owners asks got × (result ≡ result_of key got)
+
+-- A get of the content block of that name, over a whole trail.
+abbrev pub IsGetOfBlock : Key → ℕ → List Peer → List Heard → Result (List ℕ) Miss → Type 0
+IsGetOfBlock key r entries = IsCourse key (ask.Get key) entries (EndsGet key r)
+
+-- the machine: the right block, once it was given, and the first node that gave a wrong one
+pub record BlockState : Type 0 where
+  pub course : CourseState
+  pub found : Option (List ℕ)
+  pub wrong : Option Peer
+
+abbrev pub block_begun : Key → ℕ → List Peer → BlockState
+block_begun key r entries = record { course = begun key r entries; found = None; wrong = None }
+
+-- the node to be heard, and what it is asked
+abbrev pub block_awaited_at : Option (List ℕ) → CourseState → Option (Peer × Ask)
+block_awaited_at None c = awaited (ask.Get c.look.key) c
+block_awaited_at (Some bytes) c = None
+
+abbrev pub block_awaited : BlockState → Option (Peer × Ask)
+block_awaited s = block_awaited_at s.found s.course
+
+abbrev pub IsEnoughBlock : Key → ℕ → Told → Type 0
+IsEnoughBlock key r t = (r ≤ answered_in is_of_get t) ⊎ HasBlock block_in key t
+
+abbrev pub SumsBlock : Key → Option (List ℕ) → Option Peer → Told → Type 0
+SumsBlock key None wrong asks = (HasBlock block_in key asks → ⊥) × (wrong ≡ first_giver block_in asks)
+SumsBlock key (Some bytes) wrong asks = IsGiven block_in key asks bytes
+
+-- the machine may be in this state behind this trail
+abbrev pub BlockIsAfter : List Peer → List Heard → BlockState → Type 0
+BlockIsAfter entries trail s = IsOnCourse (λ key. ask.Get key) is_of_get IsEnoughBlock (λ key. SumsBlock key s.found s.wrong) entries trail s.course
+
+-- what the machine wants: to ask a node, which is then to be heard, or nothing more, since its trail is a whole get
+abbrev pub BlockIsWanted : BlockState → BlockState → Want (Result (List ℕ) Miss) → Type 0
+BlockIsWanted old new (want.Ask node question) = IsSameCourse old.course new.course × (block_awaited new ≡ Some (node, question)) × ((entries : List Peer) (trail : List Heard) → BlockIsAfter entries trail old → BlockIsAfter entries trail new)
+BlockIsWanted old new (want.Done result) = (entries : List Peer) (trail : List Heard) → BlockIsAfter entries trail old → IsGetOfBlock old.course.look.key old.course.replicas entries trail result
+
+-- the node that was to be heard was heard: its ask and answer are the next of the trail
+abbrev pub BlockHasHeard : BlockState → BlockState → Answer → Type 0
+BlockHasHeard old new given = IsSameCourse old.course new.course × ((entries : List Peer) (trail : List Heard) (node : Peer) (question : Ask) → block_awaited old ≡ Some (node, question) → BlockIsAfter entries trail old → BlockIsAfter entries (trail ++ told node question given) new)
+
+-- the node is the first, where there was none
+abbrev pub or_node : Option Peer → Peer → Option Peer
+or_node None node = Some node
+or_node (Some before) node = Some before
+
+-- what an owner gave is the block, or other bytes, or nothing
+abbrev pub BlockTakes : Key → BlockState → BlockState → Peer → Option (List ℕ) → Type 0
+BlockTakes key old new node None = (new.found ≡ old.found) × (new.wrong ≡ old.wrong)
+BlockTakes key old new node (Some bytes) = ((name bytes ≡ key) × (new.found ≡ Some bytes)) ⊎ ((name bytes ≡ key → ⊥) × (new.found ≡ old.found) × (new.wrong ≡ or_node old.wrong node))

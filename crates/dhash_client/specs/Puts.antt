@@ -1,0 +1,103 @@
+-- The machines of puts, of content blocks and of heads.
+use Rattle.std.specs.Prelude.{◌≡◌, ℕ, ◌+◌, ◌-◌, ◌^◌, ◌≤◌, min, Bool, true, false, if◌then◌else◌, List, ◌++◌, Option, Some, Result, Ok}
+use Rattle.ivy_base.specs.declared.key.Key.{Key}
+use Rattle.dht_ids.specs.Asked.{told}
+use Rattle.dht_ids.specs.declared.ask.Answer.{Answer}
+use Rattle.dht_ids.specs.declared.ask.Answer.TheVariants as answer
+use Rattle.dht_ids.specs.declared.ask.Ask.{Ask}
+use Rattle.dht_ids.specs.declared.ask.Ask.TheVariants as ask
+use Rattle.dht_ids.specs.declared.ask.Heard.{Heard}
+use Rattle.dht_ids.specs.declared.ask.StoreFault.{StoreFault}
+use Rattle.dht_ids.specs.declared.ask.StoreFault.TheVariants as fault
+use Rattle.dht_ids.specs.declared.ask.Want.{Want}
+use Rattle.dht_ids.specs.declared.ask.Want.TheVariants as want
+use Rattle.dht_ids.specs.declared.peer.Peer.{Peer}
+use Rattle.ring_model.specs.Gets.{answered_in, IsPut}
+use Rattle.dhash_client.specs.Course.{Told, CourseState, IsCourse, IsOnCourse, IsSameCourse, begun, awaited}
+use Rattle.dhash_client.specs.declared.miss.Miss.{Miss}
+use Rattle.dhash_client.specs.declared.put.PutKind.{PutKind}
+use Rattle.dhash_client.specs.declared.put.PutKind.TheVariants as kind
+
+-- a put is answered by the word that the block is held, or by a refusal; anything else is silence
+abbrev pub is_of_put : Answer → Bool
+is_of_put (answer.Route nearer owners) = false
+is_of_put (answer.Near before list) = false
+is_of_put (answer.Found bytes) = false
+is_of_put answer.Nothing = false
+is_of_put answer.Stored = true
+is_of_put (answer.Refused why) = true
+is_of_put answer.Noted = false
+is_of_put answer.Silent = false
+
+-- a refusal because a head of the same or a greater number is held
+abbrev pub is_older : StoreFault → Bool
+is_older fault.WrongName = false
+is_older fault.NotJudged = false
+is_older (fault.Older seq) = true
+is_older fault.Full = false
+
+-- the node holds the block now, or a newer head
+abbrev pub holds : Answer → Bool
+holds (answer.Route nearer owners) = false
+holds (answer.Near before list) = false
+holds (answer.Found bytes) = false
+holds answer.Nothing = false
+holds answer.Stored = true
+holds (answer.Refused why) = is_older why
+holds answer.Noted = false
+holds answer.Silent = false
+
+-- what owners are asked
+abbrev pub question_of : PutKind → List ℕ → Key → Ask
+question_of kind.Block bytes key = ask.PutBlock key bytes
+question_of kind.Head bytes key = ask.PutHead key bytes
+
+-- the asks of the owners are a put, which ends with this result
+abbrev pub EndsPut : ℕ → List Peer → Told → Result Bool Miss → Type 0
+EndsPut r owners asks result = (acknowledged : Bool) × IsPut is_of_put holds r owners asks acknowledged × (result ≡ Ok acknowledged)
+
+-- A put of these bytes under that key, over a whole trail.
+abbrev pub IsPutOf : PutKind → List ℕ → Key → ℕ → List Peer → List Heard → Result Bool Miss → Type 0
+IsPutOf what bytes key r entries = IsCourse key (question_of what bytes key) entries (EndsPut r)
+
+-- the machine: what is put, and how many owners hold it so far
+pub record PutState : Type 0 where
+  pub what : PutKind
+  pub course : CourseState
+  pub bytes : List ℕ
+  pub holders : ℕ
+
+abbrev pub put_begun : PutKind → List ℕ → Key → ℕ → List Peer → PutState
+put_begun what bytes key r entries = record { what = what; course = begun key r entries; bytes = bytes; holders = 0 }
+
+-- what is put, under which key, and the number of answers are the same
+abbrev pub IsSamePut : PutState → PutState → Type 0
+IsSamePut old new = IsSameCourse old.course new.course × (new.what ≡ old.what) × (new.bytes ≡ old.bytes)
+
+-- the node to be heard, and what it is asked
+abbrev pub put_awaited : PutState → Option (Peer × Ask)
+put_awaited s = awaited (question_of s.what s.bytes s.course.look.key) s.course
+
+abbrev pub IsEnoughPut : Key → ℕ → Told → Type 0
+IsEnoughPut key r t = r ≤ answered_in is_of_put t
+
+-- the count stays at the greatest number of 32 bits
+abbrev pub SumsPut : ℕ → Told → Type 0
+SumsPut holders asks = holders ≡ min (answered_in holds asks) (2 ^ 32 - 1)
+
+-- the machine may be in this state behind this trail
+abbrev pub PutIsAfter : List Peer → List Heard → PutState → Type 0
+PutIsAfter entries trail s = IsOnCourse (question_of s.what s.bytes) is_of_put IsEnoughPut (λ key. SumsPut s.holders) entries trail s.course
+
+-- what the machine wants: to ask a node, which is then to be heard, or nothing more, since its trail is a whole put
+abbrev pub PutIsWanted : PutState → PutState → Want (Result Bool Miss) → Type 0
+PutIsWanted old new (want.Ask node question) = IsSamePut old new × (put_awaited new ≡ Some (node, question)) × ((entries : List Peer) (trail : List Heard) → PutIsAfter entries trail old → PutIsAfter entries trail new)
+PutIsWanted old new (want.Done result) = (entries : List Peer) (trail : List Heard) → PutIsAfter entries trail old → IsPutOf old.what old.bytes old.course.look.key old.course.replicas entries trail result
+
+-- the node that was to be heard was heard: its ask and answer are the next of the trail
+abbrev pub PutHasHeard : PutState → PutState → Answer → Type 0
+PutHasHeard old new given = IsSamePut old new × ((entries : List Peer) (trail : List Heard) (node : Peer) (question : Ask) → put_awaited old ≡ Some (node, question) → PutIsAfter entries trail old → PutIsAfter entries (trail ++ told node question given) new)
+
+-- one owner more holds the block, or not
+abbrev pub one_more : Bool → ℕ → ℕ
+one_more held holders = if held then min (holders + 1) (2 ^ 32 - 1) else holders

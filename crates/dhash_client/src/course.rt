@@ -1,0 +1,147 @@
+//! What gets and puts share: a look-up, and then asks of the owners that it found.
+
+ghost use Rattle.std.specs.Prelude.{◌≡◌, ◌≢◌, ◌<◌, ◌^◌, None, IfOk, MatchBool};
+ghost use Rattle.dht_ids.specs.declared.ask.Ask.TheVariants as ask;
+ghost use Rattle.dhash_client.specs.Course.{begun, awaited, asked_of, miss_of, Goes, Hears, IsThrough, AreHolders};
+
+use crate::lookup::Lookup;
+use crate::miss::Miss;
+use crate::round::Round;
+use dht_ids::{Answer, Peer, Peers, Want};
+use ivy_base::{Key, Memory};
+use std::alloc::Global;
+use std::marker::Model;
+
+/// What a course does next.
+pub(crate) enum Step {
+    /// It asks the node for the route to the key.
+    Route(Peer),
+    /// It asks the node as an owner.
+    Owner(Peer),
+    /// It found no owner.
+    NoRoute,
+    /// No further owner is asked.
+    Over,
+}
+
+/// A look-up of a key's owners, and the owners once they are found.
+#[derive(Drop)]
+pub(crate) struct Course {
+    lookup: Lookup,
+    replicas: u32,
+    round: Option<Round>,
+}
+
+impl Model for Course {
+    ghost use Rattle.dhash_client.specs.Course.{CourseState};
+
+    ghost Value = { CourseState };
+
+    ghost view = { λ c. record { look = c.lookup; replicas = c.replicas; asking = c.round } };
+}
+
+impl Course {
+    /// A course that begins at these nodes. The error is want of memory.
+    pub(crate) fn start(
+        alloc: Global,
+        key: Key,
+        replicas: u32,
+        entries: &Peers,
+    ) -> Result<Course, Memory>
+        ensures { IfOk result (λ course. course ≡ begun key replicas entries.now) }
+    {
+        Ok(Course {
+            lookup: Lookup::start(alloc, key, replicas, entries)?,
+            replicas,
+            round: None,
+        })
+    }
+
+    /// The key.
+    pub(crate) fn key(&self) -> Key
+        ensures { result ≡ self.entry.now.look.key }
+    {
+        self.lookup.key()
+    }
+
+    /// What comes next. The error is want of memory.
+    pub(crate) fn next(&mut self, alloc: Global) -> Result<Step, Memory>
+        ensures { IfOk result (λ step. Goes self.old self.new step) }
+    {
+        let round = match self.round.take() {
+            Some(round) => round,
+            None => match self.lookup.next(alloc)? {
+                Want::Ask(node, _) => return Ok(Step::Route(node)),
+                Want::Done(Err(_)) => return Ok(Step::NoRoute),
+                Want::Done(Ok(owners)) => Round::over(alloc, &owners)?,
+            },
+        };
+        let step = match round.next(self.replicas) {
+            Some(node) => Step::Owner(node),
+            None => Step::Over,
+        };
+        self.round = Some(round);
+        Ok(step)
+    }
+
+    /// Hears what the node answered that was asked last; of an owner it is told whether its answer counts, and gives
+    /// the owner and the answer back. The error is want of memory.
+    pub(crate) fn heard(
+        &mut self,
+        answer: Answer,
+        counts: bool,
+    ) -> Result<Option<(Peer, Answer)>, Memory>
+        requires { awaited (ask.Get self.old.look.key) self.old ≢ None }
+        ensures { IfOk result (λ heard. Hears self.old self.new answer counts heard) }
+    {
+        match &mut self.round {
+            Some(round) => Ok(Some((round.heard(counts), answer))),
+            None => {
+                self.lookup.heard(answer)?;
+                Ok(None)
+            }
+        }
+    }
+
+    /// The owners that were asked, in order, silent ones included. The error is want of memory.
+    fn asked(&self, alloc: Global) -> Result<Peers, Memory>
+        ensures { IfOk result (λ asked. asked ≡ asked_of self.now.asking) }
+    {
+        match &self.round {
+            Some(round) => round.asked(alloc),
+            None => Ok(Peers::of(Vec::new(alloc))),
+        }
+    }
+
+    /// Whether a put is acknowledged that so many owners hold.
+    pub(crate) fn are_holders(&self, holders: u32) -> bool
+        ensures word { self.entry.now.replicas < 2 ^ 32 }
+        ensures holders { MatchBool result (AreHolders self.entry.now holders) (AreHolders self.entry.now holders → ⊥) }
+    {
+        self.replicas <= holders || (holders > 0 && self.is_through())
+    }
+
+    /// Whether all owners were asked.
+    fn is_through(&self) -> bool
+        ensures { MatchBool result (IsThrough self.entry.now.asking) (IsThrough self.entry.now.asking → ⊥) }
+    {
+        match &self.round {
+            Some(round) => round.is_through(),
+            None => false,
+        }
+    }
+
+    /// Why a get has no result, by the first node that gave something wrong. The error is want of memory.
+    pub(crate) fn miss(&self, alloc: Global, wrong: Option<Peer>) -> Result<Miss, Memory>
+        ensures { IfOk result (λ miss. miss ≡ miss_of self.now.look.key (asked_of self.now.asking) wrong) }
+    {
+        let key = self.key();
+        Ok(match wrong {
+            Some(node) => Miss::Damaged { key, node },
+            None => Miss::Missing {
+                key,
+                asked: self.asked(alloc)?,
+            },
+        })
+    }
+}

@@ -1,0 +1,113 @@
+//! The get of a log's head.
+
+ghost use Rattle.std.specs.Prelude.{◌≡◌, ◌≢◌, None, IfOk};
+ghost use Rattle.dhash_client.specs.Course.{asked_of};
+ghost use Rattle.dhash_client.specs.GetBlock.{block_in};
+ghost use Rattle.dhash_client.specs.GetHead.{head_begun, head_awaited, heads_result, HeadIsWanted, HeadHasHeard, HeadTakes};
+
+use crate::course::{Course, Step};
+use crate::get_block::answers_get;
+use crate::miss::Miss;
+use dht_ids::{Answer, Ask, Heads, Judge, Judged, Peer, Peers, Want};
+use ivy_base::{Key, Memory};
+use std::alloc::Global;
+use std::marker::Model;
+use std::mem;
+
+/// A get of the heads that the owners hold under a log's head key (Ivy, OSDI 2002, section 3.2: DHash returns the
+/// log-head it holds): its course, what the judge said of the heads so far, and the first node that gave something
+/// else.
+#[derive(Drop)]
+pub struct GetHead<J: Judge> {
+    judge: J,
+    course: Course,
+    heads: Vec<Judged>,
+    wrong: Option<Peer>,
+}
+
+impl<J: Judge> Model for GetHead<J> {
+    ghost use Rattle.dhash_client.specs.GetHead.{HeadState};
+
+    ghost Value = { HeadState J };
+
+    ghost view = { λ g. record { course = g.course; judge = g.judge; heads = g.heads.items; wrong = g.wrong } };
+}
+
+impl<J: Judge> GetHead<J> {
+    /// A get of the heads under the key that begins its look-up at these nodes and is content with that many answers.
+    /// The error is want of memory.
+    pub fn start(
+        alloc: Global,
+        judge: J,
+        key: Key,
+        replicas: u32,
+        entries: &Peers,
+    ) -> Result<GetHead<J>, Memory>
+        ensures { IfOk result (λ get. get ≡ head_begun judge key replicas entries.now) }
+    {
+        Ok(GetHead {
+            judge,
+            course: Course::start(alloc, key, replicas, entries)?,
+            heads: Vec::new(alloc),
+            wrong: None,
+        })
+    }
+
+    /// What the get wants next: an ask, or nothing more, since it has its result. That is all judged heads in the
+    /// order in which they were given, which are moved out, and otherwise a miss. An ask that was not yet heard is
+    /// wanted again. The machine isn't used after its result. The error is want of memory; the machine isn't used
+    /// after it.
+    pub fn next(&mut self, alloc: Global) -> Result<Want<Result<Heads, Miss>>, Memory>
+        ensures { IfOk result (λ want. HeadIsWanted J.judges self.old self.new want) }
+    {
+        let step = self.course.next(alloc)?;
+        let key = self.course.key();
+        Ok(match step {
+            Step::Route(node) => Want::Ask(node, Ask::Route(key)),
+            Step::Owner(node) => Want::Ask(node, Ask::Get(key)),
+            Step::NoRoute => Want::Done(Err(Miss::NoRoute(key))),
+            Step::Over => Want::Done(self.result(alloc)?),
+        })
+    }
+
+    /// The result, where nobody else is asked. The error is want of memory.
+    fn result(&mut self, alloc: Global) -> Result<Result<Heads, Miss>, Memory>
+        ensures { IfOk result (λ given. given ≡ heads_result self.old.course.look.key (asked_of self.old.course.asking) self.old.heads self.old.wrong) }
+    {
+        if self.heads.is_empty() {
+            return Ok(Err(self.course.miss(alloc, self.wrong)?));
+        }
+        Ok(Ok(Heads::of(mem::replace(&mut self.heads, Vec::new(alloc)))))
+    }
+
+    /// Hears what the node answered that was asked last. An owner's answer that is none to a get is silence. It is
+    /// called once after each ask. The error is want of memory; the machine isn't used after it.
+    pub fn heard(&mut self, answer: Answer) -> Result<(), Memory>
+        requires { head_awaited self.old ≢ None }
+        ensures { IfOk result (λ _. HeadHasHeard J.judges self.old self.new answer) }
+    {
+        let counts = answers_get(&answer);
+        if let Some((node, answer)) = self.course.heard(answer, counts)? {
+            self.take(node, answer)?;
+        }
+        Ok(())
+    }
+
+    /// Takes what the owner answered. The error is want of memory.
+    fn take(&mut self, node: Peer, answer: Answer) -> Result<(), Memory>
+        ensures course { IfOk result (λ _. self.new.course ≡ self.old.course) }
+        ensures judge { IfOk result (λ _. self.new.judge ≡ self.old.judge) }
+        ensures takes { IfOk result (λ _. HeadTakes J.judges self.old.course.look.key self.old self.new node (block_in answer)) }
+    {
+        let Answer::Found(bytes) = answer else {
+            drop(answer);
+            return Ok(());
+        };
+        if let Some(head) = self.judge.judge(&self.course.key(), bytes.as_slice()) {
+            self.heads.push(head)?;
+        } else if self.wrong.is_none() {
+            self.wrong = Some(node);
+        }
+        Ok(())
+    }
+}
