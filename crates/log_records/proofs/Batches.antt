@@ -80,9 +80,12 @@ without_edge view (Some t) edge (r ∷ rs) g = (g.0, g.1, tt, g.3)
 pub with_edge : (view : View) (held : Option Stamp) (edge more : Option Vector) (r : Record) (rs : List Record) → GoesOnFrom view held edge (r ∷ rs) → KnowsEdge held more r → GoesOnFrom view held more (r ∷ rs)
 with_edge view held edge more r rs g knows = (g.0, g.1, knows, g.3)
 
+pub begins_log : (view : View) (edge : Option Vector) (chain : List Record) → GoesOnFrom view None edge chain → IsChain view (owner_of chain) chain
+begins_log view edge [] g = tt
+begins_log view edge (r ∷ rs) g = (g.0, g.1, g.3)
+
 pub chains_begin : ChainsBegin
-chains_begin view edge [] g = tt
-chains_begin view edge (r ∷ rs) g = (g.0, g.1, g.3)
+chains_begin view held floor edge head chain none ext g = (begins_log view edge chain (subst (λ (s : Option Stamp). GoesOnFrom view s edge chain) none g), ext.ends)
 
 -- the last of p and the records after it goes on
 go_on_behind : (view : View) (owner : PubKey) (q : Record) (before : List Record) (p : Record) (rs : List Record) → GoesOn view owner q (before ++ p ∷ []) → GoesOn view owner p rs → GoesOn view owner q (before ++ p ∷ rs)

@@ -7,9 +7,11 @@ use Rattle.log_model.specs.Rank.{own_entry}
 use Rattle.log_model.specs.Chain.{IsChain}
 use Rattle.log_records.specs.Batches.{owner_of, stamp_in, GoesOnFrom, EndsAt, Extends}
 
--- over nothing it is a chain of its log, from the opening record on
+-- where nothing of its log is held, it is a chain from the opening record on
 abbrev pub ChainsBegin : Type 0
-ChainsBegin = (view : View) (edge : Option Vector) (chain : List Record) → GoesOnFrom view None edge chain → IsChain view (owner_of chain) chain
+ChainsBegin = (view : View) (held floor : Vector) (edge : Option Vector) (head : Stamp) (chain : List Record) → stamp_in held chain ≡ None
+    → Extends held floor head chain → GoesOnFrom view (stamp_in held chain) edge chain
+    → IsChain view (owner_of chain) chain × EndsAt head chain
 
 -- over a held chain that ends at the held record, whose vector is the edge, the two are one chain
 abbrev pub ChainsGoOn : Type 0
