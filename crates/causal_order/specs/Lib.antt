@@ -1,0 +1,4 @@
+pub mod Over
+pub mod AtHand
+pub mod Laws
+pub mod Passing
