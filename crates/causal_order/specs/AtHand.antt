@@ -9,6 +9,7 @@ use Rattle.log_model.specs.Record.{Record}
 use Rattle.log_model.specs.Chain.{IsGood, IsFirst, GoesOn}
 use Rattle.log_model.specs.Closed.{log_of, IsAscending}
 use Rattle.log_model.specs.Replay.{in_order}
+use Rattle.causal_order.specs.Temp.{owner_of}
 use Rattle.causal_order.specs.Over.{IsChainOver, IsClosedPart}
 
 -- the number of the newest record that is held of the owner's log; 0 where there is none
@@ -32,13 +33,21 @@ abbrev pub IsAtHand : View → Vector → List Record → List (List Record) →
 IsAtHand view front held chains r =
     Contains held r ⊎ ((chain : List Record) × Contains chains chain × Extends view front held r.owner chain × Contains (news front held r.owner chain) r)
 
--- a chain of a member's log: its records are linked, and it begins next after what is held, or before
-pub record IsFetched (view : View) (front : Vector) (held : List Record) (owner : PubKey) (first : Record) (rest : List Record) : Type 0 where
-  pub member : Contains view.members owner
-  pub good : IsGood view owner first
-  pub opens : first.seq ≡ 1 → IsFirst first
-  pub linked : GoesOn view owner first rest
-  pub near : first.seq ≤ held_to front held owner + 1
+-- some records of one log: each goes on from the one before it, and a first one opens the log
+abbrev pub IsLinked : View → List Record → Type 0
+IsLinked view [] = ⊥
+IsLinked view (r ∷ rs) = IsGood view r.owner r × (r.seq ≡ 1 → IsFirst r) × GoesOn view r.owner r rs
+
+-- they begin next after that number, or before
+abbrev pub BeginsBy : ℕ → List Record → Type 0
+BeginsBy n [] = Unit {0}
+BeginsBy n (r ∷ rs) = r.seq ≤ n + 1
+
+-- a chain of a member's log that begins next after what is held, or before
+pub record IsFetched (view : View) (front : Vector) (held chain : List Record) : Type 0 where
+  pub member : Contains view.members (owner_of chain)
+  pub linked : IsLinked view chain
+  pub near : BeginsBy (held_to front held (owner_of chain)) chain
 
 -- these are the new records of the largest closed part: with what is held they are it
 pub record IsNewPart (view : View) (front : Vector) (held : List Record) (chains : List (List Record)) (new : List Record) : Type 0 where

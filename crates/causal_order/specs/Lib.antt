@@ -1,4 +1,6 @@
+pub mod Temp
 pub mod Over
 pub mod AtHand
 pub mod Laws
 pub mod Passing
+pub mod Kept

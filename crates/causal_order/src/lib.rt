@@ -1,4 +1,6 @@
 //! The largest causally closed part of what was fetched.
 #![tactic(auto)]
 
-pub fn nothing() {}
+mod base;
+mod log;
+mod causes;
