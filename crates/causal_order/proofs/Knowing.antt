@@ -88,3 +88,7 @@ pub unknown_where : (r c : Record) (key : Key) (n : ℕ) → key ≡ head_key_of
 unknown_where r c key n is none value short =
     (λ holds. let le : c.seq ≤ n = leb-true c.seq n holds in absurd (omega (arith, le, short)),
      λ dom. let le = own_known r c key is none dom in absurd (omega (arith, le, value, short)))
+
+-- a weight and what is known, tested one after the other
+pub both_hold : (b : Bool) (n m : ℕ) (P : Type 0) → n < m → (IsTrue b ↔ P) → IsTrue b ↔ ((n < m) × P)
+both_hold b n m P less h = (λ holds. (less, h.0 holds), λ p. h.1 p.1)

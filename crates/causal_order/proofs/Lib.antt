@@ -1,6 +1,7 @@
 pub mod Logs
 pub mod Places
 pub mod Knowing
+pub mod Meeting
 pub mod Passes
 pub mod Steps
 pub mod Ends

@@ -20,7 +20,7 @@ use Rattle.log_model.proofs.Owners.{owner_itself}
 use Rattle.log_model.proofs.Weights.{follows_heavier}
 use Rattle.log_model.proofs.Part.{Numbered, numbers_from, numbers_below, log_push, later_not_lighter, PrecededIn}
 use Rattle.causal_order.specs.Passing.{Queue, AreApart, IsLeft, IsLeast, IsSeen, IsPassed, IsBefore}
-use Rattle.causal_order.specs.Over.{IsUnder, HasCauses, GoesOnFrom, IsChainOver, IsClosed}
+use Rattle.causal_order.specs.Over.{IsUnder, IsMet, HasCauses, GoesOnFrom, IsChainOver, IsClosed}
 use Rattle.causal_order.proofs.Logs.{numbers_over, front_over, good_over, preceded_over, ascends_over, numbered_one, numbered_has}
 
 one_owner : (queues : List Queue) → AreApart queues → (k l : Queue) → Contains queues k → Contains queues l → k.owner ≡ l.owner → k ≡ l
@@ -45,9 +45,9 @@ pub of_log : (owner : PubKey) (s : List Record) (r : Record) → Contains (log_o
 of_log owner s r c = let w = from_filter (λ (x : Record). eq_by_cmp owner_cmp owner x.owner) s r c in (w.0, same_owner owner r.owner w.1)
 
 pub causes_weaken : (view : View) (front : Vector) (s t : List Record) (r : Record) → ((c : Record) → Contains s c → Contains t c) → HasCauses view front s r → HasCauses view front t r
-causes_weaken view front s t r within h = each_from (λ e. IsTrue (is_member view e.0) → IsUnder front e ⊎ ((c : Record) × Contains t c × IsCause c e r)) r.vector
+causes_weaken view front s t r within h = each_from (IsMet view front t r) r.vector
     (λ e in_vector member. ⊎_elim (λ u. inl u) (λ w. inr (w.0, within w.0 w.1, w.2))
-        (each (λ f. IsTrue (is_member view f.0) → IsUnder front f ⊎ ((c : Record) × Contains s c × IsCause c f r)) r.vector e h in_vector member))
+        (each (IsMet view front s r) r.vector e h in_vector member))
 
 module _ (view : View) (front : Vector) where
   abbrev pub start : PubKey → Option Stamp
@@ -89,9 +89,9 @@ module _ (view : View) (front : Vector) where
 
     -- a record of a closed set that was seen has its causes among what was taken
     pub member_has_causes : (t : List Record) → IsClosed view front t → IsSeen known queues t → Contains t r → HasCauses view front known r
-    member_has_causes t closed seen within = each_from (λ e. IsTrue (is_member view e.0) → IsUnder front e ⊎ ((c : Record) × Contains known c × IsCause c e r)) r.vector
+    member_has_causes t closed seen within = each_from (IsMet view front known r) r.vector
         (λ e in_vector member. ⊎_elim (λ u. inl u) (λ w. inr (w.0, lighter_taken w.0 (seen w.0 w.1) w.2.lighter, w.2))
-            (each (λ g. IsTrue (is_member view g.0) → IsUnder front g ⊎ ((c : Record) × Contains t c × IsCause c g r)) r.vector e (each (HasCauses view front t) t r closed.causes within) in_vector member))
+            (each (IsMet view front t r) r.vector e (each (HasCauses view front t) t r closed.causes within) in_vector member))
 
     -- of what was seen, the owner's records are those of its log and its queue
     in_whole : (q : Record) → Contains known q ⊎ IsLeft queues q → q.owner ≡ k.owner → Contains (log_of k.owner known ++ r ∷ rest) q

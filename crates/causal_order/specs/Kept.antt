@@ -1,6 +1,6 @@
 -- What is kept of each member's log while records are taken.
 use Rattle.std.specs.Prelude.{◌≡◌, ℕ, ◌<◌, List, [], ◌∷◌, ◌++◌, map, length, slice_index_or, Option, Some, None, option_map, IfSome}
-use Rattle.std.specs.List.{AllByRecursion}
+use Rattle.std.specs.List.{All}
 use Rattle.ivy_base.specs.declared.key.Key.{Key}
 use Rattle.ivy_base.specs.Naming.{head_key_of}
 use Rattle.log_model.specs.View.{View}
@@ -14,7 +14,7 @@ use Rattle.causal_order.specs.Temp.{records_of}
 use Rattle.log_records.specs.declared.record.Record as kept
 use Rattle.causal_order.specs.declared.base.Base.{Base}
 use Rattle.causal_order.specs.declared.log.Log.{Log}
-use Rattle.causal_order.specs.Passing.{Queue}
+use Rattle.causal_order.specs.Passing.{Queue, IsPassed}
 
 -- the records that are known: those that are held, and those that were taken
 abbrev pub known_of : Base → List kept.Record → List Record
@@ -53,3 +53,9 @@ pub record IsKept (front : Vector) (known : List Record) (l : Log) : Type 0 wher
 
 abbrev pub queue_of : Log → Queue
 queue_of l = record { owner = l.owner; left = records_of l.queue.items }
+
+-- what is kept of the logs, one of each member's
+pub record AreKept (view : View) (front : Vector) (known : List Record) (logs : List Log) : Type 0 where
+  pub kept : All (IsKept front known) logs
+  pub owners : map (λ l. l.owner) logs ≡ view.members
+  pub passed : IsPassed view front known (map queue_of logs)

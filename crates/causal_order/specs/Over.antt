@@ -14,9 +14,13 @@ use Rattle.log_model.specs.Closed.{log_of, IsAscending, IsCause}
 abbrev pub IsUnder : Vector → Entry → Type 0
 IsUnder front e = (e.1.seq < seq_of front e.0) ⊎ (stamp_at front e.0 ≡ Some e.1)
 
--- each record that r cites in a member's log is at or under the front, or in the set
+-- the record that r cites by the entry, where that is one of a member's log, is at or under the front, or in the set
+abbrev pub IsMet : View → Vector → List Record → Record → Entry → Type 0
+IsMet view front s r e = IsTrue (is_member view e.0) → IsUnder front e ⊎ ((c : Record) × Contains s c × IsCause c e r)
+
+-- all that r cites is
 abbrev pub HasCauses : View → Vector → List Record → Record → Type 0
-HasCauses view front s r = AllByRecursion (λ e. IsTrue (is_member view e.0) → IsUnder front e ⊎ ((c : Record) × Contains s c × IsCause c e r)) r.vector
+HasCauses view front s r = AllByRecursion (IsMet view front s r) r.vector
 
 -- the owner's record that is numbered next after the stamp, and names it
 pub record ComesNext (view : View) (owner : PubKey) (s : Stamp) (r : Record) : Type 0 where
