@@ -1,6 +1,8 @@
 pub mod Logs
 pub mod Places
 pub mod Knowing
+pub mod Stepping
+pub mod Choosing
 pub mod Meeting
 pub mod Passes
 pub mod Steps

@@ -3,4 +3,5 @@
 
 mod base;
 mod log;
+mod pass;
 mod causes;

@@ -1,6 +1,7 @@
 //! What is kept of one member's log while records are taken.
 
-ghost use Rattle.std.specs.Prelude.{◌≡◌, ◌+◌, ◌<◌, ◌++◌, length, Some, Contains, IfSome, IfNone, IsTrue, ◌↔◌};
+ghost use Rattle.std.specs.Prelude.{◌≡◌, ◌+◌, ◌<◌, ◌≤◌, ◌^◌, ◌++◌, [], length, Some, IfOk, Contains, IfSome, IfNone, IsTrue, ◌↔◌};
+ghost use Rattle.std.specs.List.{AllByRecursion};
 ghost use Rattle.log_model.specs.Rank.{own_entry};
 ghost use Rattle.log_model.specs.Record.{Record as Seen};
 ghost use Rattle.log_model.specs.Spelling.{record_name};
@@ -9,10 +10,10 @@ ghost use Rattle.version_vectors.specs.Entries.{stamped};
 ghost use Rattle.log_records.specs.Records.{record_of};
 ghost use Rattle.causal_order.specs.Temp.{records_of};
 ghost use Rattle.causal_order.specs.Over.{IsChainOver};
-ghost use Rattle.causal_order.specs.Kept.{IsAt, IsKept, known_of};
+ghost use Rattle.causal_order.specs.Kept.{IsAt, IsKept, IsAdvanced, IsCleared, IsInFront, known_of};
 
 use crate::base::Base;
-use ivy_base::{Key, PubKey};
+use ivy_base::{Key, Memory, PubKey};
 use log_records::Record;
 use std::collections::VecDeque;
 use version_vectors::{Entry, Rank};
@@ -71,6 +72,39 @@ impl Log {
         } else {
             None
         }
+    }
+
+    /// The next record.
+    pub fn front(&self) -> Option<&Record>
+        ensures some { IfSome result (λ r. IsInFront r.now self.now.queue.items) }
+        ensures none { IfNone result (self.now.queue.items ≡ []) }
+    {
+        self.queue.front()
+    }
+
+    /// Takes the next record from the queue, which is to stand at that place.
+    ///
+    /// There is none where the queue is empty. The error is want of memory; after either the log isn't used again.
+    pub fn advance(&mut self, place: usize) -> Result<Option<Record>, Memory>
+        requires { AllByRecursion (λ r. length r.vector ≤ 2 ^ 31) self.old.queue.items }
+        ensures taken { IfOk result (λ next. IfSome next (IsAdvanced self.old self.new place)) }
+        ensures none { IfOk result (λ next. IfNone next (self.old.queue.items ≡ [])) }
+    {
+        self.places.push(place)?;
+        let Some(record) = self.queue.pop_front() else {
+            return Ok(None);
+        };
+        self.tip = Some(self.queue.front().map_or(self.last, |next| next.prev));
+        self.next = self.queue.front().map(|next| next.rank());
+        Ok(Some(record))
+    }
+
+    /// Lets go what is left in the queue.
+    pub fn clear(&mut self)
+        ensures { IsCleared self.old self.new }
+    {
+        self.queue.clear();
+        self.next = None;
     }
 
     /// Whether the known record of that index has that name.
