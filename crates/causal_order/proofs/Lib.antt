@@ -2,6 +2,8 @@ pub mod Logs
 pub mod Places
 pub mod Knowing
 pub mod Stepping
+pub mod Advancing
+pub mod Going
 pub mod Choosing
 pub mod Meeting
 pub mod Passes

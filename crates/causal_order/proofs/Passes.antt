@@ -23,7 +23,7 @@ use Rattle.causal_order.specs.Passing.{Queue, AreApart, IsLeft, IsLeast, IsSeen,
 use Rattle.causal_order.specs.Over.{IsUnder, IsMet, HasCauses, GoesOnFrom, IsChainOver, IsClosed}
 use Rattle.causal_order.proofs.Logs.{numbers_over, front_over, good_over, preceded_over, ascends_over, numbered_one, numbered_has}
 
-one_owner : (queues : List Queue) → AreApart queues → (k l : Queue) → Contains queues k → Contains queues l → k.owner ≡ l.owner → k ≡ l
+pub one_owner : (queues : List Queue) → AreApart queues → (k l : Queue) → Contains queues k → Contains queues l → k.owner ≡ l.owner → k ≡ l
 one_owner [] h k l ck cl e = absurd (in_nothing k ck)
 one_owner (x ∷ xs) h k l ck cl e = ⊎_elim
     (λ is_k. ⊎_elim (λ is_l. sym is_k ∙ is_l)

@@ -1,8 +1,9 @@
 -- The next record of a log, as it is kept, is one of its chain.
-use Rattle.std.proofs.Common.{◌≡◌, ◌⊎◌, inl, inr, ⊎_elim, ℕ, zero, suc, ◌+◌, ◌<◌, ◌≤◌, ◌^◌, Bool, true, false, List, [], ◌∷◌, ◌++◌, length, get_or, set, map, refl, sym, ap, ◌∙◌, subst, arith, Option, Some, None, Contains, lit≤}
+use Rattle.std.proofs.Common.{◌≡◌, ◌⊎◌, inl, inr, ⊎_elim, ℕ, zero, suc, ◌+◌, ◌<◌, ◌≤◌, ◌^◌, Bool, true, false, List, [], ◌∷◌, ◌++◌, length, get_or, set, map, refl, sym, ap, ◌∙◌, subst, arith, Option, Some, None, Contains, append_assoc}
 use Rattle.std.specs.Prelude.{option_map}
 use Rattle.std.specs.List.{All, AllByRecursion}
 use Rattle.std.proofs.lemmas.List.Elements.{All-contains}
+use Rattle.ivy_base.specs.declared.key.PubKey.{PubKey}
 use Rattle.ivy_base.specs.Naming.{head_key_of}
 use Rattle.log_model.specs.View.{View, IsView}
 use Rattle.log_model.specs.Vector.{Vector}
@@ -15,10 +16,10 @@ use Rattle.version_vectors.specs.Ranks.{rank_of}
 use Rattle.log_records.specs.declared.record.Record as kept
 use Rattle.log_records.specs.Records.{record_of}
 use Rattle.causal_order.specs.Temp.{records_of}
-use Rattle.causal_order.specs.Passing.{Queue, IsPassed}
+use Rattle.causal_order.specs.Passing.{Queue, IsPassed, IsShortened}
 use Rattle.causal_order.specs.declared.base.Base.{Base}
 use Rattle.causal_order.specs.declared.log.Log.{Log}
-use Rattle.causal_order.specs.Kept.{IsKept, AreKept, IsInFront, IsNext, HasNext, IsCleared, IsAdvanced, IsDecided, IsLeftAt, IsTakenAt, queue_of, first_rank}
+use Rattle.causal_order.specs.Kept.{IsKept, AreKept, IsInFront, IsNext, HasNext, IsCleared, IsAdvanced, IsDecided, IsLeftAt, IsTakenAt, known_of, queue_of, first_rank}
 use Rattle.causal_order.proofs.Passes.{left_owned}
 use Rattle.causal_order.proofs.Meeting.{to_map}
 
@@ -97,3 +98,44 @@ module _ (base : Base) (taken : List kept.Record) (logs : List Log) (i : ℕ) (a
         pushed = pushed;
         causes = (decided r (new.queue.items, here.queue)).0 holds;
       }
+
+-- ---- a step of the pass
+
+-- records as they are kept, one more
+pub records_push : (taken : List kept.Record) (r : kept.Record) → records_of (taken ++ r ∷ []) ≡ records_of taken ++ record_of r ∷ []
+records_push [] r = refl
+records_push (x ∷ taken) r = ap (λ l. record_of x ∷ l) (records_push taken r)
+
+pub known_push : (base : Base) (taken : List kept.Record) (r : kept.Record) → known_of base (taken ++ r ∷ []) ≡ known_of base taken ++ record_of r ∷ []
+known_push base taken r = ap (λ l. records_of base.held.now ++ l) (records_push taken r) ∙ sym (append_assoc (records_of base.held.now) (records_of taken) (record_of r ∷ []))
+
+-- a log in another one's place
+pub set_parts : (logs : List Log) (i : ℕ) (old new : Log) → i < length logs → get_or logs i old ≡ old → (first : List Log) × (last : List Log) × (logs ≡ first ++ old ∷ last) × (set logs i new ≡ first ++ new ∷ last)
+set_parts [] i old new h e = absurd (omega (arith, h))
+set_parts (x ∷ logs) zero old new h e = ([], logs, ap (λ (y : Log). y ∷ logs) e, refl)
+set_parts (x ∷ logs) (suc i) old new h e =
+    let w = set_parts logs i old new (omega (arith, h)) e in
+    (x ∷ w.0, w.1, ap (λ l. x ∷ l) w.2, ap (λ l. x ∷ l) w.3)
+
+pub queues_append : (first : List Log) (l : Log) (last : List Log) → map queue_of (first ++ l ∷ last) ≡ map queue_of first ++ queue_of l ∷ map queue_of last
+queues_append [] l last = refl
+queues_append (x ∷ first) l last = ap (λ q. queue_of x ∷ q) (queues_append first l last)
+
+queue_made : (a b : PubKey) (p q : List Record) → a ≡ b → p ≡ q → (let k : Queue = record { owner = a; left = p } in k) ≡ (let l : Queue = record { owner = b; left = q } in l)
+queue_made a b p q e f = cc
+
+pub shortened : (logs : List Log) (i : ℕ) (old new : Log) (rest : List Record) → i < length logs → get_or logs i old ≡ old → new.owner ≡ old.owner → records_of new.queue.items ≡ rest
+    → IsShortened (map queue_of logs) (map queue_of (set logs i new)) (queue_of old) rest
+shortened logs i old new rest h e owner left =
+    let w = set_parts logs i old new h e in
+    record {
+      first = map queue_of w.0;
+      last = map queue_of w.1;
+      old = ap (map queue_of) w.2 ∙ queues_append w.0 old w.1;
+      new = ap (map queue_of) w.3 ∙ queues_append w.0 new w.1 ∙ ap (λ (k : Queue). map queue_of w.0 ++ k ∷ map queue_of w.1) (queue_made new.owner old.owner (records_of new.queue.items) rest owner left);
+    }
+
+pub owners_stay : (logs : List Log) (i : ℕ) (old new : Log) → i < length logs → get_or logs i old ≡ old → new.owner ≡ old.owner → map (λ (l : Log). l.owner) (set logs i new) ≡ map (λ (l : Log). l.owner) logs
+owners_stay [] i old new h e owner = absurd (omega (arith, h))
+owners_stay (x ∷ logs) zero old new h e owner = ap (λ (o : PubKey). o ∷ map (λ (l : Log). l.owner) logs) (owner ∙ sym (ap (λ (l : Log). l.owner) e))
+owners_stay (x ∷ logs) (suc i) old new h e owner = ap (λ os. x.owner ∷ os) (owners_stay logs i old new (omega (arith, h)) e owner)

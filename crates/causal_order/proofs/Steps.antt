@@ -22,13 +22,13 @@ use Rattle.causal_order.proofs.Passes.{start, chain_of, is_mine, causes_weaken, 
 shorter : Queue → List Record → Queue
 shorter k rest = record { owner = k.owner; left = rest }
 
-apart_left : (a : List Queue) (k : Queue) (b : List Queue) → AreApart (a ++ k ∷ b) → (l : Queue) → Contains a l → l.owner ≡ k.owner → ⊥
+pub apart_left : (a : List Queue) (k : Queue) (b : List Queue) → AreApart (a ++ k ∷ b) → (l : Queue) → Contains a l → l.owner ≡ k.owner → ⊥
 apart_left [] k b h l c e = absurd (in_nothing l c)
 apart_left (x ∷ a) k b h l c e = ⊎_elim
     (λ is_l. each (λ y. x.owner ≡ y.owner → ⊥) (a ++ k ∷ b) k h.0 (Contains-append_right a (k ∷ b) k (here k b)) (ap (λ (y : Queue). y.owner) is_l ∙ e))
     (λ d. apart_left a k b h.1 l d e) (in_cons x a l c)
 
-apart_right : (a : List Queue) (k : Queue) (b : List Queue) → AreApart (a ++ k ∷ b) → (l : Queue) → Contains b l → l.owner ≡ k.owner → ⊥
+pub apart_right : (a : List Queue) (k : Queue) (b : List Queue) → AreApart (a ++ k ∷ b) → (l : Queue) → Contains b l → l.owner ≡ k.owner → ⊥
 apart_right [] k b h l c e = each (λ y. k.owner ≡ y.owner → ⊥) b l h.0 c (sym e)
 apart_right (x ∷ a) k b h l c e = apart_right a k b h.1 l c e
 
@@ -43,7 +43,7 @@ apart_again (x ∷ a) k m b e h = (each_from (λ y. x.owner ≡ y.owner → ⊥)
         (λ is_l. each (λ y. x.owner ≡ y.owner → ⊥) (a ++ k ∷ b) k h.0 (Contains-append_right a (k ∷ b) k (here k b)) (d ∙ sym (ap (λ (y : Queue). y.owner) is_l) ∙ e))
         (λ c2. each (λ y. x.owner ≡ y.owner → ⊥) (a ++ k ∷ b) l h.0 (Contains-append_right a (k ∷ b) l (there k b l c2)) d) (in_cons m b l c)
 
-ascends_right : (xs ys : List Record) → IsAscending (xs ++ ys) → IsAscending ys
+pub ascends_right : (xs ys : List Record) → IsAscending (xs ++ ys) → IsAscending ys
 ascends_right [] ys h = h
 ascends_right (x ∷ xs) ys h = ascends_right xs ys h.1
 

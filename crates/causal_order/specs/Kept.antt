@@ -19,7 +19,7 @@ use Rattle.causal_order.specs.declared.base.Base.{Base}
 use Rattle.causal_order.specs.declared.log.Log.{Log}
 use Rattle.log_records.specs.Records.{record_of}
 use Rattle.causal_order.specs.Over.{HasCauses}
-use Rattle.causal_order.specs.Passing.{Queue, IsPassed}
+use Rattle.causal_order.specs.Passing.{Queue, IsPassed, IsTaken}
 
 -- the records that are known: those that are held, and those that were taken
 abbrev pub known_of : Base → List kept.Record → List Record
@@ -160,3 +160,14 @@ pub record IsLeftAt (base : Base) (logs : List Log) (taken : List kept.Record) (
 
 abbrev pub IsSeenAt : Base → List Log → List kept.Record → List Log → List kept.Record → ℕ → Type 0
 IsSeenAt base logs taken after more i = IsTakenAt base logs taken after more i ⊎ IsLeftAt base logs taken after more i
+
+-- how many records are still to be seen
+abbrev pub left_in : List Log → ℕ
+left_in [] = 0
+left_in (l ∷ logs) = length l.queue.items + left_in logs
+
+-- the state of the pass between two steps
+pub record IsGoing (base : Base) (AtHand : Record → Type 0) (logs : List Log) (taken : List kept.Record) : Type 0 where
+  pub kept : All (IsKept base.front.now (known_of base taken)) logs
+  pub owners : map (λ l. l.owner) logs ≡ base.view.now.members
+  pub passing : IsTaken base.view.now base.front.now AtHand (known_of base taken) (records_of taken) (map queue_of logs)

@@ -3,6 +3,7 @@ use Rattle.std.specs.Prelude.{IfSome}
 use Rattle.log_records.specs.declared.record.Record.{Record}
 use Rattle.causal_order.specs.Kept.{known_of, IsAdvanced, IsDecided}
 use Rattle.causal_order.proofs.Stepping.{short_vectors, some_front, next_stands, next_is, left_at, taken_at}
+use Rattle.causal_order.proofs.Going as unused
 use Rattle.causal_order.proofs.pass.see.Goals as goal
 
 pub advance-requires : goal.advance-requires
