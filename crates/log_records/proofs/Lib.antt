@@ -11,3 +11,7 @@ pub mod OneRecord
 pub mod Weights
 pub mod PlainHeads
 pub mod Sizes
+pub mod Knowing
+pub mod Walks
+pub mod KeptChains
+pub mod Batches

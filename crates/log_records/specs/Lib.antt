@@ -5,3 +5,8 @@ pub mod Heads
 pub mod Laws
 pub mod Frames
 pub mod Records
+pub mod Spelled
+pub mod Batches
+pub mod Kept
+pub mod Walks
+pub mod BatchLaws

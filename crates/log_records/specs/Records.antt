@@ -1,5 +1,5 @@
 -- Records as they are kept, and when none is read.
-use Rattle.std.specs.Prelude.{ℕ, ◌<◌, ◌≤◌, List, length}
+use Rattle.std.specs.Prelude.{ℕ, ◌<◌, ◌≤◌, List, length, map}
 use Rattle.ivy_base.specs.declared.key.PubKey.{PubKey}
 use Rattle.log_model.specs.Record as log
 use Rattle.log_model.specs.Spelling.{IsRecordOf}
@@ -11,6 +11,9 @@ use Rattle.log_records.specs.declared.fault.RecordFault.TheVariants.{Malformed, 
 -- a record as the definitions have it
 abbrev pub record_of : Record → log.Record
 record_of r = record { owner = r.owner; seq = r.seq; prev = r.prev; vector = r.vector; moment = r.moment; op = r.op }
+
+abbrev pub records_of : List Record → List log.Record
+records_of rs = map record_of rs
 
 -- the bytes are that record of the owner's, and if it makes an inode, then of the number that it makes
 pub record IsRead (owner : PubKey) (bytes : List ℕ) (r : log.Record) : Type 0 where

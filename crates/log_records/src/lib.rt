@@ -23,8 +23,14 @@
 //! allocation, and each byte is copied once.
 #![tactic(auto)]
 
+pub mod batch;
+mod batch_laws;
+#[cfg(test)]
+mod batch_tests;
 mod body;
 mod body_writing;
+mod chain;
+pub mod chain_fault;
 mod change;
 mod change_writing;
 pub mod fault;
@@ -35,12 +41,18 @@ mod laws;
 mod part_fault;
 mod parts;
 pub mod record;
+pub mod records;
+mod spelled;
 #[cfg(test)]
 mod tests;
 mod writing;
 
+pub use batch::{Batch, Chain};
+pub use batch_laws::chains_go_on;
+pub use chain_fault::ChainFault;
 pub use fault::RecordFault;
 pub use head::{Head, plain_head};
 pub use judge::PlainJudge;
 pub use laws::blocks_are_one;
 pub use record::Record;
+pub use records::Records;

@@ -170,7 +170,7 @@ pub fn read_piece(alloc: Global, reader: &mut XdrRead) -> Result<(u64, Bytes), P
 }
 
 /// Whether there are bytes, and all are within the most that a file may have.
-fn is_piece(offset: u64, bytes: &[u8]) -> bool
+pub fn is_piece(offset: u64, bytes: &[u8]) -> bool
     requires { length bytes.now ≤ 8192 }
     ensures { IsTrue result ↔ IsPiece (offset, bytes.now) }
 {

@@ -26,7 +26,7 @@ use xdr_codec::{XdrRead, XdrWrite};
 const LONGEST_RECORD: usize = 12_288;
 
 /// In place of a name, where there is none.
-const NO_NAME: Key = Key([0; 20]);
+pub(crate) const NO_NAME: Key = Key([0; 20]);
 
 /// A record of a log (Ivy): one step of its owner's, written once.
 #[derive(Drop)]
@@ -167,14 +167,14 @@ fn cites_nothing(frame: &Frame) -> bool
 }
 
 /// Whether the operation is End.
-fn is_end(op: &Op) -> bool
+pub(crate) fn is_end(op: &Op) -> bool
     ensures { IsTrue result ↔ IsEndOp op.now }
 {
     matches!(op, Op::End)
 }
 
 /// Whether the operation makes no inode, or makes it of the number that is that record's.
-fn has_made_number(owner: &PubKey, seq: u32, op: &Op) -> bool
+pub(crate) fn has_made_number(owner: &PubKey, seq: u32, op: &Op) -> bool
     ensures { IsTrue result ↔ HasMadeNumber owner.now seq op.now }
 {
     match op {

@@ -1,0 +1,44 @@
+//! Records in a row, which contracts see as their list.
+
+ghost use Rattle.std.specs.Prelude.{◌≡◌};
+
+use crate::record::Record;
+use std::marker::Model;
+
+/// Records in a row.
+#[derive(Drop)]
+pub struct Records {
+    records: Vec<Record>,
+}
+
+impl Model for Records {
+    ghost use Rattle.std.specs.Prelude.{List};
+    ghost use Rattle.log_records.specs.declared.record.Record.{Record};
+
+    ghost Value = { List Record };
+
+    ghost view = { λ r. r.records.items };
+}
+
+impl Records {
+    /// The records of a vector, which is not copied.
+    pub fn of(items: Vec<Record>) -> Records
+        ensures { result ≡ items.items }
+    {
+        Records { records: items }
+    }
+
+    /// The records as a vector, which is not copied.
+    pub fn into_vec(self) -> Vec<Record>
+        ensures { result.items ≡ self }
+    {
+        self.records
+    }
+
+    /// The records as a slice.
+    pub fn as_slice(&self) -> &[Record]
+        ensures { result.now ≡ self.now }
+    {
+        self.records.as_slice()
+    }
+}
