@@ -54,7 +54,7 @@ filter_ascends test (x ∷ s) h = by (test x) (filter_ascends test s h.1)
     by true again = (each_from (IsBefore x) (filter test s) (λ q c. each (IsBefore x) s q h.0 (from_filter test s q c).0), again)
     by false again = again
 
-tied_back : (r q : Record) → record_cmp r q ≡ Equal → record_cmp q r ≡ Equal
+pub tied_back : (r q : Record) → record_cmp r q ≡ Equal → record_cmp q r ≡ Equal
 tied_back r q e = records_total.antisymm q r ∙ ap ordering_reverse e
 
 module _ (view : View) (front : Vector) (AtHand : Record → Type 0) (known out : List Record) (queues : List Queue) (p : IsTaken view front AtHand known out queues) where

@@ -7,7 +7,7 @@ use Rattle.log_model.specs.Record.{Record}
 use Rattle.log_model.proofs.Lists.{in_nothing}
 use Rattle.version_vectors.specs.Ranks.{rank_of}
 use Rattle.log_records.specs.declared.record.Record as kept
-use Rattle.causal_order.specs.Temp.{records_of}
+use Rattle.log_records.specs.Records.{records_of}
 use Rattle.causal_order.specs.Passing.{IsLeft}
 use Rattle.causal_order.specs.AtHand.{IsAtHand, IsNewPart}
 use Rattle.causal_order.specs.declared.base.Base.{Base}

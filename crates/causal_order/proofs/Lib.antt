@@ -4,6 +4,8 @@ pub mod Knowing
 pub mod Stepping
 pub mod Advancing
 pub mod Going
+pub mod Fresh
+pub mod Fetching
 pub mod Choosing
 pub mod Meeting
 pub mod Passes

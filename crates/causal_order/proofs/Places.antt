@@ -21,7 +21,7 @@ use Rattle.causal_order.specs.Over.{GoesOnFrom}
 use Rattle.causal_order.proofs.Logs.{numbers_over}
 use Rattle.log_records.specs.declared.record.Record as kept
 use Rattle.log_records.specs.Records.{record_of}
-use Rattle.causal_order.specs.Temp.{records_of}
+use Rattle.log_records.specs.Records.{records_of}
 use Rattle.causal_order.specs.declared.base.Base.{Base}
 use Rattle.causal_order.specs.Kept.{IsAt, AreAt, IsKept, newest_name, known_of}
 

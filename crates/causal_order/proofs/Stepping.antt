@@ -15,7 +15,7 @@ use Rattle.version_vectors.specs.declared.rank.Rank as kept_rank
 use Rattle.version_vectors.specs.Ranks.{rank_of}
 use Rattle.log_records.specs.declared.record.Record as kept
 use Rattle.log_records.specs.Records.{record_of}
-use Rattle.causal_order.specs.Temp.{records_of}
+use Rattle.log_records.specs.Records.{records_of}
 use Rattle.causal_order.specs.Passing.{Queue, IsPassed, IsShortened}
 use Rattle.causal_order.specs.declared.base.Base.{Base}
 use Rattle.causal_order.specs.declared.log.Log.{Log}

@@ -1,4 +1,3 @@
-pub mod Temp
 pub mod Over
 pub mod AtHand
 pub mod Laws

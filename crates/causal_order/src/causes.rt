@@ -8,7 +8,7 @@ ghost use Rattle.log_model.specs.Rank.{full_vector, weight};
 ghost use Rattle.log_model.specs.Spelling.{HasSpelling};
 ghost use Rattle.log_model.specs.View.{IsView};
 ghost use Rattle.log_records.specs.Records.{record_of};
-ghost use Rattle.causal_order.specs.Temp.{records_of};
+ghost use Rattle.log_records.specs.Records.{records_of};
 ghost use Rattle.version_vectors.specs.Entries.{stamped, vector_of};
 ghost use Rattle.causal_order.specs.Over.{IsUnder, IsMet, HasCauses};
 ghost use Rattle.causal_order.specs.Kept.{AreKept, known_of};

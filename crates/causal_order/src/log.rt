@@ -8,7 +8,7 @@ ghost use Rattle.log_model.specs.Spelling.{record_name};
 ghost use Rattle.log_model.specs.Closed.{log_of};
 ghost use Rattle.version_vectors.specs.Entries.{stamped};
 ghost use Rattle.log_records.specs.Records.{record_of};
-ghost use Rattle.causal_order.specs.Temp.{records_of};
+ghost use Rattle.log_records.specs.Records.{records_of};
 ghost use Rattle.causal_order.specs.Over.{IsChainOver};
 ghost use Rattle.causal_order.specs.Kept.{IsAt, IsKept, IsAdvanced, IsCleared, IsInFront, known_of};
 

@@ -3,7 +3,7 @@ use Rattle.log_model.specs.Record.{Record}
 use Rattle.log_model.specs.Vector.{stamp_at}
 use Rattle.log_model.specs.Closed.{log_of}
 use Rattle.log_records.specs.Records.{record_of}
-use Rattle.causal_order.specs.Temp.{records_of}
+use Rattle.log_records.specs.Records.{records_of}
 use Rattle.causal_order.specs.Kept.{IsAt, known_of}
 use Rattle.causal_order.proofs.Passes.{start}
 use Rattle.causal_order.proofs.Places.{some_at, place_holds, places_count, named_by_next, newest_at, one_at, known_length}
