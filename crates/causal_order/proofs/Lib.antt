@@ -9,3 +9,4 @@ pub mod Meeting
 pub mod Passes
 pub mod Steps
 pub mod Ends
+pub mod Fronts
