@@ -3,11 +3,12 @@ use Rattle.std.specs.Prelude.{◌≡◌, ◌↔◌, IsTrue, List, [], ◌++◌, 
 use Rattle.std.specs.Ordering.{is_lt}
 use Rattle.std.specs.declared.cmp.Ordering.TheVariants.{Equal}
 use Rattle.log_model.specs.View.{View}
-use Rattle.log_model.specs.Vector.{Entry}
+use Rattle.log_model.specs.Vector.{Entry, join}
 use Rattle.log_model.specs.Record.{Record}
-use Rattle.log_model.specs.Rank.{record_cmp}
+use Rattle.log_model.specs.Rank.{record_cmp, front}
 use Rattle.log_model.specs.Closed as log
 use Rattle.log_model.specs.Closed.{IsCause}
+use Rattle.log_model.specs.Replay.{in_order}
 use Rattle.causal_order.specs.Over.{IsClosed, IsClosedPart}
 
 -- Over the empty front closed sets, and closed parts of records at hand, are those of `log_model`.
@@ -24,3 +25,9 @@ RanksDiffer = (view : View) (s : List Record) (r q : Record) → log.IsClosed vi
 -- Each cause has a smaller rank than its effect.
 abbrev pub CausesAreBefore : Type 0
 CausesAreBefore = (c : Record) (e : Entry) (r : Record) → IsCause c e r → IsTrue (is_lt (record_cmp c r))
+
+-- The front of the union of two closed sets is the join of their fronts, where no log has two different records of one number.
+abbrev pub FrontsJoin : Type 0
+FrontsJoin = (view : View) (s t : List Record) → log.IsClosed view s → log.IsClosed view t
+    → ((r q : Record) → Contains (s ++ t) r → Contains (s ++ t) q → r.owner ≡ q.owner → r.seq ≡ q.seq → r ≡ q)
+    → front (in_order (s ++ t)) ≡ join (front s) (front t)

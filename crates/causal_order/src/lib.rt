@@ -5,3 +5,4 @@ mod base;
 mod log;
 mod pass;
 mod causes;
+mod laws;
