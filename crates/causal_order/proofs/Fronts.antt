@@ -260,4 +260,4 @@ join_of_fronts s t single =
     (λ k. one_latest (Cited k (s ++ t)) _ _ (latest_of_union k s t (union_has (s ++ t) single)) (latest_of_both k s t))
 
 pub fronts_join : FrontsJoin
-fronts_join view s t closed_s closed_t single = join_of_fronts s t single
+fronts_join = join_of_fronts

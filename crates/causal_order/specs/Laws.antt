@@ -26,8 +26,7 @@ RanksDiffer = (view : View) (s : List Record) (r q : Record) → log.IsClosed vi
 abbrev pub CausesAreBefore : Type 0
 CausesAreBefore = (c : Record) (e : Entry) (r : Record) → IsCause c e r → IsTrue (is_lt (record_cmp c r))
 
--- The front of the union of two closed sets is the join of their fronts, where no log has two different records of one number.
+-- The front of the union of two sets is the join of their fronts, where no log has two different records of one number.
 abbrev pub FrontsJoin : Type 0
-FrontsJoin = (view : View) (s t : List Record) → log.IsClosed view s → log.IsClosed view t
-    → ((r q : Record) → Contains (s ++ t) r → Contains (s ++ t) q → r.owner ≡ q.owner → r.seq ≡ q.seq → r ≡ q)
+FrontsJoin = (s t : List Record) → ((r q : Record) → Contains (s ++ t) r → Contains (s ++ t) q → r.owner ≡ q.owner → r.seq ≡ q.seq → r ≡ q)
     → front (in_order (s ++ t)) ≡ join (front s) (front t)
