@@ -5,3 +5,4 @@ pub mod Meeting
 pub mod Passes
 pub mod Steps
 pub mod Ends
+pub mod Starts

@@ -4,3 +4,4 @@
 mod base;
 mod log;
 mod causes;
+mod start;
