@@ -1,6 +1,7 @@
 -- Where a pass starts: the places of what is held, and what goes on from it.
-use Rattle.std.proofs.Common.{◌≡◌, ◌⊎◌, inl, inr, ⊎_elim, ◌↔◌, ℕ, zero, suc, ◌+◌, ◌-◌, ◌<◌, ◌≤◌, Bool, true, false, cond, List, [], ◌∷◌, ◌++◌, length, get_or, take, map, filter, refl, sym, ap, ◌∙◌, subst, arith, Option, Some, None, Contains, length-append}
-use Rattle.std.specs.Prelude.{IsTrue}
+use Rattle.std.proofs.Common.{◌≡◌, ◌⊎◌, inl, inr, ⊎_elim, ◌↔◌, ℕ, zero, suc, ◌+◌, ◌-◌, ◌<◌, ◌≤◌, Bool, true, false, cond, List, [], ◌∷◌, ◌++◌, length, get_or, take, map, filter, refl, sym, ap, ◌∙◌, subst, arith, Option, Some, None, Contains, length-append, lt-ltb, ltb-true}
+use Rattle.std.specs.Prelude.{IsTrue, nat_lt}
+use Rattle.std.specs.Option.{option_to_list}
 use Rattle.std.specs.List.{AllByRecursion, slice_get}
 use Rattle.std.specs.Ordering.{eq_by_cmp}
 use Rattle.std.proofs.lemmas.List.{length-map, append-nil}
@@ -16,15 +17,17 @@ use Rattle.log_model.specs.Spelling.{record_name, HasSpelling}
 use Rattle.log_model.specs.Chain.{IsGood, IsFirst, Follows, GoesOn, IsChain}
 use Rattle.log_model.specs.Closed.{log_of}
 use Rattle.log_model.proofs.Lists.{each}
+use Rattle.log_model.proofs.Opening.{same_owner}
 use Rattle.log_model.proofs.Part.{Numbered, log_push}
 use Rattle.log_records.specs.declared.record.Record as kept
 use Rattle.log_records.specs.Records.{record_of}
 use Rattle.causal_order.specs.Temp.{records_of}
 use Rattle.causal_order.specs.Over.{GoesOnFrom, ComesNext}
+use Rattle.causal_order.specs.AtHand.{IsLinked, BeginsBy, above}
 use Rattle.causal_order.specs.Kept.{IsAt, AreAt, newest_name}
 use Rattle.causal_order.specs.Started.{Names, NamesNewest, KnowsNewest, Joins}
-use Rattle.causal_order.proofs.Logs.{good_over, numbers_over}
-use Rattle.causal_order.proofs.Passes.{of_log}
+use Rattle.causal_order.proofs.Logs.{good_over, numbers_over, numbers_after}
+use Rattle.causal_order.proofs.Passes.{is_mine, of_log}
 use Rattle.causal_order.proofs.Places.{first_at, next_at, rest_at, at_stands, some_at, one_at, place_holds, places_count, places_push, newest_at, number_at}
 
 -- ---- what is held, by its places
@@ -108,6 +111,73 @@ places_more_held held places owner i d within h b e =
     by : (b : Bool) → AreAt (records_of held) (cond b (places ++ i ∷ []) places) (log_of owner (records_of (take i held)) ++ cond b (record_of (get_or held i d) ∷ []) [])
     by true = places_push (records_of held) places (log_of owner (records_of (take i held))) i (record_of (get_or held i d)) h (held_at held i d within)
     by false = subst (λ (rs : List Record). AreAt (records_of held) places rs) (sym (append-nil (log_of owner (records_of (take i held))))) h
+
+pub places_taken : (held : List kept.Record) (places : List ℕ) (owner : PubKey) (i : ℕ) (d : kept.Record) → i < length held
+    → AreAt (records_of held) places (log_of owner (records_of (take i held))) → (get_or held i d).owner ≡ owner
+    → AreAt (records_of held) (places ++ i ∷ []) (log_of owner (records_of (take (i + 1) held)))
+places_taken held places owner i d within h own = places_more_held held places owner i d within h true (is_mine owner (record_of (get_or held i d)) own)
+
+pub places_passed : (held : List kept.Record) (places : List ℕ) (owner : PubKey) (i : ℕ) (d : kept.Record) → i < length held
+    → AreAt (records_of held) places (log_of owner (records_of (take i held))) → ((get_or held i d).owner ≡ owner → ⊥)
+    → AreAt (records_of held) places (log_of owner (records_of (take (i + 1) held)))
+places_passed held places owner i d within h other = places_more_held held places owner i d within h false (by (eq_by_cmp owner_cmp owner (get_or held i d).owner) refl)
+  where
+    by : (b : Bool) → eq_by_cmp owner_cmp owner (get_or held i d).owner ≡ b → eq_by_cmp owner_cmp owner (get_or held i d).owner ≡ false
+    by true e = absurd (other (same_owner owner (get_or held i d).owner e))
+    by false e = e
+
+pub tip_is : (o : Option Stamp) (held : List kept.Record) (rs : List Record) (place : ℕ) (d : kept.Record) → LastAt (records_of held) rs place → newest_name o rs ≡ Some (record_name (record_of (get_or held place d)))
+tip_is o held rs place d p = newest_at o rs p.index p.last p.count p.at
+    ∙ ap (λ (x : Record). Some (record_name x)) (one_at (records_of held) place p.last (record_of (get_or held place d)) p.placed (held_at held place d (held_within held place p.last p.placed)))
+
+-- ---- the chain's records of greater numbers
+
+-- what is left of a chain
+abbrev pub IsOnward : View → List Record → Type 0
+IsOnward view [] = Unit {0}
+IsOnward view (r ∷ rs) = IsLinked view (r ∷ rs)
+
+onward_rest : (view : View) (r : Record) (rs : List Record) → IsLinked view (r ∷ rs) → IsOnward view rs
+onward_rest view r [] h = tt
+onward_rest view r (q ∷ rs) h =
+    let good : IsGood view q.owner q = owned_good view r.owner q h.2.0 in
+    (good, λ one. absurd (let s = h.2.1.seq in let some = h.0.spelled.some in omega (arith, one, s, some)),
+     subst (λ (o : PubKey). GoesOn view o q rs) (sym h.2.0.owned) h.2.2)
+  where
+    owned_good : (view : View) (owner : PubKey) (q : Record) → IsGood view owner q → IsGood view q.owner q
+    owned_good view owner q g = subst (λ (o : PubKey). IsGood view o q) (sym g.owned) g
+
+above_from : (n m : ℕ) (rs : List Record) → Numbered m rs → n < m → above n rs ≡ rs
+above_from n m [] h lt = refl
+above_from n m (r ∷ rs) h lt = let e = h.0 in by (nat_lt n r.seq) (lt-ltb n r.seq (omega (arith, e, lt))) (above_from n (m + 1) rs h.1 (omega (arith, lt)))
+  where
+    by : (b : Bool) → b ≡ true → above n rs ≡ rs → cond b (r ∷ above n rs) (above n rs) ≡ r ∷ rs
+    by true e same = ap (λ (xs : List Record). r ∷ xs) same
+    by false e same = cc
+
+above_all : (view : View) (n : ℕ) (r : Record) (rs : List Record) → IsLinked view (r ∷ rs) → n < r.seq → above n (r ∷ rs) ≡ r ∷ rs
+above_all view n r rs h lt = above_from n r.seq (r ∷ rs) (refl, numbers_after view r.owner r (r.seq + 1) rs refl h.2) lt
+
+above_less : (n : ℕ) (r : Record) (rs : List Record) → r.seq ≤ n → above n (r ∷ rs) ≡ above n rs
+above_less n r rs le = by (nat_lt n r.seq) refl
+  where
+    by : (b : Bool) → nat_lt n r.seq ≡ b → cond b (r ∷ above n rs) (above n rs) ≡ above n rs
+    by true e = absurd (let lt = ltb-true n r.seq e in omega (arith, lt, le))
+    by false e = refl
+
+-- the first of the queue is let go
+pub let_go : (view : View) (n : ℕ) (old new : List kept.Record) (o : Option kept.Record) (first : kept.Record) → old ≡ option_to_list o ++ new → first ≡ get_or old 0 first → first.seq ≤ n
+    → IsOnward view (records_of old) → (above n (records_of old) ≡ above n (records_of new)) × IsOnward view (records_of new)
+let_go view n old new None first e f le onward = (ap (λ (xs : List kept.Record). above n (records_of xs)) e, subst (λ (xs : List kept.Record). IsOnward view (records_of xs)) e onward)
+let_go view n old new (Some x) first e f le onward =
+    let same : first ≡ x = f ∙ ap (λ (xs : List kept.Record). get_or xs 0 first) e in
+    let small : x.seq ≤ n = subst (λ (y : kept.Record). y.seq ≤ n) same le in
+    (ap (λ (xs : List kept.Record). above n (records_of xs)) e ∙ above_less n (record_of x) (records_of new) small,
+     onward_rest view (record_of x) (records_of new) (subst (λ (xs : List kept.Record). IsOnward view (records_of xs)) e onward))
+
+pub all_new : (view : View) (n : ℕ) (left : List kept.Record) (first : kept.Record) → first ≡ get_or left 0 first → n < first.seq → IsOnward view (records_of left) → above n (records_of left) ≡ records_of left
+all_new view n [] first f lt onward = refl
+all_new view n (x ∷ left) first f lt onward = above_all view n (record_of x) (records_of left) onward (subst (λ (y : kept.Record). n < y.seq) f lt)
 
 -- ---- what joins on what is held
 

@@ -86,7 +86,7 @@ fn places_of(alloc: Global, held: &[Record], owner: &PubKey) -> Result<Vec<usize
 {
     let mut places = Vec::new(alloc);
     'held: for (i, record) in held.iter().enumerate() {
-        if record.owner == *owner {
+        if is_owner(&record.owner, owner) {
             places.push(i)?;
         }
     }
