@@ -6,3 +6,4 @@ pub mod Passes
 pub mod Steps
 pub mod Ends
 pub mod Starts
+pub mod StartChains

@@ -137,7 +137,7 @@ abbrev pub IsOnward : View → List Record → Type 0
 IsOnward view [] = Unit {0}
 IsOnward view (r ∷ rs) = IsLinked view (r ∷ rs)
 
-onward_rest : (view : View) (r : Record) (rs : List Record) → IsLinked view (r ∷ rs) → IsOnward view rs
+pub onward_rest : (view : View) (r : Record) (rs : List Record) → IsLinked view (r ∷ rs) → IsOnward view rs
 onward_rest view r [] h = tt
 onward_rest view r (q ∷ rs) h =
     let good : IsGood view q.owner q = owned_good view r.owner q h.2.0 in
@@ -147,7 +147,7 @@ onward_rest view r (q ∷ rs) h =
     owned_good : (view : View) (owner : PubKey) (q : Record) → IsGood view owner q → IsGood view q.owner q
     owned_good view owner q g = subst (λ (o : PubKey). IsGood view o q) (sym g.owned) g
 
-above_from : (n m : ℕ) (rs : List Record) → Numbered m rs → n < m → above n rs ≡ rs
+pub above_from : (n m : ℕ) (rs : List Record) → Numbered m rs → n < m → above n rs ≡ rs
 above_from n m [] h lt = refl
 above_from n m (r ∷ rs) h lt = let e = h.0 in by (nat_lt n r.seq) (lt-ltb n r.seq (omega (arith, e, lt))) (above_from n (m + 1) rs h.1 (omega (arith, lt)))
   where
@@ -158,7 +158,7 @@ above_from n m (r ∷ rs) h lt = let e = h.0 in by (nat_lt n r.seq) (lt-ltb n r.
 above_all : (view : View) (n : ℕ) (r : Record) (rs : List Record) → IsLinked view (r ∷ rs) → n < r.seq → above n (r ∷ rs) ≡ r ∷ rs
 above_all view n r rs h lt = above_from n r.seq (r ∷ rs) (refl, numbers_after view r.owner r (r.seq + 1) rs refl h.2) lt
 
-above_less : (n : ℕ) (r : Record) (rs : List Record) → r.seq ≤ n → above n (r ∷ rs) ≡ above n rs
+pub above_less : (n : ℕ) (r : Record) (rs : List Record) → r.seq ≤ n → above n (r ∷ rs) ≡ above n rs
 above_less n r rs le = by (nat_lt n r.seq) refl
   where
     by : (b : Bool) → nat_lt n r.seq ≡ b → cond b (r ∷ above n rs) (above n rs) ≡ above n rs
@@ -178,6 +178,10 @@ let_go view n old new (Some x) first e f le onward =
 pub all_new : (view : View) (n : ℕ) (left : List kept.Record) (first : kept.Record) → first ≡ get_or left 0 first → n < first.seq → IsOnward view (records_of left) → above n (records_of left) ≡ records_of left
 all_new view n [] first f lt onward = refl
 all_new view n (x ∷ left) first f lt onward = above_all view n (record_of x) (records_of left) onward (subst (λ (y : kept.Record). n < y.seq) f lt)
+
+pub none_new : (n : ℕ) (left : List kept.Record) → length left ≤ 0 → above n (records_of left) ≡ records_of left
+none_new n [] h = refl
+none_new n (x ∷ left) h = absurd (omega (arith, h))
 
 -- ---- what joins on what is held
 
