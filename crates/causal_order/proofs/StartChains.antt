@@ -3,6 +3,7 @@ use Rattle.std.proofs.Common.{◌≡◌, ◌⊎◌, inl, inr, ⊎_elim, ◌↔�
 use Rattle.std.specs.Prelude.{IsTrue, IfSome, nat_lt, option_map}
 use Rattle.std.specs.List.{AllByRecursion}
 use Rattle.std.proofs.lemmas.List.{append-nil}
+use Rattle.std.proofs.lemmas.Bool.{cases_lt}
 use Rattle.ivy_base.specs.declared.key.Key.{Key}
 use Rattle.ivy_base.specs.declared.key.PubKey.{PubKey}
 use Rattle.ivy_base.specs.Naming.{owner_cmp, head_key_of}
@@ -25,7 +26,7 @@ use Rattle.causal_order.specs.AtHand.{IsLinked, BeginsBy, IsFetched, Extends, ab
 use Rattle.causal_order.specs.declared.log.Log.{Log}
 use Rattle.causal_order.specs.Kept.{IsKept, newest_name, first_rank}
 use Rattle.causal_order.specs.Started.{Joins, HasQueued}
-use Rattle.causal_order.proofs.Logs.{numbers_after}
+use Rattle.causal_order.proofs.Logs.{numbers_after, good_after}
 use Rattle.causal_order.proofs.Passes.{start}
 use Rattle.causal_order.proofs.Starts.{onward_rest, above_from, above_less, joined_over, split_over}
 
@@ -37,36 +38,41 @@ pub record FirstNews (view : View) (owner : PubKey) (n : ℕ) (chain : List Reco
   pub number : x.seq ≡ n + 1
   pub newest : newest_name None (x ∷ rest) ≡ newest_name None chain
 
+not_above : (n m : ℕ) → nat_lt n m ≡ false → m ≤ n
+not_above n m low = ⊎_elim (λ lt. absurd (let yes = lt-ltb n m lt in cc)) (λ le. le) (cases_lt n m)
+
+news_here : (view : View) (n : ℕ) (r : Record) (qs : List Record) (x : Record) (rest : List Record) → IsLinked view (r ∷ qs) → r.seq ≤ n + 1 → n < r.seq → r ∷ above n qs ≡ x ∷ rest → FirstNews view r.owner n (r ∷ qs) x rest
+news_here view n r qs x rest g near lt f =
+    let same : r ∷ qs ≡ x ∷ rest = ap (λ (xs : List Record). r ∷ xs) (sym (above_from n (r.seq + 1) qs (numbers_after view r.owner r (r.seq + 1) qs refl g.2) (omega (arith, lt)))) ∙ f in
+    let first : r ≡ x = cc in
+    let more : qs ≡ rest = cc in
+    let own : FirstNews view r.owner n (r ∷ qs) r qs = record { good = g.0; opens = g.1; onward = g.2; number = omega (arith, near, lt); newest = refl } in
+    subst (λ (ys : List Record). FirstNews view r.owner n (r ∷ qs) x ys) more (subst (λ (y : Record). FirstNews view r.owner n (r ∷ qs) y qs) first own)
+
+news_later : (view : View) (n : ℕ) (r q : Record) (qs : List Record) (x : Record) (rest : List Record) → IsLinked view (r ∷ q ∷ qs) → FirstNews view q.owner n (q ∷ qs) x rest → FirstNews view r.owner n (r ∷ q ∷ qs) x rest
+news_later view n r q qs x rest g later =
+    let own : q.owner ≡ r.owner = g.2.0.owned in
+    record {
+      good = subst (λ (o : PubKey). IsGood view o x) own later.good;
+      opens = later.opens;
+      onward = subst (λ (o : PubKey). GoesOn view o x rest) own later.onward;
+      number = later.number;
+      newest = later.newest;
+    }
+
 pub first_news : (view : View) (n : ℕ) (chain : List Record) (x : Record) (rest : List Record) → IsLinked view chain → BeginsBy n chain → above n chain ≡ x ∷ rest → FirstNews view (owner_of chain) n chain x rest
 first_news view n [] x rest h near e = absurd h
-first_news view n (r ∷ rs) x rest h near e = by rs h (nat_lt n r.seq) refl e
+first_news view n (r ∷ []) x rest h near e = by (nat_lt n r.seq) refl e
   where
-    is_first : (qs : List Record) → IsLinked view (r ∷ qs) → n < r.seq → r ∷ above n qs ≡ x ∷ rest → FirstNews view r.owner n (r ∷ qs) x rest
-    is_first qs g lt f =
-        let same : r ∷ qs ≡ x ∷ rest = ap (λ (xs : List Record). r ∷ xs) (sym (above_from n (r.seq + 1) qs (numbers_after view r.owner r (r.seq + 1) qs refl g.2) (omega (arith, lt)))) ∙ f in
-        let first : r ≡ x = cc in
-        let more : qs ≡ rest = cc in
-        subst (λ (ys : List Record). FirstNews view r.owner n (r ∷ qs) x ys) more (subst (λ (y : Record). FirstNews view r.owner n (r ∷ qs) y qs) first
-            record { good = g.0; opens = g.1; onward = g.2; number = omega (arith, near, lt); newest = refl })
-
-    by : (qs : List Record) → IsLinked view (r ∷ qs) → (b : Bool) → nat_lt n r.seq ≡ b → cond b (r ∷ above n qs) (above n qs) ≡ x ∷ rest → FirstNews view r.owner n (r ∷ qs) x rest
-    by qs g true t f = is_first qs g (ltb-true n r.seq t) f
-    by [] g false t f = cc
-    by (q ∷ qs) g false t f =
-        let s = g.2.1.seq in
-        let low : r.seq ≤ n = not_above (nat_lt n r.seq) t refl in
-        let later = first_news view n (q ∷ qs) x rest (onward_rest view r (q ∷ qs) g) (omega (arith, s, low)) f in
-        let own : q.owner ≡ r.owner = g.2.0.owned in
-        record {
-          good = subst (λ (o : PubKey). IsGood view o x) own later.good;
-          opens = later.opens;
-          onward = subst (λ (o : PubKey). GoesOn view o x rest) own later.onward;
-          number = later.number;
-          newest = later.newest;
-        }
-      where
-        not_above : (b : Bool) → b ≡ false → nat_lt n r.seq ≡ b → r.seq ≤ n
-        not_above b no is = ⊎_elim (λ le. le) (λ lt. absurd (let yes = lt-ltb n r.seq lt in cc)) (cases_le r.seq n)
+    by : (b : Bool) → nat_lt n r.seq ≡ b → cond b (r ∷ []) [] ≡ x ∷ rest → FirstNews view r.owner n (r ∷ []) x rest
+    by true t f = news_here view n r [] x rest h near (ltb-true n r.seq t) f
+    by false t f = cc
+first_news view n (r ∷ q ∷ qs) x rest h near e = by (nat_lt n r.seq) refl e (λ low f. first_news view n (q ∷ qs) x rest (onward_rest view r (q ∷ qs) h) low f)
+  where
+    by : (b : Bool) → nat_lt n r.seq ≡ b → cond b (r ∷ above n (q ∷ qs)) (above n (q ∷ qs)) ≡ x ∷ rest
+        → (q.seq ≤ n + 1 → above n (q ∷ qs) ≡ x ∷ rest → FirstNews view q.owner n (q ∷ qs) x rest) → FirstNews view r.owner n (r ∷ q ∷ qs) x rest
+    by true t f again = news_here view n r (q ∷ qs) x rest h near (ltb-true n r.seq t) f
+    by false t f again = let s = h.2.1.seq in let low = not_above n r.seq t in news_later view n r q qs x rest h (again (omega (arith, s, low)) f)
 
 -- each record of a linked chain is of its owner
 pub chain_owner : (view : View) (chain : List Record) (q : Record) → IsLinked view chain → Contains chain q → q.owner ≡ owner_of chain
@@ -82,12 +88,12 @@ pub first_of : (items : List kept.Record) (first : kept.Record) → 0 < length i
 first_of [] first h e = absurd (omega (arith, h))
 first_of (x ∷ items) first h e = (items, ap (λ (y : kept.Record). y ∷ items) (sym e))
 
-module _ (view : View) (front : Vector) (held chain : List Record) (l : Log) (kept : IsKept front held l) (owned : l.owner ≡ owner_of chain)
+module _ (view : View) (front : Vector) (held chain : List Record) (l : Log) (kept_l : IsKept front held l) (owned : l.owner ≡ owner_of chain)
     (log_chain : IsChainOver view front l.owner (log_of l.owner held)) (fetched : IsFetched view front held chain) where
   -- the log stays with nothing to be seen where the chain has no news, or doesn't extend it
   pub stays : l.queue.items ≡ [] → ((q : Record) → Extends view front held l.owner chain → Contains (news front held l.owner chain) q → ⊥) → HasQueued view front held (chain ∷ []) l
   stays empty none = record {
-    kept = kept;
+    kept = kept_l;
     going = subst (λ (xs : List kept.Record). GoesOnFrom view l.owner (stamp_at front (head_key_of l.owner)) (log_of l.owner held ++ records_of xs)) (sym empty)
         (subst (λ (xs : List Record). GoesOnFrom view l.owner (stamp_at front (head_key_of l.owner)) xs) (sym (append-nil (log_of l.owner held))) log_chain);
     hand = λ q c. absurd (in_nothing q (subst (λ (xs : List kept.Record). Contains (records_of xs) q) empty c));
@@ -124,9 +130,41 @@ module _ (view : View) (front : Vector) (held chain : List Record) (l : Log) (ke
     pub extends_by : Joins (stamp_at front l.key) (log_of l.owner held) x → Extends view front held l.owner chain
     extends_by j = subst (λ (xs : List Record). GoesOnFrom view l.owner (stamp_at front (head_key_of l.owner)) (log_of l.owner held ++ xs)) (sym new)
         (joined_over view l.owner x rest good_first onward_first (stamp_at front (head_key_of l.owner)) (log_of l.owner held) log_chain the_first.number the_first.opens
-            (subst (λ (k : Key). Joins (stamp_at front k) (log_of l.owner held) x) kept.key j))
+            (subst (λ (k : Key). Joins (stamp_at front k) (log_of l.owner held) x) kept_l.key j))
 
     pub joins_by : Extends view front held l.owner chain → Joins (stamp_at front l.key) (log_of l.owner held) x
-    joins_by extends = subst (λ (k : Key). Joins (stamp_at front k) (log_of l.owner held) x) (sym kept.key)
+    joins_by extends = subst (λ (k : Key). Joins (stamp_at front k) (log_of l.owner held) x) (sym kept_l.key)
         (split_over view l.owner x rest good_first onward_first (stamp_at front (head_key_of l.owner)) (log_of l.owner held)
             (subst (λ (xs : List Record). GoesOnFrom view l.owner (stamp_at front (head_key_of l.owner)) (log_of l.owner held ++ xs)) new extends))
+
+-- what it is to be the first of the queue
+pub record Fronts (items : List kept.Record) (first : kept.Record) : Type 0 where
+  pub rest : List kept.Record
+  pub is : items ≡ first ∷ rest
+
+pub fronts : (items : List kept.Record) (first : kept.Record) → 0 < length items → first ≡ get_or items 0 first → Fronts items first
+fronts items first h e = let w = first_of items first h e in record { rest = w.0; is = w.1 }
+
+module _ (view : View) (front : Vector) (held : List Record) (chain : List Record) (l : Log) (kept_l : IsKept front held l) (owned : l.owner ≡ owner_of chain)
+    (log_chain : IsChainOver view front l.owner (log_of l.owner held)) (fetched : IsFetched view front held chain)
+    (items : List kept.Record) (new : records_of items ≡ news front held l.owner chain) (first : kept.Record) (f : Fronts items first) where
+  new_is : news front held l.owner chain ≡ record_of first ∷ records_of f.rest
+  new_is = sym new ∙ ap (λ (xs : List kept.Record). records_of xs) f.is
+
+  pub front_news : FirstNews view (owner_of chain) (held_to front held l.owner) chain (record_of first) (records_of f.rest)
+  front_news = the_first view front held chain l kept_l owned log_chain fetched (record_of first) (records_of f.rest) new_is
+
+  pub front_owner : first.owner ≡ l.owner
+  front_owner = front_news.good.owned ∙ sym owned
+
+  pub front_extends : Joins (stamp_at front l.key) (log_of l.owner held) (record_of first) → Extends view front held l.owner chain
+  front_extends = extends_by view front held chain l kept_l owned log_chain fetched (record_of first) (records_of f.rest) new_is
+
+  pub front_joins : Extends view front held l.owner chain → Joins (stamp_at front l.key) (log_of l.owner held) (record_of first)
+  front_joins = joins_by view front held chain l kept_l owned log_chain fetched (record_of first) (records_of f.rest) new_is
+
+  pub front_newest : (name : Key) → IfSome (newest_name None chain) (λ n. n ≡ name) → IfSome (newest_name None (records_of items)) (λ n. n ≡ name)
+  front_newest name h = subst (λ (o : Option Key). IfSome o (λ n. n ≡ name)) (sym front_news.newest ∙ ap (λ (xs : List kept.Record). newest_name None (records_of xs)) (sym f.is)) h
+
+  pub front_rank : (k : kept_rank.Rank) → rank_of k ≡ rank (record_of first) → option_map rank_of (Some k) ≡ first_rank (records_of items)
+  front_rank k e = ap (λ (r : rank.Rank). Some r) e ∙ ap (λ (xs : List kept.Record). first_rank (records_of xs)) (sym f.is)
