@@ -7,3 +7,4 @@ pub mod Steps
 pub mod Ends
 pub mod Starts
 pub mod StartChains
+pub mod StartLogs
