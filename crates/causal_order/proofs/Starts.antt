@@ -222,3 +222,10 @@ module _ (view : View) (owner : PubKey) (r : Record) (more : List Record) (good 
   split_over None (p ∷ rs) g = split_after p rs g.2
   split_over (Some s) [] g = (g.0.prev, tt)
   split_over (Some s) (p ∷ rs) g = let w = split_after p rs g.1 in (any_stamp None (Some s) p rs w.0, w.1)
+
+-- ---- places are within
+
+pub places_within : (held : List kept.Record) (places : List ℕ) (rs : List Record) → AreAt (records_of held) places rs → AllByRecursion (λ place. place < length held) places
+places_within held [] rs h = tt
+places_within held (i ∷ places) [] h = absurd h
+places_within held (i ∷ places) (r ∷ rs) h = (held_within held i r h.0, places_within held places rs h.1)
