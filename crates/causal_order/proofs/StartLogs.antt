@@ -1,13 +1,13 @@
 -- Where a pass starts: all the logs, with all the chains.
-use Rattle.std.proofs.Common.{◌≡◌, ◌⊎◌, inl, inr, ⊎_elim, ℕ, zero, suc, ◌+◌, ◌<◌, ◌≤◌, Bool, true, false, List, [], ◌∷◌, ◌++◌, length, get_or, set, map, refl, sym, ap, ◌∙◌, subst, arith, Option, Some, None, Contains}
+use Rattle.std.proofs.Common.{◌≡◌, ◌⊎◌, inl, inr, ⊎_elim, ℕ, zero, suc, ◌+◌, ◌<◌, ◌≤◌, Bool, true, false, List, [], ◌∷◌, ◌++◌, length, get_or, set, take, map, refl, sym, ap, ◌∙◌, subst, append_assoc, arith, Option, Some, None, Contains}
 use Rattle.std.specs.Prelude.{IsTrue}
 use Rattle.std.specs.List.{All, AllByRecursion, list_all}
 use Rattle.std.specs.Cmp.{tied_itself}
 use Rattle.std.specs.Ordering.{is_lt}
 use Rattle.std.specs.declared.cmp.Ordering.{Ordering}
 use Rattle.std.specs.declared.cmp.Ordering.TheVariants.{Equal}
-use Rattle.std.proofs.lemmas.List.{append-nil}
-use Rattle.std.proofs.lemmas.List.Elements.{All-get_or, All-weaker, All-contains, All-from_recursion, Contains-get_or, Contains-append_left, Contains-append_right, Contains-append_cases}
+use Rattle.std.proofs.lemmas.List.{append-nil, map-append, take_more}
+use Rattle.std.proofs.lemmas.List.Elements.{All-get_or, All-push, All-weaker, All-contains, All-from_recursion, Contains-get_or, Contains-append_left, Contains-append_right, Contains-append_cases}
 use Rattle.ivy_base.specs.declared.key.PubKey.{PubKey}
 use Rattle.ivy_base.specs.Naming.{owner_cmp, head_key_of}
 use Rattle.tree_model.proofs.Sound.{both_true}
@@ -25,6 +25,7 @@ use Rattle.causal_order.specs.Over.{GoesOnFrom, IsChainOver, IsClosed}
 use Rattle.causal_order.specs.AtHand.{IsLinked, IsFetched, Extends, IsAtHand, above, news, held_to}
 use Rattle.causal_order.specs.Passing.{Queue, AreApart, IsLeft, IsPassed, IsTaken}
 use Rattle.causal_order.specs.declared.log.Log.{Log}
+use Rattle.causal_order.specs.declared.start.Fetched.{Fetched}
 use Rattle.causal_order.specs.Kept.{IsKept, AreKept, queue_of}
 use Rattle.causal_order.specs.Started.{HaveOwnOwners, IsHeldLog, HasQueued, TakesIn}
 use Rattle.causal_order.proofs.Logs.{good_over}
@@ -220,3 +221,46 @@ pub no_log : (logs : List Log) (owner other : PubKey) → owner ≡ other → Co
 no_log logs owner other e c none =
     let w = from_map (λ (l : Log). l.owner) logs other c in
     All-contains (λ l. l.owner ≡ owner → ⊥) logs w.0 none w.1 (w.2 ∙ sym e)
+
+-- ---- the loop over the chains
+
+module _ (view : View) (front : Vector) (held : List Record) (items done rest later : List Fetched) (chain : Fetched) (whole : items ≡ done ++ rest) (next : rest ≡ chain ∷ later) where
+  split : items ≡ done ++ chain ∷ later
+  split = whole ∙ ap (λ (xs : List Fetched). done ++ xs) next
+
+  pub more_whole : items ≡ (done ++ chain ∷ []) ++ later
+  more_whole = split ∙ sym (append_assoc done (chain ∷ []) later)
+
+  was_done : (c : Fetched) → Contains done c → Contains items c
+  was_done c d = subst (λ (xs : List Fetched). Contains xs c) (sym split) (Contains-append_left done (chain ∷ later) c d)
+
+  is_now : Contains items chain
+  is_now = subst (λ (xs : List Fetched). Contains xs chain) (sym split) (Contains-append_right done (chain ∷ later) chain (here chain later))
+
+  module _ (fetched : AllByRecursion (λ c. IsFetched view front held (records_of c.records.items)) items) (own : HaveOwnOwners (map (λ c. records_of c.records.items) items)) where
+    done_linked : (c : List Record) → Contains (map (λ (x : Fetched). records_of x.records.items) done) c → IsLinked view c
+    done_linked c d =
+        let w = from_map (λ (x : Fetched). records_of x.records.items) done c d in
+        subst (λ (xs : List Record). IsLinked view xs) w.2 (each (λ x. IsFetched view front held (records_of x.records.items)) items w.0 fetched (was_done w.0 w.1)).linked
+
+    done_apart : (c : List Record) → Contains (map (λ (x : Fetched). records_of x.records.items) done) c → owner_of c ≡ owner_of (records_of chain.records.items) → ⊥
+    done_apart = apart_before (map (λ (x : Fetched). records_of x.records.items) done) (records_of chain.records.items) (map (λ (x : Fetched). records_of x.records.items) later)
+        (subst HaveOwnOwners (ap (λ (xs : List Fetched). map (λ (x : Fetched). records_of x.records.items) xs) split ∙ map-append (λ (x : Fetched). records_of x.records.items) done (chain ∷ later)) own)
+
+    pub empty_yet : (logs : List Log) → All (HasQueued view front held (map (λ (x : Fetched). records_of x.records.items) done)) logs → All (λ l. l.owner ≡ owner_of (records_of chain.records.items) → l.queue.items ≡ []) logs
+    empty_yet logs h = All-weaker (HasQueued view front held (map (λ (x : Fetched). records_of x.records.items) done)) (λ l. l.owner ≡ owner_of (records_of chain.records.items) → l.queue.items ≡ [])
+        (λ l q e. still_empty view front held (map (λ (x : Fetched). records_of x.records.items) done) (owner_of (records_of chain.records.items)) l done_linked done_apart q e) logs h
+
+    pub chain_queued : (old new : List Log) → AllApart (map (λ l. l.owner) old) → All (HasQueued view front held (map (λ (x : Fetched). records_of x.records.items) done)) old
+        → TakesIn view front held (records_of chain.records.items) old new → All (HasQueued view front held (map (λ (x : Fetched). records_of x.records.items) (done ++ chain ∷ []))) new
+    chain_queued old new apart h t = subst (λ (cs : List (List Record)). All (HasQueued view front held cs) new) (sym (map-append (λ (x : Fetched). records_of x.records.items) done (chain ∷ [])))
+        (more_queued view front held (map (λ (x : Fetched). records_of x.records.items) done) (records_of chain.records.items) old new
+            (each (λ x. IsFetched view front held (records_of x.records.items)) items chain fetched is_now).linked apart (empty_yet old h) h t)
+
+-- ---- the loop over the members
+
+pub owners_more : (logs : List Log) (os : List PubKey) (i : ℕ) (new : Log) (d : PubKey) → map (λ l. l.owner) logs ≡ take i os → i < length os → new.owner ≡ get_or os i d → map (λ l. l.owner) (logs ++ new ∷ []) ≡ take (i + 1) os
+owners_more logs os i new d e within own = map-append (λ (l : Log). l.owner) logs (new ∷ []) ∙ ap (λ (xs : List PubKey). xs ++ new.owner ∷ []) e ∙ ap (λ (o : PubKey). take i os ++ o ∷ []) own ∙ sym (take_more os i d within)
+
+pub held_more : (front : Vector) (held : List Record) (logs : List Log) (owner : PubKey) (new : Log) → All (λ l. IsHeldLog front held l.owner l) logs → IsHeldLog front held owner new → All (λ l. IsHeldLog front held l.owner l) (logs ++ new ∷ [])
+held_more front held logs owner new h g = All-push (λ l. IsHeldLog front held l.owner l) logs new h (record { owned = refl; kept = g.kept; empty = g.empty })
