@@ -1,12 +1,12 @@
 -- Where a pass starts: all the logs, with all the chains.
-use Rattle.std.proofs.Common.{◌≡◌, ◌⊎◌, inl, inr, ⊎_elim, ℕ, zero, suc, ◌+◌, ◌<◌, ◌≤◌, Bool, true, false, List, [], ◌∷◌, ◌++◌, length, get_or, set, take, map, refl, sym, ap, ◌∙◌, subst, append_assoc, arith, Option, Some, None, Contains}
+use Rattle.std.proofs.Common.{◌≡◌, ◌⊎◌, inl, inr, ⊎_elim, ℕ, zero, suc, ◌+◌, ◌<◌, ◌≤◌, Bool, true, false, List, [], ◌∷◌, ◌++◌, length, get_or, set, take, drop, map, refl, sym, ap, ◌∙◌, subst, append_assoc, arith, Option, Some, None, Contains}
 use Rattle.std.specs.Prelude.{IsTrue}
 use Rattle.std.specs.List.{All, AllByRecursion, list_all}
 use Rattle.std.specs.Cmp.{tied_itself}
 use Rattle.std.specs.Ordering.{is_lt}
 use Rattle.std.specs.declared.cmp.Ordering.{Ordering}
 use Rattle.std.specs.declared.cmp.Ordering.TheVariants.{Equal}
-use Rattle.std.proofs.lemmas.List.{append-nil, map-append, take_more}
+use Rattle.std.proofs.lemmas.List.{append-nil, drop_all, length-map, map-append, take_all, take_more}
 use Rattle.std.proofs.lemmas.List.Elements.{All-get_or, All-push, All-weaker, All-contains, All-from_recursion, Contains-get_or, Contains-append_left, Contains-append_right, Contains-append_cases}
 use Rattle.ivy_base.specs.declared.key.PubKey.{PubKey}
 use Rattle.ivy_base.specs.Naming.{owner_cmp, head_key_of}
@@ -264,3 +264,12 @@ owners_more logs os i new d e within own = map-append (λ (l : Log). l.owner) lo
 
 pub held_more : (front : Vector) (held : List Record) (logs : List Log) (owner : PubKey) (new : Log) → All (λ l. IsHeldLog front held l.owner l) logs → IsHeldLog front held owner new → All (λ l. IsHeldLog front held l.owner l) (logs ++ new ∷ [])
 held_more front held logs owner new h g = All-push (λ l. IsHeldLog front held l.owner l) logs new h (record { owned = refl; kept = g.kept; empty = g.empty })
+
+-- ---- the logs in their vector
+
+pub refilled : (len : ℕ) (slice new items : List Log) → slice ≡ items → length slice ≡ len → map (λ l. l.owner) new ≡ map (λ l. l.owner) slice → take len (new ++ drop (length new) items) ≡ new
+refilled len slice new items same size owners =
+    let counted : length new ≡ length slice = sym (length-map new (λ (l : Log). l.owner)) ∙ ap length owners ∙ length-map slice (λ (l : Log). l.owner) in
+    let count : length items ≡ length slice = ap length (sym same) in
+    let none : drop (length new) items ≡ [] = drop_all (length new) items (omega (arith, counted, count)) in
+    ap (λ (xs : List Log). take len (new ++ xs)) none ∙ ap (λ (xs : List Log). take len xs) (append-nil new) ∙ take_all len new (omega (arith, counted, size))
