@@ -55,7 +55,7 @@ fn held_logs(alloc: Global, base: &Base<'_>) -> Result<Vec<Log>, Memory>
 {
     let members = base.view.members();
     let mut logs = Vec::with_capacity(alloc, members.len())?;
-    'members: for (i, owner) in members.iter().enumerate() {
+    'members: for owner in members {
         logs.push(held_log(alloc, base, owner)?)?;
     }
     Ok(logs)
