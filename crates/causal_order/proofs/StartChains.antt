@@ -1,21 +1,19 @@
 -- What one chain leaves to be seen of its log.
-use Rattle.std.proofs.Common.{◌≡◌, ◌⊎◌, inl, inr, ⊎_elim, ◌↔◌, ℕ, zero, suc, ◌+◌, ◌-◌, ◌<◌, ◌≤◌, ◌^◌, Bool, true, false, cond, List, [], ◌∷◌, ◌++◌, length, get_or, take, map, filter, refl, sym, ap, ◌∙◌, subst, arith, Option, Some, None, Contains, length-append, lt-ltb, ltb-true}
-use Rattle.std.specs.Prelude.{IsTrue, IfSome, nat_lt, option_map}
-use Rattle.std.specs.List.{AllByRecursion}
+use Rattle.std.proofs.Common.{◌≡◌, ⊎_elim, ℕ, ◌+◌, ◌<◌, ◌≤◌, Bool, true, false, cond, List, [], ◌∷◌, ◌++◌, length, get_or, refl, sym, ap, ◌∙◌, subst, arith, Option, Some, None, Contains, lt-ltb, ltb-true}
+use Rattle.std.specs.Prelude.{IfSome, nat_lt, option_map}
 use Rattle.std.proofs.lemmas.List.{append-nil}
 use Rattle.std.proofs.lemmas.Bool.{cases_lt}
 use Rattle.ivy_base.specs.declared.key.Key.{Key}
 use Rattle.ivy_base.specs.declared.key.PubKey.{PubKey}
-use Rattle.ivy_base.specs.Naming.{owner_cmp, head_key_of}
+use Rattle.ivy_base.specs.Naming.{head_key_of}
 use Rattle.log_model.specs.View.{View}
-use Rattle.log_model.specs.Vector.{Vector, Stamp, stamp_at, reach}
+use Rattle.log_model.specs.Vector.{Vector, stamp_at}
 use Rattle.log_model.specs.Record.{Record}
 use Rattle.log_model.specs.Rank as rank
 use Rattle.log_model.specs.Rank.{rank}
 use Rattle.log_model.specs.Chain.{IsGood, IsFirst, GoesOn}
 use Rattle.log_model.specs.Closed.{log_of}
 use Rattle.log_model.proofs.Lists.{here, in_cons, in_nothing, each, from_filter}
-use Rattle.log_model.proofs.Part.{Numbered}
 use Rattle.log_records.specs.declared.record.Record as kept
 use Rattle.log_records.specs.Records.{record_of}
 use Rattle.version_vectors.specs.declared.rank.Rank as kept_rank
@@ -27,8 +25,7 @@ use Rattle.causal_order.specs.declared.log.Log.{Log}
 use Rattle.causal_order.specs.Kept.{IsKept, newest_name, first_rank}
 use Rattle.causal_order.specs.Started.{Joins, HasQueued}
 use Rattle.causal_order.proofs.Logs.{numbers_after, good_after}
-use Rattle.causal_order.proofs.Passes.{start}
-use Rattle.causal_order.proofs.Starts.{onward_rest, above_from, above_less, joined_over, split_over}
+use Rattle.causal_order.proofs.Starts.{onward_rest, above_from, joined_over, split_over}
 
 -- the first of a chain's records of greater numbers, and what follows it
 pub record FirstNews (view : View) (owner : PubKey) (n : ℕ) (chain : List Record) (x : Record) (rest : List Record) : Type 0 where
@@ -130,12 +127,12 @@ module _ (view : View) (front : Vector) (held chain : List Record) (l : Log) (ke
     pub extends_by : Joins (stamp_at front l.key) (log_of l.owner held) x → Extends view front held l.owner chain
     extends_by j = subst (λ (xs : List Record). GoesOnFrom view l.owner (stamp_at front (head_key_of l.owner)) (log_of l.owner held ++ xs)) (sym new)
         (joined_over view l.owner x rest good_first onward_first (stamp_at front (head_key_of l.owner)) (log_of l.owner held) log_chain the_first.number the_first.opens
-            (subst (λ (k : Key). Joins (stamp_at front k) (log_of l.owner held) x) kept_l.key j))
+        (subst (λ (k : Key). Joins (stamp_at front k) (log_of l.owner held) x) kept_l.key j))
 
     pub joins_by : Extends view front held l.owner chain → Joins (stamp_at front l.key) (log_of l.owner held) x
     joins_by extends = subst (λ (k : Key). Joins (stamp_at front k) (log_of l.owner held) x) (sym kept_l.key)
         (split_over view l.owner x rest good_first onward_first (stamp_at front (head_key_of l.owner)) (log_of l.owner held)
-            (subst (λ (xs : List Record). GoesOnFrom view l.owner (stamp_at front (head_key_of l.owner)) (log_of l.owner held ++ xs)) new extends))
+        (subst (λ (xs : List Record). GoesOnFrom view l.owner (stamp_at front (head_key_of l.owner)) (log_of l.owner held ++ xs)) new extends))
 
 -- what it is to be the first of the queue
 pub record Fronts (items : List kept.Record) (first : kept.Record) : Type 0 where

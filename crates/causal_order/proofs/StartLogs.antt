@@ -1,18 +1,15 @@
 -- Where a pass starts: all the logs, with all the chains.
-use Rattle.std.proofs.Common.{◌≡◌, ◌⊎◌, inl, inr, ⊎_elim, ℕ, zero, suc, ◌+◌, ◌<◌, ◌≤◌, Bool, true, false, List, [], ◌∷◌, ◌++◌, length, get_or, set, take, drop, map, refl, sym, ap, ◌∙◌, subst, append_assoc, arith, Option, Some, None, Contains}
-use Rattle.std.specs.Prelude.{IsTrue}
+use Rattle.std.proofs.Common.{◌≡◌, ◌⊎◌, inl, inr, ⊎_elim, ℕ, zero, suc, ◌+◌, ◌<◌, true, false, List, [], ◌∷◌, ◌++◌, length, get_or, set, take, drop, map, refl, sym, ap, ◌∙◌, subst, append_assoc, arith, Contains}
 use Rattle.std.specs.List.{All, AllByRecursion, list_all}
 use Rattle.std.specs.Cmp.{tied_itself}
 use Rattle.std.specs.Ordering.{is_lt}
-use Rattle.std.specs.declared.cmp.Ordering.{Ordering}
-use Rattle.std.specs.declared.cmp.Ordering.TheVariants.{Equal}
 use Rattle.std.proofs.lemmas.List.{append-nil, drop_all, length-map, map-append, take_all, take_more}
 use Rattle.std.proofs.lemmas.List.Elements.{All-get_or, All-push, All-weaker, All-contains, All-from_recursion, Contains-get_or, Contains-append_left, Contains-append_right, Contains-append_cases}
 use Rattle.ivy_base.specs.declared.key.PubKey.{PubKey}
 use Rattle.ivy_base.specs.Naming.{owner_cmp, head_key_of}
 use Rattle.tree_model.proofs.Sound.{both_true}
 use Rattle.log_model.specs.View.{View, IsView, ascend}
-use Rattle.log_model.specs.Vector.{Vector, Stamp, stamp_at}
+use Rattle.log_model.specs.Vector.{Vector, stamp_at}
 use Rattle.log_model.specs.Record.{Record}
 use Rattle.log_model.specs.Chain.{IsGood}
 use Rattle.log_model.specs.Closed.{log_of}
@@ -22,7 +19,7 @@ use Rattle.log_records.specs.declared.record.Record as kept
 use Rattle.log_records.specs.Records.{record_of}
 use Rattle.causal_order.specs.Temp.{records_of, owner_of}
 use Rattle.causal_order.specs.Over.{GoesOnFrom, IsChainOver, IsClosed}
-use Rattle.causal_order.specs.AtHand.{IsLinked, IsFetched, Extends, IsAtHand, above, news, held_to}
+use Rattle.causal_order.specs.AtHand.{IsLinked, IsFetched, Extends, IsAtHand, news, held_to}
 use Rattle.causal_order.specs.Passing.{Queue, AreApart, IsLeft, IsPassed, IsTaken}
 use Rattle.causal_order.specs.declared.log.Log.{Log}
 use Rattle.causal_order.specs.declared.start.Fetched.{Fetched}
@@ -53,11 +50,12 @@ members_apart (k ∷ ks) h =
 
 queues_apart : (logs : List Log) → AllApart (map (λ l. l.owner) logs) → AreApart (map queue_of logs)
 queues_apart [] h = tt
-queues_apart (x ∷ logs) h =
-    (each_from (λ k. x.owner ≡ k.owner → ⊥) (map queue_of logs) (λ k c e.
-        let w = from_map queue_of logs k c in
-        each (λ o. x.owner ≡ o → ⊥) (map (λ l. l.owner) logs) w.0.owner h.0 (to_map (λ (l : Log). l.owner) logs w.0 w.1) (e ∙ sym (ap (λ (q : Queue). q.owner) w.2))),
-     queues_apart logs h.1)
+queues_apart (x ∷ logs) h = (
+  each_from (λ k. x.owner ≡ k.owner → ⊥) (map queue_of logs) (λ k c e.
+      let w = from_map queue_of logs k c in
+      each (λ o. x.owner ≡ o → ⊥) (map (λ l. l.owner) logs) w.0.owner h.0 (to_map (λ (l : Log). l.owner) logs w.0 w.1) (e ∙ sym (ap (λ (q : Queue). q.owner) w.2))),
+  queues_apart logs h.1,
+)
 
 module _ (P : Log → Type 0) where
   pub set_each : (logs : List Log) (i : ℕ) (new : Log) → AllApart (map (λ l. l.owner) logs) → i < length logs → P new
@@ -66,9 +64,10 @@ module _ (P : Log → Type 0) where
   set_each (x ∷ xs) zero new apart within p other =
       (p, each_from P xs (λ y c. other y (there x xs y c) (λ e. each (λ o. x.owner ≡ o → ⊥) (map (λ l. l.owner) xs) y.owner apart.0 (to_map (λ (l : Log). l.owner) xs y c) (sym e))))
   set_each (x ∷ xs) (suc i) new apart within p other =
-      let less : i < length xs = omega (arith, within) in
-      (other x (here x xs) (λ e. each (λ o. x.owner ≡ o → ⊥) (map (λ l. l.owner) xs) (get_or xs i new).owner apart.0 (to_map (λ (l : Log). l.owner) xs (get_or xs i new) (Contains-get_or xs i new less)) e),
-       set_each xs i new apart.1 less p (λ y c ne. other y (there x xs y c) ne))
+      let less : i < length xs = omega (arith, within) in (
+        other x (here x xs) (λ e. each (λ o. x.owner ≡ o → ⊥) (map (λ l. l.owner) xs) (get_or xs i new).owner apart.0 (to_map (λ (l : Log). l.owner) xs (get_or xs i new) (Contains-get_or xs i new less)) e),
+        set_each xs i new apart.1 less p (λ y c ne. other y (there x xs y c) ne),
+      )
 
 set_owners : (logs : List Log) (i : ℕ) (new : Log) → i < length logs → new.owner ≡ (get_or logs i new).owner → map (λ l. l.owner) (set logs i new) ≡ map (λ l. l.owner) logs
 set_owners [] i new within e = absurd (omega (arith, within))
@@ -110,7 +109,7 @@ module _ (view : View) (front : Vector) (held : List Record) where
     hand = λ q c. let w = g.hand q c in (w.0, Contains-append_right done (chain ∷ []) w.0 w.1, w.2, w.3);
     all = λ other c extends q d. ⊎_elim
         (λ before. absurd (in_nothing q (subst (λ (xs : List kept.Record). Contains (records_of xs) q) empty
-            (h.all other before (subst (λ (o : PubKey). Extends view front held o other) (sym same) extends) q (subst (λ (o : PubKey). Contains (news front held o other) q) (sym same) d)))))
+        (h.all other before (subst (λ (o : PubKey). Extends view front held o other) (sym same) extends) q (subst (λ (o : PubKey). Contains (news front held o other) q) (sym same) d)))))
         (λ now. g.all other now extends q d)
         (Contains-append_cases done (chain ∷ []) other c);
   }
@@ -123,8 +122,8 @@ module _ (view : View) (front : Vector) (held : List Record) where
     all = λ other c extends q d. ⊎_elim
         (λ before. h.all other before extends q d)
         (λ now. ⊎_elim
-            (λ e. absurd (apart (sym (over_owner l.owner (news front held l.owner other) q extends d) ∙ news_owner view (held_to front held l.owner) other q (subst (λ (xs : List Record). IsLinked view xs) e linked) d ∙ sym (ap owner_of e))))
-            (λ f. absurd (in_nothing other f)) (in_cons chain [] other now))
+        (λ e. absurd (apart (sym (over_owner l.owner (news front held l.owner other) q extends d) ∙ news_owner view (held_to front held l.owner) other q (subst (λ (xs : List Record). IsLinked view xs) e linked) d ∙ sym (ap owner_of e))))
+        (λ f. absurd (in_nothing other f)) (in_cons chain [] other now))
         (Contains-append_cases done (chain ∷ []) other c);
   }
 
@@ -134,10 +133,10 @@ module _ (view : View) (front : Vector) (held : List Record) where
       let was : Log = get_or old t.place t.log in
       subst (λ (ls : List Log). All (HasQueued view front held (done ++ chain ∷ [])) ls) (sym t.set)
       (All-from_recursion (HasQueued view front held (done ++ chain ∷ [])) (set old t.place t.log)
-          (set_each (HasQueued view front held (done ++ chain ∷ [])) old t.place t.log apart t.within
-              (with_chain done chain (get_or old t.place t.log) t.log (All-get_or (HasQueued view front held done) old t.place t.log t.within h)
-                  (All-get_or (λ l. l.owner ≡ owner_of chain → l.queue.items ≡ []) old t.place t.log t.within empty t.was) (t.was ∙ sym t.owned) t.queued)
-              (λ y c ne. other_chain done chain y linked (λ e. ne (e ∙ sym t.was)) (All-contains (HasQueued view front held done) old y h c))))
+      (set_each (HasQueued view front held (done ++ chain ∷ [])) old t.place t.log apart t.within
+      (with_chain done chain (get_or old t.place t.log) t.log (All-get_or (HasQueued view front held done) old t.place t.log t.within h)
+      (All-get_or (λ l. l.owner ≡ owner_of chain → l.queue.items ≡ []) old t.place t.log t.within empty t.was) (t.was ∙ sym t.owned) t.queued)
+      (λ y c ne. other_chain done chain y linked (λ e. ne (e ∙ sym t.was)) (All-contains (HasQueued view front held done) old y h c))))
 
   pub same_owners : (chain : List Record) (old new : List Log) → TakesIn view front held chain old new → map (λ l. l.owner) new ≡ map (λ l. l.owner) old
   same_owners chain old new t = ap (λ (ls : List Log). map (λ (l : Log). l.owner) ls) t.set ∙ set_owners old t.place t.log t.within (t.owned ∙ sym t.was)
@@ -255,7 +254,7 @@ module _ (view : View) (front : Vector) (held : List Record) (items done rest la
         → TakesIn view front held (records_of chain.records.items) old new → All (HasQueued view front held (map (λ (x : Fetched). records_of x.records.items) (done ++ chain ∷ []))) new
     chain_queued old new apart h t = subst (λ (cs : List (List Record)). All (HasQueued view front held cs) new) (sym (map-append (λ (x : Fetched). records_of x.records.items) done (chain ∷ [])))
         (more_queued view front held (map (λ (x : Fetched). records_of x.records.items) done) (records_of chain.records.items) old new
-            (each (λ x. IsFetched view front held (records_of x.records.items)) items chain fetched is_now).linked apart (empty_yet old h) h t)
+        (each (λ x. IsFetched view front held (records_of x.records.items)) items chain fetched is_now).linked apart (empty_yet old h) h t)
 
 -- ---- the loop over the members
 

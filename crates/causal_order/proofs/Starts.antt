@@ -1,20 +1,19 @@
 -- Where a pass starts: the places of what is held, and what goes on from it.
-use Rattle.std.proofs.Common.{◌≡◌, ◌⊎◌, inl, inr, ⊎_elim, ◌↔◌, ℕ, zero, suc, ◌+◌, ◌-◌, ◌<◌, ◌≤◌, Bool, true, false, cond, List, [], ◌∷◌, ◌++◌, length, get_or, take, map, filter, refl, sym, ap, ◌∙◌, subst, arith, Option, Some, None, Contains, length-append, lt-ltb, ltb-true}
+use Rattle.std.proofs.Common.{◌≡◌, ◌↔◌, ℕ, zero, suc, ◌+◌, ◌-◌, ◌<◌, ◌≤◌, Bool, true, false, cond, List, [], ◌∷◌, ◌++◌, length, get_or, take, refl, sym, ap, ◌∙◌, subst, arith, Option, Some, None, lt-ltb, ltb-true}
 use Rattle.std.specs.Prelude.{IsTrue, nat_lt}
 use Rattle.std.specs.Option.{option_to_list}
 use Rattle.std.specs.List.{AllByRecursion, slice_get}
 use Rattle.std.specs.Ordering.{eq_by_cmp}
 use Rattle.std.proofs.lemmas.List.{length-map, append-nil}
-use Rattle.std.proofs.lemmas.List.Elements.{filter-append}
 use Rattle.ivy_base.specs.declared.key.Key.{Key}
 use Rattle.ivy_base.specs.declared.key.PubKey.{PubKey}
-use Rattle.ivy_base.specs.Naming.{owner_cmp, head_key_of}
+use Rattle.ivy_base.specs.Naming.{owner_cmp}
 use Rattle.log_model.specs.View.{View}
-use Rattle.log_model.specs.Vector.{Vector, Stamp, stamp_at, reach, Dominates}
+use Rattle.log_model.specs.Vector.{Stamp, reach, Dominates}
 use Rattle.log_model.specs.Record.{Record}
 use Rattle.log_model.specs.Rank.{full_vector}
 use Rattle.log_model.specs.Spelling.{record_name, HasSpelling}
-use Rattle.log_model.specs.Chain.{IsGood, IsFirst, Follows, GoesOn, IsChain}
+use Rattle.log_model.specs.Chain.{IsGood, IsFirst, GoesOn}
 use Rattle.log_model.specs.Closed.{log_of}
 use Rattle.log_model.proofs.Lists.{each}
 use Rattle.log_model.proofs.Opening.{same_owner}
@@ -22,13 +21,13 @@ use Rattle.log_model.proofs.Part.{Numbered, log_push}
 use Rattle.log_records.specs.declared.record.Record as kept
 use Rattle.log_records.specs.Records.{record_of}
 use Rattle.causal_order.specs.Temp.{records_of}
-use Rattle.causal_order.specs.Over.{GoesOnFrom, ComesNext}
-use Rattle.causal_order.specs.AtHand.{IsLinked, BeginsBy, above}
+use Rattle.causal_order.specs.Over.{GoesOnFrom}
+use Rattle.causal_order.specs.AtHand.{IsLinked, above}
 use Rattle.causal_order.specs.Kept.{IsAt, AreAt, newest_name}
-use Rattle.causal_order.specs.Started.{Names, NamesNewest, KnowsNewest, Joins}
-use Rattle.causal_order.proofs.Logs.{good_over, numbers_over, numbers_after}
+use Rattle.causal_order.specs.Started.{NamesNewest, KnowsNewest, Joins}
+use Rattle.causal_order.proofs.Logs.{good_over, numbers_after}
 use Rattle.causal_order.proofs.Passes.{is_mine, of_log}
-use Rattle.causal_order.proofs.Places.{first_at, next_at, rest_at, at_stands, some_at, one_at, place_holds, places_count, places_push, newest_at, number_at}
+use Rattle.causal_order.proofs.Places.{first_at, next_at, rest_at, at_stands, some_at, one_at, place_holds, places_count, places_push, newest_at}
 
 -- ---- what is held, by its places
 
@@ -140,9 +139,11 @@ IsOnward view (r ∷ rs) = IsLinked view (r ∷ rs)
 pub onward_rest : (view : View) (r : Record) (rs : List Record) → IsLinked view (r ∷ rs) → IsOnward view rs
 onward_rest view r [] h = tt
 onward_rest view r (q ∷ rs) h =
-    let good : IsGood view q.owner q = owned_good view r.owner q h.2.0 in
-    (good, λ one. absurd (let s = h.2.1.seq in let some = h.0.spelled.some in omega (arith, one, s, some)),
-     subst (λ (o : PubKey). GoesOn view o q rs) (sym h.2.0.owned) h.2.2)
+    let good : IsGood view q.owner q = owned_good view r.owner q h.2.0 in (
+      good,
+      λ one. absurd (let s = h.2.1.seq in let some = h.0.spelled.some in omega (arith, one, s, some)),
+      subst (λ (o : PubKey). GoesOn view o q rs) (sym h.2.0.owned) h.2.2,
+    )
   where
     owned_good : (view : View) (owner : PubKey) (q : Record) → IsGood view owner q → IsGood view q.owner q
     owned_good view owner q g = subst (λ (o : PubKey). IsGood view o q) (sym g.owned) g
@@ -171,9 +172,10 @@ pub let_go : (view : View) (n : ℕ) (old new : List kept.Record) (o : Option ke
 let_go view n old new None first e f le onward = (ap (λ (xs : List kept.Record). above n (records_of xs)) e, subst (λ (xs : List kept.Record). IsOnward view (records_of xs)) e onward)
 let_go view n old new (Some x) first e f le onward =
     let same : first ≡ x = f ∙ ap (λ (xs : List kept.Record). get_or xs 0 first) e in
-    let small : x.seq ≤ n = subst (λ (y : kept.Record). y.seq ≤ n) same le in
-    (ap (λ (xs : List kept.Record). above n (records_of xs)) e ∙ above_less n (record_of x) (records_of new) small,
-     onward_rest view (record_of x) (records_of new) (subst (λ (xs : List kept.Record). IsOnward view (records_of xs)) e onward))
+    let small : x.seq ≤ n = subst (λ (y : kept.Record). y.seq ≤ n) same le in (
+      ap (λ (xs : List kept.Record). above n (records_of xs)) e ∙ above_less n (record_of x) (records_of new) small,
+      onward_rest view (record_of x) (records_of new) (subst (λ (xs : List kept.Record). IsOnward view (records_of xs)) e onward),
+    )
 
 pub all_new : (view : View) (n : ℕ) (left : List kept.Record) (first : kept.Record) → first ≡ get_or left 0 first → n < first.seq → IsOnward view (records_of left) → above n (records_of left) ≡ records_of left
 all_new view n [] first f lt onward = refl

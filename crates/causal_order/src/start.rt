@@ -95,7 +95,12 @@ fn places_of(alloc: Global, held: &[Record], owner: &PubKey) -> Result<Vec<usize
 
 /// The name of the record at the last of the places, and where there are none that of the front's. The error is want
 /// of memory.
-fn tip_of(alloc: Global, base: &Base<'_>, key: &Key, places: &[usize]) -> Result<Option<Key>, Memory>
+fn tip_of(
+    alloc: Global,
+    base: &Base<'_>,
+    key: &Key,
+    places: &[usize],
+) -> Result<Option<Key>, Memory>
     requires { All (λ place. place < length base.now.held.now) places.now }
     ensures { (rs : List Seen) → AreAt (records_of base.now.held.now) places.now rs → IfOk result (λ tip. tip ≡ newest_name (stamp_at base.now.front.now key.now) rs) }
 {

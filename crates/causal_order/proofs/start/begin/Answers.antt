@@ -1,6 +1,4 @@
 use Rattle.std.proofs.Common.{◌≡◌, List, [], map, sym, ap, ◌∙◌, subst}
-use Rattle.ivy_base.specs.declared.key.PubKey.{PubKey}
-use Rattle.log_model.specs.Record.{Record}
 use Rattle.causal_order.specs.declared.log.Log.{Log}
 use Rattle.causal_order.specs.declared.start.Fetched.{Fetched}
 use Rattle.causal_order.specs.Temp.{records_of}
@@ -17,10 +15,10 @@ returns-clause-kept c =
     let logs = c.take_chains.new.logs in
     let chains = map (λ (x : Fetched). records_of x.records.items) c.args.chains.items in
     let owners : map (λ (l : Log). l.owner) c.take_chains.new.logs ≡ c.args.base.now.view.now.members =
-        c.take_chains.ensures.owners ∙ ap (λ (ls : List Log). map (λ (l : Log). l.owner) ls) c.as_mut_slice.ensures.value ∙ c.in_ok-logs.ensures.owners in
+    c.take_chains.ensures.owners ∙ ap (λ (ls : List Log). map (λ (l : Log). l.owner) ls) c.as_mut_slice.ensures.value ∙ c.in_ok-logs.ensures.owners in
     let whole = refilled c.in_ok-logs.logs.len c.as_mut_slice.result.now c.take_chains.new.logs c.in_ok-logs.logs.items c.as_mut_slice.ensures.value c.as_mut_slice.ensures.len c.take_chains.ensures.owners in
     subst (λ (ls : List Log). AreKept view front (known_of c.args.base.now []) ls) (sym whole)
-        (kept_start view front (records_of c.args.base.now.held.now) chains logs c.requires.view c.requires.held owners c.take_chains.ensures.queued)
+    (kept_start view front (records_of c.args.base.now.held.now) chains logs c.requires.view c.requires.held owners c.take_chains.ensures.queued)
 
 pub returns-clause-taken : goal.returns-clause-taken
 returns-clause-taken c =
@@ -30,7 +28,7 @@ returns-clause-taken c =
     let logs = c.take_chains.new.logs in
     let chains = map (λ (x : Fetched). records_of x.records.items) c.args.chains.items in
     let owners : map (λ (l : Log). l.owner) c.take_chains.new.logs ≡ c.args.base.now.view.now.members =
-        c.take_chains.ensures.owners ∙ ap (λ (ls : List Log). map (λ (l : Log). l.owner) ls) c.as_mut_slice.ensures.value ∙ c.in_ok-logs.ensures.owners in
+    c.take_chains.ensures.owners ∙ ap (λ (ls : List Log). map (λ (l : Log). l.owner) ls) c.as_mut_slice.ensures.value ∙ c.in_ok-logs.ensures.owners in
     let whole = refilled c.in_ok-logs.logs.len c.as_mut_slice.result.now c.take_chains.new.logs c.in_ok-logs.logs.items c.as_mut_slice.ensures.value c.as_mut_slice.ensures.len c.take_chains.ensures.owners in
     subst (λ (ls : List Log). IsTaken view front (IsAtHand view front held chains) (known_of c.args.base.now []) [] (map queue_of ls)) (sym whole)
-        (taken_start view front (records_of c.args.base.now.held.now) chains logs c.requires.view c.requires.held owners c.take_chains.ensures.queued)
+    (taken_start view front (records_of c.args.base.now.held.now) chains logs c.requires.view c.requires.held owners c.take_chains.ensures.queued)

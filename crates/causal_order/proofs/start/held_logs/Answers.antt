@@ -1,5 +1,4 @@
-use Rattle.std.proofs.Common.{◌≡◌, List, map, sym, ap, ◌∙◌, subst}
-use Rattle.ivy_base.specs.declared.key.PubKey.{PubKey}
+use Rattle.std.proofs.Common.{List, map, sym, ap, ◌∙◌, subst}
 use Rattle.causal_order.specs.declared.log.Log.{Log}
 use Rattle.std.specs.List.{All}
 use Rattle.causal_order.specs.Temp.{records_of}

@@ -1,4 +1,4 @@
-use Rattle.std.proofs.Common.{◌≡◌, refl, sym, ap, ◌∙◌, subst}
+use Rattle.std.proofs.Common.{refl, sym, ◌∙◌}
 use Rattle.log_model.specs.Vector.{stamp_at}
 use Rattle.log_model.specs.Closed.{log_of}
 use Rattle.log_records.specs.Records.{record_of}

@@ -1,14 +1,10 @@
-use Rattle.std.proofs.Common.{◌≡◌, ◌<◌, ◌*◌, ℕ, List, length, get_or, sym, ap, ◌∙◌, subst, arith}
-use Rattle.ivy_base.specs.declared.key.Key.{Key}
-use Rattle.ivy_base.specs.declared.key.PubKey.{PubKey}
+use Rattle.std.proofs.Common.{◌≡◌, get_or, sym, ap, ◌∙◌, arith}
 use Rattle.ivy_base.specs.Naming.{head_key_of}
-use Rattle.log_model.specs.Vector.{stamp_at}
-use Rattle.log_model.specs.Record.{Record}
 use Rattle.log_model.specs.Closed.{log_of}
 use Rattle.log_records.specs.Records.{record_of}
 use Rattle.causal_order.specs.Temp.{records_of}
 use Rattle.causal_order.proofs.Passes.{start}
-use Rattle.causal_order.proofs.Starts.{LastAt, last_place, held_within, newest_owner, newest_spelled, newest_known}
+use Rattle.causal_order.proofs.Starts.{last_place, held_within, newest_owner, newest_spelled, newest_known}
 use Rattle.causal_order.proofs.start.knows_newest.Goals as goal
 
 pub bounds-base-place : goal.bounds-base-place

@@ -1,5 +1,4 @@
-use Rattle.std.proofs.Common.{◌≡◌, ◌+◌, ◌<◌, ◌≤◌, ℕ, List, [], length, refl, sym, ap, ◌∙◌, subst, arith}
-use Rattle.log_model.specs.Record.{Record}
+use Rattle.std.proofs.Common.{◌≡◌, ◌+◌, ◌<◌, ℕ, sym, ◌∙◌, subst, arith}
 use Rattle.log_model.specs.Closed.{log_of}
 use Rattle.causal_order.specs.Temp.{records_of}
 use Rattle.causal_order.specs.AtHand.{above, held_to}
@@ -17,7 +16,7 @@ returns-then-from-held_to c =
     let n : c.from.result + c.len.result ≡ held_to front held log.owner = omega (arith, base, count, c.from.ensures, c.len.ensures) in
     let above_n : c.from.result + c.len.result < c.in-Some.first.now.seq = omega (arith, c.if-from-held_to.true, c.from-in-Some.ensures) in
     sym (subst (λ (k : ℕ). above k (records_of c.args.records.items) ≡ records_of c.old.queue.items) n
-        (c.old.invariant.same ∙ all_new c.args.base.now.view.now (c.from.result + c.len.result) c.old.queue.items c.in-Some.first.now c.in-Some.ensures.lookup above_n c.old.invariant.onward))
+    (c.old.invariant.same ∙ all_new c.args.base.now.view.now (c.from.result + c.len.result) c.old.queue.items c.in-Some.first.now c.in-Some.ensures.lookup above_n c.old.invariant.onward))
 
 pub returns-in_default : goal.returns-in_default
 returns-in_default c =
@@ -29,4 +28,4 @@ returns-in_default c =
     let n : c.from.result + c.len.result ≡ held_to front held log.owner = omega (arith, base, count, c.from.ensures, c.len.ensures) in
     let item = c.in_default.ensures.item in
     sym (subst (λ (k : ℕ). above k (records_of c.args.records.items) ≡ records_of c.old.queue.items) n
-        (c.old.invariant.same ∙ none_new (c.from.result + c.len.result) c.old.queue.items item.3))
+    (c.old.invariant.same ∙ none_new (c.from.result + c.len.result) c.old.queue.items item.3))

@@ -1,9 +1,4 @@
-use Rattle.std.proofs.Common.{◌≡◌, ◌<◌, ◌≤◌, ℕ, List, [], length, refl, sym, ap, ◌∙◌, subst, arith, Contains}
-use Rattle.log_model.specs.Record.{Record}
-use Rattle.log_model.specs.Vector.{stamp_at}
-use Rattle.log_model.specs.Closed.{log_of}
-use Rattle.log_model.proofs.Lists.{in_nothing}
-use Rattle.log_records.specs.Records.{record_of}
+use Rattle.std.proofs.Common.{refl, sym, ◌∙◌, arith}
 use Rattle.causal_order.specs.Temp.{records_of}
 use Rattle.causal_order.proofs.StartChains.{fronts, front_news, front_owner, front_extends, front_joins, front_newest, front_rank, stays, takes}
 use Rattle.causal_order.proofs.start.take_chain.Goals as goal
@@ -13,31 +8,31 @@ joins-requires-clause-owned c =
     let held = records_of c.args.base.now.held.now in
     let log = c.args.log.now in
     front_owner c.args.base.now.view.now c.args.base.now.front.now held (records_of c.args.chain.records.items) log c.requires.kept c.requires.owned (c.requires.held.chains log.owner) c.requires.fetched
-        c.news-queue.result.items c.news-queue.ensures c.in-Some.first.now (fronts c.news-queue.result.items c.in-Some.first.now c.in-Some.ensures.item.3.0 c.in-Some.ensures.lookup)
+    c.news-queue.result.items c.news-queue.ensures c.in-Some.first.now (fronts c.news-queue.result.items c.in-Some.first.now c.in-Some.ensures.item.3.0 c.in-Some.ensures.lookup)
 
 pub joins-requires-clause-spelled : goal.joins-requires-clause-spelled
 joins-requires-clause-spelled c =
     let held = records_of c.args.base.now.held.now in
     let log = c.args.log.now in
     (front_news c.args.base.now.view.now c.args.base.now.front.now held (records_of c.args.chain.records.items) log c.requires.kept c.requires.owned (c.requires.held.chains log.owner) c.requires.fetched
-        c.news-queue.result.items c.news-queue.ensures c.in-Some.first.now (fronts c.news-queue.result.items c.in-Some.first.now c.in-Some.ensures.item.3.0 c.in-Some.ensures.lookup)).good.spelled
+    c.news-queue.result.items c.news-queue.ensures c.in-Some.first.now (fronts c.news-queue.result.items c.in-Some.first.now c.in-Some.ensures.item.3.0 c.in-Some.ensures.lookup)).good.spelled
 
 pub returns-then-not-joins-clause-queued : goal.returns-then-not-joins-clause-queued
 returns-then-not-joins-clause-queued c =
     let held = records_of c.args.base.now.held.now in
     let log = c.args.log.now in
     stays c.args.base.now.view.now c.args.base.now.front.now held (records_of c.args.chain.records.items) log c.requires.kept c.requires.owned (c.requires.held.chains log.owner) c.requires.fetched c.requires.empty
-        (λ q extends d.
-            let yes = c.joins.ensures.1 (front_joins c.args.base.now.view.now c.args.base.now.front.now held (records_of c.args.chain.records.items) log c.requires.kept c.requires.owned (c.requires.held.chains log.owner) c.requires.fetched
-                c.news-queue.result.items c.news-queue.ensures c.in-Some.first.now (fronts c.news-queue.result.items c.in-Some.first.now c.in-Some.ensures.item.3.0 c.in-Some.ensures.lookup) extends) in
-            absurd (let no = sym yes ∙ c.if-not-joins.true in cc))
+    (λ q extends d.
+    let yes = c.joins.ensures.1 (front_joins c.args.base.now.view.now c.args.base.now.front.now held (records_of c.args.chain.records.items) log c.requires.kept c.requires.owned (c.requires.held.chains log.owner) c.requires.fetched
+    c.news-queue.result.items c.news-queue.ensures c.in-Some.first.now (fronts c.news-queue.result.items c.in-Some.first.now c.in-Some.ensures.item.3.0 c.in-Some.ensures.lookup) extends) in
+    absurd (let no = sym yes ∙ c.if-not-joins.true in cc))
 
 pub rank-requires : goal.rank-requires
 rank-requires c =
     let held = records_of c.args.base.now.held.now in
     let log = c.args.log.now in
     let short = (front_news c.args.base.now.view.now c.args.base.now.front.now held (records_of c.args.chain.records.items) log c.requires.kept c.requires.owned (c.requires.held.chains log.owner) c.requires.fetched
-        c.news-queue.result.items c.news-queue.ensures c.in-Some.first.now (fronts c.news-queue.result.items c.in-Some.first.now c.in-Some.ensures.item.3.0 c.in-Some.ensures.lookup)).good.spelled.short in
+    c.news-queue.result.items c.news-queue.ensures c.in-Some.first.now (fronts c.news-queue.result.items c.in-Some.first.now c.in-Some.ensures.item.3.0 c.in-Some.ensures.lookup)).good.spelled.short in
     omega (arith, short)
 
 pub returns-clause-queued : goal.returns-clause-queued
@@ -51,13 +46,13 @@ returns-clause-queued c =
     let first = c.in-Some.first.now in
     let f = fronts c.news-queue.result.items c.in-Some.first.now c.in-Some.ensures.item.3.0 c.in-Some.ensures.lookup in
     takes view front held chain log c.requires.kept c.requires.owned (c.requires.held.chains log.owner) c.requires.fetched _ refl
-        record {
-          key = c.requires.kept.key;
-          base = c.requires.kept.base;
-          places = c.requires.kept.places;
-          tip = c.requires.kept.tip;
-          last = front_newest view front held chain log c.requires.kept c.requires.owned (c.requires.held.chains log.owner) c.requires.fetched items c.news-queue.ensures first f c.args.chain.newest c.requires.named;
-          next = front_rank view front held chain log c.requires.kept c.requires.owned (c.requires.held.chains log.owner) c.requires.fetched items c.news-queue.ensures first f c.rank.result c.rank.ensures;
-        }
-        c.news-queue.ensures
-        (front_extends view front held chain log c.requires.kept c.requires.owned (c.requires.held.chains log.owner) c.requires.fetched items c.news-queue.ensures first f (c.joins.ensures.0 c.if-not-joins.false))
+    record {
+      key = c.requires.kept.key;
+      base = c.requires.kept.base;
+      places = c.requires.kept.places;
+      tip = c.requires.kept.tip;
+      last = front_newest view front held chain log c.requires.kept c.requires.owned (c.requires.held.chains log.owner) c.requires.fetched items c.news-queue.ensures first f c.args.chain.newest c.requires.named;
+      next = front_rank view front held chain log c.requires.kept c.requires.owned (c.requires.held.chains log.owner) c.requires.fetched items c.news-queue.ensures first f c.rank.result c.rank.ensures;
+    }
+    c.news-queue.ensures
+    (front_extends view front held chain log c.requires.kept c.requires.owned (c.requires.held.chains log.owner) c.requires.fetched items c.news-queue.ensures first f (c.joins.ensures.0 c.if-not-joins.false))

@@ -1,5 +1,4 @@
-use Rattle.std.proofs.Common.{◌≡◌, List, map, sym, ap, ◌∙◌, subst}
-use Rattle.ivy_base.specs.declared.key.PubKey.{PubKey}
+use Rattle.std.proofs.Common.{◌≡◌, map, sym, ◌∙◌, subst}
 use Rattle.causal_order.specs.Temp.{records_of}
 use Rattle.causal_order.proofs.StartLogs.{AllApart, members_apart, same_owners, more_whole, empty_yet, chain_queued}
 use Rattle.causal_order.proofs.start.take_chains.Goals as goal
@@ -7,7 +6,7 @@ use Rattle.causal_order.proofs.start.take_chains.Goals as goal
 pub take_in-requires-clause-empty : goal.take_in-requires-clause-empty
 take_in-requires-clause-empty c =
     empty_yet c.args.base.now.view.now c.args.base.now.front.now (records_of c.args.base.now.held.now) c.args.chains.items c.chains.yielded c.chains.chain-iterator.rest.items c.next.new.self.rest.items c.in-Some.chain
-        c.chains.invariant.whole c.in-Some.ensures.steps.0 c.requires.fetched c.requires.apart c.chains.logs c.chains.invariant.queued
+    c.chains.invariant.whole c.in-Some.ensures.steps.0 c.requires.fetched c.requires.apart c.chains.logs c.chains.invariant.queued
 
 pub chains-preserved : goal.chains-preserved
 chains-preserved c =

@@ -1,4 +1,4 @@
-use Rattle.std.proofs.Common.{◌≡◌, ◌<◌, ℕ, List, length, get_or, refl, sym, ap, ◌∙◌, subst}
+use Rattle.std.proofs.Common.{◌≡◌, List, refl, ap, ◌∙◌}
 use Rattle.log_records.specs.declared.record.Record as kept
 use Rattle.causal_order.specs.Temp.{records_of, owner_of}
 use Rattle.causal_order.proofs.StartLogs.{owner_is, no_log}

@@ -1,4 +1,4 @@
-use Rattle.std.proofs.Common.{◌≡◌, ℕ, Some, List, refl, sym, ap, ◌∙◌}
+use Rattle.std.proofs.Common.{Some, refl, sym, ap, ◌∙◌}
 use Rattle.ivy_base.specs.declared.key.Key.{Key}
 use Rattle.log_model.specs.Vector.{stamp_at}
 use Rattle.causal_order.specs.Temp.{records_of}
