@@ -8,7 +8,7 @@ use Rattle.log_model.proofs.Lists.{in_nothing}
 use Rattle.version_vectors.specs.Ranks.{rank_of}
 use Rattle.log_records.specs.declared.record.Record as kept
 use Rattle.log_records.specs.Records.{records_of}
-use Rattle.causal_order.specs.Passing.{IsLeft}
+use Rattle.causal_order.specs.Passing.{IsLeft, IsTaken}
 use Rattle.causal_order.specs.AtHand.{IsAtHand, IsNewPart}
 use Rattle.causal_order.specs.declared.base.Base.{Base}
 use Rattle.causal_order.specs.declared.log.Log.{Log}
@@ -61,3 +61,17 @@ none_left base taken logs kept none q left =
 pub is_whole : (base : Base) (chains : List (List Record)) (logs : List Log) (taken : List kept.Record) → IsGoing base (IsAtHand base.view.now base.front.now (records_of base.held.now) chains) logs taken → HaveNone logs
     → IsNewPart base.view.now base.front.now (records_of base.held.now) chains (records_of taken)
 is_whole base chains logs taken g none = is_new_part base.view.now base.front.now (records_of base.held.now) chains (records_of taken) (map queue_of logs) g.passing (none_left base taken logs g.kept none)
+
+-- the state as the pass begins
+pub begins : (base : Base) (chains chains_too : List (List Record)) (logs_made logs : List Log) (taken : List kept.Record) → chains_too ≡ chains → logs ≡ logs_made → taken ≡ []
+    → AreKept base.view.now base.front.now (known_of base []) logs_made
+    → IsTaken base.view.now base.front.now (IsAtHand base.view.now base.front.now (records_of base.held.now) chains_too) (known_of base []) [] (map queue_of logs_made)
+    → IsGoing base (IsAtHand base.view.now base.front.now (records_of base.held.now) chains) logs taken
+begins base chains chains_too logs_made logs taken same is none begun passing =
+    subst (λ (ls : List Log). IsGoing base (IsAtHand base.view.now base.front.now (records_of base.held.now) chains) ls taken) (sym is)
+    (subst (λ (t : List kept.Record). IsGoing base (IsAtHand base.view.now base.front.now (records_of base.held.now) chains) logs_made t) (sym none)
+    (record {
+      kept = begun.kept;
+      owners = begun.owners;
+      passing = subst (λ (cs : List (List Record)). IsTaken base.view.now base.front.now (IsAtHand base.view.now base.front.now (records_of base.held.now) cs) (known_of base []) [] (map queue_of logs_made)) same passing;
+    }))

@@ -4,6 +4,7 @@ pub mod Knowing
 pub mod Stepping
 pub mod Advancing
 pub mod Going
+pub mod Beginning
 pub mod Fresh
 pub mod Fetching
 pub mod Choosing
@@ -12,3 +13,6 @@ pub mod Passes
 pub mod Steps
 pub mod Ends
 pub mod Fronts
+pub mod Starts
+pub mod StartChains
+pub mod StartLogs

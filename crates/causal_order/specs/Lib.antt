@@ -3,3 +3,4 @@ pub mod AtHand
 pub mod Laws
 pub mod Passing
 pub mod Kept
+pub mod Started

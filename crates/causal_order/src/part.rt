@@ -37,9 +37,10 @@ pub fn closed_part(
     let _ = view.members();
     let base = Base { view, front, held };
     let mut logs = begin(alloc, &base, batch.into_chains())?;
+    let logs = logs.as_mut_slice();
     let mut taken = Vec::new(alloc);
-    'records: while let Some(i) = least(logs.as_slice()) {
-        see(&base, logs.as_mut_slice(), &mut taken, i)?;
+    'records: while let Some(i) = least(logs) {
+        see(&base, logs, &mut taken, i)?;
     }
     Ok(taken)
 }

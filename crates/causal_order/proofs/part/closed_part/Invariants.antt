@@ -6,7 +6,7 @@ use Rattle.causal_order.proofs.part.closed_part.Given as goal
 
 -- what was taken is the largest part of what was seen
 abbrev pub invariant-records : goal.invariant-records
-invariant-records l = IsGoing l.base (IsAtHand l.fn.view.now l.fn.front.now (records_of l.fn.held.now) (map (λ c. c.1) l.fn.batch.chains)) l.logs.items l.taken.items
+invariant-records l = IsGoing l.base (IsAtHand l.base.view.now l.base.front.now (records_of l.base.held.now) (map (λ c. c.1) l.fn.batch.chains)) l.logs l.taken.items
 
 abbrev pub decreases-records : goal.decreases-records
-decreases-records g l = left_in l.logs.items
+decreases-records l = left_in l.logs

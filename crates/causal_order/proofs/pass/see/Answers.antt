@@ -3,9 +3,9 @@ use Rattle.std.specs.Prelude.{IfSome}
 use Rattle.log_records.specs.declared.record.Record.{Record}
 use Rattle.causal_order.specs.Kept.{known_of, IsAdvanced, IsDecided}
 use Rattle.causal_order.proofs.Stepping.{short_vectors, some_front, next_stands, next_is, left_at, taken_at}
-use Rattle.causal_order.proofs.Going as unused
-use Rattle.causal_order.proofs.Fetching as unused_too
-use Rattle.causal_order.proofs.Fresh as unused_also
+
+
+
 use Rattle.causal_order.proofs.pass.see.Goals as goal
 
 pub advance-requires : goal.advance-requires
