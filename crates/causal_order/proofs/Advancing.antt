@@ -120,11 +120,11 @@ module _ (view : View) (front : Vector) (known : List Record) (logs : List Log) 
                 ⊎_elim
                 (λ less. inr (⊎_elim (λ s. subst (λ (y : Record). IsBefore (record_of r) y) s less) (λ more. before_trans (record_of r) x q less more) after))
                 (λ tied.
-                    let owned_x = (left_owned view front known (map queue_of logs) p (queue_of l) (to_map queue_of logs l c) x (subst (λ (ys : List Record). Contains ys x) (sym e) (here x xs))).owned in
-                    let owned_r = (left_owned view front known (map queue_of logs) p (queue_of old) (to_map queue_of logs old old_in) (record_of r) (subst (λ (ys : List Record). Contains ys (record_of r)) (sym (ap records_of queue)) (here (record_of r) (records_of rest)))).owned in
-                    let one : queue_of l ≡ queue_of old = one_owner (map queue_of logs) p.apart (queue_of l) (queue_of old) (to_map queue_of logs l c) (to_map queue_of logs old old_in) (sym owned_x ∙ same_rank_owner (record_of r) x tied ∙ owned_r) in
-                    let same : x ≡ record_of r = heads x (record_of r) xs (records_of rest) (sym e ∙ ap (λ (k : Queue). k.left) one ∙ ap records_of queue) in
-                    ⊎_elim (λ s. inl (sym same ∙ s)) (λ more. inr (subst (λ (y : Record). IsBefore y q) same more)) after)
+                let owned_x = (left_owned view front known (map queue_of logs) p (queue_of l) (to_map queue_of logs l c) x (subst (λ (ys : List Record). Contains ys x) (sym e) (here x xs))).owned in
+                let owned_r = (left_owned view front known (map queue_of logs) p (queue_of old) (to_map queue_of logs old old_in) (record_of r) (subst (λ (ys : List Record). Contains ys (record_of r)) (sym (ap records_of queue)) (here (record_of r) (records_of rest)))).owned in
+                let one : queue_of l ≡ queue_of old = one_owner (map queue_of logs) p.apart (queue_of l) (queue_of old) (to_map queue_of logs l c) (to_map queue_of logs old old_in) (sym owned_x ∙ same_rank_owner (record_of r) x tied ∙ owned_r) in
+                let same : x ≡ record_of r = heads x (record_of r) xs (records_of rest) (sym e ∙ ap (λ (k : Queue). k.left) one ∙ ap records_of queue) in
+                ⊎_elim (λ s. inl (sym same ∙ s)) (λ more. inr (subst (λ (y : Record). IsBefore y q) same more)) after)
                 (not_less (record_of r) x (first_not_before l c x xs e))
 
 -- ---- what is kept after it
@@ -220,9 +220,9 @@ module _ (AtHand : Record → Type 0) (base : Base) (taken_before : List kept.Re
       base = s.advanced.base ∙ kept_old.base ∙ ap (λ (k : Key). seq_of base.front.now k) (sym s.advanced.key);
       places = subst (λ (places : List ℕ). AreAt (known_of base taken_before ++ record_of s.next ∷ []) places (log_of s.new.owner (known_of base taken_before ++ record_of s.next ∷ []))) (sym s.advanced.places)
           (subst (λ (rs : List Record). AreAt (known_of base taken_before ++ record_of s.next ∷ []) (s.old.places.items ++ (length base.held.now + length taken_before) ∷ []) rs) (sym own_log)
-              (places_push (known_of base taken_before ++ record_of s.next ∷ []) s.old.places.items (log_of s.old.owner (known_of base taken_before)) (length base.held.now + length taken_before) (record_of s.next)
-                  (places_more (known_of base taken_before) (record_of s.next ∷ []) s.old.places.items (log_of s.old.owner (known_of base taken_before)) kept_old.places)
-                  (subst (λ (k : ℕ). IsAt (known_of base taken_before ++ record_of s.next ∷ []) k (record_of s.next)) (known_length base taken_before) (last_at (known_of base taken_before) (record_of s.next)))));
+          (places_push (known_of base taken_before ++ record_of s.next ∷ []) s.old.places.items (log_of s.old.owner (known_of base taken_before)) (length base.held.now + length taken_before) (record_of s.next)
+          (places_more (known_of base taken_before) (record_of s.next ∷ []) s.old.places.items (log_of s.old.owner (known_of base taken_before)) kept_old.places)
+          (subst (λ (k : ℕ). IsAt (known_of base taken_before ++ record_of s.next ∷ []) k (record_of s.next)) (known_length base taken_before) (last_at (known_of base taken_before) (record_of s.next)))));
       tip = s.advanced.tip
           ∙ ap (λ (k : Key). Some k) (ap (name_before (records_of s.new.queue.items)) s.advanced.last ∙ named base.view.now s.old.owner (start base.view.now base.front.now s.old.owner) (log_of s.old.owner (known_of base taken_before)) (records_of s.new.queue.items) (record_of s.next) s.old.last going last_old)
           ∙ sym (newest_push (stamp_at base.front.now s.new.key) (log_of s.old.owner (known_of base taken_before)) (record_of s.next)) ∙ ap (newest_name (stamp_at base.front.now s.new.key)) (sym own_log);
@@ -236,13 +236,13 @@ module _ (AtHand : Record → Type 0) (base : Base) (taken_before : List kept.Re
         let apart = subst AreApart (ap (map queue_of) w.2 ∙ queues_append w.0 s.old w.1) t.passed.apart in
         let known_is : known_of base more ≡ known_of base taken_before ++ record_of s.next ∷ [] = ap (known_of base) s.pushed ∙ known_push base taken_before s.next in
         let from : (l : Log) → Contains (w.0 ++ s.new ∷ w.1) l → IsKept base.front.now (known_of base taken_before ++ record_of s.next ∷ []) l = λ l c. ⊎_elim
-            (λ d. stays l (record_of s.next) s.old.owner owned (λ same. apart_left (map queue_of w.0) (queue_of s.old) (map queue_of w.1) apart (queue_of l) (to_map queue_of w.0 l d) same)
-                (All-contains (IsKept base.front.now (known_of base taken_before)) logs l kept_all (subst (λ (ls : List Log). Contains ls l) (sym w.2) (Contains-append_left w.0 (s.old ∷ w.1) l d))))
-            (λ d. ⊎_elim (λ e. subst (IsKept base.front.now (known_of base taken_before ++ record_of s.next ∷ [])) e kept_new)
-                (λ f. stays l (record_of s.next) s.old.owner owned (λ same. apart_right (map queue_of w.0) (queue_of s.old) (map queue_of w.1) apart (queue_of l) (to_map queue_of w.1 l f) same)
-                    (All-contains (IsKept base.front.now (known_of base taken_before)) logs l kept_all (subst (λ (ls : List Log). Contains ls l) (sym w.2) (Contains-append_right w.0 (s.old ∷ w.1) l (there s.old w.1 l f)))))
-                (in_cons s.new w.1 l d))
-            (Contains-append_cases w.0 (s.new ∷ w.1) l c) in
+        (λ d. stays l (record_of s.next) s.old.owner owned (λ same. apart_left (map queue_of w.0) (queue_of s.old) (map queue_of w.1) apart (queue_of l) (to_map queue_of w.0 l d) same)
+        (All-contains (IsKept base.front.now (known_of base taken_before)) logs l kept_all (subst (λ (ls : List Log). Contains ls l) (sym w.2) (Contains-append_left w.0 (s.old ∷ w.1) l d))))
+        (λ d. ⊎_elim (λ e. subst (IsKept base.front.now (known_of base taken_before ++ record_of s.next ∷ [])) e kept_new)
+        (λ f. stays l (record_of s.next) s.old.owner owned (λ same. apart_right (map queue_of w.0) (queue_of s.old) (map queue_of w.1) apart (queue_of l) (to_map queue_of w.1 l f) same)
+        (All-contains (IsKept base.front.now (known_of base taken_before)) logs l kept_all (subst (λ (ls : List Log). Contains ls l) (sym w.2) (Contains-append_right w.0 (s.old ∷ w.1) l (there s.old w.1 l f)))))
+        (in_cons s.new w.1 l d))
+        (Contains-append_cases w.0 (s.new ∷ w.1) l c) in
         subst (λ (k : List Record). All (IsKept base.front.now k) after) (sym known_is)
         (subst (λ (ls : List Log). All (IsKept base.front.now (known_of base taken_before ++ record_of s.next ∷ [])) ls) (sym (s.set ∙ w.3)) (each_to_all (IsKept base.front.now (known_of base taken_before ++ record_of s.next ∷ [])) (w.0 ++ s.new ∷ w.1) from))
 

@@ -62,17 +62,29 @@ module _ (logs : List Log) (i : ℕ) (d : Log) (within : i < length logs) where
       → IfSome (lesser least i next) (IsNextOf logs (take (i + 1) logs)) × IfNone (lesser least i next) (HaveNone (take (i + 1) logs))
   by None None e st = (tt, All-more (λ (l : Log). l.next ≡ None) logs i d within st.1 e)
   by (Some b) None e st = ((st.0.0, with_this (rank_of b.1) st.0.1 (subst (λ (o : Option kept.Rank). IfSome o (λ r. IsNotBefore (rank_of b.1) (rank_of r))) (sym e) tt)), tt)
-  by None (Some r) e st = ((next_is r e, with_this (rank_of r)
-      (All-weaker (λ (l : Log). l.next ≡ None) (λ (l : Log). IfSome l.next (λ q. IsNotBefore (rank_of r) (rank_of q))) (λ l none. subst (λ (o : Option kept.Rank). IfSome o (λ q. IsNotBefore (rank_of r) (rank_of q))) (sym none) tt) (take i logs) st.1)
-      (subst (λ (o : Option kept.Rank). IfSome o (λ q. IsNotBefore (rank_of r) (rank_of q))) (sym e) (not_before_itself (rank_of r)))), tt)
+  by None (Some r) e st = (
+    (
+      next_is r e,
+      with_this (rank_of r)
+          (All-weaker (λ (l : Log). l.next ≡ None) (λ (l : Log). IfSome l.next (λ q. IsNotBefore (rank_of r) (rank_of q))) (λ l none. subst (λ (o : Option kept.Rank). IfSome o (λ q. IsNotBefore (rank_of r) (rank_of q))) (sym none) tt) (take i logs) st.1)
+          (subst (λ (o : Option kept.Rank). IfSome o (λ q. IsNotBefore (rank_of r) (rank_of q))) (sym e) (not_before_itself (rank_of r))),
+    ),
+    tt,
+  )
   by (Some b) (Some r) e st = choose (is_lt (rank_cmp (rank_of r) (rank_of b.1))) refl
     where
       choose : (t : Bool) → is_lt (rank_cmp (rank_of r) (rank_of b.1)) ≡ t
           → IfSome (if t then Some (i, r) else Some b) (IsNextOf logs (take (i + 1) logs)) × IfNone (if t then Some (i, r) else Some b) (HaveNone (take (i + 1) logs))
-      choose true less = ((next_is r e, with_this (rank_of r)
-          (All-weaker (λ (l : Log). IfSome l.next (λ q. IsNotBefore (rank_of b.1) (rank_of q))) (λ (l : Log). IfSome l.next (λ q. IsNotBefore (rank_of r) (rank_of q)))
+      choose true less = (
+        (
+          next_is r e,
+          with_this (rank_of r)
+              (All-weaker (λ (l : Log). IfSome l.next (λ q. IsNotBefore (rank_of b.1) (rank_of q))) (λ (l : Log). IfSome l.next (λ q. IsNotBefore (rank_of r) (rank_of q)))
               (λ l h. weaker l.next h) (take i logs) st.0.1)
-          (subst (λ (o : Option kept.Rank). IfSome o (λ q. IsNotBefore (rank_of r) (rank_of q))) (sym e) (not_before_itself (rank_of r)))), tt)
+              (subst (λ (o : Option kept.Rank). IfSome o (λ q. IsNotBefore (rank_of r) (rank_of q))) (sym e) (not_before_itself (rank_of r))),
+        ),
+        tt,
+      )
         where
           weaker : (o : Option kept.Rank) → IfSome o (λ q. IsNotBefore (rank_of b.1) (rank_of q)) → IfSome o (λ q. IsNotBefore (rank_of r) (rank_of q))
           weaker None h = tt

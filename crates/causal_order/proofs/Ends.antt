@@ -41,9 +41,9 @@ pub one_of_rank : (xs : List Record) → IsAscending xs → (r q : Record) → C
 one_of_rank [] h r q cr cq e d = absurd (in_nothing r cr)
 one_of_rank (x ∷ xs) h r q cr cq e d = ⊎_elim
     (λ is_r. ⊎_elim (λ is_q. sym is_r ∙ is_q)
-        (λ c. absurd (not_before r q e (subst (λ (y : Record). IsBefore y q) is_r (each (IsBefore x) xs q h.0 c)))) (in_cons x xs q cq))
+    (λ c. absurd (not_before r q e (subst (λ (y : Record). IsBefore y q) is_r (each (IsBefore x) xs q h.0 c)))) (in_cons x xs q cq))
     (λ c. ⊎_elim (λ is_q. absurd (not_before q r d (subst (λ (y : Record). IsBefore y r) is_q (each (IsBefore x) xs r h.0 c))))
-        (λ b. one_of_rank xs h.1 r q c b e d) (in_cons x xs q cq))
+    (λ b. one_of_rank xs h.1 r q c b e d) (in_cons x xs q cq))
     (in_cons x xs r cr)
 
 filter_ascends : (test : Record → Bool) (s : List Record) → IsAscending s → IsAscending (filter test s)
@@ -102,8 +102,8 @@ not_held (x ∷ xs) ys h q c d = ⊎_elim
 pub is_fresh : (view : View) (front : Vector) (AtHand : Record → Type 0) (held out : List Record) (queues : List Queue) → IsTaken view front AtHand (held ++ out) out queues → AllByRecursion (λ r. Contains held r → ⊥) out
 is_fresh view front AtHand held out queues p = each_from (λ r. Contains held r → ⊥) out
     (λ r c d. not_held (log_of r.owner held) (log_of r.owner out)
-        (subst IsAscending (filter-append (λ (x : Record). eq_by_cmp owner_cmp r.owner x.owner) held out) (log_ascends view front AtHand (held ++ out) out queues p r.owner))
-        r (in_log r.owner held r d refl) (in_log r.owner out r c refl))
+    (subst IsAscending (filter-append (λ (x : Record). eq_by_cmp owner_cmp r.owner x.owner) held out) (log_ascends view front AtHand (held ++ out) out queues p r.owner))
+    r (in_log r.owner held r d refl) (in_log r.owner out r c refl))
 
 pub is_new_part : (view : View) (front : Vector) (held : List Record) (chains : List (List Record)) (out : List Record) (queues : List Queue) → IsTaken view front (IsAtHand view front held chains) (held ++ out) out queues
     → ((q : Record) → IsLeft queues q → ⊥) → IsNewPart view front held chains out

@@ -80,14 +80,16 @@ rest_known r c key is none h log = by (same_key log (head_key_of c.owner)) refl 
 module _ (r c : Record) (key : Key) (es : List kept.Entry) (is : key ≡ head_key_of c.owner) (none : stamp_at c.vector key ≡ None) (entries : vector_of es ≡ c.vector) (sorted : is_sorted key_cmp (vector_of es) ≡ true) where
   pub known_where : (b : Bool) → b ≡ list_all (λ (e : kept.Entry). nat_le e.seq (seq_of (full_vector r) e.log)) es → c.seq ≤ seq_of (full_vector r) key → IsTrue b ↔ Dominates (full_vector r) (full_vector c)
   known_where b value own =
-      let far = dominates_by_entries (full_vector r) es b sorted value in
-      (λ holds. knows_all r c key is none own (subst (λ (v : Vector). Dominates (full_vector r) v) entries (far.0 holds)),
-       λ dom. far.1 (subst (λ (v : Vector). Dominates (full_vector r) v) (sym entries) (rest_known r c key is none dom)))
+      let far = dominates_by_entries (full_vector r) es b sorted value in (
+        λ holds. knows_all r c key is none own (subst (λ (v : Vector). Dominates (full_vector r) v) entries (far.0 holds)),
+        λ dom. far.1 (subst (λ (v : Vector). Dominates (full_vector r) v) (sym entries) (rest_known r c key is none dom)),
+      )
 
 pub unknown_where : (r c : Record) (key : Key) (n : ℕ) → key ≡ head_key_of c.owner → stamp_at c.vector key ≡ None → n ≡ seq_of (full_vector r) key → n < c.seq → IsTrue (nat_le c.seq n) ↔ Dominates (full_vector r) (full_vector c)
-unknown_where r c key n is none value short =
-    (λ holds. let le : c.seq ≤ n = leb-true c.seq n holds in absurd (omega (arith, le, short)),
-     λ dom. let le = own_known r c key is none dom in absurd (omega (arith, le, value, short)))
+unknown_where r c key n is none value short = (
+  λ holds. let le : c.seq ≤ n = leb-true c.seq n holds in absurd (omega (arith, le, short)),
+  λ dom. let le = own_known r c key is none dom in absurd (omega (arith, le, value, short)),
+)
 
 -- a weight and what is known, tested one after the other
 pub both_hold : (b : Bool) (n m : ℕ) (P : Type 0) → n < m → (IsTrue b ↔ P) → IsTrue b ↔ ((n < m) × P)

@@ -88,9 +88,9 @@ numbered_one n (x ∷ xs) h a b ca cb e =
     let first : x.seq ≡ n = h.0 in
     ⊎_elim
     (λ is_a. ⊎_elim (λ is_b. sym is_a ∙ is_b)
-        (λ c. let m = later b c in let ea : x.seq ≡ a.seq = ap (λ (r : Record). r.seq) is_a in absurd (omega arith)) (in_cons x xs b cb))
+    (λ c. let m = later b c in let ea : x.seq ≡ a.seq = ap (λ (r : Record). r.seq) is_a in absurd (omega arith)) (in_cons x xs b cb))
     (λ ina. ⊎_elim (λ is_b. let m = later a ina in let eb : x.seq ≡ b.seq = ap (λ (r : Record). r.seq) is_b in absurd (omega arith))
-        (λ inb. numbered_one (n + 1) xs h.1 a b ina inb e) (in_cons x xs b cb))
+    (λ inb. numbered_one (n + 1) xs h.1 a b ina inb e) (in_cons x xs b cb))
     (in_cons x xs a ca)
 
 -- a numbered list has each number between

@@ -43,9 +43,9 @@ one_head (k ∷ ks) h a b ca cb e =
     let parts = both_true (list_all (λ other. not (same_key (head_key_of k) (head_key_of other))) ks) (have_own_head_keys ks) h in
     ⊎_elim
     (λ is_a. ⊎_elim (λ is_b. sym is_a ∙ is_b)
-        (λ c. absurd (never b (passes (λ other. not (same_key (head_key_of k) (head_key_of other))) ks b parts.0 c) (ap head_key_of is_a ∙ e))) (in_cons k ks b cb))
+    (λ c. absurd (never b (passes (λ other. not (same_key (head_key_of k) (head_key_of other))) ks b parts.0 c) (ap head_key_of is_a ∙ e))) (in_cons k ks b cb))
     (λ c. ⊎_elim (λ is_b. absurd (never a (passes (λ other. not (same_key (head_key_of k) (head_key_of other))) ks a parts.0 c) (ap head_key_of is_b ∙ sym e)))
-        (λ d. one_head ks parts.1 a b c d e) (in_cons k ks b cb))
+    (λ d. one_head ks parts.1 a b c d e) (in_cons k ks b cb))
     (in_cons k ks a ca)
   where
     never : (other : PubKey) → not (same_key (head_key_of k) (head_key_of other)) ≡ true → head_key_of k ≡ head_key_of other → ⊥

@@ -27,9 +27,9 @@ pub one_owner : (queues : List Queue) → AreApart queues → (k l : Queue) → 
 one_owner [] h k l ck cl e = absurd (in_nothing k ck)
 one_owner (x ∷ xs) h k l ck cl e = ⊎_elim
     (λ is_k. ⊎_elim (λ is_l. sym is_k ∙ is_l)
-        (λ c. absurd (each (λ y. x.owner ≡ y.owner → ⊥) xs l h.0 c (ap (λ (y : Queue). y.owner) is_k ∙ e))) (in_cons x xs l cl))
+    (λ c. absurd (each (λ y. x.owner ≡ y.owner → ⊥) xs l h.0 c (ap (λ (y : Queue). y.owner) is_k ∙ e))) (in_cons x xs l cl))
     (λ c. ⊎_elim (λ is_l. absurd (each (λ y. x.owner ≡ y.owner → ⊥) xs k h.0 c (ap (λ (y : Queue). y.owner) is_l ∙ sym e)))
-        (λ d. one_owner xs h.1 k l c d e) (in_cons x xs l cl))
+    (λ d. one_owner xs h.1 k l c d e) (in_cons x xs l cl))
     (in_cons x xs k ck)
 
 mine : PubKey → Record → Bool
@@ -47,7 +47,7 @@ of_log owner s r c = let w = from_filter (λ (x : Record). eq_by_cmp owner_cmp o
 pub causes_weaken : (view : View) (front : Vector) (s t : List Record) (r : Record) → ((c : Record) → Contains s c → Contains t c) → HasCauses view front s r → HasCauses view front t r
 causes_weaken view front s t r within h = each_from (IsMet view front t r) r.vector
     (λ e in_vector member. ⊎_elim (λ u. inl u) (λ w. inr (w.0, within w.0 w.1, w.2))
-        (each (IsMet view front s r) r.vector e h in_vector member))
+    (each (IsMet view front s r) r.vector e h in_vector member))
 
 module _ (view : View) (front : Vector) where
   abbrev pub start : PubKey → Option Stamp
@@ -91,7 +91,7 @@ module _ (view : View) (front : Vector) where
     pub member_has_causes : (t : List Record) → IsClosed view front t → IsSeen known queues t → Contains t r → HasCauses view front known r
     member_has_causes t closed seen within = each_from (IsMet view front known r) r.vector
         (λ e in_vector member. ⊎_elim (λ u. inl u) (λ w. inr (w.0, lighter_taken w.0 (seen w.0 w.1) w.2.lighter, w.2))
-            (each (IsMet view front t r) r.vector e (each (HasCauses view front t) t r closed.causes within) in_vector member))
+        (each (IsMet view front t r) r.vector e (each (HasCauses view front t) t r closed.causes within) in_vector member))
 
     -- of what was seen, the owner's records are those of its log and its queue
     in_whole : (q : Record) → Contains known q ⊎ IsLeft queues q → q.owner ≡ k.owner → Contains (log_of k.owner known ++ r ∷ rest) q

@@ -137,8 +137,8 @@ module _ (view : View) (front : Vector) (AtHand : Record → Type 0) where
     going_after : (l : Queue) → Contains after l → IsChainOver view front l.owner (log_of l.owner (known ++ r ∷ []) ++ l.left)
     going_after l c = ⊎_elim
         (λ e. subst (λ (m : Queue). chain_of view front m.owner (log_of m.owner (known ++ r ∷ []) ++ m.left)) (sym e)
-            (subst (λ (xs : List Record). chain_of view front k.owner (xs ++ rest)) (sym own_log)
-                (subst (λ (xs : List Record). chain_of view front k.owner xs) (sym (append_assoc (log_of k.owner known) (r ∷ []) rest)) (going view front known queues p.passed k r rest f))))
+        (subst (λ (xs : List Record). chain_of view front k.owner (xs ++ rest)) (sym own_log)
+        (subst (λ (xs : List Record). chain_of view front k.owner xs) (sym (append_assoc (log_of k.owner known) (r ∷ []) rest)) (going view front known queues p.passed k r rest f))))
         (λ g. subst (λ (xs : List Record). chain_of view front l.owner (xs ++ l.left)) (sym (other_log l.owner g.1)) (p.passed.going l g.0))
         (from_after queues after k rest apart h l c)
 
@@ -147,8 +147,8 @@ module _ (view : View) (front : Vector) (AtHand : Record → Type 0) where
     keeps q (inl c) = inl (Contains-append_left known (r ∷ []) q c)
     keeps q (inr l) = ⊎_elim
         (λ e. ⊎_elim (λ is_q. inl (subst (λ (x : Record). Contains (known ++ r ∷ []) x) is_q (Contains-push known r)))
-            (λ c. inr (record { queue = record { owner = k.owner; left = rest }; stands = shortened_stands queues after k rest apart h; left = c }))
-            (in_cons r rest q (subst (λ (xs : List Record). Contains xs q) f.first (subst (λ (m : Queue). Contains m.left q) e l.left))))
+        (λ c. inr (record { queue = record { owner = k.owner; left = rest }; stands = shortened_stands queues after k rest apart h; left = c }))
+        (in_cons r rest q (subst (λ (xs : List Record). Contains xs q) f.first (subst (λ (m : Queue). Contains m.left q) e l.left))))
         (λ c. inr (record { queue = l.queue; stands = c; left = l.left }))
         (to_after queues after k rest apart h l.queue l.stands)
 
@@ -164,7 +164,7 @@ module _ (view : View) (front : Vector) (AtHand : Record → Type 0) where
     below_left q l = ⊎_elim
         (λ e. each (IsBefore r) rest q (ascends_after) (subst (λ (m : Queue). Contains m.left q) e l.left))
         (λ g. ⊎_elim (λ is_q. absurd (g.1 (sym (left_owned view front known queues p.passed l.queue g.0 q l.left).owned ∙ sym (ap (λ (x : Record). x.owner) is_q) ∙ good_owner))) (λ b. b)
-            (f.least q (record { queue = l.queue; stands = g.0; left = l.left })))
+        (f.least q (record { queue = l.queue; stands = g.0; left = l.left })))
         (from_after queues after k rest apart h l.queue l.stands)
       where
         ascends_after : AllByRecursion (IsBefore r) rest
@@ -202,7 +202,7 @@ module _ (view : View) (front : Vector) (AtHand : Record → Type 0) where
     still_going : (l : Queue) → Contains after l → IsChainOver view front l.owner (log_of l.owner known ++ l.left)
     still_going l c = ⊎_elim
         (λ e. subst (λ (m : Queue). chain_of view front m.owner (log_of m.owner known ++ m.left)) (sym e)
-            (subst (λ (xs : List Record). chain_of view front k.owner xs) (sym (append-nil (log_of k.owner known))) (p.passed.logs k.owner)))
+        (subst (λ (xs : List Record). chain_of view front k.owner xs) (sym (append-nil (log_of k.owner known))) (p.passed.logs k.owner)))
         (λ g. p.passed.going l g.0)
         (from_after queues after k [] p.passed.apart h l c)
 
@@ -216,8 +216,8 @@ module _ (view : View) (front : Vector) (AtHand : Record → Type 0) where
         by (inl d) = inl d
         by (inr l) = ⊎_elim
             (λ e. ⊎_elim (λ is_q. absurd (never (subst (λ (x : Record). Contains t x) (sym is_q) c)))
-                (λ in_rest. absurd (never (first_in view front known queues p.passed k r rest f t closed (p.seen t closed within) q c in_rest)))
-                (in_cons r rest q (subst (λ (xs : List Record). Contains xs q) f.first (subst (λ (m : Queue). Contains m.left q) e l.left))))
+            (λ in_rest. absurd (never (first_in view front known queues p.passed k r rest f t closed (p.seen t closed within) q c in_rest)))
+            (in_cons r rest q (subst (λ (xs : List Record). Contains xs q) f.first (subst (λ (m : Queue). Contains m.left q) e l.left))))
             (λ d. inr (record { queue = l.queue; stands = d; left = l.left }))
             (to_after queues after k [] p.passed.apart h l.queue l.stands)
 

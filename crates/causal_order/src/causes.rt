@@ -93,7 +93,14 @@ fn is_same(a: &Key, b: &Key) -> bool
 
 /// Whether what the record cites by the entry is known, where a member's log is meant. `key` is the head key of the
 /// record's log.
-fn is_met(base: &Base<'_>, logs: &[Log], taken: &[Record], record: &Record, key: &Key, entry: &Entry) -> bool
+fn is_met(
+    base: &Base<'_>,
+    logs: &[Log],
+    taken: &[Record],
+    record: &Record,
+    key: &Key,
+    entry: &Entry,
+) -> bool
     requires view { IsView base.now.view.now }
     requires kept { AreKept base.now.view.now base.now.front.now (known_of base.now taken.now) logs.now }
     requires key { key.now ≡ head_key_of record.now.owner }
@@ -113,7 +120,13 @@ fn is_met(base: &Base<'_>, logs: &[Log], taken: &[Record], record: &Record, key:
 }
 
 /// Whether all that the record cites of the members' logs is known. `key` is the head key of its log.
-pub fn has_causes(base: &Base<'_>, logs: &[Log], taken: &[Record], record: &Record, key: &Key) -> bool
+pub fn has_causes(
+    base: &Base<'_>,
+    logs: &[Log],
+    taken: &[Record],
+    record: &Record,
+    key: &Key,
+) -> bool
     requires view { IsView base.now.view.now }
     requires kept { AreKept base.now.view.now base.now.front.now (known_of base.now taken.now) logs.now }
     requires key { key.now ≡ head_key_of record.now.owner }

@@ -66,7 +66,12 @@ fn may_take(base: &Base<'_>, logs: &[Log], taken: &[Record], log: &Log) -> bool
 
 /// Takes the least of the next records, which is the next one of that log, or lets it and the rest of its log go. The
 /// error is want of memory.
-pub fn see(base: &Base<'_>, logs: &mut [Log], taken: &mut Vec<Record>, i: usize) -> Result<(), Memory>
+pub fn see(
+    base: &Base<'_>,
+    logs: &mut [Log],
+    taken: &mut Vec<Record>,
+    i: usize,
+) -> Result<(), Memory>
     requires view { IsView base.now.view.now }
     requires kept { AreKept base.now.view.now base.now.front.now (known_of base.now taken.old.items) logs.old }
     requires next { IsNext logs.old i }

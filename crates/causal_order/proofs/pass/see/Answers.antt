@@ -3,9 +3,6 @@ use Rattle.std.specs.Prelude.{IfSome}
 use Rattle.log_records.specs.declared.record.Record.{Record}
 use Rattle.causal_order.specs.Kept.{known_of, IsAdvanced, IsDecided}
 use Rattle.causal_order.proofs.Stepping.{short_vectors, some_front, next_stands, next_is, left_at, taken_at}
-
-
-
 use Rattle.causal_order.proofs.pass.see.Goals as goal
 
 pub advance-requires : goal.advance-requires
@@ -22,8 +19,8 @@ returns-in_ok-push c =
 pub returns-else-may_take : goal.returns-else-may_take
 returns-else-may_take c =
     let f = some_front c.args.base.now.view.now c.args.base.now.front.now (known_of c.args.base.now c.args.taken.now.items) c.args.logs.now c.requires.kept
-        c.index-all-i.result (next_stands c.args.logs.now c.args.i c.index-all-i.result c.requires.next c.index-all-i.is)
-        c.requires.next.0 (next_is c.args.logs.now c.args.i c.index-all-i.result c.requires.next c.index-all-i.is) in
+    c.index-all-i.result (next_stands c.args.logs.now c.args.i c.index-all-i.result c.requires.next c.index-all-i.is)
+    c.requires.next.0 (next_is c.args.logs.now c.args.i c.index-all-i.result c.requires.next c.index-all-i.is) in
     inr (left_at c.args.base.now c.args.taken.now.items c.args.logs.now c.args.i c.index-all-i.result c.index-logs-i-else-may_take.result c.clear.new.self c.may_take.result c.requires.next.1.0.within c.index-all-i.is c.index-logs-i-else-may_take.is
     (subst (λ (taken : List Record). IsDecided c.args.base.now taken c.index-all-i.result c.may_take.result) c.as_slice.ensures.value c.may_take.ensures)
     c.clear.ensures f.0 f.1 c.if-may_take.false)
