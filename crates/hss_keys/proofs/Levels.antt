@@ -1,12 +1,12 @@
 -- The levels, one by one: what was read of them, and the first fault.
-use Rattle.std.proofs.Common.{◌≡◌, ℕ, zero, suc, Bool, true, false, ◌&&◌, ◌-◌, List, [], ◌∷◌, length, take, cond, eqb, Result, Ok, Err, refl, sym, ap, ◌∙◌, arith}
+use Rattle.std.proofs.Common.{◌≡◌, ℕ, zero, suc, Bool, true, false, ◌&&◌, ◌-◌, List, ◌∷◌, length, take, cond, eqb, Result, Ok, Err, refl, sym, ap, ◌∙◌, arith}
 use Rattle.std.specs.List.{list_all}
 use Rattle.std.proofs.lemmas.Bool.{eq-eqb}
 use Rattle.hash_signature_model.specs.declared.set.LmsFault.{LmsFault}
 use Rattle.hash_signature_model.specs.declared.set.LmsFault.TheVariants.{Malformed, Wrong}
 use Rattle.hash_signature_model.specs.declared.keys.PublicKey.{PublicKey}
 use Rattle.hash_signature_model.specs.Signatures.{Signature}
-use Rattle.hash_signature_model.specs.Reading.{◌>>=◌, number_at, key_at, all_read, signature_at, whole_signature}
+use Rattle.hash_signature_model.specs.Reading.{◌>>=◌, number_at, key_at, signature_at, whole_signature}
 use Rattle.hss_keys.specs.Reading.{Level, is_right, whole_levels, whole_hss_key, whole_hss_signature, hss_verdict}
 use Rattle.hss_keys.specs.Checks.{right_levels}
 

@@ -77,8 +77,8 @@ fn read_next(bytes: &[u8]) -> Result<(PublicKey, &[u8], &[u8]), LmsFault>
 fn check_last(key: &PublicKey, message: &[u8], bytes: &[u8]) -> Result<bool, LmsFault>
     ensures { result ≡ right_levels 0 key.now message.now bytes.now }
 {
-    let (parts, rest) = read_signature(key.set, bytes)?;
-    if !rest.is_empty() {
+    let (parts, left) = read_signature(key.set, bytes)?;
+    if !left.is_empty() {
         return Err(LmsFault::Malformed);
     }
     Ok(gives_root(key, message, &parts))

@@ -1,4 +1,4 @@
-use Rattle.std.proofs.Common.{arith, ◌∙◌, ap, sym, ◌≡◌, ℕ, Ok, Err, Bool}
+use Rattle.std.proofs.Common.{arith, sym}
 use Rattle.std.proofs.lemmas.Result.{err_from_is_err_and}
 use Rattle.hash_signature_model.proofs.Readings.{signature_takes}
 use Rattle.lms_core.specs.Readers.{fields_of}

@@ -1,4 +1,4 @@
-use Rattle.std.proofs.Common.{arith, ◌∙◌, ap, sym, ◌≡◌, ℕ, Ok, Err, Bool}
+use Rattle.std.proofs.Common.{sym}
 use Rattle.std.proofs.lemmas.Result.{err_from_is_err_and}
 use Rattle.hss_keys.proofs.Levels.{verdict_is}
 use Rattle.hss_keys.proofs.verifying.judge.Goals as goal
