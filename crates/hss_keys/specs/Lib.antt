@@ -1,0 +1,3 @@
+pub mod Hss
+pub mod Reading
+pub mod Checks
