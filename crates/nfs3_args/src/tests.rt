@@ -75,8 +75,35 @@ const WRITE: [u8; 36] =
 /// RENAME from `f` to `to` in another directory.
 const RENAME: [u8; 32] = *b"\0\0\0\x04abcd\0\0\0\x01f\0\0\0\0\0\0\x03bcd\0\0\0\0\x02to\0\0";
 
+/// READDIR behind a cookie.
+const READDIR: [u8; 28] = *b"\0\0\0\x04abcd\0\0\0\0\0\0\0\x03verified\0\0\x20\0";
+
 /// READDIRPLUS behind a cookie.
 const READDIRPLUS: [u8; 32] = *b"\0\0\0\x04abcd\0\0\0\x03\0\0\0\x04verified\0\0\x02\0\0\0\x20\0";
+
+/// LOOKUP, REMOVE and RMDIR of `f`.
+const NAME: [u8; 16] = *b"\0\0\0\x04abcd\0\0\0\x01f\0\0\0";
+
+/// A file handle alone.
+const HANDLE: [u8; 8] = *b"\0\0\0\x04abcd";
+
+/// READ and COMMIT of 512 bytes at 4,096.
+const RANGE: [u8; 20] = *b"\0\0\0\x04abcd\0\0\0\0\0\0\x10\0\0\0\x02\0";
+
+/// MKDIR with a mode, whose time of change is the server's.
+const MKDIR: [u8; 44] =
+    *b"\0\0\0\x04abcd\0\0\0\x01f\0\0\0\0\0\0\x01\0\0\x01\xc0\0\0\0\0\0\0\0\0\0\0\0\0\0\0\0\0\0\0\0\x01";
+
+/// SYMLINK to `hello`, without attributes.
+const SYMLINK: [u8; 52] =
+    *b"\0\0\0\x04abcd\0\0\0\x01f\0\0\0\0\0\0\0\0\0\0\0\0\0\0\0\0\0\0\0\0\0\0\0\0\0\0\0\0\0\0\x05hello\0\0\0";
+
+/// LINK of a file as `f` in another directory.
+const LINK: [u8; 24] = *b"\0\0\0\x04abcd\0\0\0\x03bcd\0\0\0\0\x01f\0\0\0";
+
+/// A procedure and its arguments, where their lengths stand, and where booleans and enumerations, each with a number
+/// past its list.
+type Spoilt<'a> = (u32, &'a [u8], &'a [usize], &'a [(usize, u32)]);
 
 /// Whether the bytes are read, and written as they were.
 #[tactic(auto, using(crate::proofs::Fitting::read_are_writable))]
@@ -100,17 +127,87 @@ fn are_read_back(alloc: Global, program: u32, calls: &[(u32, &[u8])]) -> bool {
     true
 }
 
-fn is_garbage(alloc: Global, procedure: u32, bytes: &[u8]) -> bool {
-    match read_args(alloc, NFS_PROGRAM, procedure, bytes) {
+fn is_garbage(alloc: Global, program: u32, procedure: u32, bytes: &[u8]) -> bool {
+    match read_args(alloc, program, procedure, bytes) {
         Ok(_) => false,
         Err(fault) => fault == ArgsFault::Garbage,
     }
 }
 
 /// Whether each cut of the bytes is garbage.
-fn cuts_are_garbage(alloc: Global, procedure: u32, bytes: &[u8]) -> bool {
+fn cuts_are_garbage(alloc: Global, program: u32, procedure: u32, bytes: &[u8]) -> bool {
     for len in 0..bytes.len() {
-        if !is_garbage(alloc, procedure, &bytes[..len]) {
+        if !is_garbage(alloc, program, procedure, &bytes[..len]) {
+            return false;
+        }
+    }
+    true
+}
+
+/// The bytes with another word at that place.
+fn with_word(alloc: Global, bytes: &[u8], at: usize, word: u32) -> Option<Vec<u8>> {
+    let mut changed = Vec::new(alloc);
+    changed.extend_from_slice(bytes.get(..at)?).ok()?;
+    changed.extend_from_slice(&word.to_be_bytes()).ok()?;
+    let behind = bytes.get(at.saturating_add(4)..)?;
+    changed.extend_from_slice(behind).ok()?;
+    Some(changed)
+}
+
+/// Whether the bytes are garbage with that word at each of the places.
+fn words_are_garbage(
+    alloc: Global,
+    program: u32,
+    procedure: u32,
+    bytes: &[u8],
+    words: &[(usize, u32)],
+) -> bool {
+    for &(at, word) in words {
+        let Some(changed) = with_word(alloc, bytes, at, word) else {
+            return false;
+        };
+        if !is_garbage(alloc, program, procedure, &changed) {
+            return false;
+        }
+    }
+    true
+}
+
+/// Whether the bytes are garbage with lengths near 2^32 at each of the places.
+fn lengths_are_garbage(
+    alloc: Global,
+    program: u32,
+    procedure: u32,
+    bytes: &[u8],
+    lengths: &[usize],
+) -> bool {
+    for &at in lengths {
+        let longest = [(at, u32::MAX), (at, u32::MAX - 3)];
+        if !words_are_garbage(alloc, program, procedure, bytes, &longest) {
+            return false;
+        }
+    }
+    true
+}
+
+/// Whether the bytes are garbage with one more behind them.
+fn more_is_garbage(alloc: Global, program: u32, procedure: u32, bytes: &[u8]) -> bool {
+    let mut longer = Vec::new(alloc);
+    if longer.extend_from_slice(bytes).is_err() || longer.push(0).is_err() {
+        return false;
+    }
+    is_garbage(alloc, program, procedure, &longer)
+}
+
+/// Whether each of the calls is garbage when it is spoilt: cut, longer, with a length that no bytes stand behind, or
+/// with a boolean or an enumeration past its list.
+fn are_garbage_when_spoilt(alloc: Global, program: u32, calls: &[Spoilt<'_>]) -> bool {
+    for &(procedure, bytes, lengths, choices) in calls {
+        let refused = cuts_are_garbage(alloc, program, procedure, bytes)
+            && more_is_garbage(alloc, program, procedure, bytes)
+            && lengths_are_garbage(alloc, program, procedure, bytes, lengths)
+            && words_are_garbage(alloc, program, procedure, bytes, choices);
+        if !refused {
             return false;
         }
     }
@@ -231,33 +328,27 @@ fn each_call_is_read_and_written(rt: HostRuntime) -> Result<(), Fail> {
     let alloc = rt.alloc();
     let calls: [(u32, &[u8]); 22] = [
         (0, b""),
-        (1, b"\0\0\0\x04abcd"),
+        (1, &HANDLE),
         (2, &SETATTR),
-        (3, b"\0\0\0\x04abcd\0\0\0\x01f\0\0\0"),
+        (3, &NAME),
         (4, b"\0\0\0\x04abcd\0\0\0?"),
-        (5, b"\0\0\0\x04abcd"),
-        (6, b"\0\0\0\x04abcd\0\0\0\0\0\0\x10\0\0\0\x02\0"),
+        (5, &HANDLE),
+        (6, &RANGE),
         (7, &WRITE),
         (8, &CREATE),
-        (
-            9,
-            b"\0\0\0\x04abcd\0\0\0\x01f\0\0\0\0\0\0\x01\0\0\x01\xc0\0\0\0\0\0\0\0\0\0\0\0\0\0\0\0\0\0\0\0\x01",
-        ),
-        (
-            10,
-            b"\0\0\0\x04abcd\0\0\0\x01f\0\0\0\0\0\0\0\0\0\0\0\0\0\0\0\0\0\0\0\0\0\0\0\0\0\0\0\0\0\0\x05hello\0\0\0",
-        ),
+        (9, &MKDIR),
+        (10, &SYMLINK),
         (11, &DEVICE),
-        (12, b"\0\0\0\x04abcd\0\0\0\x01f\0\0\0"),
-        (13, b"\0\0\0\x04abcd\0\0\0\x01f\0\0\0"),
+        (12, &NAME),
+        (13, &NAME),
         (14, &RENAME),
-        (15, b"\0\0\0\x04abcd\0\0\0\x03bcd\0\0\0\0\x01f\0\0\0"),
-        (16, b"\0\0\0\x04abcd\0\0\0\0\0\0\0\x03verified\0\0\x20\0"),
+        (15, &LINK),
+        (16, &READDIR),
         (17, &READDIRPLUS),
-        (18, b"\0\0\0\x04abcd"),
-        (19, b"\0\0\0\x04abcd"),
-        (20, b"\0\0\0\x04abcd"),
-        (21, b"\0\0\0\x04abcd\0\0\0\0\0\0\x10\0\0\0\x02\0"),
+        (18, &HANDLE),
+        (19, &HANDLE),
+        (20, &HANDLE),
+        (21, &RANGE),
     ];
     assert!(rt; are_read_back(alloc, NFS_PROGRAM, &calls));
     let mount_calls: [(u32, &[u8]); 6] = [
@@ -308,13 +399,102 @@ fn other_calls_are_read(rt: HostRuntime) -> Result<(), Fail> {
 }
 
 #[test]
-fn cuts_are_refused(rt: HostRuntime) -> Result<(), Fail> {
+fn spoilt_calls_are_refused(rt: HostRuntime) -> Result<(), Fail> {
     let alloc = rt.alloc();
-    assert!(rt; cuts_are_garbage(alloc, 2, &SETATTR));
-    assert!(rt; cuts_are_garbage(alloc, 7, &WRITE));
-    assert!(rt; cuts_are_garbage(alloc, 11, &DEVICE));
-    assert!(rt; cuts_are_garbage(alloc, 14, &RENAME));
-    assert!(rt; cuts_are_garbage(alloc, 17, &READDIRPLUS));
+    let calls: [Spoilt<'_>; 16] = [
+        (0, b"", &[], &[]),
+        (1, &HANDLE, &[0], &[]),
+        (3, &NAME, &[0, 8], &[]),
+        (4, b"\0\0\0\x04abcd\0\0\0?", &[0], &[]),
+        (5, &HANDLE, &[0], &[]),
+        (6, &RANGE, &[0], &[]),
+        (12, &NAME, &[0, 8], &[]),
+        (13, &NAME, &[0, 8], &[]),
+        (14, &RENAME, &[0, 8, 16, 24], &[]),
+        (15, &LINK, &[0, 8, 16], &[]),
+        (16, &READDIR, &[0], &[]),
+        (17, &READDIRPLUS, &[0], &[]),
+        (18, &HANDLE, &[0], &[]),
+        (19, &HANDLE, &[0], &[]),
+        (20, &HANDLE, &[0], &[]),
+        (21, &RANGE, &[0], &[]),
+    ];
+    assert!(rt; are_garbage_when_spoilt(alloc, NFS_PROGRAM, &calls));
+    Ok(())
+}
+
+#[test]
+fn spoilt_choices_are_refused(rt: HostRuntime) -> Result<(), Fail> {
+    let alloc = rt.alloc();
+    let setattr = [(8, 2), (16, 2), (24, 2), (32, 2), (44, 3), (56, 3), (68, 2)];
+    let create = [
+        (16, 3),
+        (20, 2),
+        (28, 2),
+        (36, 2),
+        (44, 2),
+        (56, 3),
+        (68, 3),
+    ];
+    let guarded = [
+        (16, 3),
+        (20, 2),
+        (24, 2),
+        (28, 2),
+        (32, 2),
+        (36, 3),
+        (40, 3),
+    ];
+    let mkdir = [(16, 2), (24, 2), (28, 2), (32, 2), (36, 3), (40, 3)];
+    let symlink = [(16, 2), (20, 2), (24, 2), (28, 2), (32, 3), (36, 3)];
+    let device = [
+        (16, 8),
+        (16, 0),
+        (20, 2),
+        (28, 2),
+        (36, 2),
+        (44, 2),
+        (56, 3),
+        (68, 3),
+    ];
+    let pipe = [
+        (16, 8),
+        (16, 0),
+        (20, 2),
+        (24, 2),
+        (28, 2),
+        (32, 2),
+        (36, 3),
+        (40, 3),
+    ];
+    let calls: [Spoilt<'_>; 10] = [
+        (2, &SETATTR, &[0], &setattr),
+        (7, &WRITE, &[0, 24], &[(20, 3)]),
+        (8, &CREATE, &[0, 8], &create),
+        (8, &GUARDED_CREATE, &[0, 8], &guarded),
+        (8, &EXCLUSIVE_CREATE, &[0, 8], &[(16, 3)]),
+        (9, &MKDIR, &[0, 8], &mkdir),
+        (10, &SYMLINK, &[0, 8, 40], &symlink),
+        (11, &DEVICE, &[0, 8], &device),
+        (11, &PIPE, &[0, 8], &pipe),
+        (11, &FILE, &[0, 8], &[(16, 8), (16, 0)]),
+    ];
+    assert!(rt; are_garbage_when_spoilt(alloc, NFS_PROGRAM, &calls));
+    Ok(())
+}
+
+#[test]
+fn spoilt_mounts_are_refused(rt: HostRuntime) -> Result<(), Fail> {
+    let alloc = rt.alloc();
+    let calls: [Spoilt<'_>; 6] = [
+        (0, b"", &[], &[]),
+        (1, b"\0\0\0\x05/home\0\0\0", &[0], &[]),
+        (2, b"", &[], &[]),
+        (3, b"\0\0\0\x01/\0\0\0", &[0], &[]),
+        (4, b"", &[], &[]),
+        (5, b"", &[], &[]),
+    ];
+    assert!(rt; are_garbage_when_spoilt(alloc, MOUNT_PROGRAM, &calls));
     Ok(())
 }
 
@@ -366,7 +546,10 @@ fn garbage_is_refused(rt: HostRuntime) -> Result<(), Fail> {
         (22, b""),
     ];
     for (procedure, bytes) in cases {
-        assert!(rt; is_garbage(alloc, procedure, bytes), "{procedure}");
+        assert!(rt;
+            is_garbage(alloc, NFS_PROGRAM, procedure, bytes),
+            "{procedure}"
+        );
     }
     Ok(())
 }

@@ -7,3 +7,4 @@ mod ReadPages
 mod ReadMounts
 mod ReadAnswers
 mod ReadWritable
+mod Sizes

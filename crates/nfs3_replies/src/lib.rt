@@ -4,7 +4,8 @@
 //! For the layers above, writing: [`write_reply`] gives exactly the bytes of a result, from its status on, and
 //! [`put_reply`] appends them to a message, as behind the head of an RPC reply; where it fails for want of
 //! memory, nothing was written. [`room_for`] says how much room it asks for, so that a caller can make room for
-//! the head and the result at once. Each string of a result has to be shorter than 2^32 bytes.
+//! the head and the result at once. Each string of a result has to be shorter than 2^32 bytes. What is written is at
+//! most as long as its parts imply: a page of directories is no longer than what it was measured by.
 //!
 //! Reading: [`read_reply`] gives exactly the reply that the bytes are to a procedure, and `Garbage` exactly where
 //! they are none. Each part of a result has one spelling, so there is one such reply at most, and it can be written
@@ -15,8 +16,9 @@
 //! were read, so no memory is taken for a length that no bytes stand behind.
 //!
 //! Definitions: the bytes are `result` of `nfs_model`'s `specs/Results.antt`; `specs/Writable.antt` has which
-//! results have bytes, `specs/Room.antt` the room, and `specs/Reading.antt` which bytes are a reply to which
-//! procedure. `specs/ReadParts.antt` names the parts in the order in which they are read, for the functions inside.
+//! results have bytes, `specs/Room.antt` the room, `specs/Sizes.antt` the most bytes of a result, and
+//! `specs/Reading.antt` which bytes are a reply to which procedure. `specs/ReadParts.antt` names the parts in the order
+//! in which they are read, for the functions inside.
 #![tactic(auto)]
 
 pub mod attributes;

@@ -3,6 +3,7 @@
 ghost use Rattle.std.specs.Prelude.{◌≡◌, ◌+◌, ◌≤◌, ◌++◌};
 ghost use Rattle.std.specs.List.{All, flat_map, sum_by};
 ghost use Rattle.wire_model.specs.Xdr.{word, boolean, opaque, optional};
+ghost use Rattle.nfs_model.specs.Arguments.{IsVerifier};
 ghost use Rattle.nfs_model.specs.Results.{result as bytes_of, listed_entry, listed_entry_plus};
 ghost use Rattle.nfs_model.specs.declared.replies.Reply.TheVariants.{Directory, DirectoryPlus};
 ghost use Rattle.nfs3_replies.specs.Writable.{IsShort, IsShortHandle, IsWritableEntry};
@@ -24,7 +25,8 @@ pub fn put_directory(
 )
     requires short { All IsWritableEntry page.now }
     requires room { 240 + sum_by entry_room page.now ≤ out.old.spare }
-    ensures { out.new.written ≡ out.old.written ++ bytes_of (Directory dir.now verifier.now page.now eof) }
+    ensures written { out.new.written ≡ out.old.written ++ bytes_of (Directory dir.now verifier.now page.now eof) }
+    ensures whole { IsVerifier verifier.now }
 {
     out.put_u32(OK);
     put_optional_fattr(out, dir);
@@ -43,7 +45,8 @@ pub fn put_directory_plus(
 )
     requires short { All IsWritableEntry page.now }
     requires room { 240 + sum_by entry_plus_room page.now ≤ out.old.spare }
-    ensures { out.new.written ≡ out.old.written ++ bytes_of (DirectoryPlus dir.now verifier.now page.now eof) }
+    ensures written { out.new.written ≡ out.old.written ++ bytes_of (DirectoryPlus dir.now verifier.now page.now eof) }
+    ensures whole { IsVerifier verifier.now }
 {
     out.put_u32(OK);
     put_optional_fattr(out, dir);

@@ -1,9 +1,10 @@
 //! Whole results.
 
-ghost use Rattle.std.specs.Prelude.{◌≡◌, ◌≤◌, ◌++◌, IfOk, OnOk, OnErr};
+ghost use Rattle.std.specs.Prelude.{◌≡◌, ◌≤◌, ◌++◌, IfOk, OnOk, OnErr, length};
 ghost use Rattle.nfs_model.specs.Results.{result as bytes_of};
 ghost use Rattle.nfs3_replies.specs.Writable.{IsWritable};
 ghost use Rattle.nfs3_replies.specs.Room.{room};
+ghost use Rattle.nfs3_replies.specs.Sizes.{result_bound, HasShortHandles, HasWholeVerifier};
 
 use crate::forms::{
     put_allowed, put_attributes, put_changed, put_committed, put_content, put_exports, put_found,
@@ -22,10 +23,12 @@ const NO_SUCH_PATH: u32 = 2;
 
 /// The bytes of a result, from its status on (RFC 1813, sections 3.3 and 5.2).
 ///
+/// They are at most as many as its parts take, where the handles of a page of READDIRPLUS have at most 44 bytes each.
 /// The error is want of memory; a result of 2^64 bytes or more counts as such.
 pub fn write_reply(alloc: Global, reply: &Reply) -> Result<Bytes, Memory>
     requires { IsWritable reply.now }
-    ensures { IfOk result (λ bytes. bytes ≡ bytes_of reply.now) }
+    ensures written { IfOk result (λ bytes. bytes ≡ bytes_of reply.now) }
+    ensures short { IfOk result (λ bytes. HasShortHandles reply.now → length bytes ≤ result_bound reply.now) }
 {
     let mut out = XdrWrite::new(alloc);
     put_reply(&mut out, reply)?;
@@ -36,9 +39,11 @@ pub fn write_reply(alloc: Global, reply: &Reply) -> Result<Bytes, Memory>
 ///
 /// It makes room for all of it first, for [`room_for`] bytes. The error is want of memory, and nothing is written
 /// then; a result of 2^64 bytes or more counts as such.
+#[tactic(auto, using(crate::proofs::Sizes::most_result))]
 pub fn put_reply(out: &mut XdrWrite, reply: &Reply) -> Result<(), Memory>
     requires { IsWritable reply.now }
     ensures ok { OnOk result (out.new.written ≡ out.old.written ++ bytes_of reply.now) }
+    ensures short { OnOk result (HasShortHandles reply.now → length (bytes_of reply.now) ≤ result_bound reply.now) }
     ensures err { OnErr result (out.new.written ≡ out.old.written) }
 {
     let room = room_for(reply).ok_or(Memory)?;
@@ -51,7 +56,8 @@ pub fn put_reply(out: &mut XdrWrite, reply: &Reply) -> Result<(), Memory>
 fn put_within(out: &mut XdrWrite, reply: &Reply)
     requires writable { IsWritable reply.now }
     requires room { room reply.now ≤ out.old.spare }
-    ensures { out.new.written ≡ out.old.written ++ bytes_of reply.now }
+    ensures written { out.new.written ≡ out.old.written ++ bytes_of reply.now }
+    ensures whole { HasWholeVerifier reply.now }
 {
     match reply {
         Reply::Nothing => {}
