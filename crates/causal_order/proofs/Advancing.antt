@@ -1,7 +1,7 @@
 -- What a step makes of what is kept: the state of the pass goes on.
-use Rattle.std.proofs.Common.{◌≡◌, ◌⊎◌, inl, inr, ⊎_elim, ℕ, zero, suc, ◌+◌, ◌<◌, ◌≤◌, Bool, true, false, cond, List, [], ◌∷◌, ◌++◌, length, get_or, set, map, refl, sym, ap, ◌∙◌, subst, arith, Option, Some, None, Contains, append_assoc}
+use Rattle.std.proofs.Common.{◌≡◌, ◌⊎◌, inl, inr, ⊎_elim, ℕ, suc, ◌+◌, ◌<◌, Bool, true, false, List, [], ◌∷◌, ◌++◌, length, get_or, map, refl, sym, ap, ◌∙◌, subst, arith, Option, Some, None, Contains, append_assoc}
 use Rattle.std.specs.Prelude.{option_map, IfSome}
-use Rattle.std.specs.List.{All, AllByRecursion}
+use Rattle.std.specs.List.{All}
 use Rattle.std.specs.Ordering.{eq_by_cmp, is_lt, ordering_reverse}
 use Rattle.std.specs.declared.cmp.Ordering.{Ordering}
 use Rattle.std.specs.declared.cmp.Ordering.TheVariants.{Less, Equal, Greater}
@@ -27,11 +27,11 @@ use Rattle.version_vectors.specs.Ranks.{rank_of}
 use Rattle.log_records.specs.declared.record.Record as kept
 use Rattle.log_records.specs.Records.{record_of}
 use Rattle.log_records.specs.Records.{records_of}
-use Rattle.causal_order.specs.Over.{GoesOnFrom, HasCauses}
+use Rattle.causal_order.specs.Over.{GoesOnFrom}
 use Rattle.causal_order.specs.Passing.{Queue, AreApart, IsBefore, IsLeft, IsLeast, IsPassed, IsShortened, IsTaken}
 use Rattle.causal_order.specs.declared.base.Base.{Base}
 use Rattle.causal_order.specs.declared.log.Log.{Log}
-use Rattle.causal_order.specs.Kept.{IsAt, AreAt, IsKept, AreKept, AreNotBefore, IsNotBefore, IsNext, IsTakenAt, IsLeftAt, IsSeenAt, IsAdvanced, IsCleared, known_of, queue_of, newest_name, name_before, first_rank}
+use Rattle.causal_order.specs.Kept.{IsAt, AreAt, IsKept, IsNotBefore, IsNext, IsTakenAt, IsLeftAt, known_of, queue_of, newest_name, name_before, first_rank}
 use Rattle.causal_order.proofs.Logs.{ascends_over}
 use Rattle.causal_order.proofs.Passes.{start, is_mine, one_owner, left_owned}
 use Rattle.causal_order.proofs.Steps.{ascends_right, apart_left, apart_right, taken, left_out}

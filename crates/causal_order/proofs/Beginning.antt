@@ -1,13 +1,12 @@
 -- The chains of a batch, as they are kept, are what a pass may begin with.
-use Rattle.std.proofs.Common.{◌≡◌, List, [], ◌∷◌, ◌++◌, map, refl, sym, ap, ◌∙◌, subst, Option, Some, None, Contains}
+use Rattle.std.proofs.Common.{◌≡◌, List, [], ◌∷◌, map, refl, sym, ap, ◌∙◌, subst, None, Contains}
 use Rattle.std.specs.Prelude.{IfSome}
 use Rattle.std.specs.List.{AllByRecursion}
 use Rattle.ivy_base.specs.declared.key.PubKey.{PubKey}
 use Rattle.log_model.specs.View.{View}
 use Rattle.log_model.specs.Vector.{Vector, Stamp}
 use Rattle.log_model.specs.Record.{Record}
-use Rattle.log_model.specs.Spelling.{record_name}
-use Rattle.log_model.proofs.Lists.{here, there, each_from}
+use Rattle.log_model.proofs.Lists.{here, there}
 use Rattle.log_records.specs.declared.batch.Chain.{Chain}
 use Rattle.log_records.specs.Records.{records_of}
 use Rattle.log_records.specs.Kept.{chain_of, chains_of}

@@ -1,18 +1,17 @@
 -- The least of the next records, and what follows for all that are left.
-use Rattle.std.proofs.Common.{◌≡◌, ◌⊎◌, inl, inr, ⊎_elim, ℕ, zero, suc, ◌+◌, ◌<◌, ◌≤◌, Bool, true, false, cond, List, [], ◌∷◌, ◌++◌, take, length, get_or, map, refl, sym, ap, ◌∙◌, subst, arith, Option, Some, None, Contains}
-use Rattle.std.specs.Prelude.{if◌then◌else◌, IfSome, IfNone, option_map}
-use Rattle.std.specs.List.{All}
+use Rattle.std.proofs.Common.{◌≡◌, ℕ, zero, suc, ◌+◌, ◌<◌, Bool, true, false, List, [], ◌∷◌, take, length, get_or, refl, sym, ap, ◌∙◌, subst, arith, Option, Some, None}
+use Rattle.std.specs.Prelude.{if◌then◌else◌, IfSome, IfNone}
 use Rattle.std.specs.Cmp.{tied_itself}
-use Rattle.std.specs.Ordering.{is_lt, ordering_reverse}
+use Rattle.std.specs.Ordering.{is_lt}
 use Rattle.std.specs.declared.cmp.Ordering.{Ordering}
 use Rattle.std.specs.declared.cmp.Ordering.TheVariants.{Less, Equal, Greater}
-use Rattle.std.proofs.lemmas.List.Elements.{All-more, All-weaker, All-contains}
-use Rattle.log_model.specs.Rank.{Rank, rank, rank_cmp}
+use Rattle.std.proofs.lemmas.List.Elements.{All-more, All-weaker}
+use Rattle.log_model.specs.Rank.{Rank, rank_cmp}
 use Rattle.log_model.proofs.Owners.{ranks_total}
 use Rattle.version_vectors.specs.declared.rank.Rank as kept
 use Rattle.version_vectors.specs.Ranks.{rank_of}
 use Rattle.causal_order.specs.declared.log.Log.{Log}
-use Rattle.causal_order.specs.Kept.{IsNotBefore, AreNotBefore, HasNext, IsNextOf, IsNext, HaveNone, lesser}
+use Rattle.causal_order.specs.Kept.{IsNotBefore, AreNotBefore, HasNext, IsNextOf, HaveNone, lesser}
 
 is_less : (o : Ordering) → is_lt o ≡ true → o ≡ Less
 is_less Less h = refl

@@ -1,12 +1,11 @@
 -- Where no record is left, what was taken is the largest closed part.
-use Rattle.std.proofs.Common.{◌≡◌, ◌⊎◌, inl, inr, ⊎_elim, Bool, true, false, cond, List, [], ◌∷◌, ◌++◌, length, refl, sym, ap, ◌∙◌, subst, arith, Contains, filter}
-use Rattle.std.specs.Prelude.{IsTrue}
+use Rattle.std.proofs.Common.{◌≡◌, ⊎_elim, Bool, true, false, cond, List, [], ◌∷◌, ◌++◌, refl, sym, ap, ◌∙◌, subst, Contains, filter}
 use Rattle.std.specs.List.{AllByRecursion}
 use Rattle.std.specs.Cmp.{tied_itself}
 use Rattle.std.specs.Ordering.{eq_by_cmp, is_lt, is_eq, nat_cmp, ordering_then, ordering_reverse}
 use Rattle.std.specs.declared.cmp.Ordering.{Ordering}
 use Rattle.std.specs.declared.cmp.Ordering.TheVariants.{Less, Equal, Greater}
-use Rattle.std.proofs.lemmas.List.Elements.{Contains-append_left, Contains-append_right, Contains-append_cases, filter-append}
+use Rattle.std.proofs.lemmas.List.Elements.{Contains-append_right, filter-append}
 use Rattle.ivy_base.specs.declared.key.PubKey.{PubKey}
 use Rattle.ivy_base.specs.Naming.{owner_cmp}
 use Rattle.log_model.specs.View.{View}
@@ -15,11 +14,11 @@ use Rattle.log_model.specs.Record.{Record}
 use Rattle.log_model.specs.Rank.{weight, record_cmp}
 use Rattle.log_model.specs.Closed.{log_of, IsAscending}
 use Rattle.log_model.specs.Replay.{in_order}
-use Rattle.log_model.proofs.Lists.{here, there, in_cons, in_nothing, each_from, each, in_filter, from_filter}
+use Rattle.log_model.proofs.Lists.{in_cons, in_nothing, each_from, each, from_filter}
 use Rattle.log_model.proofs.Opening.{same_owner}
 use Rattle.log_model.proofs.Owners.{records_total}
 use Rattle.log_model.proofs.Sets.{same_list, in_order_ascends, in_order_in, in_order_has}
-use Rattle.causal_order.specs.Over.{HasCauses, GoesOnFrom, IsChainOver, IsClosed, IsClosedPart}
+use Rattle.causal_order.specs.Over.{HasCauses, GoesOnFrom, IsClosed, IsClosedPart}
 use Rattle.causal_order.specs.AtHand.{IsAtHand, IsNewPart}
 use Rattle.causal_order.proofs.Logs.{ascends_over}
 use Rattle.causal_order.specs.Passing.{Queue, IsLeft, IsTaken, IsBefore}

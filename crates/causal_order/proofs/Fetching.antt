@@ -1,10 +1,8 @@
 -- A chain that a batch took is one that a closed part may be taken of.
-use Rattle.std.proofs.Common.{◌≡◌, ℕ, ◌+◌, ◌≤◌, ◌^◌, ◌<◌, List, [], ◌∷◌, ◌++◌, length, refl, sym, ap, ◌∙◌, subst, arith, Option, Some, None, Contains}
-use Rattle.ivy_base.specs.Naming.{head_key_of}
+use Rattle.std.proofs.Common.{◌≡◌, ℕ, ◌+◌, ◌≤◌, List, [], ◌∷◌, ◌++◌, refl, arith, Option, Some, None, Contains}
 use Rattle.log_model.specs.View.{View}
-use Rattle.log_model.specs.Vector.{Vector, Stamp, stamp_at, reach}
+use Rattle.log_model.specs.Vector.{Vector, Stamp, reach}
 use Rattle.log_model.specs.Record.{Record}
-use Rattle.log_model.specs.Chain.{IsGood, IsFirst, GoesOn}
 use Rattle.log_records.specs.Batches.{owner_of, stamp_in, EndsAt, IsSound, GoesOnFrom}
 use Rattle.causal_order.specs.AtHand.{IsLinked, BeginsBy, IsFetched, held_to}
 

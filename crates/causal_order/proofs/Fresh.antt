@@ -1,17 +1,14 @@
 -- Over the empty front closed sets are those of the definitions; ranks in a closed set.
-use Rattle.std.proofs.Common.{◌≡◌, ◌⊎◌, inl, inr, ⊎_elim, ◌↔◌, ℕ, ◌<◌, List, [], ◌∷◌, ◌++◌, refl, sym, ap, ◌∙◌, subst, arith, Option, Some, None, Contains}
+use Rattle.std.proofs.Common.{inl, inr, ⊎_elim, List, [], arith, Contains}
 use Rattle.std.specs.Prelude.{IsTrue}
-use Rattle.std.specs.List.{AllByRecursion}
-use Rattle.std.specs.declared.cmp.Ordering.TheVariants.{Equal}
 use Rattle.log_model.specs.View.{View, is_member}
-use Rattle.log_model.specs.Vector.{Entry, Stamp}
+use Rattle.log_model.specs.Vector.{Entry}
 use Rattle.log_model.specs.Record.{Record}
-use Rattle.log_model.specs.Rank.{record_cmp}
 use Rattle.log_model.specs.Closed as log
 use Rattle.log_model.specs.Closed.{IsCause}
 use Rattle.log_model.proofs.Lists.{each_from, each}
 use Rattle.log_model.proofs.Sets.{lighter_is_before}
-use Rattle.causal_order.specs.Over.{IsUnder, IsMet, HasCauses, IsClosed, IsClosedPart}
+use Rattle.causal_order.specs.Over.{IsUnder, IsMet, HasCauses, IsClosed}
 use Rattle.causal_order.specs.Laws.{FreshIsPlain, FreshPartIsPlain, RanksDiffer, CausesAreBefore}
 use Rattle.causal_order.proofs.Ends.{one_of_rank, tied_back}
 

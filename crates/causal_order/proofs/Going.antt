@@ -1,5 +1,5 @@
 -- The pass from step to step, and its end.
-use Rattle.std.proofs.Common.{◌≡◌, ◌⊎◌, inl, inr, ⊎_elim, ℕ, zero, suc, ◌+◌, ◌<◌, ◌≤◌, List, [], ◌∷◌, ◌++◌, length, get_or, set, map, refl, sym, ap, ◌∙◌, subst, arith, Option, Some, None, Contains}
+use Rattle.std.proofs.Common.{◌≡◌, inl, inr, ℕ, zero, suc, ◌<◌, List, [], ◌∷◌, length, get_or, set, map, sym, ap, ◌∙◌, subst, arith, None, Contains}
 use Rattle.std.specs.Prelude.{option_map}
 use Rattle.std.specs.List.{All}
 use Rattle.std.proofs.lemmas.List.Elements.{All-contains}
@@ -12,7 +12,7 @@ use Rattle.causal_order.specs.Passing.{IsLeft, IsTaken}
 use Rattle.causal_order.specs.AtHand.{IsAtHand, IsNewPart}
 use Rattle.causal_order.specs.declared.base.Base.{Base}
 use Rattle.causal_order.specs.declared.log.Log.{Log}
-use Rattle.causal_order.specs.Kept.{IsKept, AreKept, IsNext, IsSeenAt, IsTakenAt, IsLeftAt, HaveNone, IsGoing, left_in, known_of, queue_of, first_rank}
+use Rattle.causal_order.specs.Kept.{IsKept, AreKept, IsNext, IsSeenAt, HaveNone, IsGoing, left_in, known_of, queue_of, first_rank}
 use Rattle.causal_order.proofs.Ends.{is_new_part}
 use Rattle.causal_order.proofs.Meeting.{from_map}
 use Rattle.causal_order.proofs.Advancing.{taken_state, taken_kept, taken_owners, left_state, left_kept, left_owners}

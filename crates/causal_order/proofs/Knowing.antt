@@ -1,5 +1,5 @@
 -- How far a record knows each log, and when it knows all that another one does.
-use Rattle.std.proofs.Common.{◌≡◌, ◌↔◌, ℕ, ◌<◌, ◌≤◌, Bool, true, false, cond, List, [], ◌∷◌, Option, Some, None, refl, sym, ap, ◌∙◌, subst, arith, IsTrue, Contains, nat_eq, leb-true}
+use Rattle.std.proofs.Common.{◌≡◌, ◌↔◌, ℕ, ◌<◌, ◌≤◌, Bool, true, false, cond, List, Some, None, refl, sym, ap, ◌∙◌, subst, arith, IsTrue, nat_eq, leb-true}
 use Rattle.std.specs.Prelude.{nat_le}
 use Rattle.std.specs.Cmp.Lexicographic.{pointwise}
 use Rattle.std.specs.List.{list_all}
@@ -10,7 +10,7 @@ use Rattle.ivy_base.specs.Naming.{key_cmp, head_key_of}
 use Rattle.tree_model.specs.Tree.{same_key}
 use Rattle.tree_model.proofs.Keys.{same_key_is, same_key_itself}
 use Rattle.tree_model.proofs.Same.{same_key_answer}
-use Rattle.log_model.specs.Vector.{Vector, Entry, stamp_at, reach, seq_of, later_or, with_entry, Dominates}
+use Rattle.log_model.specs.Vector.{Vector, stamp_at, reach, seq_of, later_or, Dominates}
 use Rattle.log_model.specs.Record.{Record}
 use Rattle.log_model.specs.Rank.{own_entry, full_vector}
 use Rattle.log_model.proofs.Vectors.{stamp_at-with_entry}

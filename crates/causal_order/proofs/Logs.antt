@@ -1,20 +1,19 @@
 -- A log behind the front: its numbers, its beginnings, and what precedes each of its records.
-use Rattle.std.proofs.Common.{◌≡◌, ◌⊎◌, inl, inr, ⊎_elim, ℕ, ◌+◌, ◌<◌, ◌≤◌, Bool, true, false, cond, List, [], ◌∷◌, ◌++◌, length, refl, sym, ap, ◌∙◌, subst, append_assoc, arith, Option, Some, None, Contains, filter}
+use Rattle.std.proofs.Common.{◌≡◌, ◌⊎◌, inl, inr, ⊎_elim, ℕ, ◌+◌, ◌<◌, ◌≤◌, List, [], ◌∷◌, ◌++◌, length, sym, ap, ◌∙◌, subst, arith, Option, Some, None, Contains}
 use Rattle.std.specs.List.{AllByRecursion}
-use Rattle.std.proofs.lemmas.List.Elements.{Contains-append_left, Contains-append_right, Contains-append_cases}
 use Rattle.std.proofs.lemmas.Bool.{cases_lt}
 use Rattle.ivy_base.specs.declared.key.PubKey.{PubKey}
 use Rattle.log_model.specs.View.{View}
 use Rattle.log_model.specs.Vector.{Stamp, reach}
 use Rattle.log_model.specs.Record.{Record}
 use Rattle.log_model.specs.Rank.{weight}
-use Rattle.log_model.specs.Chain.{IsGood, Follows, GoesOn, IsChain}
+use Rattle.log_model.specs.Chain.{IsGood, Follows, GoesOn}
 use Rattle.log_model.specs.Closed.{IsAscending}
 use Rattle.log_model.proofs.Lists.{here, there, in_cons, in_nothing, each_from, each}
 use Rattle.log_model.proofs.Weights.{follows_heavier}
-use Rattle.log_model.proofs.Part.{Numbered, numbered, numbers_from, numbers_below, chain_front, chain_good, PrecededIn, preceded}
+use Rattle.log_model.proofs.Part.{Numbered, numbered, numbers_from, chain_front, chain_good, PrecededIn, preceded}
 use Rattle.log_model.proofs.Sets.{IsBefore, lighter_is_before, chain_ascends}
-use Rattle.causal_order.specs.Over.{GoesOnFrom, ComesNext}
+use Rattle.causal_order.specs.Over.{GoesOnFrom}
 
 -- ---- behind one record
 

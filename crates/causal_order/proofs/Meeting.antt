@@ -1,6 +1,6 @@
 -- What a record cites is looked for in one member's log alone, at one place.
-use Rattle.std.proofs.Common.{◌≡◌, ◌≢◌, ◌⊎◌, inl, inr, ⊎_elim, ◌↔◌, ℕ, ◌+◌, ◌<◌, ◌≤◌, Bool, true, false, cond, not, ◌&&◌, List, [], ◌∷◌, ◌++◌, length, get_or, map, refl, sym, ap, ◌∙◌, subst, arith, Option, Some, None, Contains, IsTrue}
-use Rattle.std.specs.List.{All, AllByRecursion, list_any, list_all}
+use Rattle.std.proofs.Common.{◌≡◌, inl, inr, ⊎_elim, ◌↔◌, ◌+◌, ◌<◌, ◌≤◌, Bool, true, false, not, List, [], ◌∷◌, ◌++◌, map, sym, ap, ◌∙◌, subst, arith, Contains, IsTrue}
+use Rattle.std.specs.List.{All, AllByRecursion, list_all}
 use Rattle.std.proofs.lemmas.List.Elements.{Contains-append_left, All-contains, All-map, recursion_from_All, All-from_recursion}
 use Rattle.ivy_base.specs.declared.key.Key.{Key}
 use Rattle.ivy_base.specs.declared.key.PubKey.{PubKey}
@@ -9,20 +9,19 @@ use Rattle.tree_model.specs.Tree.{same_key}
 use Rattle.tree_model.proofs.Keys.{same_key_is, same_key_itself}
 use Rattle.tree_model.proofs.Sound.{both_true}
 use Rattle.log_model.specs.View.{View, IsView, is_member, have_own_head_keys}
-use Rattle.log_model.specs.Vector.{Vector, Stamp, Entry, stamp_at, reach, seq_of, Dominates}
+use Rattle.log_model.specs.Vector.{Vector, Stamp, Entry, reach, seq_of, Dominates}
 use Rattle.log_model.specs.Record.{Record}
 use Rattle.log_model.specs.Rank.{own_entry, full_vector, weight}
-use Rattle.log_model.specs.Spelling.{HasSpelling, record_name}
+use Rattle.log_model.specs.Spelling.{HasSpelling}
 use Rattle.log_model.specs.Chain.{IsGood}
-use Rattle.log_model.specs.Closed.{log_of, IsCause}
+use Rattle.log_model.specs.Closed.{log_of}
 use Rattle.log_model.proofs.Lists.{here, there, in_cons, in_nothing, each, some_passes, who_passes, passes}
 use Rattle.log_model.proofs.Part.{numbers_from}
 use Rattle.version_vectors.specs.declared.entry.Entry as kept
 use Rattle.version_vectors.specs.Entries.{stamped, vector_of}
 use Rattle.causal_order.specs.Over.{IsUnder, IsMet}
-use Rattle.causal_order.specs.Passing.{Queue, IsPassed}
 use Rattle.causal_order.specs.declared.log.Log.{Log}
-use Rattle.causal_order.specs.Kept.{IsKept, AreKept, queue_of}
+use Rattle.causal_order.specs.Kept.{IsKept, AreKept}
 use Rattle.causal_order.proofs.Logs.{numbers_over, good_over, numbered_one}
 use Rattle.causal_order.proofs.Passes.{start, in_log, of_log}
 use Rattle.causal_order.proofs.Places.{base_is}

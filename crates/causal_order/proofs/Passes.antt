@@ -1,27 +1,24 @@
 -- Records are taken one after the other, the least first of those that stand at the front of their log: what was taken is
 -- the largest closed part of what was seen.
-use Rattle.std.proofs.Common.{◌≡◌, ◌⊎◌, inl, inr, ⊎_elim, ℕ, ◌+◌, ◌<◌, ◌≤◌, Bool, true, false, cond, List, [], ◌∷◌, ◌++◌, length, refl, sym, ap, ◌∙◌, subst, append_assoc, arith, Option, Some, None, Contains, filter}
-use Rattle.std.specs.Prelude.{IsTrue}
+use Rattle.std.proofs.Common.{◌≡◌, ◌⊎◌, inl, inr, ⊎_elim, ℕ, ◌+◌, ◌<◌, ◌≤◌, Bool, true, List, [], ◌∷◌, ◌++◌, length, refl, sym, ap, ◌∙◌, subst, arith, Option, Contains}
 use Rattle.std.specs.List.{AllByRecursion}
 use Rattle.std.specs.Ordering.{eq_by_cmp}
-use Rattle.std.proofs.lemmas.List.{append-nil}
-use Rattle.std.proofs.lemmas.List.Elements.{Contains-append_left, Contains-append_right, Contains-append_cases, Contains-push, Contains-push_cases, filter-append}
+use Rattle.std.proofs.lemmas.List.Elements.{Contains-append_left, Contains-append_right}
 use Rattle.ivy_base.specs.declared.key.PubKey.{PubKey}
 use Rattle.ivy_base.specs.Naming.{owner_cmp, head_key_of}
-use Rattle.log_model.specs.View.{View, is_member}
-use Rattle.log_model.specs.Vector.{Vector, Stamp, Entry, stamp_at, reach, seq_of}
+use Rattle.log_model.specs.View.{View}
+use Rattle.log_model.specs.Vector.{Vector, Stamp, stamp_at, reach}
 use Rattle.log_model.specs.Record.{Record}
 use Rattle.log_model.specs.Rank.{weight}
 use Rattle.log_model.specs.Chain.{IsGood}
-use Rattle.log_model.specs.Closed.{log_of, IsAscending, IsCause}
-use Rattle.log_model.proofs.Lists.{here, there, in_cons, in_nothing, each_from, each, each_append, in_filter, from_filter}
+use Rattle.log_model.specs.Closed.{log_of}
+use Rattle.log_model.proofs.Lists.{here, there, in_cons, in_nothing, each_from, each, in_filter, from_filter}
 use Rattle.log_model.proofs.Opening.{same_owner}
 use Rattle.log_model.proofs.Owners.{owner_itself}
-use Rattle.log_model.proofs.Weights.{follows_heavier}
-use Rattle.log_model.proofs.Part.{Numbered, numbers_from, numbers_below, log_push, later_not_lighter, PrecededIn}
-use Rattle.causal_order.specs.Passing.{Queue, AreApart, IsLeft, IsLeast, IsSeen, IsPassed, IsBefore}
-use Rattle.causal_order.specs.Over.{IsUnder, IsMet, HasCauses, GoesOnFrom, IsChainOver, IsClosed}
-use Rattle.causal_order.proofs.Logs.{numbers_over, front_over, good_over, preceded_over, ascends_over, numbered_one, numbered_has}
+use Rattle.log_model.proofs.Part.{Numbered, numbers_from, numbers_below, later_not_lighter}
+use Rattle.causal_order.specs.Passing.{Queue, AreApart, IsLeft, IsLeast, IsSeen, IsPassed}
+use Rattle.causal_order.specs.Over.{IsMet, HasCauses, GoesOnFrom, IsClosed}
+use Rattle.causal_order.proofs.Logs.{numbers_over, good_over, numbered_one, numbered_has}
 
 pub one_owner : (queues : List Queue) → AreApart queues → (k l : Queue) → Contains queues k → Contains queues l → k.owner ≡ l.owner → k ≡ l
 one_owner [] h k l ck cl e = absurd (in_nothing k ck)

@@ -1,6 +1,6 @@
 -- The records of a log by their places: each by its number, and the name of each from the one behind it.
-use Rattle.std.proofs.Common.{◌≡◌, ◌⊎◌, inl, inr, ℕ, zero, suc, ◌+◌, ◌-◌, ◌<◌, ◌≤◌, List, [], ◌∷◌, ◌++◌, length, get_or, refl, sym, ap, ◌∙◌, subst, arith, Option, Some, None, Contains, length-append}
-use Rattle.std.specs.Prelude.{option_map, nat_eq, true}
+use Rattle.std.proofs.Common.{◌≡◌, ℕ, zero, suc, ◌+◌, ◌-◌, ◌<◌, List, [], ◌∷◌, ◌++◌, length, get_or, refl, sym, ap, ◌∙◌, subst, arith, Option, Some, None, Contains, length-append}
+use Rattle.std.specs.Prelude.{nat_eq, true}
 use Rattle.std.specs.Cmp.Lexicographic.{pointwise}
 use Rattle.tree_model.specs.Tree.{same_key}
 use Rattle.tree_model.proofs.Keys.{same_key_is, same_key_itself}
@@ -14,8 +14,7 @@ use Rattle.ivy_base.specs.Naming.{head_key_of}
 use Rattle.causal_order.specs.declared.log.Log.{Log}
 use Rattle.log_model.specs.Record.{Record}
 use Rattle.log_model.specs.Spelling.{record_name}
-use Rattle.log_model.specs.Chain.{Follows, GoesOn, IsChain}
-use Rattle.log_model.proofs.Lists.{here, there}
+use Rattle.log_model.specs.Chain.{GoesOn}
 use Rattle.log_model.proofs.Part.{Numbered}
 use Rattle.causal_order.specs.Over.{GoesOnFrom}
 use Rattle.causal_order.proofs.Logs.{numbers_over}

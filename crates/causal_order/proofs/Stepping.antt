@@ -1,11 +1,11 @@
 -- The next record of a log, as it is kept, is one of its chain.
-use Rattle.std.proofs.Common.{◌≡◌, ◌⊎◌, inl, inr, ⊎_elim, ℕ, zero, suc, ◌+◌, ◌<◌, ◌≤◌, ◌^◌, Bool, true, false, List, [], ◌∷◌, ◌++◌, length, get_or, set, map, refl, sym, ap, ◌∙◌, subst, arith, Option, Some, None, Contains, append_assoc}
+use Rattle.std.proofs.Common.{◌≡◌, ℕ, zero, suc, ◌+◌, ◌<◌, ◌≤◌, ◌^◌, Bool, true, false, List, [], ◌∷◌, ◌++◌, length, get_or, set, map, refl, sym, ap, ◌∙◌, subst, arith, Some, Contains, append_assoc}
 use Rattle.std.specs.Prelude.{option_map}
-use Rattle.std.specs.List.{All, AllByRecursion}
+use Rattle.std.specs.List.{AllByRecursion}
 use Rattle.std.proofs.lemmas.List.Elements.{All-contains}
 use Rattle.ivy_base.specs.declared.key.PubKey.{PubKey}
 use Rattle.ivy_base.specs.Naming.{head_key_of}
-use Rattle.log_model.specs.View.{View, IsView}
+use Rattle.log_model.specs.View.{View}
 use Rattle.log_model.specs.Vector.{Vector}
 use Rattle.log_model.specs.Record.{Record}
 use Rattle.log_model.specs.Spelling.{HasSpelling}
@@ -16,10 +16,10 @@ use Rattle.version_vectors.specs.Ranks.{rank_of}
 use Rattle.log_records.specs.declared.record.Record as kept
 use Rattle.log_records.specs.Records.{record_of}
 use Rattle.log_records.specs.Records.{records_of}
-use Rattle.causal_order.specs.Passing.{Queue, IsPassed, IsShortened}
+use Rattle.causal_order.specs.Passing.{Queue, IsShortened}
 use Rattle.causal_order.specs.declared.base.Base.{Base}
 use Rattle.causal_order.specs.declared.log.Log.{Log}
-use Rattle.causal_order.specs.Kept.{IsKept, AreKept, IsInFront, IsNext, HasNext, IsCleared, IsAdvanced, IsDecided, IsLeftAt, IsTakenAt, known_of, queue_of, first_rank}
+use Rattle.causal_order.specs.Kept.{IsKept, AreKept, IsInFront, IsNext, IsCleared, IsAdvanced, IsDecided, IsLeftAt, IsTakenAt, known_of, queue_of, first_rank}
 use Rattle.causal_order.proofs.Passes.{left_owned}
 use Rattle.causal_order.proofs.Meeting.{to_map}
 

@@ -1,21 +1,21 @@
 -- One record more is taken, or is left out with all that follows it in its log.
-use Rattle.std.proofs.Common.{◌≡◌, ◌⊎◌, inl, inr, ⊎_elim, ℕ, ◌+◌, ◌<◌, ◌≤◌, Bool, true, false, cond, List, [], ◌∷◌, ◌++◌, length, refl, sym, ap, ◌∙◌, subst, append_assoc, arith, Option, Some, None, Contains, filter}
+use Rattle.std.proofs.Common.{◌≡◌, ◌⊎◌, inl, inr, ⊎_elim, Bool, true, false, List, [], ◌∷◌, ◌++◌, refl, sym, ap, ◌∙◌, subst, append_assoc, Contains}
 use Rattle.std.specs.List.{AllByRecursion}
 use Rattle.std.specs.Ordering.{eq_by_cmp}
 use Rattle.std.proofs.lemmas.List.{append-nil}
 use Rattle.std.proofs.lemmas.List.Elements.{Contains-append_left, Contains-append_right, Contains-append_cases, Contains-push, Contains-push_cases}
 use Rattle.ivy_base.specs.declared.key.PubKey.{PubKey}
-use Rattle.ivy_base.specs.Naming.{owner_cmp, head_key_of}
+use Rattle.ivy_base.specs.Naming.{owner_cmp}
 use Rattle.log_model.specs.View.{View}
-use Rattle.log_model.specs.Vector.{Vector, stamp_at}
+use Rattle.log_model.specs.Vector.{Vector}
 use Rattle.log_model.specs.Record.{Record}
 use Rattle.log_model.specs.Closed.{log_of, IsAscending}
-use Rattle.log_model.proofs.Lists.{here, there, in_cons, in_nothing, each_from, each, each_append, each_left, each_right}
+use Rattle.log_model.proofs.Lists.{here, there, in_cons, in_nothing, each_from, each, each_append}
 use Rattle.log_model.proofs.Opening.{same_owner}
 use Rattle.log_model.proofs.Part.{log_push}
-use Rattle.causal_order.specs.Over.{HasCauses, GoesOnFrom, IsChainOver, IsClosed}
-use Rattle.causal_order.proofs.Logs.{front_over, good_over, ascends_over}
-use Rattle.causal_order.specs.Passing.{Queue, AreApart, IsPassed, IsLeft, IsSeen, IsLeast, IsTaken, IsShortened, IsBefore}
+use Rattle.causal_order.specs.Over.{HasCauses, IsChainOver, IsClosed}
+use Rattle.causal_order.proofs.Logs.{front_over, ascends_over}
+use Rattle.causal_order.specs.Passing.{Queue, AreApart, IsLeft, IsSeen, IsLeast, IsTaken, IsShortened, IsBefore}
 use Rattle.causal_order.proofs.Passes.{start, chain_of, is_mine, causes_weaken, r_good, left_owned, going, member_has_causes, first_in}
 
 -- a queue with less of its chain stands in its place

@@ -1,9 +1,9 @@
-use Rattle.std.proofs.Common.{◌≡◌, ◌≤◌, ℕ, true, List, take, take_all, length, refl, sym, ◌∙◌, subst, arith}
+use Rattle.std.proofs.Common.{◌≡◌, true, List, take, take_all, refl, sym, ◌∙◌, subst}
 use Rattle.std.proofs.lemmas.List.Elements.{All-more}
 use Rattle.log_model.specs.Vector.{Vector}
 use Rattle.std.specs.List.{All, AllByRecursion}
 use Rattle.version_vectors.specs.declared.entry.Entry.{Entry}
-use Rattle.version_vectors.specs.Entries.{stamped, vector_of}
+use Rattle.version_vectors.specs.Entries.{stamped}
 use Rattle.log_records.specs.Records.{record_of}
 use Rattle.causal_order.specs.Over.{IsMet}
 use Rattle.causal_order.specs.Kept.{known_of}

@@ -1,6 +1,3 @@
-use Rattle.std.proofs.Common.{◌≡◌, sym, ◌∙◌}
-use Rattle.ivy_base.specs.declared.key.Key.{Key}
-use Rattle.log_model.specs.Vector.{stamp_at}
 use Rattle.log_records.specs.Records.{record_of}
 use Rattle.causal_order.proofs.Knowing.{known_where, unknown_where}
 use Rattle.causal_order.proofs.causes.knows.Goals as goal

@@ -1,4 +1,4 @@
-use Rattle.std.proofs.Common.{◌≡◌, ◌<◌, ℕ, sym, ap, subst}
+use Rattle.std.proofs.Common.{◌≡◌, ◌<◌, ℕ, ap, subst}
 use Rattle.log_model.specs.Vector.{Dominates}
 use Rattle.log_model.specs.Rank as log
 use Rattle.log_model.specs.Rank.{full_vector, weight}

@@ -1,4 +1,4 @@
-use Rattle.std.proofs.Common.{◌≡◌, sym, ◌∙◌}
+use Rattle.std.proofs.Common.{sym, ◌∙◌}
 use Rattle.log_records.specs.Records.{record_of}
 use Rattle.causal_order.proofs.Knowing.{reach_own, reach_other}
 use Rattle.causal_order.proofs.causes.reach_of.Goals as goal

@@ -1,9 +1,7 @@
-use Rattle.std.proofs.Common.{◌≡◌, List, map, sym, subst}
-use Rattle.log_model.specs.Record.{Record}
+use Rattle.std.proofs.Common.{map}
 use Rattle.log_records.specs.declared.batch.Chain.{Chain}
 use Rattle.log_records.specs.Records.{records_of}
-use Rattle.causal_order.specs.AtHand.{IsAtHand, IsNewPart}
-use Rattle.causal_order.specs.Kept.{IsGoing}
+use Rattle.causal_order.specs.AtHand.{IsAtHand}
 use Rattle.causal_order.proofs.Beginning.{are_fetched, are_named, have_own_owners, chains_are}
 use Rattle.causal_order.proofs.Going.{begins, are_kept, goes_on, sees_more, is_whole}
 use Rattle.causal_order.proofs.part.closed_part.Goals as goal

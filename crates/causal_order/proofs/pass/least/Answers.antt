@@ -1,4 +1,4 @@
-use Rattle.std.proofs.Common.{◌≡◌, ◌+◌, ℕ, Option, sym, ap, ◌∙◌, subst, get_or, take}
+use Rattle.std.proofs.Common.{◌+◌, ℕ, Option, sym, ap, ◌∙◌, subst, take}
 use Rattle.std.specs.Prelude.{IfSome, IfNone}
 use Rattle.version_vectors.specs.declared.rank.Rank.{Rank}
 use Rattle.causal_order.specs.declared.log.Log.{Log}

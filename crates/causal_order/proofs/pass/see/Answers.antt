@@ -1,4 +1,4 @@
-use Rattle.std.proofs.Common.{◌≡◌, ◌+◌, ℕ, Bool, List, Option, get_or, inl, inr, sym, ap, subst, length, arith}
+use Rattle.std.proofs.Common.{◌+◌, List, Option, get_or, inl, inr, ap, subst, length, arith}
 use Rattle.std.specs.Prelude.{IfSome}
 use Rattle.log_records.specs.declared.record.Record.{Record}
 use Rattle.causal_order.specs.Kept.{known_of, IsAdvanced, IsDecided}

@@ -1,9 +1,8 @@
-use Rattle.std.proofs.Common.{◌≡◌, ◌<◌, ℕ, suc, ◌+◌, List, length, get_or, Some, sym, ap, ◌∙◌, subst, arith, length-append}
+use Rattle.std.proofs.Common.{◌≡◌, ◌<◌, ℕ, ◌+◌, length, Some, sym, ap, ◌∙◌, subst, arith}
 use Rattle.log_model.specs.Record.{Record}
 use Rattle.log_model.specs.Vector.{stamp_at}
 use Rattle.log_model.specs.Closed.{log_of}
 use Rattle.log_records.specs.Records.{record_of}
-use Rattle.log_records.specs.Records.{records_of}
 use Rattle.causal_order.specs.Kept.{IsAt, known_of}
 use Rattle.causal_order.proofs.Passes.{start}
 use Rattle.causal_order.proofs.Places.{some_at, place_holds, places_count, named_by_next, newest_at, one_at, known_length}

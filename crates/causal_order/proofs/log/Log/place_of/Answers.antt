@@ -1,6 +1,5 @@
-use Rattle.std.proofs.Common.{◌≡◌, ◌<◌, ◌+◌, ◌-◌, List, Option, length, true, sym, ap, ◌∙◌, subst, arith, refl, ℕ}
+use Rattle.std.proofs.Common.{◌≡◌, ◌-◌, true, sym, ap, subst, arith, refl, ℕ}
 use Rattle.ivy_base.specs.declared.key.Key.{Key}
-use Rattle.log_model.specs.Record.{Record}
 use Rattle.log_model.specs.Vector.{Stamp}
 use Rattle.log_model.specs.Spelling.{record_name}
 use Rattle.log_model.specs.Closed.{log_of}
