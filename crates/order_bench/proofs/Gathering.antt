@@ -1,19 +1,18 @@
 -- A batch over nothing, as its chains are added.
-use Rattle.std.proofs.Common.{◌≡◌, ℕ, ◌≤◌, ◌<◌, length, true, false, List, [], ◌∷◌, ◌++◌, map, refl, sym, ap, ◌∙◌, subst, arith, Option, Some, None, Contains}
+use Rattle.std.proofs.Common.{◌≡◌, ◌<◌, length, true, false, List, [], ◌∷◌, ◌++◌, refl, sym, ap, ◌∙◌, subst, arith, Some, None, Contains}
 use Rattle.std.specs.Bool.{◌==◌}
 use Rattle.std.specs.List.{All, AllByRecursion}
 use Rattle.std.proofs.lemmas.List.{map-append}
 use Rattle.std.proofs.lemmas.List.Elements.{All-head, All-tail}
 use Rattle.ivy_base.specs.declared.key.PubKey.{PubKey}
-use Rattle.ivy_base.specs.Naming.{head_key_of}
 use Rattle.log_model.specs.View.{View}
-use Rattle.log_model.specs.Vector.{Stamp, stamp_at, reach}
+use Rattle.log_model.specs.Vector.{Stamp}
 use Rattle.log_model.specs.Record.{Record}
 use Rattle.log_model.proofs.Lists.{each_append}
 use Rattle.log_records.specs.declared.record.Record as kept
 use Rattle.log_records.specs.Records.{record_of, records_of}
-use Rattle.log_records.specs.Batches.{AreOfOneOwner, Batch, IsSound, owner_of, owners_in, stamp_in}
-use Rattle.causal_order.specs.AtHand.{IsFetched, held_to}
+use Rattle.log_records.specs.Batches.{AreOfOneOwner, Batch, IsSound, owner_of}
+use Rattle.causal_order.specs.AtHand.{IsFetched}
 use Rattle.causal_order.specs.Over.{IsClosed}
 use Rattle.causal_order.proofs.Fetching.{sound_is_fetched}
 use Rattle.order_bench.specs.Gathered.{IsGathered}

@@ -1,6 +1,6 @@
 //! A batch of logs.
 
-ghost use Rattle.std.specs.Prelude.{◌≡◌, ◌↔◌, [], map, Contains, IsTrue, IfSome};
+ghost use Rattle.std.specs.Prelude.{◌≡◌, ◌↔◌, [], Contains, IsTrue, IfSome};
 ghost use Rattle.std.specs.List.{All, AllByRecursion};
 ghost use Rattle.log_records.specs.Records.{records_of};
 ghost use Rattle.log_records.specs.Batches.{AreOfOneOwner, owner_of};

@@ -75,7 +75,7 @@ fn cited(alloc: Global, logs: &[Log], log: &Log, cites: bool) -> Result<Vector, 
     }
 }
 
-/// Writes the log's next record: the first one opens the log, and the others cancel it.
+/// Writes the log's next record: the first one opens the log, and each other one cancels it. The error is want of memory.
 fn write(alloc: Global, log: &mut Log, vector: Vector) -> Result<(), Memory> {
     let seq = log.newest.seq.saturating_add(1);
     let record = Record {

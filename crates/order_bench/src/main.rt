@@ -22,8 +22,8 @@ use std::time::Instant;
 fn answer<R: Clock + Print>(rt: &R, alloc: Global, line: &str) -> io::Result<()> {
     let mut words = line.split(' ');
     let cites = words.next() == Some("chain");
-    let count: u8 = words.next().and_then(|word| word.parse().ok()).unwrap_or(1);
-    let len: u32 = words.next().and_then(|word| word.parse().ok()).unwrap_or(1);
+    let count: u8 = words.next().and_then(|word| word.parse().ok()).unwrap_or(0);
+    let len: u32 = words.next().and_then(|word| word.parse().ok()).unwrap_or(0);
     let (Ok(logs), Ok(view)) = (logs_of(alloc, count, len, cites), view_of(alloc, count)) else {
         return println!(rt; "{line}: no logs");
     };

@@ -1,4 +1,4 @@
-use Rattle.std.proofs.Common.{◌≡◌, List, [], sym, subst}
+use Rattle.std.proofs.Common.{List, [], sym, subst}
 use Rattle.std.specs.List.{AllByRecursion}
 use Rattle.log_model.specs.Vector.{Stamp, Vector}
 use Rattle.log_model.specs.Record.{Record}
