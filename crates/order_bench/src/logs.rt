@@ -36,19 +36,24 @@ pub fn view_of(alloc: Global, count: u8) -> Result<View, ViewFault> {
     View::make(alloc, &owners(alloc, count)?, &[])
 }
 
+/// The owner's log with no records.
+pub fn empty_log(alloc: Global, owner: PubKey) -> Log {
+    Log {
+        owner,
+        key: head_key(&owner),
+        newest: Judged {
+            seq: 0,
+            name: Key([0; 20]),
+        },
+        records: Vec::new(alloc),
+    }
+}
+
 /// That many logs with no records.
 fn empty_logs(alloc: Global, count: u8) -> Result<Vec<Log>, Memory> {
     let mut logs = Vec::new(alloc);
     for owner in owners(alloc, count)? {
-        logs.push(Log {
-            owner,
-            key: head_key(&owner),
-            newest: Judged {
-                seq: 0,
-                name: Key([0; 20]),
-            },
-            records: Vec::new(alloc),
-        })?;
+        logs.push(empty_log(alloc, owner))?;
     }
     Ok(logs)
 }
@@ -76,7 +81,7 @@ fn cited(alloc: Global, logs: &[Log], log: &Log, cites: bool) -> Result<Vector, 
 }
 
 /// Writes the log's next record: the first one opens the log, and each other one cancels it. The error is want of memory.
-fn write(alloc: Global, log: &mut Log, vector: Vector) -> Result<(), Memory> {
+pub fn write(alloc: Global, log: &mut Log, vector: Vector) -> Result<(), Memory> {
     let seq = log.newest.seq.saturating_add(1);
     let record = Record {
         owner: log.owner,
