@@ -1,10 +1,14 @@
+ghost use Rattle.std.specs.Prelude.{◌≡◌};
+
 use crate::causes::is_under;
 use ivy_base::Key;
 use std::test::Fail;
 use version_vectors::{Entry, Vector};
 
 /// An entry of the log of that byte.
-fn entry(log: u8, seq: u32, name: u8) -> Entry {
+fn entry(log: u8, seq: u32, name: u8) -> Entry
+    ensures { result.seq ≡ seq }
+{
     Entry {
         log: Key([log; 20]),
         seq,
