@@ -218,23 +218,23 @@ long_enough bytes owner newest signature f =
 pub no_head : (key : Key) (bytes : List ℕ) → ((owner : PubKey) (newest : Stamp) (signature : List ℕ) → IsHeadOf owner bytes newest signature → ⊥) → (judged : Judged) → IsSignedHead key bytes judged → ⊥
 no_head key bytes absent judged f = absent f.owner (stamp judged.seq judged.name) f.signature f.head
 
-pub signed_head : (key : Key) (bytes : List ℕ) (owner : PubKey) (judged : Judged) (signature : List ℕ) → IsBytes bytes → IsHeadOf owner bytes (stamp judged.seq judged.name) signature
-    → (key ≡ head_key_of owner) × HssAccepts owner.0 (take 88 bytes) signature → IsSignedHead key bytes judged
-signed_head key bytes owner judged signature octets f g =
+pub signed_head : (key : Key) (bytes : List ℕ) (owner : PubKey) (judged : Judged) (part signature : List ℕ) → IsBytes bytes → IsHeadOf owner bytes (stamp judged.seq judged.name) signature
+    → part ≡ take 88 bytes → (key ≡ head_key_of owner) × HssAccepts owner.0 part signature → IsSignedHead key bytes judged
+signed_head key bytes owner judged part signature octets f front g =
     record {
       owner = owner;
       signature = signature;
       octets = all_bytes bytes octets;
       head = f;
       key_is = g.0;
-      accepted = subst (λ (m : List ℕ). HssAccepts owner.0 m signature) (signed_front bytes owner (stamp judged.seq judged.name) signature f) g.1;
+      accepted = subst (λ (m : List ℕ). HssAccepts owner.0 m signature) (front ∙ signed_front bytes owner (stamp judged.seq judged.name) signature f) g.1;
     }
 
-pub other_head : (key : Key) (bytes : List ℕ) (owner : PubKey) (newest : Stamp) (signature : List ℕ) → IsHeadOf owner bytes newest signature
-    → ((key ≡ head_key_of owner) × HssAccepts owner.0 (take 88 bytes) signature → ⊥) → (judged : Judged) → IsSignedHead key bytes judged → ⊥
-other_head key bytes owner newest signature f differs judged g =
+pub other_head : (key : Key) (bytes : List ℕ) (owner : PubKey) (newest : Stamp) (part signature : List ℕ) → IsHeadOf owner bytes newest signature → part ≡ take 88 bytes
+    → ((key ≡ head_key_of owner) × HssAccepts owner.0 part signature → ⊥) → (judged : Judged) → IsSignedHead key bytes judged → ⊥
+other_head key bytes owner newest part signature f front differs judged g =
     let same : ((owner, newest), signature) ≡ ((g.owner, stamp judged.seq judged.name), g.signature) = whole one_head ((owner, newest), signature) ((g.owner, stamp judged.seq judged.name), g.signature)
     (f.owner_is_key, (f.some, f.few), f.name, f.short) (g.head.owner_is_key, (g.head.some, g.head.few), g.head.name, g.head.short) (sym f.spelled ∙ g.head.spelled) in
-    let front = signed_front bytes g.owner (stamp judged.seq judged.name) g.signature g.head in
-    let accepted : HssAccepts g.owner.0 (take 88 bytes) g.signature = subst (λ (m : List ℕ). HssAccepts g.owner.0 m g.signature) (sym front) g.accepted in
-    differs (g.key_is ∙ sym (ap (λ (p : Parts). head_key_of p.0.0) same), subst (λ (p : Parts). HssAccepts p.0.0.0 (take 88 bytes) p.1) (sym same) accepted)
+    let message = front ∙ signed_front bytes g.owner (stamp judged.seq judged.name) g.signature g.head in
+    let accepted : HssAccepts g.owner.0 part g.signature = subst (λ (m : List ℕ). HssAccepts g.owner.0 m g.signature) (sym message) g.accepted in
+    differs (g.key_is ∙ sym (ap (λ (p : Parts). head_key_of p.0.0) same), subst (λ (p : Parts). HssAccepts p.0.0.0 part p.1) (sym same) accepted)

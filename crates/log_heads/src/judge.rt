@@ -1,6 +1,6 @@
 //! The judge of heads that their owners sign.
 
-ghost use Rattle.std.specs.Prelude.{◌≡◌, ◌↔◌, IsTrue, IfSome, IfNone};
+ghost use Rattle.std.specs.Prelude.{◌≡◌, ◌↔◌, ◌≤◌, length, take, IsTrue, IfSome, IfNone};
 ghost use Rattle.ivy_base.specs.Naming.{head_key_of};
 ghost use Rattle.dht_ids.specs.declared.judge.Judged.{Judged};
 ghost use Rattle.hss_keys.specs.Hss.{HssAccepts};
@@ -38,13 +38,21 @@ fn judged(key: &Key, bytes: &[u8]) -> Option<Judged>
     ensures none { IfNone result ((judged : Judged) → IsSignedHead key.now bytes.now judged → ⊥) }
 {
     let head = Head::read(bytes)?;
-    if !is_signed_under(&head, &bytes[..SIGNED_LEN], key) {
+    if !is_signed_under(&head, signed_part(bytes), key) {
         return None;
     }
     Some(Judged {
         seq: head.seq,
         name: head.name,
     })
+}
+
+/// What the signature of a head of that block signs.
+fn signed_part(block: &[u8]) -> &[u8]
+    requires { 88 ≤ length block.now }
+    ensures { result.now ≡ take 88 block.now }
+{
+    &block[..SIGNED_LEN]
 }
 
 /// Whether the key is the SHA-1 of the head's public key, and its signature signs those bytes. The key is tested first.

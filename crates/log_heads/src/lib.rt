@@ -10,7 +10,7 @@
 //! signature is accepted is `hss_keys`' `HssAccepts`; `specs/Signed.antt` joins them, and has the function and the law.
 //!
 //! Costs: nothing allocates and nothing is copied but the owner's key and the name. The signature, which takes hundreds
-//! to thousands of hashes, is checked only where the key is right, which takes the two of one SHA-1.
+//! to thousands of hashes, is checked only where the key is right, which takes one SHA-1.
 #![tactic(auto)]
 
 pub mod judge;
