@@ -15,8 +15,12 @@
 //! message's first; after a level that is wrong those above are not hashed, and where the bytes are refused none is.
 #![tactic(auto)]
 
+mod signer;
+mod spelling;
+mod trees;
 mod verifying;
 
+pub use signer::Hss;
 pub use verifying::verify;
 
 #[cfg(test)]
