@@ -1,6 +1,7 @@
 -- What a signer signs is accepted under its public key.
 use Rattle.std.proofs.Common.{◌≡◌, ℕ, zero, suc, ◌+◌, ◌*◌, ◌/◌, ◌%◌, ◌^◌, ◌<◌, ◌≤◌, List, [], ◌∷◌, ◌++◌, length, refl, sym, ap, ◌∙◌, append_assoc, arith}
-use Rattle.std.proofs.Math.Nat.{mod-lt, mul-pos}
+use Rattle.std.proofs.Math.Nat.{mod-lt, mod-eq_of_lt, mul-pos}
+use Rattle.std.proofs.Math.Arith.{mod-mul}
 use Rattle.std.proofs.lemmas.Nat.{mul-le}
 use Rattle.std.proofs.lemmas.List.{length-take-le}
 use Rattle.sha2.proofs.Facts256.{length-sha256}
@@ -13,7 +14,7 @@ use Rattle.hash_signature_model.specs.OneTime.{word, derived}
 use Rattle.hash_signature_model.proofs.Acceptance.{signature_accepted}
 use Rattle.hash_signature_model.proofs.Paths.{leaves_some}
 use Rattle.hss_keys.specs.Hss.{IsSigned, HssAccepts}
-use Rattle.hss_keys.specs.Signer.{capacity, LowerPlace, leaf_used, lower_key, leaf_signature, tree_public, signed_lower, signed_by, hss_key_of, hss_signature_of}
+use Rattle.hss_keys.specs.Signer.{capacity, LowerPlace, leaf_used, lower_key, leaf_signature, tree_public, signed_lower, signed_by, hss_key_of, hss_signature_of, leaves_used, NoLeafTwice}
 
 -- ---- how many signatures
 
@@ -105,3 +106,26 @@ signed_more key sets others set n leaf message place below signed s l p g b =
     ∙ ap (λ (x : PrivateKey). signed_lower key leaf set ++ signed_by x others n message) next
     ∙ ap (λ (q : ℕ). signed_lower key q set ++ signed_by (lower_key key q set) others n message) used
     ∙ ap (λ (x : List Set). signed_by key x n message) (sym s)
+
+-- ---- no leaf signs twice
+
+first_is : (a b : ℕ) (xs ys : List ℕ) → (a ∷ xs) ≡ (b ∷ ys) → a ≡ b
+first_is a b xs ys e = cc
+
+rest_is : (a b : ℕ) (xs ys : List ℕ) → (a ∷ xs) ≡ (b ∷ ys) → xs ≡ ys
+rest_is a b xs ys e = cc
+
+same_rest : (sets : List Set) (n m : ℕ) → leaves_used sets n ≡ leaves_used sets m → n % capacity sets ≡ m % capacity sets
+unfolding leaves_used capacity
+same_rest [] n m e = omega arith
+same_rest (set ∷ lower) n m e =
+    let c = capacity lower in
+    let some : 0 < leaves set.h = omega (arith, leaves_some set.h) in
+    let leaf = first_is (leaf_used set lower n) (leaf_used set lower m) (leaves_used lower n) (leaves_used lower m) e in
+    let rest = same_rest lower n m (rest_is (leaf_used set lower n) (leaf_used set lower m) (leaves_used lower n) (leaves_used lower m) e) in
+    mod-mul n some (capacity_some lower)
+    ∙ (ap (λ (q : ℕ). q * c + n % c) leaf ∙ ap (λ (r : ℕ). leaf_used set lower m * c + r) rest)
+    ∙ sym (mod-mul m some (capacity_some lower))
+
+pub no_leaf_twice : NoLeafTwice
+no_leaf_twice sets n m low below e = sym (mod-eq_of_lt low) ∙ same_rest sets n m e ∙ mod-eq_of_lt below

@@ -1,6 +1,6 @@
 -- The signer's side of hierarchical signatures, which knows all trees (RFC 8554, section 6). How the trees of the lower
 -- levels are derived, and which leaves a signature uses, is this project's own.
-use Rattle.std.specs.Prelude.{ℕ, ◌+◌, ◌*◌, ◌-◌, ◌/◌, ◌%◌, List, [], ◌∷◌, ◌++◌, length}
+use Rattle.std.specs.Prelude.{◌≡◌, ℕ, ◌<◌, ◌+◌, ◌*◌, ◌-◌, ◌/◌, ◌%◌, List, [], ◌∷◌, ◌++◌, length}
 use Rattle.hash_signature_model.specs.declared.set.Set.{Set}
 use Rattle.hash_signature_model.specs.declared.keys.PrivateKey.{PrivateKey}
 use Rattle.hash_signature_model.specs.Parameters.{leaves}
@@ -27,6 +27,15 @@ left_of signer = capacity signer.sets - signer.made
 -- leaves, and the level above goes on with the quotient.
 abbrev pub leaf_used : Set → List Set → ℕ → ℕ
 leaf_used set lower n = n / capacity lower % leaves set.h
+
+-- the leaves that signature n uses, from the top level down: each names the tree that the next one belongs to
+unfoldable pub leaves_used : List Set → ℕ → List ℕ
+leaves_used [] n = []
+leaves_used (set ∷ lower) n = leaf_used set lower n ∷ leaves_used lower n
+
+-- no two signatures of a key use the same leaf of the same tree of the lowest level
+abbrev pub NoLeafTwice : Type 0
+NoLeafTwice = (sets : List Set) (n m : ℕ) → n < capacity sets → m < capacity sets → leaves_used sets n ≡ leaves_used sets m → n ≡ m
 
 -- the tree of the next level, which is derived from the leaf that signs its key
 abbrev pub lower_key : PrivateKey → ℕ → Set → PrivateKey

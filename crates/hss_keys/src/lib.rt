@@ -15,11 +15,13 @@
 //! message's first; after a level that is wrong those above are not hashed, and where the bytes are refused none is.
 #![tactic(auto)]
 
+mod laws;
 mod signer;
 mod spelling;
 mod trees;
 mod verifying;
 
+pub use laws::no_leaf_signs_twice;
 pub use signer::Hss;
 pub use verifying::verify;
 

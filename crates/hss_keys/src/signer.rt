@@ -50,6 +50,17 @@ fn grow_lower(alloc: Global, top: &Level, sets: &[Set]) -> Result<Vec<Lower>, Me
     Ok(lower)
 }
 
+/// Copies of levels.
+fn copy_lower(alloc: Global, lower: &[Lower]) -> Result<Vec<Lower>, Memory>
+    ensures { IfOk result (λ v. length v.items ≡ length lower.now) }
+{
+    let mut copies = Vec::with_capacity(alloc, lower.len())?;
+    'levels: for level in lower {
+        copies.push(level.copy(alloc)?)?;
+    }
+    Ok(copies)
+}
+
 impl Hss {
     /// The key of an identifier, a seed and one to three sets, which stand from the top down. It grows one tree for each
     /// level.
@@ -74,6 +85,22 @@ impl Hss {
             sets: sets[1..].to_vec(alloc)?,
             lower,
             made: 0,
+        })
+    }
+
+    /// An equal key, whose trees are copied and not grown. Only one of the two may sign from now on.
+    ///
+    /// # Errors
+    ///
+    /// Where memory runs out.
+    pub fn copy(&self, alloc: Global) -> Result<Hss, Memory>
+        ensures { IfOk result (λ h. h ≡ self.now) }
+    {
+        Ok(Hss {
+            top: self.top.copy(alloc)?,
+            sets: self.sets.as_slice().to_vec(alloc)?,
+            lower: copy_lower(alloc, &self.lower[..])?,
+            made: self.made,
         })
     }
 

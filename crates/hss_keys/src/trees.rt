@@ -54,6 +54,16 @@ impl Level {
         Ok(Level { key, tree })
     }
 
+    /// A copy, which nothing is grown for.
+    pub fn copy(&self, alloc: Global) -> Result<Level, Memory>
+        ensures { IfOk result (λ l. l ≡ self.now) }
+    {
+        Ok(Level {
+            key: self.key,
+            tree: self.tree.copy(alloc)?,
+        })
+    }
+
     /// The private key.
     pub fn key(&self) -> &PrivateKey
         ensures { result.now ≡ self.now }
@@ -125,6 +135,19 @@ impl Lower {
             set,
             level,
             signed,
+        })
+    }
+
+    /// A copy, which nothing is grown for.
+    pub fn copy(&self, alloc: Global) -> Result<Lower, Memory>
+        ensures { IfOk result (λ l. l ≡ self.now) }
+    {
+        Ok(Lower {
+            upper: self.upper,
+            leaf: self.leaf,
+            set: self.set,
+            level: self.level.copy(alloc)?,
+            signed: self.signed.copy(alloc)?,
         })
     }
 
