@@ -30,6 +30,24 @@ const BACK: [u8; 16] = [
     0xe5, 0x3c, 0x95, 0x8d, 0x65, 0x77, 0xc1, 0xe5, 0x7b, 0x59, 0x8e, 0xc6, 0x12, 0x91, 0x8b, 0x5c,
 ];
 
+/// The same set with chains of 256 values, w8h5.
+const LONG_CHAINS: Set = Set {
+    w: Width::W8,
+    h: Height::H5,
+};
+
+/// The last bytes of the public key of identifier 5 and seed 0xee under w4h5,w8h5,w4h5, and the first and the last bytes
+/// of its signature 1,055 of "message 1055", by the same implementation.
+const THREE_ROOT: [u8; 8] = [0x41, 0x31, 0x06, 0x3a, 0xff, 0xe0, 0x61, 0xd9];
+
+const THREE_FRONT: [u8; 16] = [
+    0x00, 0x00, 0x00, 0x02, 0x00, 0x00, 0x00, 0x01, 0x00, 0x00, 0x00, 0x03, 0xf9, 0xf1, 0xaa, 0x50,
+];
+
+const THREE_BACK: [u8; 16] = [
+    0xc9, 0x04, 0x00, 0x6c, 0x7d, 0xe5, 0xb9, 0x06, 0xe4, 0x37, 0x18, 0x98, 0xa8, 0x85, 0x96, 0x9a,
+];
+
 /// What is answered for a key of so many levels, whose top level has that tree type, and a signature of no bytes.
 fn refusal(levels: u8, tree: u8) -> Result<(), LmsFault> {
     let mut bytes = [0u8; 60];
@@ -50,14 +68,14 @@ fn the_key_is_read_first(rt: HostRuntime) -> Result<(), Fail> {
     Ok(())
 }
 
-/// The key of identifier 1 and seed 0xaa.
-fn key_of(alloc: Global, sets: &[Set]) -> Result<Hss, Memory>
+/// The key of an identifier and a seed of one byte that isn't 0.
+fn key_of(alloc: Global, name: u8, secret: u8, sets: &[Set]) -> Result<Hss, Memory>
     requires { (0 < length sets.now) × (length sets.now ≤ 3) }
 {
     let mut id = [0u8; 16];
-    id[15] = 1;
+    id[15] = name;
     let mut seed = [0u8; 32];
-    seed[31] = 0xaa;
+    seed[31] = secret;
     Hss::grow(alloc, &id, &seed, sets)
 }
 
@@ -93,11 +111,13 @@ fn signs_so(alloc: Global, signer: &mut Hss, message: &[u8], front: &[u8], back:
 
 #[test]
 fn two_levels_sign(rt: HostRuntime) -> Result<(), Fail> {
-    let mut signer = key_of(rt.alloc(), &[SMALL, SMALL])?;
+    let mut signer = key_of(rt.alloc(), 1, 0xaa, &[SMALL, SMALL])?;
     assert!(rt; signer.owner().0 == PUBLIC);
     assert!(rt; signer.left() == 1024);
     assert!(rt; all_sign_well(rt.alloc(), &mut signer, 32, 4756));
     let message = b"message 32".as_slice();
+    let mut copy = signer.copy(rt.alloc())?;
+    assert!(rt; signs_so(rt.alloc(), &mut copy, message, &FRONT[..], &BACK[..]));
     assert!(rt; signs_so(rt.alloc(), &mut signer, message, &FRONT[..], &BACK[..]));
     assert!(rt; signer.left() == 991);
     assert!(rt; signs_well(rt.alloc(), &mut signer, 4756));
@@ -106,10 +126,29 @@ fn two_levels_sign(rt: HostRuntime) -> Result<(), Fail> {
 
 #[test]
 fn one_level_is_spent(rt: HostRuntime) -> Result<(), Fail> {
-    let mut signer = key_of(rt.alloc(), &[SMALL])?;
+    let mut signer = key_of(rt.alloc(), 1, 0xaa, &[SMALL])?;
     assert!(rt; all_sign_well(rt.alloc(), &mut signer, 32, 2352));
     assert!(rt; signer.left() == 0);
     let refused = signer.sign(rt.alloc(), b"".as_slice());
     assert!(rt; matches!(refused, Err(SignFault::Spent)));
+    Ok(())
+}
+
+#[test]
+fn three_levels_sign(rt: HostRuntime) -> Result<(), Fail> {
+    let mut signer = key_of(rt.alloc(), 5, 0xee, &[SMALL, LONG_CHAINS, SMALL])?;
+    assert!(rt; signer.owner().0.ends_with(&THREE_ROOT[..]));
+    assert!(rt; all_sign_well(rt.alloc(), &mut signer, 1055, 6104));
+    let message = b"message 1055".as_slice();
+    assert!(rt;
+        signs_so(
+            rt.alloc(),
+            &mut signer,
+            message,
+            &THREE_FRONT[..],
+            &THREE_BACK[..]
+        )
+    );
+    assert!(rt; signer.left() == 31712);
     Ok(())
 }
