@@ -1,5 +1,5 @@
 -- What a signer signs is accepted under its public key.
-use Rattle.std.proofs.Common.{◌≡◌, ℕ, zero, suc, ◌+◌, ◌*◌, ◌/◌, ◌%◌, ◌^◌, ◌<◌, ◌≤◌, List, [], ◌∷◌, ◌++◌, length, refl, sym, ap, ◌∙◌, append_assoc, arith}
+use Rattle.std.proofs.Common.{◌≡◌, ℕ, ◌+◌, ◌*◌, ◌/◌, ◌%◌, ◌<◌, ◌≤◌, List, [], ◌∷◌, ◌++◌, length, refl, sym, ap, ◌∙◌, arith}
 use Rattle.std.proofs.Math.Nat.{mod-lt, mod-eq_of_lt, mul-pos}
 use Rattle.std.proofs.Math.Arith.{mod-mul}
 use Rattle.std.proofs.lemmas.Nat.{mul-le}
@@ -10,7 +10,7 @@ use Rattle.hash_signature_model.specs.declared.set.Height.{Height}
 use Rattle.hash_signature_model.specs.declared.set.Height.TheVariants.{H5, H10}
 use Rattle.hash_signature_model.specs.declared.keys.PrivateKey.{PrivateKey}
 use Rattle.hash_signature_model.specs.Parameters.{leaves}
-use Rattle.hash_signature_model.specs.OneTime.{word, derived}
+use Rattle.hash_signature_model.specs.OneTime.{derived}
 use Rattle.hash_signature_model.proofs.Acceptance.{signature_accepted}
 use Rattle.hash_signature_model.proofs.Paths.{leaves_some}
 use Rattle.hss_keys.specs.Hss.{IsSigned, HssAccepts}

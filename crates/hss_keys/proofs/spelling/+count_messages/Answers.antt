@@ -1,6 +1,4 @@
-use Rattle.std.proofs.Common.{◌≡◌, ◌*◌, ℕ, List, Fits, w64, sym, ap, ◌∙◌, subst, arith}
-use Rattle.hash_signature_model.specs.declared.set.Set.{Set}
-use Rattle.hss_keys.specs.Signer.{capacity}
+use Rattle.std.proofs.Common.{ℕ, Fits, w64, sym, subst, arith}
 use Rattle.hss_keys.proofs.Signing.{at_most_three, capacity_of_none, capacity_of_more}
 use Rattle.hss_keys.proofs.spelling.+count_messages.Goals as goal
 

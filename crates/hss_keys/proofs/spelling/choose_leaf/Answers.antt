@@ -1,4 +1,4 @@
-use Rattle.std.proofs.Common.{rules, ◌≡◌, ◌<◌, ℕ, sym, subst}
+use Rattle.std.proofs.Common.{◌<◌, ℕ, sym, subst}
 use Rattle.hss_keys.proofs.Signing.{capacity_some}
 use Rattle.hss_keys.proofs.spelling.choose_leaf.Goals as goal
 

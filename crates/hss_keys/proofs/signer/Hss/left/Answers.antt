@@ -1,5 +1,4 @@
-use Rattle.std.proofs.Common.{◌≡◌, ◌≤◌, ◌*◌, ◌-◌, ◌∷◌, length, ℕ, List, Fits, w64, refl, sym, ap, ◌∙◌, subst, arith}
-use Rattle.hash_signature_model.specs.declared.set.Set.{Set}
+use Rattle.std.proofs.Common.{◌≡◌, ◌≤◌, ◌*◌, ◌-◌, ◌∷◌, length, ℕ, Fits, w64, refl, sym, ap, ◌∙◌, subst, arith}
 use Rattle.hash_signature_model.specs.declared.keys.PrivateKey.{PrivateKey}
 use Rattle.hash_signature_model.specs.Parameters.{leaves}
 use Rattle.hss_keys.specs.Signer.{capacity, left_of}

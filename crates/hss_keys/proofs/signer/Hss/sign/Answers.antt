@@ -1,6 +1,6 @@
-use Rattle.std.proofs.Common.{◌≡◌, ◌≤◌, ◌<◌, ◌∷◌, length, ℕ, List, Fits, w64, sym, ◌∙◌, subst, arith}
+use Rattle.std.proofs.Common.{◌≡◌, ◌≤◌, ◌<◌, ◌∷◌, length, ℕ, List, sym, ◌∙◌, subst, arith}
 use Rattle.hss_keys.specs.Hss.{HssAccepts}
-use Rattle.hss_keys.specs.Signer.{Signer, capacity, owner_of}
+use Rattle.hss_keys.specs.Signer.{Signer, owner_of}
 use Rattle.hss_keys.proofs.Signing.{at_most_three, hss_accepted}
 use Rattle.hss_keys.proofs.signer.Hss.sign.Goals as goal
 
