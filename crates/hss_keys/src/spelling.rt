@@ -1,6 +1,6 @@
 //! What the levels of a key sign.
 
-ghost use Rattle.std.specs.Prelude.{◌≡◌, [], ◌<◌, ◌≤◌, ◌^◌, ◌++◌, length, IfOk, OnOk};
+ghost use Rattle.std.specs.Prelude.{◌≡◌, [], ◌<◌, ◌≤◌, ◌++◌, length, IfOk, OnOk};
 ghost use Rattle.hash_signature_model.specs.Parameters.{leaves};
 ghost use Rattle.hss_keys.specs.Signer.{signed_by, leaf_used, capacity};
 

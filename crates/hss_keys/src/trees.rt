@@ -1,8 +1,8 @@
 //! The levels of a key that signs.
 
-ghost use Rattle.std.specs.Prelude.{◌≡◌, ◌<◌, ◌++◌, length, IfOk, OnOk, OnErr, IsTrue};
+ghost use Rattle.std.specs.Prelude.{◌≡◌, ◌<◌, ◌++◌, IfOk, OnOk, IsTrue};
 ghost use Rattle.hash_signature_model.specs.Parameters.{leaves};
-ghost use Rattle.hss_keys.specs.Signer.{lower_key, leaf_signature, tree_public, signed_lower, signed_by, leaf_used, capacity};
+ghost use Rattle.hss_keys.specs.Signer.{lower_key, leaf_signature, tree_public, signed_lower};
 
 use ivy_base::{Bytes, Memory};
 use lms_core::{PrivateKey, Set, Tree, lower_id, lower_seed};
