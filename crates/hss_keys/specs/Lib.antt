@@ -1,3 +1,4 @@
 pub mod Hss
 pub mod Reading
 pub mod Checks
+pub mod Signer

@@ -1,22 +1,35 @@
 //! Hierarchical signatures of RFC 8554 (HSS): one to three levels of signature trees, each of which signs the public key
 //! of the next one, and the last the message.
 //!
-//! Layer: over `lms_core`, which reads and checks one level, and `ivy_base`, which has the public keys of participants.
+//! Layer: over `lms_core`, which grows and checks one level, `ivy_base`, which has the public keys of participants, and
+//! `dht_ids`, which says why nothing was signed.
 //! For the layers above: [`verify`] answers yes exactly where RFC 8554 accepts, and otherwise the first fault in reading
-//! order, the key before the signature; `Wrong` comes only after all was read. It is a function of its own, so that a
-//! key that signs can stand beside it; such a key is not here yet.
+//! order, the key before the signature; `Wrong` comes only after all was read. An [`Hss`] is seen as what it was made from
+//! and how many signatures it made: what [`Hss::sign`] gives is the next signature of the definitions, byte for byte, is
+//! accepted under [`Hss::owner`], and is counted; `Spent` comes exactly where [`Hss::left`] is 0, and nothing has changed
+//! after an error. No two signatures of a key use the same leaf ([`no_leaf_signs_twice`]); that no copy of a key signs
+//! beside it is the caller's to see to.
 //!
 //! Definitions: `specs/Hss.antt` says by `HssAccepts` when a signature is accepted, level by level over
 //! `hash_signature_model`'s `Accepts`, and `specs/Reading.antt` by `hss_verdict` which fault counts;
-//! `proofs/Acceptance.antt` proves that its yes and `HssAccepts` are one. Of `specs/Checks.antt` only the functions inside
-//! speak.
+//! `proofs/Acceptance.antt` proves that its yes and `HssAccepts` are one. `specs/Signer.antt` has the signer's side: which
+//! leaves signature n uses, how the lower trees are derived, and the bytes. Of `specs/Checks.antt` only the functions
+//! inside speak.
 //!
-//! Costs: nothing allocates and nothing is copied but a level's key. A signature is hashed once for each level, the
-//! message's first; after a level that is wrong those above are not hashed, and where the bytes are refused none is.
+//! Costs: nothing allocates in [`verify`] and nothing is copied but a level's key. A signature is hashed once for each
+//! level, the message's first; after a level that is wrong those above are not hashed, and where the bytes are refused none
+//! is. A key that signs keeps a tree for each level, 64 bytes for each leaf, and the signature of each lower tree's key. A
+//! signature costs one leaf of the lowest tree, and a tree is grown only where the leaf above it changes.
 #![tactic(auto)]
 
+mod laws;
+mod signer;
+mod spelling;
+mod trees;
 mod verifying;
 
+pub use laws::no_leaf_signs_twice;
+pub use signer::Hss;
 pub use verifying::verify;
 
 #[cfg(test)]
