@@ -17,8 +17,8 @@ use xdr_codec::{XdrRead, XdrWrite};
 /// The most levels of a key.
 const MOST_LEVELS: usize = 3;
 
-/// What the saved bytes of a signer say.
-#[derive(Clone, Copy, Debug)]
+/// What the saved bytes of a signer say, its secrets among it: so it is not printed.
+#[derive(Clone, Copy)]
 pub struct Saved {
     /// The identifier.
     pub id: [u8; 16],
