@@ -1,3 +1,4 @@
 pub mod Levels
 pub mod Acceptance
 pub mod Signing
+pub mod Saving

@@ -2,3 +2,5 @@ pub mod Hss
 pub mod Reading
 pub mod Checks
 pub mod Signer
+pub mod Saved
+pub mod SavedReading

@@ -23,14 +23,20 @@
 #![tactic(auto)]
 
 mod laws;
+mod save;
 mod signer;
+mod signs;
 mod spelling;
 mod trees;
 mod verifying;
 
 pub use laws::no_leaf_signs_twice;
+pub use save::{Saved, saved_bytes_are_of_one_signer, write_signer};
 pub use signer::Hss;
+pub use signs::Signs;
 pub use verifying::verify;
 
+#[cfg(test)]
+mod save_tests;
 #[cfg(test)]
 mod tests;

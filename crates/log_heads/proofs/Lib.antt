@@ -1,1 +1,2 @@
 pub mod SignedHeads
+pub mod SealedHeads

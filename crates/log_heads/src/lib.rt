@@ -1,13 +1,15 @@
-//! Signed heads of logs, judged (Ivy).
+//! Signed heads of logs, sealed and judged (Ivy).
 //!
 //! Layer: over `log_records`, which reads heads, `hss_keys`, which checks their signatures, and `dht_ids`, whose trait of
 //! judges [`HssJudge`] implements; below the nodes that hold heads and the crates that fetch them.
 //! For the layers above: [`HssJudge`] takes exactly the bytes that are a head, under the SHA-1 of its public key, with an
 //! accepted signature; [`signed_heads_are_judged`] is the law that what it answers, a function of the key and the bytes
-//! alone, says so. Signing a head (`seal`) waits for a key that signs, which `hss_keys` does not have yet.
+//! alone, says so. [`seal`] makes the head that a key of any kind signs, and
+//! [`sealed_heads_are_judged`] is the law that each head of such a key of `hss_keys` is taken, with its number and name.
 //!
 //! Definitions: what a head is and what its signature signs are `log_model`'s `IsHeadOf` and `head_message`, and when a
-//! signature is accepted is `hss_keys`' `HssAccepts`; `specs/Signed.antt` joins them, and has the function and the law.
+//! signature is accepted is `hss_keys`' `HssAccepts`; `specs/Signed.antt` joins them, and has the function and the law;
+//! `specs/Sealed.antt` has the law of sealed heads.
 //!
 //! Costs: nothing allocates and nothing is copied but the owner's key and the name. The signature, which takes hundreds
 //! to thousands of hashes, is checked only where the key is right, which takes one SHA-1.
@@ -15,8 +17,12 @@
 
 pub mod judge;
 mod laws;
+mod sealing;
+#[cfg(test)]
+mod sealing_tests;
 #[cfg(test)]
 mod tests;
 
 pub use judge::HssJudge;
 pub use laws::signed_heads_are_judged;
+pub use sealing::{Head, seal, sealed_heads_are_judged};

@@ -1,0 +1,195 @@
+-- The saved bytes of a signer, part by part.
+use Rattle.std.proofs.Common.{◌≡◌, ℕ, suc, ◌<◌, ◌≤◌, ◌-◌, ◌%◌, Bool, true, false, ◌&&◌, List, [], ◌∷◌, ◌++◌, length, get_or, refl, sym, ap, ◌∙◌, arith, append_assoc, subst}
+use Rattle.std.specs.Prelude.{nat_lt, replicate}
+use Rattle.std.specs.List.{list_all, AllByRecursion, flat_map}
+use Rattle.std.proofs.lemmas.List.{append-nil}
+use Rattle.std.proofs.lemmas.Bool.{lt-ltb}
+use Rattle.wire_model.specs.Xdr.{word, double_word, array, fixed, IsWord, IsDoubleWord, IsOfLength, IsAny, AreSoMany}
+use Rattle.wire_model.specs.OneReading.{ReadsOne, IsFront, HasNoFront}
+use Rattle.wire_model.proofs.OneReading.{◌▷◌, of_parts, of_length, of_fewer, one_array, one_word, one_double_word}
+use Rattle.wire_model.proofs.Fronts.{both, no_first, no_second, none_of_fewer}
+use Rattle.wire_model.proofs.Arrays.{AreFew, no_next, no_count, too_many, no_counted, counted}
+use Rattle.hash_signature_model.specs.declared.set.Width.{Width}
+use Rattle.hash_signature_model.specs.declared.set.Width.TheVariants.{W4, W8}
+use Rattle.hash_signature_model.specs.declared.set.Height.{Height}
+use Rattle.hash_signature_model.specs.declared.set.Height.TheVariants.{H5, H10}
+use Rattle.hash_signature_model.specs.declared.set.Set.{Set}
+use Rattle.hss_keys.specs.Signer.{Signer, capacity}
+use Rattle.hss_keys.specs.Saved.{set_bytes, saved_bytes, AreOctets, AreLevels, IsSigner, SavedOnce}
+use Rattle.hss_keys.proofs.Signing.{at_most_three}
+use Rattle.hss_keys.specs.SavedReading.{as_it_stands, width_bytes, height_bytes, secrets_bytes, AreSecrets, parts_bytes, AreParts}
+
+-- ---- bytes of a known count
+
+two : (a b : Bool) → a ≡ true → b ≡ true → (a && b) ≡ true
+two true b h g = g
+two false b h g = cc
+
+all_bytes : (xs : List ℕ) → ((i : ℕ) → get_or xs i 0 < 256) → list_all (λ b. nat_lt b 256) xs ≡ true
+all_bytes [] h = refl
+all_bytes (x ∷ xs) h = two (nat_lt x 256) (list_all (λ b. nat_lt b 256) xs) (lt-ltb x 256 (h 0)) (all_bytes xs (λ i. h (suc i)))
+
+-- nothing fills up a multiple of four
+fixed_block : (bytes : List ℕ) → length bytes % 4 ≡ 0 → fixed bytes ≡ bytes
+fixed_block bytes h = ap (λ n. bytes ++ replicate ((4 - n) % 4) 0) h ∙ append-nil bytes
+
+pub block_front : (count : ℕ) (bytes item rest : List ℕ) → count % 4 ≡ 0 → IsFront (IsOfLength count) fixed bytes item rest → AreOctets count item
+    → IsFront (AreOctets count) as_it_stands bytes item rest
+block_front count bytes item rest h f fits = record {
+  fits = fits;
+  spelled = f.spelled ∙ ap (λ (s : List ℕ). s ++ rest) (fixed_block item (ap (λ n. n % 4) f.fits ∙ h));
+}
+
+pub no_block : (count : ℕ) (bytes : List ℕ) → count % 4 ≡ 0 → HasNoFront (IsOfLength count) fixed bytes → HasNoFront (AreOctets count) as_it_stands bytes
+no_block count bytes h absent = record {
+  none = λ x rest f. absent.none x rest (record {
+    fits = f.fits.size;
+    spelled = f.spelled ∙ ap (λ (s : List ℕ). s ++ rest) (sym (fixed_block x (ap (λ n. n % 4) f.fits.size ∙ h)));
+  });
+}
+
+pub are_octets : (count : ℕ) (item array : List ℕ) → length item ≡ count → array ≡ item → ((i : ℕ) → get_or item i 0 < 256) → AreOctets count array
+are_octets count item array l e below = rw e (record { size = l; each = all_bytes item below })
+
+one_block : (count : ℕ) → ReadsOne (AreOctets count) as_it_stands
+one_block count = of_length count (λ bytes f. f.size) (λ a b f g e. e)
+
+-- ---- w and h
+
+one_width : ReadsOne IsAny width_bytes
+one_width = of_length 4 (λ w f. refl) widths
+  where
+    widths : (x y : Width) → IsAny x → IsAny y → width_bytes x ≡ width_bytes y → x ≡ y
+    widths W4 W4 f g e = refl
+    widths W4 W8 f g e = cc
+    widths W8 W4 f g e = cc
+    widths W8 W8 f g e = refl
+
+one_height : ReadsOne IsAny height_bytes
+one_height = of_length 4 (λ h f. refl) heights
+  where
+    heights : (x y : Height) → IsAny x → IsAny y → height_bytes x ≡ height_bytes y → x ≡ y
+    heights H5 H5 f g e = refl
+    heights H5 H10 f g e = cc
+    heights H10 H5 f g e = cc
+    heights H10 H10 f g e = refl
+
+-- ---- sets
+
+abbrev set_of : Width × Height → Set
+set_of p = record { w = p.0; h = p.1 }
+
+abbrev parts_of_set : Set → Width × Height
+parts_of_set set = (set.w, set.h)
+
+one_set : ReadsOne IsAny set_bytes
+one_set = of_parts parts_of_set (λ s f. (tt, tt)) (λ s. refl) (λ a b e. ap set_of e) (one_width ▷ one_height)
+
+any_sets : (xs : List Set) → AllByRecursion IsAny xs
+any_sets [] = tt
+any_sets (x ∷ xs) = (tt, any_sets xs)
+
+levels_few : (sets : List Set) → AreLevels sets → AreFew one_set 3 sets
+levels_few sets f = (f.few, any_sets sets)
+
+pub no_next_set : {count : ℕ} {start left : List ℕ} {done : List Set} → IsFront (AllByRecursion IsAny) (flat_map set_bytes) start done left → length done < count
+    → HasNoFront IsAny set_bytes left → HasNoFront (AreSoMany IsAny count) (flat_map set_bytes) start
+no_next_set f short absent = no_next one_set f short absent
+
+pub no_count_of_sets : {bytes : List ℕ} → HasNoFront IsWord word bytes → HasNoFront AreLevels (array set_bytes) bytes
+no_count_of_sets absent = none_of_fewer levels_few (no_count one_set 3 (omega arith) absent)
+
+pub too_many_sets : {count : ℕ} {bytes middle : List ℕ} → IsFront IsWord word bytes count middle → 3 < count → HasNoFront AreLevels (array set_bytes) bytes
+too_many_sets f many = none_of_fewer levels_few (too_many one_set 3 (omega arith) f many)
+
+pub no_counted_sets : {count : ℕ} {bytes middle : List ℕ} → IsFront IsWord word bytes count middle → HasNoFront (AreSoMany IsAny count) (flat_map set_bytes) middle → HasNoFront AreLevels (array set_bytes) bytes
+no_counted_sets f absent = none_of_fewer levels_few (no_counted one_set 3 (omega arith) f absent)
+
+pub no_sets : {count : ℕ} {bytes middle : List ℕ} → IsFront IsWord word bytes count middle → count ≡ 0 → HasNoFront AreLevels (array set_bytes) bytes
+no_sets {count = count} {bytes = bytes} {middle = middle} f zero = record {
+  none = λ sets rest g.
+      let e = sym f.spelled ∙ g.spelled ∙ append_assoc (word (length sets)) (flat_map set_bytes sets) rest in
+      let p = one_word.one count (length sets) middle (flat_map set_bytes sets ++ rest) f.fits (omega (arith, g.fits.few)) e in
+      omega (arith, p.0, g.fits.some, zero);
+}
+
+pub sets_front : {count : ℕ} {bytes middle rest : List ℕ} {sets : List Set} → IsFront IsWord word bytes count middle → 0 < count → count ≤ 3
+    → IsFront (AllByRecursion IsAny) (flat_map set_bytes) middle sets rest → length sets ≡ count → IsFront AreLevels (array set_bytes) bytes sets rest
+sets_front f some few g size =
+    let p = counted one_set f few g size in
+    record { fits = record { some = omega (arith, some, size); few = p.fits.0 }; spelled = p.spelled }
+
+-- ---- all parts
+
+one_secrets : ReadsOne AreSecrets secrets_bytes
+one_secrets = one_block 16 ▷ one_block 32
+
+one_levels : ReadsOne AreLevels (array set_bytes)
+one_levels = of_fewer (λ sets f. (omega (arith, f.few), any_sets sets)) (one_array one_set)
+
+one_parts : ReadsOne AreParts parts_bytes
+one_parts = one_secrets ▷ one_levels ▷ one_double_word
+
+pub secrets_front : {bytes middle rest : List ℕ} {id seed : List ℕ} → IsFront (AreOctets 16) as_it_stands bytes id middle → IsFront (AreOctets 32) as_it_stands middle seed rest
+    → IsFront AreSecrets secrets_bytes bytes (id, seed) rest
+secrets_front f g = both f g
+
+pub no_id : {bytes : List ℕ} → HasNoFront (AreOctets 16) as_it_stands bytes → HasNoFront AreSecrets secrets_bytes bytes
+no_id absent = no_first (AreOctets 32) as_it_stands absent
+
+pub no_seed : {bytes middle : List ℕ} {id : List ℕ} → IsFront (AreOctets 16) as_it_stands bytes id middle → HasNoFront (AreOctets 32) as_it_stands middle → HasNoFront AreSecrets secrets_bytes bytes
+no_seed f absent = no_second (one_block 16) f absent
+
+pub parts_front : {b0 b1 b2 b3 : List ℕ} {secrets : List ℕ × List ℕ} {sets : List Set} {made : ℕ} → IsFront AreSecrets secrets_bytes b0 secrets b1 → IsFront AreLevels (array set_bytes) b1 sets b2
+    → IsFront IsDoubleWord double_word b2 made b3 → IsFront AreParts parts_bytes b0 ((secrets, sets), made) b3
+parts_front f g h = both (both f g) h
+
+pub no_secrets : {bytes : List ℕ} → HasNoFront AreSecrets secrets_bytes bytes → HasNoFront AreParts parts_bytes bytes
+no_secrets absent = no_first IsDoubleWord double_word (no_first AreLevels (array set_bytes) absent)
+
+pub no_levels : {b0 b1 : List ℕ} {secrets : List ℕ × List ℕ} → IsFront AreSecrets secrets_bytes b0 secrets b1 → HasNoFront AreLevels (array set_bytes) b1 → HasNoFront AreParts parts_bytes b0
+no_levels f absent = no_first IsDoubleWord double_word (no_second one_secrets f absent)
+
+pub no_made : {b0 b1 b2 : List ℕ} {secrets : List ℕ × List ℕ} {sets : List Set} → IsFront AreSecrets secrets_bytes b0 secrets b1 → IsFront AreLevels (array set_bytes) b1 sets b2
+    → HasNoFront IsDoubleWord double_word b2 → HasNoFront AreParts parts_bytes b0
+no_made f g absent = no_second (one_secrets ▷ one_levels) (both f g) absent
+
+-- ---- the whole
+
+abbrev signer_of : ((List ℕ × List ℕ) × List Set) × ℕ → Signer
+signer_of p = record { id = p.0.0.0; seed = p.0.0.1; sets = p.0.1; made = p.1 }
+
+fits_parts : (signer : Signer) → IsSigner signer → AreParts (((signer.id, signer.seed), signer.sets), signer.made)
+fits_parts signer f = (((f.id, f.seed), f.sets), omega (arith, f.made, at_most_three signer.sets f.sets.few))
+
+-- nothing is behind
+all_of : (bytes : List ℕ) (signer : Signer) → IsSigner signer → bytes ≡ saved_bytes signer → IsFront AreParts parts_bytes bytes (((signer.id, signer.seed), signer.sets), signer.made) []
+all_of bytes signer f e = record { fits = fits_parts signer f; spelled = e ∙ sym (append-nil (saved_bytes signer)) }
+
+pub no_signer_without : (bytes : List ℕ) → HasNoFront AreParts parts_bytes bytes → (signer : Signer) → IsSigner signer → bytes ≡ saved_bytes signer → ⊥
+no_signer_without bytes absent signer f e = absent.none (((signer.id, signer.seed), signer.sets), signer.made) [] (all_of bytes signer f e)
+
+pub no_signer_before : {bytes rest : List ℕ} {p : ((List ℕ × List ℕ) × List Set) × ℕ} → IsFront AreParts parts_bytes bytes p rest → (rest ≡ [] → ⊥) → (signer : Signer) → IsSigner signer → bytes ≡ saved_bytes signer → ⊥
+no_signer_before {bytes = bytes} {rest = rest} {p = p} f more signer g e =
+    let h = all_of bytes signer g e in
+    more (one_parts.one p (((signer.id, signer.seed), signer.sets), signer.made) rest [] f.fits h.fits (sym f.spelled ∙ h.spelled)).1
+
+pub no_signer_above : {bytes : List ℕ} {id seed : List ℕ} {sets : List Set} {made : ℕ} → IsFront AreParts parts_bytes bytes (((id, seed), sets), made) [] → (made ≤ capacity sets → ⊥)
+    → (signer : Signer) → IsSigner signer → bytes ≡ saved_bytes signer → ⊥
+no_signer_above {bytes = bytes} {id = id} {seed = seed} {sets = sets} {made = made} f above signer g e =
+    let h = all_of bytes signer g e in
+    let same = (one_parts.one (((id, seed), sets), made) (((signer.id, signer.seed), signer.sets), signer.made) [] [] f.fits h.fits (sym f.spelled ∙ h.spelled)).0 in
+    above (subst (λ (p : ((List ℕ × List ℕ) × List Set) × ℕ). p.1 ≤ capacity p.0.1) (sym same) g.made)
+
+pub a_signer : {bytes : List ℕ} {id seed : List ℕ} {sets : List Set} {made : ℕ} → IsFront AreParts parts_bytes bytes (((id, seed), sets), made) [] → made ≤ capacity sets
+    → IsSigner (record { id = id; seed = seed; sets = sets; made = made }) × (bytes ≡ saved_bytes (record { id = id; seed = seed; sets = sets; made = made }))
+a_signer {id = id} {seed = seed} {sets = sets} {made = made} f few = (
+  record { id = f.fits.0.0.0; seed = f.fits.0.0.1; sets = f.fits.0.1; made = few },
+  f.spelled ∙ append-nil (saved_bytes (record { id = id; seed = seed; sets = sets; made = made })),
+)
+
+pub saved_once : SavedOnce
+saved_once a b f g e =
+    let h = all_of (saved_bytes a) a f refl in
+    let k = all_of (saved_bytes a) b g e in
+    ap (λ (p : ((List ℕ × List ℕ) × List Set) × ℕ). signer_of p) (one_parts.one (((a.id, a.seed), a.sets), a.made) (((b.id, b.seed), b.sets), b.made) [] [] h.fits k.fits (sym h.spelled ∙ k.spelled)).0
