@@ -14,7 +14,7 @@ use Rattle.hash_signature_model.specs.OneTime.{derived}
 use Rattle.hash_signature_model.proofs.Acceptance.{signature_accepted}
 use Rattle.hash_signature_model.proofs.Paths.{leaves_some}
 use Rattle.hss_keys.specs.Hss.{IsSigned, HssAccepts}
-use Rattle.hss_keys.specs.Signer.{capacity, LowerPlace, leaf_used, lower_key, leaf_signature, tree_public, signed_lower, signed_by, hss_key_of, hss_signature_of, leaves_used, NoLeafTwice}
+use Rattle.hss_keys.specs.Signer.{capacity, LowerPlace, leaf_used, lower_key, leaf_signature, tree_public, signed_lower, signed_by, hss_key_of, hss_signature_of, leaves_used, NoLeafTwice, UpperLeafSignsOneKey}
 
 -- ---- how many signatures
 
@@ -129,3 +129,12 @@ same_rest (set ∷ lower) n m e =
 
 pub no_leaf_twice : NoLeafTwice
 no_leaf_twice sets n m low below e = sym (mod-eq_of_lt low) ∙ same_rest sets n m e ∙ mod-eq_of_lt below
+
+pub upper_leaf : UpperLeafSignsOneKey
+  unfolding signed_by
+upper_leaf key set lower n m first second same = (
+  signed_by (lower_key key (leaf_used key.set (set ∷ lower) n) set) lower n first,
+  signed_by (lower_key key (leaf_used key.set (set ∷ lower) m) set) lower m second,
+  refl,
+  ap (λ (leaf : ℕ). signed_lower key leaf set ++ signed_by (lower_key key (leaf_used key.set (set ∷ lower) m) set) lower m second) (sym same),
+)

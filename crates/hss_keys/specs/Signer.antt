@@ -84,3 +84,9 @@ next_signature signer message = hss_signature_of signer.id signer.seed signer.se
 
 abbrev pub one_more_made : Signer → Signer
 one_more_made signer = record { id = signer.id; seed = signer.seed; sets = signer.sets; made = signer.made + 1 }
+
+-- two signatures that use one leaf of a level above others begin with the same signed key there
+abbrev pub UpperLeafSignsOneKey : Type 0
+UpperLeafSignsOneKey = (key : PrivateKey) (set : Set) (lower : List Set) (n m : ℕ) (first second : List ℕ) → leaf_used key.set (set ∷ lower) n ≡ leaf_used key.set (set ∷ lower) m
+    → (rest other : List ℕ) × (signed_by key (set ∷ lower) n first ≡ signed_lower key (leaf_used key.set (set ∷ lower) n) set ++ rest)
+        × (signed_by key (set ∷ lower) m second ≡ signed_lower key (leaf_used key.set (set ∷ lower) n) set ++ other)

@@ -7,14 +7,16 @@
 //! order, the key before the signature; `Wrong` comes only after all was read. An [`Hss`] is seen as what it was made from
 //! and how many signatures it made: what [`Hss::sign`] gives is the next signature of the definitions, byte for byte, is
 //! accepted under [`Hss::owner`], and is counted; `Spent` comes exactly where [`Hss::left`] is 0, and nothing has changed
-//! after an error. No two signatures of a key use the same leaf ([`no_leaf_signs_twice`]); that no copy of a key signs
-//! beside it is the caller's to see to.
+//! after an error. No two signatures of a key use the same leaf, and an upper leaf signs one key alone
+//! ([`no_leaf_signs_twice`]); that no copy of a key signs beside it is the caller's to see to. [`Hss::save`] gives a key's
+//! bytes, which are no other key's ([`saved_bytes_are_of_one_signer`]), and [`Hss::load`] the key again, or `Malformed`
+//! exactly where the bytes are no key's. [`Signs`] is what the owner of a log needs of a key that signs.
 //!
 //! Definitions: `specs/Hss.antt` says by `HssAccepts` when a signature is accepted, level by level over
 //! `hash_signature_model`'s `Accepts`, and `specs/Reading.antt` by `hss_verdict` which fault counts;
 //! `proofs/Acceptance.antt` proves that its yes and `HssAccepts` are one. `specs/Signer.antt` has the signer's side: which
-//! leaves signature n uses, how the lower trees are derived, and the bytes. Of `specs/Checks.antt` only the functions
-//! inside speak.
+//! leaves signature n uses, how the lower trees are derived, and the bytes, and `specs/Saved.antt` the bytes of a saved
+//! key. Of `specs/Checks.antt` and `specs/SavedReading.antt` only the functions inside speak.
 //!
 //! Costs: nothing allocates in [`verify`] and nothing is copied but a level's key. A signature is hashed once for each
 //! level, the message's first; after a level that is wrong those above are not hashed, and where the bytes are refused none

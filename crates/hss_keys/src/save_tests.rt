@@ -1,6 +1,6 @@
 ghost use Rattle.std.specs.Prelude.{◌<◌, ◌≤◌, length};
 
-use crate::{Saved, write_signer};
+use crate::{Hss, Saved, write_signer};
 use ivy_base::{Bytes, Memory};
 use lms_core::{Height, Set, Width};
 use std::alloc::Global;
@@ -79,5 +79,30 @@ fn other_bytes_are_refused(rt: HostRuntime) -> Result<(), Fail> {
     let mut longer = bytes.into_vec();
     longer.push(0)?;
     assert!(rt; Saved::read(longer.as_slice()).is_none());
+    Ok(())
+}
+
+/// Whether both keys sign the message by the same bytes, and have as many messages left.
+fn sign_alike(alloc: Global, first: &mut Hss, second: &mut Hss, message: &[u8]) -> bool {
+    match (first.sign(alloc, message), second.sign(alloc, message)) {
+        (Ok(a), Ok(b)) => a.as_slice() == b.as_slice() && first.left() == second.left(),
+        _ => false,
+    }
+}
+
+#[test]
+fn a_loaded_key_goes_on(rt: HostRuntime) -> Result<(), Fail> {
+    let alloc = rt.alloc();
+    let small = SETS[0];
+    let mut signer = Hss::grow(alloc, &[1; 16], &[2; 32], &[small, small])?;
+    for _n in 0..33u32 {
+        let _ = signer.sign(alloc, b"message").expect(&rt, "a leaf is left");
+    }
+    let bytes = signer.save(alloc)?;
+    let mut loaded = Hss::load(alloc, bytes.as_slice()).expect(&rt, "a saved signer");
+    assert!(rt; loaded.owner() == signer.owner());
+    assert!(rt; sign_alike(alloc, &mut signer, &mut loaded, b"message 33"));
+    assert!(rt; loaded.left() == 990);
+    assert!(rt; Hss::load(alloc, b"none").is_err());
     Ok(())
 }

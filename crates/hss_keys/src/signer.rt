@@ -5,6 +5,8 @@ ghost use Rattle.dht_ids.specs.declared.signature.SignFault.TheVariants.{Spent};
 ghost use Rattle.hss_keys.specs.Hss.{HssAccepts};
 ghost use Rattle.hss_keys.specs.Signer.{left_of, owner_of, next_signature, one_more_made};
 
+mod saving;
+
 use crate::spelling::{append, count_messages, push_signed};
 use crate::trees::{Level, Lower};
 use dht_ids::SignFault;

@@ -1,11 +1,12 @@
 //! What the owner of a log needs of a key that signs.
 
 ghost use Rattle.std.specs.Prelude.{◌≡◌, ◌↔◌, ℕ, ◌+◌, List, Err, IfOk, OnOk, OnErr};
+ghost use Rattle.dht_ids.specs.declared.signature.LoadFault.TheVariants.{Malformed};
 ghost use Rattle.dht_ids.specs.declared.signature.SignFault.TheVariants.{Spent};
 
 use crate::Hss;
-use dht_ids::{SignFault, Signature};
-use ivy_base::{Memory, PubKey};
+use dht_ids::{LoadFault, SignFault, Signature};
+use ivy_base::{Bytes, Memory, PubKey};
 use std::alloc::Global;
 
 /// A key that signs a bounded number of messages.
@@ -18,6 +19,12 @@ pub trait Signs: Sized {
 
     /// Which bytes are a signature of a message under the bytes of a public key: the key, the message, the signature.
     ghost accepts: { List ℕ → List ℕ → List ℕ → Type 0 };
+
+    /// Whether it is a key that can be: its parts are within their bounds.
+    ghost is_whole: { Self → Type 0 };
+
+    /// Its saved bytes.
+    ghost saved: { Self → List ℕ };
 
     /// The public key.
     fn owner(&self) -> PubKey
@@ -39,10 +46,21 @@ pub trait Signs: Sized {
     /// An equal key. Only one of the two may sign from now on. The error is want of memory.
     fn copy(&self, alloc: Global) -> Result<Self, Memory>
         ensures { IfOk result (λ copy. copy ≡ self.now) };
+
+    /// The saved bytes of the key, which hold its secrets. The error is want of memory.
+    fn save(&self, alloc: Global) -> Result<Bytes, Memory>
+        ensures { IfOk result (λ bytes. bytes ≡ saved self.now) };
+
+    /// The key whose saved bytes these are. It may sign only where no equal key signs. `Malformed` comes exactly where
+    /// these are the saved bytes of no key, and `Memory` where memory runs out.
+    fn load(alloc: Global, bytes: &[u8]) -> Result<Self, LoadFault>
+        ensures loaded { IfOk result (λ key. is_whole key × (bytes.now ≡ saved key)) }
+        ensures malformed { (result ≡ Err Malformed) ↔ ((key : Self) → is_whole key → bytes.now ≡ saved key → ⊥) };
 }
 
 impl Signs for Hss {
     ghost use Rattle.hss_keys.specs.Hss.{HssAccepts};
+    ghost use Rattle.hss_keys.specs.Saved.{saved_bytes, IsSigner};
     ghost use Rattle.hss_keys.specs.Signer.{left_of, owner_of};
 
     ghost key = { λ h. owner_of h };
@@ -50,6 +68,10 @@ impl Signs for Hss {
     ghost remaining = { λ h. left_of h };
 
     ghost accepts = { λ key message bytes. HssAccepts key message bytes };
+
+    ghost is_whole = { λ h. IsSigner h };
+
+    ghost saved = { λ h. saved_bytes h };
 
     fn owner(&self) -> PubKey {
         self.owner()
@@ -65,5 +87,13 @@ impl Signs for Hss {
 
     fn copy(&self, alloc: Global) -> Result<Hss, Memory> {
         self.copy(alloc)
+    }
+
+    fn save(&self, alloc: Global) -> Result<Bytes, Memory> {
+        self.save(alloc)
+    }
+
+    fn load(alloc: Global, bytes: &[u8]) -> Result<Hss, LoadFault> {
+        Hss::load(alloc, bytes)
     }
 }
