@@ -131,7 +131,7 @@ pub no_leaf_twice : NoLeafTwice
 no_leaf_twice sets n m low below e = sym (mod-eq_of_lt low) ∙ same_rest sets n m e ∙ mod-eq_of_lt below
 
 pub upper_leaf : UpperLeafSignsOneKey
-  unfolding signed_by
+unfolding signed_by
 upper_leaf key set lower n m first second same = (
   signed_by (lower_key key (leaf_used key.set (set ∷ lower) n) set) lower n first,
   signed_by (lower_key key (leaf_used key.set (set ∷ lower) m) set) lower m second,

@@ -89,4 +89,4 @@ one_more_made signer = record { id = signer.id; seed = signer.seed; sets = signe
 abbrev pub UpperLeafSignsOneKey : Type 0
 UpperLeafSignsOneKey = (key : PrivateKey) (set : Set) (lower : List Set) (n m : ℕ) (first second : List ℕ) → leaf_used key.set (set ∷ lower) n ≡ leaf_used key.set (set ∷ lower) m
     → (rest other : List ℕ) × (signed_by key (set ∷ lower) n first ≡ signed_lower key (leaf_used key.set (set ∷ lower) n) set ++ rest)
-        × (signed_by key (set ∷ lower) m second ≡ signed_lower key (leaf_used key.set (set ∷ lower) n) set ++ other)
+    × (signed_by key (set ∷ lower) m second ≡ signed_lower key (leaf_used key.set (set ∷ lower) n) set ++ other)
