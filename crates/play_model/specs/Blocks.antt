@@ -1,0 +1,82 @@
+-- The blocks that were met, and the newest head of each log.
+use Rattle.std.specs.Prelude.{ℕ, ◌++◌, ◌<◌, nat_lt, List, [], ◌∷◌, sum_by, fold, map, Option, Some, None, if◌then◌else◌}
+use Rattle.std.specs.FinMap.Entries.{find as value_at, put}
+use Rattle.std.specs.List.{list_any}
+use Rattle.ivy_base.specs.declared.key.Key.{Key}
+use Rattle.ivy_base.specs.declared.key.PubKey.{PubKey}
+use Rattle.ivy_base.specs.Naming.{name, key_cmp, head_key_of}
+use Rattle.tree_model.specs.Tree.{same_key}
+use Rattle.log_model.specs.Record.{Record}
+use Rattle.log_model.specs.Rank.{own_entry}
+use Rattle.log_model.specs.Spelling.{record_block, head_block}
+use Rattle.log_model.specs.Vector.{Stamp, reach}
+use Rattle.dht_ids.specs.declared.judge.Judged.{Judged}
+use Rattle.log_records.specs.Heads.{stamp, plain_judged}
+
+-- a block of that name was met
+abbrev pub is_met : List (List ℕ) → Key → Bool
+is_met blocks key = list_any (λ b. same_key (name b) key) blocks
+
+-- the blocks with one more, each under its name: where a block of that name was met, it stays
+abbrev pub met_with : List (List ℕ) → List ℕ → List (List ℕ)
+met_with blocks block = if is_met blocks (name block) then blocks else blocks ++ block ∷ []
+
+abbrev pub all_met : List (List ℕ) → List (List ℕ) → List (List ℕ)
+all_met blocks more = fold met_with blocks more
+
+-- how many bytes they have
+abbrev pub bytes_met : List (List ℕ) → ℕ
+bytes_met blocks = sum_by (λ b. length b) blocks
+
+-- ---- heads
+
+-- the block of each head by the log's head key
+abbrev pub Heads : Type 0
+Heads = List (Key × List ℕ)
+
+-- what a block says as a head under the key, where it is judged: its signature is empty
+abbrev pub judged_stamp : Option Judged → Option Stamp
+judged_stamp None = None
+judged_stamp (Some j) = Some (stamp j.seq j.name)
+
+abbrev pub head_in : Key → Option (List ℕ) → Option Stamp
+head_in key None = None
+head_in key (Some block) = judged_stamp (plain_judged key block)
+
+-- the newest head of the log
+abbrev pub head_at : Heads → Key → Option Stamp
+head_at heads key = head_in key (value_at key_cmp key heads)
+
+abbrev pub heads_at : Heads → Key → List Stamp
+heads_at heads key = listed (head_at heads key)
+  where
+    listed : Option Stamp → List Stamp
+    listed None = []
+    listed (Some t) = t ∷ []
+
+-- the heads with the owner's, which takes the place of one of a smaller number
+abbrev pub with_head : Heads → PubKey → Stamp → Heads
+with_head heads owner newest =
+    if nat_lt (reach (head_at heads (head_key_of owner))) newest.seq
+    then put key_cmp (head_key_of owner) (head_block owner newest []) heads else heads
+
+-- ---- what an owner publishes
+
+-- the head over the last of the records
+abbrev pub newest_stamp : List Record → Option Stamp
+newest_stamp [] = None
+newest_stamp (r ∷ []) = Some (own_entry r).1
+newest_stamp (r ∷ q ∷ rs) = newest_stamp (q ∷ rs)
+
+-- the blocks of the records, and of the head over the last one
+abbrev pub published_blocks : PubKey → List Record → List (List ℕ)
+published_blocks owner records = map record_block records ++ head_blocks (newest_stamp records)
+  where
+    head_blocks : Option Stamp → List (List ℕ)
+    head_blocks None = []
+    head_blocks (Some t) = head_block owner t [] ∷ []
+
+-- and the heads then
+abbrev pub published_heads : Heads → PubKey → Option Stamp → Heads
+published_heads heads owner None = heads
+published_heads heads owner (Some t) = with_head heads owner t

@@ -1,0 +1,123 @@
+-- What is answered to a call: by its message alone, or by a turn of the participant's.
+use Rattle.std.specs.Prelude.{◌≡◌, ◌≢◌, ℕ, ◌<◌, ◌≤◌, nat_lt, false, ◌&&◌, List, [], ◌∷◌, ◌++◌, codes, filter, Option, Some, None, MatchOption}
+use Rattle.std.specs.Ordering.{eq_by_cmp}
+use Rattle.hex.specs.Hex.{encode_lower}
+use Rattle.ivy_base.specs.declared.key.PubKey.{PubKey}
+use Rattle.ivy_base.specs.Naming.{owner_cmp}
+use Rattle.log_model.specs.Rank.{front}
+use Rattle.log_model.specs.Record.{Record}
+use Rattle.log_model.specs.View.{View}
+use Rattle.wire_model.specs.Rpc.{CallMessage, IsCall, IsCaller, IsOtherVersion, Identity, Success, SystemError, ProgramUnavailable, ProgramMismatch, ProcedureUnavailable, GarbageArguments, RpcMismatch, BadCredential, reply}
+use Rattle.nfs_model.specs.declared.arguments.Args.{Args}
+use Rattle.nfs_model.specs.declared.arguments.Args.TheVariants.{Null}
+use Rattle.nfs_model.specs.declared.replies.Reply.{Reply}
+use Rattle.nfs_model.specs.declared.replies.Reply.TheVariants.{Found, Made}
+use Rattle.nfs_model.specs.Arguments.{AreArguments, nfs_program}
+use Rattle.nfs_model.specs.Results.{result}
+use Rattle.turn_model.specs.Candidates.{AreCandidates}
+use Rattle.turn_model.specs.Turn.{Agent, Asked, Candidate, Turned, IsTurn, own_seq}
+use Rattle.script_driver.specs.Run.{Outcome, Goes, Refuses}
+use Rattle.play_model.specs.declared.command.Piece.{Piece}
+use Rattle.play_model.specs.Blocks.{heads_at}
+use Rattle.play_model.specs.Messages.{message_of}
+use Rattle.play_model.specs.Script.{◌>>=◌}
+use Rattle.play_model.specs.World.{World, Participant, participant, with_participant, publishing}
+
+-- ---- what is sent
+
+-- a participant, the view that it entered, and the message that it sends
+pub record Sending : Type 0 where
+  pub by : Participant
+  pub view : View
+  pub message : List ℕ
+
+-- what the line sends, where the participant entered a view and the pieces are the message of a call
+abbrev pub sending_of : World → List ℕ → List Piece → Option Sending
+sending_of w name pieces = do
+  p ← participant w name
+  view ← p.view
+  message ← message_of w.handles view pieces
+  Some (record { by = p; view = view; message = message })
+
+-- ---- answers by the message alone (RFC 5531, section 9)
+
+-- a call of NFS version 3 whose procedure is there
+pub record IsServed (c : CallMessage) : Type 0 where
+  pub program : c.program ≡ nfs_program
+  pub version : c.version ≡ 3
+  pub procedure : c.procedure < 22
+
+-- The reply to the message where it reaches no turn: none to what is no call; a refusal, by the first of these that holds; and
+-- that of NULL.
+pub data IsByMessage (message : List ℕ) : Option (List ℕ) → Type 0 where
+  no_call : ((c : CallMessage) → IsCall message c → ⊥) → ((xid : ℕ) → IsOtherVersion message xid → ⊥) → IsByMessage message None
+  other_version : (xid : ℕ) → IsOtherVersion message xid → IsByMessage message (Some (reply xid RpcMismatch))
+  no_program : (c : CallMessage) → IsCall message c → c.program ≢ nfs_program → IsByMessage message (Some (reply c.xid ProgramUnavailable))
+  no_version : (c : CallMessage) → IsCall message c → c.program ≡ nfs_program → c.version ≢ 3 → IsByMessage message (Some (reply c.xid (ProgramMismatch 3 3)))
+  no_procedure : (c : CallMessage) → IsCall message c → c.program ≡ nfs_program → c.version ≡ 3 → 22 ≤ c.procedure → IsByMessage message (Some (reply c.xid ProcedureUnavailable))
+  no_caller : (c : CallMessage) → IsCall message c → IsServed c → ((who : Identity) → IsCaller c.credential who → ⊥) → IsByMessage message (Some (reply c.xid BadCredential))
+  no_arguments : (c : CallMessage) (who : Identity) → IsCall message c → IsServed c → IsCaller c.credential who
+      → ((args : Args) → AreArguments c.program c.procedure c.arguments args → ⊥) → IsByMessage message (Some (reply c.xid GarbageArguments))
+  null : (c : CallMessage) (who : Identity) → IsCall message c → IsServed c → IsCaller c.credential who
+      → AreArguments c.program c.procedure c.arguments Null → IsByMessage message (Some (reply c.xid (Success [])))
+
+-- what the message asks for, where it reaches a turn
+pub record Asks (message : List ℕ) (xid : ℕ) (asked : Asked) : Type 0 where
+  pub call : CallMessage
+  pub is_call : IsCall message call
+  pub xid_is : call.xid ≡ xid
+  pub served : IsServed call
+  pub caller : IsCaller call.credential asked.caller
+  pub arguments : AreArguments call.program call.procedure call.arguments asked.args
+  pub not_null : asked.args ≢ Null
+
+-- ---- answers by a turn
+
+-- what of the participant a turn goes by: each key has a leaf left, and no save has failed
+abbrev pub agent_of : Participant → View → Agent
+agent_of p view = record { view = view; own = p.own; leaves = 1; has_failed = false }
+
+-- The candidates of a refresh: of each member's log but the own one the chain up to its newest head, where that goes on from what
+-- is known and its blocks were met; else what is known.
+abbrev pub Refreshes : World → Participant → View → List Candidate → Type 0
+Refreshes w p view candidates = AreCandidates (heads_at w.heads) w.blocks view p.own (front p.known) p.known candidates
+
+-- the own records of the set that go beyond that number
+abbrev pub own_beyond : PubKey → ℕ → List Record → List Record
+own_beyond own seq set = filter (λ r. eq_by_cmp owner_cmp own r.owner && nat_lt seq r.seq) set
+
+-- the handle that a reply made or found
+abbrev pub handle_given : Reply → Option (List ℕ)
+handle_given (Found handle object dir) = Some handle
+handle_given (Made handle object cache) = Some handle
+handle_given _ = None
+
+-- a line that shows a reply message, or that there is none
+abbrev pub reply_line : List ℕ → List ℕ
+reply_line message = codes "reply " ++ encode_lower message ++ 10 ∷ []
+
+abbrev pub shown_reply : Option (List ℕ) → List ℕ
+shown_reply None = codes "none" ++ 10 ∷ []
+shown_reply (Some message) = reply_line message
+
+-- with one reply more, which made or found that handle
+abbrev pub replied : World → Option (List ℕ) → World
+replied w handle = record w { handles = w.handles ++ handle ∷ [] }
+
+-- the world once a turn has answered: the participant knows and holds the set, and has published what it wrote
+abbrev pub answered : World → Participant → ℕ → Turned → Outcome World
+answered w p xid turned = Goes
+    (replied (publishing (with_participant w (record p { known = turned.set; held = turned.set })) p.own (own_beyond p.own (own_seq p.own p.known) turned.set)) (handle_given turned.reply))
+    (reply_line (reply xid (Success (result turned.reply))))
+
+-- What is answered to what was sent. Where memory is wanting the call is refused as a whole.
+pub data Answers (w : World) (s : Sending) : Outcome World → Type 0 where
+  by_message : (given : Option (List ℕ)) → IsByMessage s.message given → Answers w s (Goes (replied w None) (shown_reply given))
+  by_turn : (xid : ℕ) (asked : Asked) (candidates : List Candidate) (turned : Turned) → Asks s.message xid asked
+      → Refreshes w s.by s.view candidates → IsTurn (agent_of s.by s.view) s.by.known candidates asked w.now turned
+      → Answers w s (answered w s.by xid turned)
+  out_of_memory : (c : CallMessage) → IsCall s.message c → Answers w s (Goes (replied w None) (reply_line (reply c.xid SystemError)))
+
+-- a line that sends nothing is refused
+abbrev pub CallLine : World → List ℕ → List Piece → Outcome World → Type 0
+CallLine w name pieces outcome = MatchOption (sending_of w name pieces) (outcome ≡ Refuses) (λ s. Answers w s outcome)

@@ -1,0 +1,202 @@
+-- The lines of a script: which command a line is. Words are separated by single blanks, a name has 1 to 16 letters and
+-- digits, a number is decimal without sign or leading zero, and a line has at most 32,768 bytes.
+use Rattle.std.specs.Prelude.{ℕ, ◌+◌, ◌*◌, ◌-◌, ◌^◌, nat_le, nat_lt, ◌==◌, Bool, true, false, ◌&&◌, ◌||◌, not, List, [], ◌∷◌, ◌++◌, length, drop, fold, replicate, codes, Option, Some, None, Result, Ok, Err, if◌then◌else◌, nat_eq}
+use Rattle.std.specs.List.{slice_split, list_all, starts_with}
+use Rattle.std.specs.Str.{bytes_eq}
+use Rattle.std.specs.Char.{is_ascii_digit}
+use Rattle.hex.specs.Hex.{decode_of}
+use Rattle.script_driver.specs.Run.{line_limit}
+use Rattle.play_model.specs.declared.command.Piece.{Piece}
+use Rattle.play_model.specs.declared.command.Piece.TheVariants.{Call, Root, HandleOf, Text, Mode}
+use Rattle.play_model.specs.declared.command.Command.{Command}
+use Rattle.play_model.specs.declared.command.Command.TheVariants as command
+
+-- the second step, where the first gave a value
+infixl 10 ◌>>=◌
+abbrev pub ◌>>=◌ : {A B : Type 0} → Option A → (A → Option B) → Option B
+None >>= f = None
+Some x >>= f = f x
+
+-- ---- words
+
+abbrev pub words_of : List ℕ → List (List ℕ)
+words_of line = slice_split (λ b. b == 32) line
+
+abbrev pub is_name_byte : ℕ → Bool
+is_name_byte b = (nat_le 97 b && nat_le b 122) || (nat_le 48 b && nat_le b 57)
+
+-- the name that a word is
+abbrev pub name_of : List ℕ → Option (List ℕ)
+name_of word = if nat_le 1 (length word) && nat_le (length word) 16 && list_all is_name_byte word then Some word else None
+
+-- digits, and the first is 0 only where it is the only one
+abbrev pub is_decimal : List ℕ → Bool
+is_decimal [] = false
+is_decimal (d ∷ ds) = list_all is_ascii_digit (d ∷ ds) && (not (d == 48) || nat_eq (length ds) 0)
+
+abbrev pub decimal_value : List ℕ → ℕ
+decimal_value digits = fold (λ n d. n * 10 + (d - 48)) 0 digits
+
+-- the number below a limit that a word is
+abbrev pub number_below : ℕ → List ℕ → Option ℕ
+number_below limit word = if is_decimal word && nat_lt (decimal_value word) limit then Some (decimal_value word) else None
+
+abbrev pub is_lower_hex : ℕ → Bool
+is_lower_hex b = (nat_le 97 b && nat_le b 102) || (nat_le 48 b && nat_le b 57)
+
+abbrev pub ok_value : {A E : Type 0} → Result A E → Option A
+ok_value (Ok x) = Some x
+ok_value (Err e) = None
+
+-- the bytes, so many, that 1 to twice as many hexadecimal digits are, with zeros on the left
+abbrev pub hex_bytes : ℕ → List ℕ → Option (List ℕ)
+hex_bytes count word =
+    if nat_le 1 (length word) && nat_le (length word) (2 * count) && list_all is_lower_hex word
+    then ok_value (decode_of (replicate (2 * count - length word) 48 ++ word)) else None
+
+-- the parameter sets of a key: one to three, the top level first
+abbrev pub is_set : List ℕ → Bool
+is_set word = bytes_eq word (codes "w4h5") || bytes_eq word (codes "w4h10") || bytes_eq word (codes "w8h5") || bytes_eq word (codes "w8h10")
+
+abbrev pub are_sets : List ℕ → Bool
+are_sets word = (let sets = slice_split (λ b. b == 44) word in nat_le (length sets) 3 && list_all is_set sets)
+
+-- ---- pieces of a message
+
+abbrev pub call_of : List (List ℕ) → Option Piece
+call_of (p ∷ u ∷ g ∷ []) = do
+  procedure ← number_below (2 ^ 32) p
+  uid ← number_below (2 ^ 32) u
+  gid ← number_below (2 ^ 32) g
+  Some (Call procedure uid gid)
+call_of _ = None
+
+abbrev pub is_printable : ℕ → Bool
+is_printable b = nat_le 33 b && nat_le b 126
+
+abbrev pub text_of : List ℕ → Option Piece
+text_of text = if list_all is_printable text then Some (Text text) else None
+
+abbrev pub handle_of_reply : List ℕ → Option Piece
+handle_of_reply digits = do
+  reply ← number_below (2 ^ 64) digits
+  Some (HandleOf reply)
+
+abbrev pub mode_of : List ℕ → Option Piece
+mode_of digits = do
+  mode ← number_below (2 ^ 32) digits
+  Some (Mode mode)
+
+abbrev pub piece_of : List ℕ → Option Piece
+piece_of word =
+    if bytes_eq word (codes "root") then Some Root
+    else if starts_with nat_eq word (codes "nfs:") then call_of (slice_split (λ b. b == 58) (drop 4 word))
+    else if starts_with nat_eq word (codes "h:") then handle_of_reply (drop 2 word)
+    else if starts_with nat_eq word (codes "s:") then text_of (drop 2 word)
+    else if starts_with nat_eq word (codes "sa:") then mode_of (drop 3 word)
+    else None
+
+abbrev pub pieces_of : List (List ℕ) → Option (List Piece)
+pieces_of [] = Some []
+pieces_of (word ∷ words) = onto (piece_of word) (pieces_of words)
+  where
+    onto : Option Piece → Option (List Piece) → Option (List Piece)
+    onto None pieces = None
+    onto (Some piece) None = None
+    onto (Some piece) (Some pieces) = Some (piece ∷ pieces)
+
+-- ---- commands, each of the words behind its first
+
+abbrev pub ring_of : List (List ℕ) → Option Command
+ring_of (n ∷ r ∷ []) = do
+  nodes ← number_below (2 ^ 64) n
+  replicas ← number_below (2 ^ 64) r
+  Some (command.Ring nodes replicas)
+ring_of _ = None
+
+abbrev pub log_of : List (List ℕ) → Option Command
+log_of (p ∷ i ∷ s ∷ sets ∷ []) = do
+  log ← name_of p
+  id ← hex_bytes 16 i
+  seed ← hex_bytes 32 s
+  if are_sets sets then Some (command.Log log id seed) else None
+log_of _ = None
+
+-- the names of logs, joined by commas
+abbrev pub each_name : List (List ℕ) → Option (List (List ℕ))
+each_name [] = Some []
+each_name (word ∷ words) = do
+  name ← name_of word
+  names ← each_name words
+  Some (name ∷ names)
+
+abbrev pub names_of : List ℕ → Option (List (List ℕ))
+names_of word = each_name (slice_split (λ b. b == 44) word)
+
+abbrev pub view_of : List (List ℕ) → Option Command
+view_of (v ∷ m ∷ []) = do
+  view ← name_of v
+  members ← names_of m
+  Some (command.View view members [])
+view_of (v ∷ m ∷ f ∷ []) = do
+  view ← name_of v
+  members ← names_of m
+  former ← names_of f
+  Some (command.View view members former)
+view_of _ = None
+
+abbrev pub use_of : List (List ℕ) → Option Command
+use_of (p ∷ v ∷ []) = do
+  log ← name_of p
+  view ← name_of v
+  Some (command.Use log view)
+use_of _ = None
+
+abbrev pub at_of : List (List ℕ) → Option Command
+at_of (s ∷ n ∷ []) = do
+  sec ← number_below (2 ^ 64) s
+  nsec ← number_below (2 ^ 64) n
+  Some (command.At sec nsec)
+at_of _ = None
+
+abbrev pub as_of : List (List ℕ) → Option Command
+as_of (p ∷ w ∷ ws) = do
+  log ← name_of p
+  pieces ← pieces_of (w ∷ ws)
+  Some (command.As log pieces)
+as_of _ = None
+
+abbrev pub order_of : List (List ℕ) → Option Command
+order_of (p ∷ []) = do
+  log ← name_of p
+  Some (command.Order log)
+order_of _ = None
+
+abbrev pub end_of : List (List ℕ) → Option Command
+end_of [] = Some command.End
+end_of _ = None
+
+abbrev pub command_of_words : List (List ℕ) → Option Command
+command_of_words [] = None
+command_of_words (word ∷ words) =
+    if bytes_eq word (codes "ring") then ring_of words
+    else if bytes_eq word (codes "log") then log_of words
+    else if bytes_eq word (codes "view") then view_of words
+    else if bytes_eq word (codes "use") then use_of words
+    else if bytes_eq word (codes "at") then at_of words
+    else if bytes_eq word (codes "as") then as_of words
+    else if bytes_eq word (codes "order") then order_of words
+    else if bytes_eq word (codes "end") then end_of words
+    else None
+
+-- an empty line, or a comment
+abbrev pub is_comment : List ℕ → Bool
+is_comment [] = true
+is_comment (b ∷ line) = b == 35
+
+-- the command that a line is, if it is one
+unfoldable pub command_of : List ℕ → Option Command
+command_of line =
+    if nat_lt line_limit (length line) then None
+    else if is_comment line then Some command.Nothing
+    else command_of_words (words_of line)
