@@ -107,3 +107,114 @@ module _ (view : View) (s : List Record) (closed : IsClosed view s) where
 
   pub front_stands : AllByRecursion Stands (front s)
   front_stands = each_front Stands s (each_from (λ r. AllByRecursion Stands (full_vector r)) s stands_in)
+
+front_reaches : (v : Vector) (s : List Record) → AllByRecursion (λ w. Dominates v w) (map full_vector s) → AllByRecursion (λ q. Dominates v (full_vector q)) s
+front_reaches v [] h = tt
+front_reaches v (q ∷ s) h = (h.0, front_reaches v s h.1)
+
+-- a front goes as far as each of its records
+pub front_dominates : (s : List Record) (q : Record) → Contains s q → Dominates (front s) (full_vector q)
+front_dominates s q c = each (λ r. Dominates (front s) (full_vector r)) s q (front_reaches (front s) s (joins_reach (map full_vector s) [])) c
+
+-- the last record of a chain is good
+last_good : (view : View) (owner : PubKey) (p : Record) (rs : List Record) → IsGood view owner p → GoesOn view owner p rs → IsGood view owner (last_after p rs)
+unfolding last_after
+last_good view owner p [] good g = good
+last_good view owner p (r ∷ rs) good g = last_good view owner r rs g.0 g.2
+
+-- ---- the own log of a member, whose last record is p
+
+module _ (view : View) (s : List Record) (own : PubKey) (p : Record) (well : IsView view) (closed : IsClosed view s) (member : Contains view.members own) (ends : EndsWith s own p) where
+  pub good_last : IsGood view own p
+  good_last =
+      let chain : IsChain view own (ends.first ∷ ends.rest) = subst (λ (l : List Record). IsChain view own l) ends.log (closed.chains own) in
+      subst (λ (x : Record). IsGood view own x) ends.last (last_good view own ends.first ends.rest chain.0 chain.2)
+
+  -- an entry of the own log is that of its last record, or of one before it
+  own_entry_is : (e : Entry) → Stands view s closed e → e.0 ≡ head_key_of own → (e ≡ own_entry p) ⊎ (e.1.seq < p.seq)
+  own_entry_is e stands same =
+      let is : is_member view e.0 ≡ true = subst (λ (k : Key). is_member view k ≡ true) (sym same) (member_is view own member) in
+      let w = stands is in
+      let keys : head_key_of w.0.owner ≡ head_key_of own = ap (λ (x : Entry). x.0) w.2 ∙ same in
+      let owned : w.0.owner ≡ own = one_member view w.0.owner own well (member_of view s closed w.0 w.1) member keys in
+      let seqs : w.0.seq ≡ e.1.seq = ap (λ (x : Entry). x.1.seq) w.2 in
+      ⊎_elim
+      (λ is_last. inl (sym w.2 ∙ ap (λ (x : Record). own_entry x) is_last))
+      (λ less. inr (omega (arith, seqs, less)))
+      (is_last_or_before view s own p w.0 closed ends w.1 owned)
+
+  -- so no vector of such entries goes further than p in the own log
+  own_at_most : (v : Vector) → AllByRecursion (Stands view s closed) v → seq_of v (head_key_of own) ≤ p.seq
+  own_at_most v stand = ⊎_elim
+      (λ none. let zero : seq_of v (head_key_of own) ≡ 0 = ap reach none in omega (arith, zero))
+      (λ f. let there : seq_of v (head_key_of own) ≡ f.0.1.seq = ap reach f.3 in
+      ⊎_elim
+          (λ is_last. let last : f.0.1.seq ≡ p.seq = ap (λ (x : Entry). x.1.seq) is_last in omega (arith, there, last))
+          (λ less. omega (arith, there, less))
+          (own_entry_is f.0 (each (Stands view s closed) v f.0 stand f.1) f.2))
+      (found_stamp v (head_key_of own))
+
+  none_at : (v : Vector) → stamp_at v (head_key_of own) ≡ None → stamp_at v (head_key_of p.owner) ≡ None
+  none_at v none = subst (λ (o : PubKey). stamp_at v (head_key_of o) ≡ None) (sym good_last.owned) none
+
+  own_reached : p.seq ≤ seq_of (front s) (head_key_of own)
+  own_reached =
+      let far : seq_of (full_vector p) (head_key_of own) ≤ seq_of (front s) (head_key_of own) = front_dominates s p (last_stands s own p ends) (head_key_of own) in
+      let tied : eq_by_cmp key_cmp (head_key_of own) (head_key_of p.owner) ≡ true = subst (λ (o : PubKey). eq_by_cmp key_cmp (head_key_of own) (head_key_of o) ≡ true) (sym good_last.owned) (same_key_itself (head_key_of own)) in
+      let here : seq_of (full_vector p) (head_key_of own) ≡ p.seq = seq_with p.vector p (head_key_of own) good_last.spelled.of_others ∙ ap (λ b. cond b p.seq (seq_of p.vector (head_key_of own))) tied in
+      omega (arith, far, here)
+
+  -- the front has the own log's last record
+  pub own_stamp : stamp_at (front s) (head_key_of own) ≡ Some (own_entry p).1
+  own_stamp = ⊎_elim
+      (λ none. let zero : seq_of (front s) (head_key_of own) ≡ 0 = ap reach none in
+      let began = good_last.spelled.some in
+      let far = own_reached in
+      absurd (omega (arith, zero, began, far)))
+      (λ f. let there : seq_of (front s) (head_key_of own) ≡ f.0.1.seq = ap reach f.3 in
+      let far = own_reached in
+      ⊎_elim
+          (λ is_last. f.3 ∙ ap (λ (x : Entry). Some x.1) is_last)
+          (λ less. absurd (omega (arith, there, far, less)))
+          (own_entry_is f.0 (each (Stands view s closed) (front s) f.0 (front_stands view s closed) f.1) f.2))
+      (found_stamp (front s) (head_key_of own))
+
+  none_of_own : stamp_at (without_log (head_key_of own) (front s)) (head_key_of own) ≡ None
+  none_of_own =
+      stamp_at-without_log (front s) (head_key_of own) (head_key_of own)
+      ∙ ap (λ b. cond (not b) (stamp_at (front s) (head_key_of own)) None) (same_key_itself (head_key_of own))
+
+  covers : (q : Record) → Contains s q → Dominates (with_entry (without_log (head_key_of own) (front s)) (own_entry p)) (full_vector q)
+  covers q within log = subst (λ (n : ℕ). seq_of (full_vector q) log ≤ n)
+      (sym (seq_with (without_log (head_key_of own) (front s)) p log (none_at (without_log (head_key_of own) (front s)) none_of_own)))
+      (by (eq_by_cmp key_cmp log (head_key_of p.owner)) refl)
+    where
+      by : (b : Bool) → eq_by_cmp key_cmp log (head_key_of p.owner) ≡ b → seq_of (full_vector q) log ≤ cond b p.seq (seq_of (without_log (head_key_of own) (front s)) log)
+      by true tied =
+          let is_own : log ≡ head_key_of own = same_key_is log (head_key_of p.owner) tied ∙ ap (λ (o : PubKey). head_key_of o) good_last.owned in
+          subst (λ (k : Key). seq_of (full_vector q) k ≤ p.seq) (sym is_own) (own_at_most (full_vector q) (stands_in view s closed q within))
+      by false apart =
+          let other : eq_by_cmp key_cmp (head_key_of own) log ≡ false =
+              (eq_by_cmp_equiv keys_total).symm (head_key_of own) log ∙ subst (λ (o : PubKey). eq_by_cmp key_cmp log (head_key_of o) ≡ false) good_last.owned apart in
+          let kept : seq_of (without_log (head_key_of own) (front s)) log ≡ seq_of (front s) log =
+              ap reach (stamp_at-without_log (front s) (head_key_of own) log ∙ ap (λ b. cond (not b) (stamp_at (front s) log) None) other) in
+          let far : seq_of (full_vector q) log ≤ seq_of (front s) log = front_dominates s q within log in
+          omega (arith, kept, far)
+
+  -- the front without the own log stands over the set
+  pub over_front : IsOver view s own (without_log (head_key_of own) (front s)) p
+  over_front =
+      let sorted = sorted_without_log (head_key_of own) (front s) (sorted_front s) in
+      let named = each_without_log (λ e. IsTrue (is_named view e.0)) (head_key_of own) (front s) (front_named view s closed) in
+      record {
+        in_order = sorted;
+        of_others = none_of_own;
+        entries = each_without_log IsSpelled (head_key_of own) (front s) (front_spelled view s closed);
+        short = short_named view (without_log (head_key_of own) (front s)) well sorted named;
+        named = named;
+        stands = each_without_log (Stands view s closed) (head_key_of own) (front s) (front_stands view s closed);
+        covers = each_from (λ q. Dominates (with_entry (without_log (head_key_of own) (front s)) (own_entry p)) (full_vector q)) s covers;
+        owned = good_last.owned;
+        began = good_last.spelled.some;
+        named_well = name_is_key p;
+      }
