@@ -1,18 +1,17 @@
 -- What holds of each entry of the records' full vectors holds of each entry of their front.
 use Rattle.std.proofs.Common.{◌≡◌, ⊎_elim, Bool, true, false, cond, List, [], ◌∷◌, map, Option, Some, None, refl, sym, ◌∙◌, subst}
-use Rattle.std.specs.Prelude.{fold}
+use Rattle.std.specs.Prelude.{fold, not}
 use Rattle.std.specs.List.{AllByRecursion}
 use Rattle.std.specs.Ordering.{eq_by_cmp, nat_cmp, is_lt}
 use Rattle.std.specs.declared.cmp.Ordering.{Ordering}
 use Rattle.std.specs.declared.cmp.Ordering.TheVariants.{Less, Equal, Greater}
 use Rattle.std.specs.FinMap.Entries.{by_order, put}
-use Rattle.std.specs.Prelude.{not}
 use Rattle.ivy_base.specs.declared.key.Key.{Key}
 use Rattle.ivy_base.specs.Naming.{key_cmp}
 use Rattle.tree_model.proofs.Keys.{exact_keys}
-use Rattle.log_model.specs.Vector.{Stamp, Entry, Vector, stamp_at, later, later_or, with_entry, join, without_log}
+use Rattle.log_model.specs.Vector.{Stamp, Entry, Vector, stamp_at, later_or, with_entry, join, without_log}
 use Rattle.log_model.specs.Record.{Record}
-use Rattle.log_model.specs.Rank.{own_entry, full_vector, front}
+use Rattle.log_model.specs.Rank.{full_vector, front}
 use Rattle.log_model.proofs.Lists.{each, each_from, from_filter}
 use Rattle.log_model.proofs.Part.{found_stamp}
 

@@ -1,5 +1,5 @@
 -- The head keys of a view's logs: each key has its own, and a vector of them has 32 entries at most.
-use Rattle.std.proofs.Common.{◌≡◌, ⊎_elim, ℕ, ◌+◌, ◌≤◌, Bool, true, false, not, ◌||◌, List, [], ◌∷◌, ◌++◌, length, length-append, map, refl, sym, ap, ◌∙◌, subst, arith, Contains}
+use Rattle.std.proofs.Common.{◌≡◌, ⊎_elim, ◌≤◌, Bool, true, false, not, List, [], ◌∷◌, ◌++◌, length, length-append, map, refl, sym, ap, ◌∙◌, subst, arith, Contains}
 use Rattle.std.specs.Prelude.{IsTrue}
 use Rattle.std.specs.List.{AllByRecursion, IsDistinct, list_any, list_all}
 use Rattle.std.specs.Cmp.{eq_by_cmp_equiv}
@@ -39,13 +39,13 @@ one_of_head_key (k ∷ ks) a b h ca cb e =
     let parts = both_true (list_all (λ other. not (same_key (head_key_of k) (head_key_of other))) ks) (have_own_head_keys ks) h in
     ⊎_elim
     (λ is_a. ⊎_elim
-        (λ is_b. sym is_a ∙ is_b)
-        (λ more. absurd (apart_from k ks b parts.0 more (ap (λ (x : PubKey). head_key_of x) is_a ∙ e)))
-        (in_cons k ks b cb))
+    (λ is_b. sym is_a ∙ is_b)
+    (λ more. absurd (apart_from k ks b parts.0 more (ap (λ (x : PubKey). head_key_of x) is_a ∙ e)))
+    (in_cons k ks b cb))
     (λ more_a. ⊎_elim
-        (λ is_b. absurd (apart_from k ks a parts.0 more_a (ap (λ (x : PubKey). head_key_of x) is_b ∙ sym e)))
-        (λ more_b. one_of_head_key ks a b parts.1 more_a more_b e)
-        (in_cons k ks b cb))
+    (λ is_b. absurd (apart_from k ks a parts.0 more_a (ap (λ (x : PubKey). head_key_of x) is_b ∙ sym e)))
+    (λ more_b. one_of_head_key ks a b parts.1 more_a more_b e)
+    (in_cons k ks b cb))
     (in_cons k ks a ca)
 
 -- two members of one head key are one
@@ -114,7 +114,7 @@ logs_distinct (e ∷ v) h =
 pub short_named : (view : View) (v : Vector) → IsView view → Sorted v → AllByRecursion (λ e. IsTrue (is_named view e.0)) v → length v ≤ 32
 short_named view v well sorted named =
     let fewer : length (logs v) ≤ length (heads (view.members ++ view.former)) =
-        length-le_from_is_member (eq_by_cmp_equiv keys_total) (logs v) (heads (view.members ++ view.former)) (logs_distinct v sorted) (λ q g. logs_named view v q named g) in
+    length-le_from_is_member (eq_by_cmp_equiv keys_total) (logs v) (heads (view.members ++ view.former)) (logs_distinct v sorted) (λ q g. logs_named view v q named g) in
     let mine = length-map v (λ (e : Entry). e.0) in
     let theirs = length-map (view.members ++ view.former) (λ (owner : PubKey). head_key_of owner) in
     let both = length-append view.members view.former in

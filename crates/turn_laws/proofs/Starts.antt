@@ -1,5 +1,5 @@
 -- What a turn's records cite at its start: the front of a closed set without the own log stands over the set, with the own log's last record.
-use Rattle.std.proofs.Common.{◌≡◌, ◌≢◌, ◌⊎◌, inl, inr, ⊎_elim, ℕ, ◌+◌, ◌<◌, ◌≤◌, ◌^◌, Bool, true, false, cond, not, List, [], ◌∷◌, ◌++◌, length, map, Option, Some, None, refl, sym, ap, ◌∙◌, subst, arith, Contains}
+use Rattle.std.proofs.Common.{◌≡◌, ◌≢◌, ◌⊎◌, inl, inr, ⊎_elim, ℕ, ◌<◌, ◌≤◌, ◌^◌, Bool, true, false, cond, not, List, [], ◌∷◌, map, Some, None, refl, sym, ap, ◌∙◌, subst, arith, Contains}
 use Rattle.std.specs.Prelude.{IsTrue}
 use Rattle.std.specs.List.{AllByRecursion}
 use Rattle.std.specs.Cmp.{eq_by_cmp_equiv}
@@ -12,13 +12,13 @@ use Rattle.ivy_base.proofs.NameLemmas.{length-name, bytes-name}
 use Rattle.tree_model.proofs.Keys.{keys_total, exact_keys, same_key_is, same_key_itself}
 use Rattle.tree_model.proofs.Sound.{from_test, to_test}
 use Rattle.log_model.specs.View.{View, IsView, is_member, is_named}
-use Rattle.log_model.specs.Vector.{Stamp, Entry, Vector, stamp_at, reach, seq_of, Dominates, with_entry, without_log}
+use Rattle.log_model.specs.Vector.{Entry, Vector, stamp_at, reach, seq_of, Dominates, with_entry, without_log}
 use Rattle.log_model.specs.Record.{Record}
-use Rattle.log_model.specs.Spelling.{IsKey, HasSpelling, record_name}
+use Rattle.log_model.specs.Spelling.{IsKey}
 use Rattle.log_model.specs.Rank.{own_entry, full_vector, front}
 use Rattle.log_model.specs.Chain.{IsGood, GoesOn, IsChain}
 use Rattle.log_model.specs.Closed.{log_of, HasCauses, IsCause, IsClosed}
-use Rattle.log_model.proofs.Lists.{here, in_cons, in_nothing, each, each_from, in_filter, from_filter}
+use Rattle.log_model.proofs.Lists.{here, in_cons, in_nothing, each, each_from, in_filter}
 use Rattle.log_model.proofs.Chains.{last_after}
 use Rattle.log_model.proofs.Owners.{owner_itself}
 use Rattle.log_model.proofs.Part.{found_stamp}
@@ -44,9 +44,9 @@ last_or_before view owner p (r ∷ rs) c g within = ⊎_elim
     (λ e. let next = g.1.seq in
     let same : p.seq ≡ c.seq = ap (λ (x : Record). x.seq) e in
     inr (⊎_elim
-        (λ is_last. let last : r.seq ≡ (last_after r rs).seq = ap (λ (x : Record). x.seq) is_last in omega (arith, next, same, last))
-        (λ less. omega (arith, next, same, less))
-        (last_or_before view owner r rs r g.2 (here r rs))))
+    (λ is_last. let last : r.seq ≡ (last_after r rs).seq = ap (λ (x : Record). x.seq) is_last in omega (arith, next, same, last))
+    (λ less. omega (arith, next, same, less))
+    (last_or_before view owner r rs r g.2 (here r rs))))
     (λ more. last_or_before view owner r rs c g.2 more)
     (in_cons p (r ∷ rs) c within)
 
@@ -149,9 +149,9 @@ module _ (view : View) (s : List Record) (own : PubKey) (p : Record) (well : IsV
       (λ none. let zero : seq_of v (head_key_of own) ≡ 0 = ap reach none in omega (arith, zero))
       (λ f. let there : seq_of v (head_key_of own) ≡ f.0.1.seq = ap reach f.3 in
       ⊎_elim
-          (λ is_last. let last : f.0.1.seq ≡ p.seq = ap (λ (x : Entry). x.1.seq) is_last in omega (arith, there, last))
-          (λ less. omega (arith, there, less))
-          (own_entry_is f.0 (each (Stands view s closed) v f.0 stand f.1) f.2))
+      (λ is_last. let last : f.0.1.seq ≡ p.seq = ap (λ (x : Entry). x.1.seq) is_last in omega (arith, there, last))
+      (λ less. omega (arith, there, less))
+      (own_entry_is f.0 (each (Stands view s closed) v f.0 stand f.1) f.2))
       (found_stamp v (head_key_of own))
 
   none_at : (v : Vector) → stamp_at v (head_key_of own) ≡ None → stamp_at v (head_key_of p.owner) ≡ None
@@ -174,9 +174,9 @@ module _ (view : View) (s : List Record) (own : PubKey) (p : Record) (well : IsV
       (λ f. let there : seq_of (front s) (head_key_of own) ≡ f.0.1.seq = ap reach f.3 in
       let far = own_reached in
       ⊎_elim
-          (λ is_last. f.3 ∙ ap (λ (x : Entry). Some x.1) is_last)
-          (λ less. absurd (omega (arith, there, far, less)))
-          (own_entry_is f.0 (each (Stands view s closed) (front s) f.0 (front_stands view s closed) f.1) f.2))
+      (λ is_last. f.3 ∙ ap (λ (x : Entry). Some x.1) is_last)
+      (λ less. absurd (omega (arith, there, far, less)))
+      (own_entry_is f.0 (each (Stands view s closed) (front s) f.0 (front_stands view s closed) f.1) f.2))
       (found_stamp (front s) (head_key_of own))
 
   none_of_own : stamp_at (without_log (head_key_of own) (front s)) (head_key_of own) ≡ None
@@ -195,9 +195,9 @@ module _ (view : View) (s : List Record) (own : PubKey) (p : Record) (well : IsV
           subst (λ (k : Key). seq_of (full_vector q) k ≤ p.seq) (sym is_own) (own_at_most (full_vector q) (stands_in view s closed q within))
       by false apart =
           let other : eq_by_cmp key_cmp (head_key_of own) log ≡ false =
-              (eq_by_cmp_equiv keys_total).symm (head_key_of own) log ∙ subst (λ (o : PubKey). eq_by_cmp key_cmp log (head_key_of o) ≡ false) good_last.owned apart in
+          (eq_by_cmp_equiv keys_total).symm (head_key_of own) log ∙ subst (λ (o : PubKey). eq_by_cmp key_cmp log (head_key_of o) ≡ false) good_last.owned apart in
           let kept : seq_of (without_log (head_key_of own) (front s)) log ≡ seq_of (front s) log =
-              ap reach (stamp_at-without_log (front s) (head_key_of own) log ∙ ap (λ b. cond (not b) (stamp_at (front s) log) None) other) in
+          ap reach (stamp_at-without_log (front s) (head_key_of own) log ∙ ap (λ b. cond (not b) (stamp_at (front s) log) None) other) in
           let far : seq_of (full_vector q) log ≤ seq_of (front s) log = front_dominates s q within log in
           omega (arith, kept, far)
 

@@ -1,5 +1,5 @@
 -- A turn of a member whose log has begun leaves a closed set.
-use Rattle.std.proofs.Common.{◌≡◌, ◌≢◌, ℕ, ◌+◌, ◌≤◌, Bool, true, false, cond, ◌||◌, List, [], ◌∷◌, ◌++◌, length, map, Option, refl, sym, ap, ◌∙◌, subst, inl, arith, Contains}
+use Rattle.std.proofs.Common.{◌≡◌, ◌≢◌, ℕ, ◌+◌, Bool, true, false, cond, ◌||◌, List, [], ◌∷◌, ◌++◌, length, map, Option, refl, sym, ap, ◌∙◌, subst, inl, arith, Contains}
 use Rattle.std.specs.Prelude.{nat_lt, ◌==◌}
 use Rattle.std.specs.List.{AllByRecursion}
 use Rattle.std.specs.Option.{option_map_or}
@@ -11,7 +11,6 @@ use Rattle.ivy_base.specs.declared.operation.Moment.{Moment}
 use Rattle.ivy_base.specs.declared.operation.Op.{Op}
 use Rattle.ivy_base.specs.Naming.{head_key_of, owner_cmp}
 use Rattle.tree_model.specs.Apply.{empty_tree, apply_all}
-use Rattle.tree_model.specs.Tree.{Tree}
 use Rattle.tree_model.proofs.Sound.{both_false}
 use Rattle.log_model.specs.View.{View, IsView}
 use Rattle.log_model.specs.Vector.{Stamp, Vector, reach, without_log}
@@ -91,7 +90,7 @@ module _ (a : Agent) (s : List Record) (asked : Asked) (now : Moment) (p : Recor
       chosen (a.leaves == 0 || nat_lt most_records (own_seq a.own s + length ops)) a.has_failed _ _ _ closed closed (λ room.
       let few = ltb-false most_records (own_seq a.own s + length ops) (both_false (a.leaves == 0) _ room).1 in
       let may : AllMayBeWritten a.own (own_seq a.own s + 1) ops =
-          plan_may_be_written (replay s) a.view asked.caller asked.args now a.own (own_seq a.own s + 1) ops (closed_makes_keys a.view s closed) caller fits moment planned (omega (arith, few)) in
+      plan_may_be_written (replay s) a.view asked.caller asked.args now a.own (own_seq a.own s + 1) ops (closed_makes_keys a.view s closed) caller fits moment planned (omega (arith, few)) in
       appended_closed ops (subst (λ (n : ℕ). AllMayBeWritten a.own (n + 1) ops) own_seq_is may))
 
   pub turn_closed : IsClosed a.view (turn_on a s asked now).set

@@ -1,5 +1,5 @@
 -- What a turn leaves is a causally closed set.
-use Rattle.std.specs.Prelude.{◌≡◌, ◌≢◌, List, [], Contains}
+use Rattle.std.specs.Prelude.{◌≢◌, List, [], Contains}
 use Rattle.ivy_base.specs.declared.operation.Moment.{Moment}
 use Rattle.log_model.specs.Closed.{log_of, IsClosed}
 use Rattle.log_model.specs.Record.{Record}
