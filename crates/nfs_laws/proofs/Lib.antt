@@ -1,3 +1,5 @@
 mod Ways
 mod Sizes
 mod Plans
+mod Pages
+mod Listings
