@@ -3,3 +3,4 @@ mod Sizes
 mod Plans
 mod Pages
 mod Listings
+mod Trees

@@ -29,11 +29,11 @@ use Rattle.nfs_model.specs.Checks.{Check, is_dot, is_dot_dot}
 use Rattle.nfs_model.specs.Objects.{Object, object_of, may_write, is_owner}
 use Rattle.nfs_model.specs.Changing.{Plan, Refuse, Nothing, Operations, unless, about, plan, make, set_times, plan_directory, plan_symbolic_link, plan_file, plan_file_at, plan_create, plan_attributes, plan_write, plan_remove, plan_remove_directory, plan_rename, plan_rename_between, plan_link, plan_existing, plan_new, directory_checks, set_attribute_checks, move_checks, inode_under, is_empty_under, same_target, may_change, may_cut, invalid_times, too_large, taken, name_checks, made_number, given_time, only_times}
 use Rattle.nfs_laws.specs.Plans.{PlansAreFew}
-use Rattle.nfs_laws.proofs.Ways.{Pass, of_plan_unless, of_plan_about, of_plan_if, object_number}
+use Rattle.nfs_laws.proofs.Ways.{Pass, of_plan_unless, of_plan_about, of_plan_if, is_object}
 use Rattle.nfs_laws.proofs.Sizes.{IsShort, short_nothing, short_refused, short_written, short_made, short_renamed}
 
 -- an operation's number has 20 bytes
-abbrev HasKey : Option Key → Type 0
+abbrev pub HasKey : Option Key → Type 0
 HasKey number = IfSome number (λ k. length k.0 ≡ 20)
 
 -- one to three operations, of which the first one's number is a key, or a short reply
@@ -116,7 +116,7 @@ module _ (t : Tree) (view : View) (who : Identity) (now : Moment) (own : PubKey)
 
   goes_attributes : (handle : List ℕ) (what : SetWhat) (guard : Option Moment) → Goes t (plan_attributes t view who handle what guard now)
   goes_attributes handle what guard = behind_object (object_of t view handle) _ _ (λ o e. behind_checks (set_attribute_checks who o what guard) _ _ (λ passed.
-      (omega arith, omega arith, λ keys. object_number t view handle o e)))
+      (omega arith, omega arith, λ keys. (is_object t view handle o e).number)))
 
   goes_write : (handle : List ℕ) (offset count : ℕ) (bytes : List ℕ) → Goes t (plan_write t view who handle offset count bytes)
   goes_write handle offset count bytes = behind_object (object_of t view handle) _ _ (λ o e. behind_checks

@@ -1,11 +1,10 @@
 -- What holds of a refusal, and of what stands behind an object and its checks, holds of an answer and of a plan.
-use Rattle.std.proofs.Common.{◌≡◌, ℕ, Bool, true, false, cond, not, ◌&&◌, List, [], ◌∷◌, length, take, drop, Option, Some, None, Result, Ok, Err, refl, ap, arith, length-drop}
+use Rattle.std.proofs.Common.{◌≡◌, ℕ, Bool, true, false, cond, not, ◌&&◌, List, [], ◌∷◌, length, take, drop, Option, Some, None, Result, Ok, Err, refl, ap, ◌∙◌, arith, length-drop}
 use Rattle.std.specs.Prelude.{◌==◌}
-use Rattle.std.specs.Option.{option_map_or}
 use Rattle.std.specs.List.{AllByRecursion}
 use Rattle.std.proofs.lemmas.Bool.{eqb-true}
 use Rattle.ivy_base.specs.declared.key.Key.{Key}
-use Rattle.tree_model.specs.Tree.{Tree, Inode, inode_at, is_live}
+use Rattle.tree_model.specs.Tree.{Tree, inode_at}
 use Rattle.tree_model.proofs.Sound.{both_true, not_false}
 use Rattle.log_model.specs.View.{View, view_name}
 use Rattle.nfs_model.specs.declared.replies.NfsStatus.{NfsStatus}
@@ -16,6 +15,7 @@ use Rattle.nfs_model.specs.declared.replies.Reply.TheVariants as reply
 use Rattle.nfs_model.specs.Checks.{Check, same_bytes}
 use Rattle.nfs_model.specs.Objects.{Object, object_of}
 use Rattle.nfs_model.specs.Answers.{about, unless}
+use Rattle.nfs_model.proofs.Objects.{object_at}
 use Rattle.nfs_model.specs.Changing.{Plan, Refuse, about as plan_about, unless as plan_unless}
 
 -- no check fails
@@ -60,19 +60,18 @@ passed_test : (b : Bool) (fault : NfsStatus) (r : Result Object NfsStatus) (o : 
 passed_test true fault r o e = cc
 passed_test false fault r o e = (refl, e)
 
-number_in : (k : Key) (b : Bool) (m : Option Inode) (o : Object)
-    → cond b (option_map_or (λ i. Ok (record { number = k; inode = i })) m (Err Stale)) (Err Stale) ≡ Ok o → k ≡ o.number
-number_in k true (Some i) o e = cc
-number_in k true None o e = cc
-number_in k false m o e = cc
+-- its number has 20 bytes, and its inode is the one that the number has
+pub record IsObject (t : Tree) (o : Object) : Type 0 where
+  pub number : length o.number.0 ≡ 20
+  pub inode : inode_at t o.number ≡ Some o.inode
 
--- its number has 20 bytes
-pub object_number : (t : Tree) (view : View) (handle : List ℕ) (o : Object) → object_of t view handle ≡ Ok o → length o.number.0 ≡ 20
-object_number t view handle o e =
+pub is_object : (t : Tree) (view : View) (handle : List ℕ) (o : Object) → object_of t view handle ≡ Ok o → IsObject t o
+is_object t view handle o e =
     let tagged = passed_test (not (length handle == 44 && same_bytes (take 4 handle) (73 ∷ 86 ∷ 89 ∷ 49 ∷ []))) BadHandle _ o e in
     let here = passed_test (not (same_bytes (take 20 (drop 4 handle)) (view_name view).0)) Stale _ o tagged.1 in
-    let k : Key = record { 0 = drop 24 handle } in
-    let same : k ≡ o.number = number_in k (is_live t k) (inode_at t k) o here.1 in
+    let at = object_at t (record { 0 = drop 24 handle }) o here.1 in
     let long = eqb-true (length handle) 44 (both_true _ _ (not_false (length handle == 44 && same_bytes (take 4 handle) (73 ∷ 86 ∷ 89 ∷ 49 ∷ [])) tagged.0)).0 in
-    let bytes = ap (λ (n : Key). length n.0) same in
-    omega (arith, bytes, long, length-drop 24 handle)
+    record {
+      number = omega (arith, ap (λ (n : Key). length n.0) at.number_is, long, length-drop 24 handle);
+      inode = ap (λ (n : Key). inode_at t n) at.number_is ∙ at.inode_is;
+    }

@@ -7,7 +7,7 @@
 #![tactic(auto)]
 
 ghost use Rattle.nfs_laws.specs.Listings.{PagesAreListing, PagesGoOn};
-ghost use Rattle.nfs_laws.specs.Lengths.{PagesFit, AnswersFit, PlansFit, FinishesFit, RecordsMakeShortLinks};
+ghost use Rattle.nfs_laws.specs.Lengths.{PagesFit, AnswersFit, MountsFit, PlansFit, FinishesFit, RecordsMakeNames, RecordsMakeShortLinks};
 ghost use Rattle.nfs_laws.specs.Plans.{PlansAreFew};
 
 /// A law and no code: the pages of a directory, read with the cookies given from trees in which it has one and the same
@@ -18,13 +18,15 @@ pub fn directories_are_read_whole()
     ensures goes_on { PagesGoOn }
 {}
 
-/// A law and no code: a page takes no more than the room for it, and every result has at most 32,772 bytes, where numbers are
-/// keys and links are as short as records make them.
+/// A law and no code: a page takes no more than the room for it, and every result has at most 32,772 bytes, where numbers and
+/// names are keys and links are short, as they are in each tree that records make.
 pub fn results_are_short()
     ensures pages { PagesFit }
     ensures answers { AnswersFit }
+    ensures mounts { MountsFit }
     ensures plans { PlansFit }
     ensures finishes { FinishesFit }
+    ensures names { RecordsMakeNames }
     ensures links { RecordsMakeShortLinks }
 {}
 
