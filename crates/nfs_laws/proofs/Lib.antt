@@ -4,3 +4,5 @@ mod Plans
 mod Pages
 mod Listings
 mod Trees
+mod PageSizes
+mod Lengths

@@ -84,60 +84,76 @@ most_optional_handle view number key = most_boolean true ▷ most_opaque_handle 
 
 -- ---- results, but for pages
 
+-- the reply's bytes are at most so many
+pub record IsWithin (n : ℕ) (r : Reply) : Type 0 where
+  pub most : length (result r) ≤ n
+
+pub of_bytes : {m n : ℕ} {r : Reply} → AtMost (result r) m → m ≤ n → IsWithin n r
+of_bytes p q = record { most = omega (arith, p.most, q) }
+
 -- no longer than the longest page
 abbrev pub IsShort : Reply → Type 0
-IsShort r = AtMost (result r) 32772
+IsShort r = IsWithin 32772 r
 
 pub short_nothing : IsShort reply.Nothing
 short_nothing = record { most = omega arith }
 
 pub short_refused : (fault : NfsStatus) (with : Tail) → IsShort (reply.Refused fault with)
-short_refused fault with = within (most_word (status_number fault) ▷ most_tail with) (omega arith)
+short_refused fault with = of_bytes (most_word (status_number fault) ▷ most_tail with) (omega arith)
 
 pub short_attributes : (a : Fattr) → IsShort (reply.Attributes a)
-short_attributes a = within (most_word 0 ▷ most_fattr a) (omega arith)
+short_attributes a = of_bytes (most_word 0 ▷ most_fattr a) (omega arith)
 
 pub short_changed : (w : Wcc) → IsShort (reply.Changed w)
-short_changed w = within (most_word 0 ▷ most_wcc w) (omega arith)
+short_changed w = of_bytes (most_word 0 ▷ most_wcc w) (omega arith)
 
 pub short_found : (view : View) (number : Key) (object dir : Option Fattr) → length number.0 ≡ 20 → IsShort (reply.Found (handle_of view number) object dir)
-short_found view number object dir key = within (most_word 0 ▷ most_opaque_handle view number key ▷ most_attributes object ▷ most_attributes dir) (omega arith)
+short_found view number object dir key = of_bytes (most_word 0 ▷ most_opaque_handle view number key ▷ most_attributes object ▷ most_attributes dir) (omega arith)
 
 pub short_allowed : (object : Option Fattr) (bits : ℕ) → IsShort (reply.Allowed object bits)
-short_allowed object bits = within (most_word 0 ▷ most_attributes object ▷ most_word bits) (omega arith)
+short_allowed object bits = of_bytes (most_word 0 ▷ most_attributes object ▷ most_word bits) (omega arith)
 
 pub short_text : (link : Option Fattr) (text : List ℕ) → length text ≤ 1024 → IsShort (reply.Text link text)
-short_text link text few = within (most_word 0 ▷ most_attributes link ▷ most_opaque text 256 few) (omega arith)
+short_text link text few = of_bytes (most_word 0 ▷ most_attributes link ▷ most_opaque text 256 few) (omega arith)
 
 pub short_bytes : (file : Option Fattr) (count : ℕ) (eof : Bool) (bytes : List ℕ) → length bytes ≤ 8192 → IsShort (reply.Bytes file count eof bytes)
 short_bytes file count eof bytes few =
-    within (most_word 0 ▷ most_attributes file ▷ most_word count ▷ most_boolean eof ▷ most_opaque bytes 2048 few) (omega arith)
+    of_bytes (most_word 0 ▷ most_attributes file ▷ most_word count ▷ most_boolean eof ▷ most_opaque bytes 2048 few) (omega arith)
 
 pub short_written : (w : Wcc) (count : ℕ) → IsShort (reply.Written w count)
-short_written w count = within (most_word 0 ▷ most_wcc w ▷ most_word count ▷ most_word 2 ▷ all_of write_verifier) (omega arith)
+short_written w count = of_bytes (most_word 0 ▷ most_wcc w ▷ most_word count ▷ most_word 2 ▷ all_of write_verifier) (omega arith)
 
 pub short_made : (view : View) (number : Key) (object : Option Fattr) (w : Wcc) → length number.0 ≡ 20 → IsShort (reply.Made (handle_of view number) object w)
-short_made view number object w key = within (most_word 0 ▷ most_optional_handle view number key ▷ most_attributes object ▷ most_wcc w) (omega arith)
+short_made view number object w key = of_bytes (most_word 0 ▷ most_optional_handle view number key ▷ most_attributes object ▷ most_wcc w) (omega arith)
 
 pub short_renamed : (from to : Wcc) → IsShort (reply.Renamed from to)
-short_renamed from to = within (most_word 0 ▷ most_wcc from ▷ most_wcc to) (omega arith)
+short_renamed from to = of_bytes (most_word 0 ▷ most_wcc from ▷ most_wcc to) (omega arith)
 
 pub short_linked : (file : Option Fattr) (w : Wcc) → IsShort (reply.Linked file w)
-short_linked file w = within (most_word 0 ▷ most_attributes file ▷ most_wcc w) (omega arith)
+short_linked file w = of_bytes (most_word 0 ▷ most_attributes file ▷ most_wcc w) (omega arith)
 
 pub short_committed : (w : Wcc) → IsShort (reply.Committed w)
-short_committed w = within (most_word 0 ▷ most_wcc w ▷ all_of write_verifier) (omega arith)
+short_committed w = of_bytes (most_word 0 ▷ most_wcc w ▷ all_of write_verifier) (omega arith)
 
 pub short_space : (object : Option Fattr) → IsShort (reply.Space object)
 short_space object =
-    within (most_word 0 ▷ most_attributes object ▷ all_of (many double_word (2 ^ 40 ∷ 2 ^ 40 ∷ 2 ^ 40 ∷ 2 ^ 32 ∷ 2 ^ 32 ∷ 2 ^ 32 ∷ [])) ▷ most_word 0) (omega arith)
+    of_bytes (most_word 0 ▷ most_attributes object ▷ all_of (many double_word (2 ^ 40 ∷ 2 ^ 40 ∷ 2 ^ 40 ∷ 2 ^ 32 ∷ 2 ^ 32 ∷ 2 ^ 32 ∷ [])) ▷ most_word 0) (omega arith)
 
 pub short_limits : (object : Option Fattr) → IsShort (reply.Limits object)
 short_limits object =
-    within (most_word 0 ▷ most_attributes object ▷ all_of (many word (8192 ∷ 8192 ∷ 512 ∷ 8192 ∷ 8192 ∷ 512 ∷ 8192 ∷ [])) ▷ most_double_word 16777216 ▷ all_of (many word (0 ∷ 1 ∷ 27 ∷ []))) (omega arith)
+    of_bytes (most_word 0 ▷ most_attributes object ▷ all_of (many word (8192 ∷ 8192 ∷ 512 ∷ 8192 ∷ 8192 ∷ 512 ∷ 8192 ∷ [])) ▷ most_double_word 16777216 ▷ all_of (many word (0 ∷ 1 ∷ 27 ∷ []))) (omega arith)
 
 pub short_paths : (object : Option Fattr) → IsShort (reply.Paths object)
-short_paths object = within (most_word 0 ▷ most_attributes object ▷ all_of (many word (1000 ∷ 255 ∷ 1 ∷ 1 ∷ 0 ∷ 1 ∷ []))) (omega arith)
+short_paths object = of_bytes (most_word 0 ▷ most_attributes object ▷ all_of (many word (1000 ∷ 255 ∷ 1 ∷ 1 ∷ 0 ∷ 1 ∷ []))) (omega arith)
 
 pub short_mounted : (view : View) (number : Key) → length number.0 ≡ 20 → IsShort (reply.Mounted (handle_of view number))
-short_mounted view number key = within (most_word 0 ▷ most_opaque_handle view number key ▷ all_of (many word (1 ∷ 1 ∷ []))) (omega arith)
+short_mounted view number key = of_bytes (most_word 0 ▷ most_opaque_handle view number key ▷ all_of (many word (1 ∷ 1 ∷ []))) (omega arith)
+
+pub short_no_such_path : IsShort reply.NoSuchPath
+short_no_such_path = of_bytes (most_word 2) (omega arith)
+
+pub short_no_mounts : IsShort reply.NoMounts
+short_no_mounts = of_bytes (most_word 0) (omega arith)
+
+pub short_exports : IsShort reply.Exports
+short_exports = record { most = omega arith }
