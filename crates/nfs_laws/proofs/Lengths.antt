@@ -1,15 +1,12 @@
 -- Every result is short.
-use Rattle.std.proofs.Common.{◌≡◌, ℕ, ◌+◌, ◌≤◌, min, Bool, true, false, cond, not, ◌||◌, List, [], ◌∷◌, length, map, take, drop, Option, Some, None, Result, Ok, Err, refl, sym, ap, ◌∙◌, subst, arith, length-take}
-use Rattle.std.specs.Prelude.{max, nat_le, unwrap_or, IfSome}
+use Rattle.std.proofs.Common.{◌≡◌, ℕ, ◌≤◌, min, Bool, true, false, cond, not, ◌||◌, List, [], ◌∷◌, length, drop, Option, Some, None, Result, Ok, Err, refl, subst, arith, length-take}
+use Rattle.std.specs.Prelude.{unwrap_or, IfSome}
 use Rattle.ivy_base.specs.declared.key.Key.{Key}
-use Rattle.ivy_base.specs.declared.key.PubKey.{PubKey}
 use Rattle.ivy_base.specs.declared.operation.Kind.{Kind}
 use Rattle.ivy_base.specs.declared.operation.Kind.TheVariants.{Reg, Dir, Lnk}
-use Rattle.ivy_base.specs.declared.operation.Moment.{Moment}
 use Rattle.ivy_base.specs.declared.operation.Op.{Op}
 use Rattle.ivy_base.specs.Naming.{root_number}
 use Rattle.tree_model.specs.Tree.{Tree, Inode, inode_at, entry, parent, file_kind}
-use Rattle.tree_model.proofs.Sound.{not_false}
 use Rattle.log_model.specs.Laws.{NumbersAreKeys}
 use Rattle.log_model.specs.Spelling.{IsKey}
 use Rattle.log_model.specs.View.{View}
@@ -19,7 +16,7 @@ use Rattle.nfs_model.specs.declared.arguments.Args.TheVariants as call
 use Rattle.nfs_model.specs.declared.replies.Fattr.{Fattr}
 use Rattle.nfs_model.specs.declared.replies.Listed.{Listed}
 use Rattle.nfs_model.specs.declared.replies.NfsStatus.{NfsStatus}
-use Rattle.nfs_model.specs.declared.replies.NfsStatus.TheVariants.{Inval, Acces, NotSupp}
+use Rattle.nfs_model.specs.declared.replies.NfsStatus.TheVariants.{Inval, Acces}
 use Rattle.nfs_model.specs.declared.replies.Tail.{Tail}
 use Rattle.nfs_model.specs.declared.replies.Reply.{Reply}
 use Rattle.nfs_model.specs.declared.replies.Reply.TheVariants as reply
@@ -29,13 +26,11 @@ use Rattle.nfs_model.specs.Checks.{Check, is_dot, is_dot_dot, same_bytes}
 use Rattle.nfs_model.specs.Objects.{Object, handle_of, object_of, may_read, is_owner, attributes}
 use Rattle.nfs_model.specs.Pages.{entries_from, plain_length, long_length, page_checks, read_directory, read_directory_plus}
 use Rattle.nfs_model.specs.Reading.{answer, mount_answer, get_attributes, lookup, lookup_checks, target_of, found, found_inode, access, link_kind, read_link, part, read, make_node, commit, with_attributes}
-use Rattle.nfs_model.specs.Results.{result}
 use Rattle.nfs_laws.specs.Lengths.{HasRoom, plain, plus, NamesAreKeys, LinksAreShort, PagesFit, AnswersFit, MountsFit, PlansFit, FinishesFit, IsShortPlan}
-use Rattle.nfs_laws.specs.Listings.{IsPage}
 use Rattle.nfs_laws.proofs.Ways.{Pass, of_unless, of_about, is_object}
 use Rattle.nfs_laws.proofs.Sizes.{IsShort, short_nothing, short_refused, short_attributes, short_changed, short_found, short_allowed, short_text, short_bytes, short_written, short_made, short_renamed, short_linked, short_committed, short_space, short_limits, short_paths, short_mounted, short_no_such_path, short_no_mounts, short_exports}
 use Rattle.nfs_laws.proofs.Plans.{Goes, HasKey, goes_plan}
-use Rattle.nfs_laws.proofs.Pages.{Entry, Holds, holds}
+use Rattle.nfs_laws.proofs.Pages.{Holds, holds}
 use Rattle.nfs_laws.proofs.PageSizes.{IsInRoom, numbers_from, most_directory, most_directory_plus}
 use Rattle.nfs_laws.proofs.Trees.{key_at, key_above}
 

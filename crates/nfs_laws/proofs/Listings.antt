@@ -1,6 +1,6 @@
 -- The pages of a directory put together are its listing.
-use Rattle.std.proofs.Common.{◌≡◌, ℕ, zero, suc, ◌+◌, ◌≤◌, Bool, true, false, List, [], ◌∷◌, ◌++◌, length, map, take, drop, Ok, refl, sym, ap, ◌∙◌, subst, arith, length-append, append-nil}
-use Rattle.std.specs.Prelude.{unwrap_or, ◌==◌}
+use Rattle.std.proofs.Common.{◌≡◌, ℕ, zero, suc, ◌+◌, Bool, true, false, List, [], ◌∷◌, ◌++◌, length, map, take, drop, refl, sym, ap, ◌∙◌, subst, arith, length-append, append-nil}
+use Rattle.std.specs.Prelude.{unwrap_or}
 use Rattle.std.proofs.lemmas.Bool.{eqb-true}
 use Rattle.std.proofs.lemmas.List.{take-append-drop, map-append, length-map, drop-drop}
 use Rattle.std.proofs.Math.Seq.{take-append_seam}
@@ -12,7 +12,7 @@ use Rattle.log_model.specs.Spelling.{IsKey}
 use Rattle.wire_model.specs.Rpc.{Identity}
 use Rattle.nfs_model.specs.declared.arguments.Args.{Args}
 use Rattle.nfs_model.specs.declared.replies.Listed.{Listed}
-use Rattle.nfs_model.specs.Objects.{Object, handle_of, object_of}
+use Rattle.nfs_model.specs.Objects.{handle_of}
 use Rattle.nfs_model.specs.Pages.{placed, entries_from}
 use Rattle.nfs_model.specs.Reading.{answer}
 use Rattle.nfs_model.proofs.Objects.{object_of_handle, object_at}
@@ -107,16 +107,15 @@ module _ (number : Key) (names : List (List ℕ × Key)) where
       let all : List (List ℕ × Key) = (46 ∷ [], number) ∷ (46 ∷ 46 ∷ [], p.above) ∷ names in
       let place : next_cookie cookie page ≡ cookie + length some = next_place cookie (drop cookie all) some behind page p.shows.seen_is (front ∙ behind_cookie cookie all) in
       let next_left : drop (next_cookie cookie page) (whole number names next.0) ≡ drop (length some) (drop cookie (whole number names next.0)) =
-          ap (λ (n : ℕ). drop n (whole number names next.0)) place ∙ sym (drop-drop (length some) cookie (whole number names next.0)) in
-      let j = joined cookie (length some) p.above next.0 in
-      (
+      ap (λ (n : ℕ). drop n (whole number names next.0)) place ∙ sym (drop-drop (length some) cookie (whole number names next.0)) in
+      let j = joined cookie (length some) p.above next.0 in (
         j.0,
         map-append shown page rest
-        ∙ ap (λ (s : List (ℕ × (List ℕ × ℕ))). s ++ map shown rest) p.shows.seen_is
-        ∙ ap (λ (s : List (ℕ × (List ℕ × ℕ))). map seen some ++ s) (next.1 ∙ ap (λ (es : List Entry). map seen es) next_left)
-        ∙ sym (map-append seen some (drop (length some) (drop cookie (whole number names next.0))))
-        ∙ ap (λ (es : List Entry). map seen (es ++ drop (length some) (drop cookie (whole number names next.0)))) first
-        ∙ ap (λ (es : List Entry). map seen es) j.1,
+            ∙ ap (λ (s : List (ℕ × (List ℕ × ℕ))). s ++ map shown rest) p.shows.seen_is
+            ∙ ap (λ (s : List (ℕ × (List ℕ × ℕ))). map seen some ++ s) (next.1 ∙ ap (λ (es : List Entry). map seen es) next_left)
+            ∙ sym (map-append seen some (drop (length some) (drop cookie (whole number names next.0))))
+            ∙ ap (λ (es : List Entry). map seen (es ++ drop (length some) (drop cookie (whole number names next.0)))) first
+            ∙ ap (λ (es : List Entry). map seen es) j.1,
       )
 
   read_on : (view : View) → IsKey number → {cookie : ℕ} {verifier : List ℕ} {pages : List Listed} → IsReadFrom view number names cookie verifier pages

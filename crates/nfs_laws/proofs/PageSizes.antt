@@ -1,24 +1,20 @@
 -- A page takes no more than its room.
-use Rattle.std.proofs.Common.{◌≡◌, ℕ, zero, suc, ◌+◌, ◌-◌, ◌≤◌, min, Bool, true, false, cond, List, [], ◌∷◌, ◌++◌, length, map, take, drop, filter_map, Option, Some, None, refl, sym, ap, ◌∙◌, subst, arith, length-append, length-take}
+use Rattle.std.proofs.Common.{◌≡◌, ℕ, zero, suc, ◌+◌, ◌-◌, min, Bool, true, false, cond, List, [], ◌∷◌, ◌++◌, length, map, drop, Option, Some, None, refl, ap, arith, length-append, length-take}
 use Rattle.std.specs.Prelude.{max, nat_lt, unwrap_or, IfSome}
 use Rattle.std.specs.List.{AllByRecursion, flat_map}
 use Rattle.std.proofs.lemmas.Bool.{ltb-false}
 use Rattle.ivy_base.specs.declared.key.Key.{Key}
 use Rattle.ivy_base.specs.Naming.{name}
-use Rattle.ivy_base.proofs.NameLemmas.{length-name}
 use Rattle.tree_model.specs.Tree.{Tree, listing, parent}
 use Rattle.log_model.specs.View.{View}
 use Rattle.log_model.specs.Spelling.{IsKey}
-use Rattle.wire_model.specs.Xdr.{word, double_word, boolean, opaque, optional}
-use Rattle.wire_model.specs.Rpc.{Identity}
-use Rattle.nfs_model.specs.declared.arguments.Args.{Args}
-use Rattle.nfs_model.specs.declared.arguments.Args.TheVariants as call
+use Rattle.wire_model.specs.Xdr.{word, boolean, opaque, optional}
 use Rattle.nfs_model.specs.declared.replies.Fattr.{Fattr}
 use Rattle.nfs_model.specs.declared.replies.Listed.{Listed}
 use Rattle.nfs_model.specs.declared.replies.Reply.{Reply}
 use Rattle.nfs_model.specs.declared.replies.Reply.TheVariants as reply
 use Rattle.nfs_model.specs.Pages.{placed, all_entries, fitting, at_least_one, too_small, room_for_entries, entries_from, entry_length, plain_length, long_length, listed, listed_plus, cookie_verifier}
-use Rattle.nfs_model.specs.Results.{result, fattr, listed_entry, listed_entry_plus}
+use Rattle.nfs_model.specs.Results.{fattr, listed_entry, listed_entry_plus}
 use Rattle.nfs_laws.specs.Lengths.{NamesAreKeys}
 use Rattle.nfs_laws.proofs.Pages.{Entry, first_fits}
 use Rattle.nfs_laws.proofs.Sizes.{AtMost, IsWithin, ◌▷◌, within, all_of, most_word, most_double_word, most_boolean, most_attributes, most_optional_handle}

@@ -1,24 +1,22 @@
 -- What a page shows of the entries that are left: the first of them, and at least one where there is one.
-use Rattle.std.proofs.Common.{◌≡◌, ℕ, ◌+◌, ◌-◌, ◌≤◌, min, Bool, true, false, cond, not, ◌&&◌, List, [], ◌∷◌, ◌++◌, length, map, drop, Option, Some, None, Result, Ok, Err, refl, sym, ap, ◌∙◌, subst, arith, append_assoc}
+use Rattle.std.proofs.Common.{◌≡◌, ℕ, ◌+◌, ◌-◌, ◌≤◌, min, Bool, true, false, cond, List, [], ◌∷◌, ◌++◌, length, map, Ok, refl, sym, ap, ◌∙◌, arith, append_assoc}
 use Rattle.std.specs.Prelude.{nat_lt, ◌==◌}
 use Rattle.std.proofs.lemmas.Bool.{ltb-false, le-ltb}
 use Rattle.ivy_base.specs.declared.key.Key.{Key}
-use Rattle.tree_model.specs.Tree.{Tree, directory_kind}
+use Rattle.tree_model.specs.Tree.{Tree}
 use Rattle.log_model.specs.View.{View}
 use Rattle.wire_model.specs.Rpc.{Identity}
 use Rattle.nfs_model.specs.declared.arguments.Args.{Args}
-use Rattle.nfs_model.specs.declared.arguments.Args.TheVariants as call
 use Rattle.nfs_model.specs.declared.replies.Listed.{Listed}
 use Rattle.nfs_model.specs.declared.replies.NfsStatus.{NfsStatus}
 use Rattle.nfs_model.specs.declared.replies.Tail.{Tail}
 use Rattle.nfs_model.specs.declared.replies.Reply.{Reply}
 use Rattle.nfs_model.specs.declared.replies.Reply.TheVariants as reply
-use Rattle.nfs_model.specs.Checks.{Check}
-use Rattle.nfs_model.specs.Objects.{Object, object_of, attributes}
-use Rattle.nfs_model.specs.Pages.{fitting, at_least_one, too_small, room_for_entries, entries_from, entry_length, plain_length, long_length, listed, listed_plus, page_checks, cookie_verifier, read_directory, read_directory_plus}
+use Rattle.nfs_model.specs.Objects.{Object, object_of}
+use Rattle.nfs_model.specs.Pages.{fitting, at_least_one, too_small, room_for_entries, entries_from, entry_length, plain_length, long_length, listed, listed_plus, page_checks, read_directory, read_directory_plus}
 use Rattle.nfs_model.specs.Reading.{answer}
 use Rattle.nfs_laws.specs.Listings.{shown, IsPageCall, IsPage, plain, plus}
-use Rattle.nfs_laws.proofs.Ways.{Pass, of_unless, of_about}
+use Rattle.nfs_laws.proofs.Ways.{of_unless, of_about}
 
 -- an entry with its place
 abbrev pub Entry : Type 0
@@ -110,13 +108,17 @@ module _ (t : Tree) (view : View) (who : Identity) (handle : List ℕ) (cookie :
   plain_shown : (count : ℕ) → IsShown (read_directory t view who handle cookie verifier count)
   plain_shown count = of_about IsShown refused (object_of t view handle) _ _ (λ dir e.
       let left : List Entry = entries_from t dir.number cookie in
-      of_unless IsShown refused (page_checks t who dir cookie verifier plain_length count) _ _ (λ passed h. (dir, e, record {
-        some = fitting plain_length (room_for_entries count) left;
-        front = front_of_fitting plain_length (room_for_entries count) left;
-        seen_is = ap (λ (p : List Listed). map shown p) (sym h.1) ∙ shown_plain _;
-        ends = h.2;
-        goes_on = λ more. fitting_goes_on plain_length count left passed.1.1.1.0 (h.2 ∙ more);
-      })))
+      of_unless IsShown refused (page_checks t who dir cookie verifier plain_length count) _ _ (λ passed h. (
+        dir,
+        e,
+        record {
+          some = fitting plain_length (room_for_entries count) left;
+          front = front_of_fitting plain_length (room_for_entries count) left;
+          seen_is = ap (λ (p : List Listed). map shown p) (sym h.1) ∙ shown_plain _;
+          ends = h.2;
+          goes_on = λ more. fitting_goes_on plain_length count left passed.1.1.1.0 (h.2 ∙ more);
+        },
+      )))
 
   plus_shown : (dircount maxcount : ℕ) → IsShown (read_directory_plus t view who handle cookie verifier dircount maxcount)
   plus_shown dircount maxcount = of_about IsShown refused (object_of t view handle) _ _ (λ dir e.
@@ -124,13 +126,17 @@ module _ (t : Tree) (view : View) (who : Identity) (handle : List ℕ) (cookie :
       let whole : List Entry = fitting long_length (room_for_entries maxcount) left in
       let fit : List Entry = fitting entry_length dircount whole in
       let front : IsFront fit left = front_of_front fit whole left (front_of_fitting entry_length dircount whole) (front_of_fitting long_length (room_for_entries maxcount) left) in
-      of_unless IsShown refused (page_checks t who dir cookie verifier long_length maxcount) _ _ (λ passed h. (dir, e, record {
-        some = at_least_one left fit;
-        front = front_of_one left fit front;
-        seen_is = ap (λ (p : List Listed). map shown p) (sym h.1) ∙ shown_plus t view _;
-        ends = h.2;
-        goes_on = λ more. one_goes_on left fit front (h.2 ∙ more);
-      })))
+      of_unless IsShown refused (page_checks t who dir cookie verifier long_length maxcount) _ _ (λ passed h. (
+        dir,
+        e,
+        record {
+          some = at_least_one left fit;
+          front = front_of_one left fit front;
+          seen_is = ap (λ (p : List Listed). map shown p) (sym h.1) ∙ shown_plus t view _;
+          ends = h.2;
+          goes_on = λ more. one_goes_on left fit front (h.2 ∙ more);
+        },
+      )))
 
   pub page_shown : (args : Args) → IsPageCall handle cookie verifier args → IsPage given page eof (answer t view who args)
       → (dir : Object) × (object_of t view handle ≡ Ok dir) × Shows (entries_from t dir.number cookie) page eof

@@ -1,5 +1,5 @@
 -- What a call plans: a refusal or a reply, or one to three operations, the first of which makes or sets an inode whose number is a key.
-use Rattle.std.proofs.Common.{◌≡◌, ℕ, ◌+◌, ◌≤◌, Bool, true, false, cond, not, ◌||◌, ◌&&◌, List, [], ◌∷◌, ◌++◌, length, take, Option, Some, None, Result, Ok, Err, refl, ap, subst, arith}
+use Rattle.std.proofs.Common.{◌≡◌, ℕ, ◌+◌, ◌≤◌, Bool, true, false, cond, not, ◌||◌, ◌&&◌, List, [], ◌∷◌, ◌++◌, length, take, Option, Some, None, Result, Ok, refl, subst, arith}
 use Rattle.std.specs.Prelude.{is_some, IfSome, nat_lt, nat_le, ◌==◌}
 use Rattle.ivy_base.specs.declared.key.Key.{Key}
 use Rattle.ivy_base.specs.declared.key.PubKey.{PubKey}
@@ -23,11 +23,10 @@ use Rattle.nfs_model.specs.declared.arguments.SetWhat.{SetWhat}
 use Rattle.nfs_model.specs.declared.replies.NfsStatus.{NfsStatus}
 use Rattle.nfs_model.specs.declared.replies.NfsStatus.TheVariants.{FBig, NotSupp, Inval, NoEnt, IsDir, NotDir, NotEmpty, Exist, MLink, NameTooLong, Acces}
 use Rattle.nfs_model.specs.declared.replies.Tail.{Tail}
-use Rattle.nfs_model.specs.declared.replies.Reply.{Reply}
 use Rattle.nfs_model.specs.declared.replies.Reply.TheVariants as reply
 use Rattle.nfs_model.specs.Checks.{Check, is_dot, is_dot_dot}
 use Rattle.nfs_model.specs.Objects.{Object, object_of, may_write, is_owner}
-use Rattle.nfs_model.specs.Changing.{Plan, Refuse, Nothing, Operations, unless, about, plan, make, set_times, plan_directory, plan_symbolic_link, plan_file, plan_file_at, plan_create, plan_attributes, plan_write, plan_remove, plan_remove_directory, plan_rename, plan_rename_between, plan_link, plan_existing, plan_new, directory_checks, set_attribute_checks, move_checks, inode_under, is_empty_under, same_target, may_change, may_cut, invalid_times, too_large, taken, name_checks, made_number, given_time, only_times}
+use Rattle.nfs_model.specs.Changing.{Plan, Refuse, Nothing, Operations, unless, about, plan, make, plan_directory, plan_symbolic_link, plan_file, plan_file_at, plan_create, plan_attributes, plan_write, plan_remove, plan_remove_directory, plan_rename, plan_rename_between, plan_link, directory_checks, set_attribute_checks, move_checks, inode_under, is_empty_under, same_target, may_change, may_cut, invalid_times, too_large, taken, name_checks, made_number}
 use Rattle.nfs_laws.specs.Plans.{PlansAreFew}
 use Rattle.nfs_laws.proofs.Ways.{Pass, of_plan_unless, of_plan_about, of_plan_if, is_object}
 use Rattle.nfs_laws.proofs.Sizes.{IsShort, short_nothing, short_refused, short_written, short_made, short_renamed}

@@ -1,5 +1,5 @@
 -- The names of a tree that records make are keys, and its links are short.
-use Rattle.std.proofs.Common.{◌≡◌, ℕ, ◌+◌, ◌-◌, ◌≤◌, Bool, true, false, cond, not, ◌&&◌, List, [], ◌∷◌, ◌++◌, length, take, drop, replicate, filter_map, Option, Some, None, refl, sym, ap, ◌∙◌, subst, arith, length-append, length-take}
+use Rattle.std.proofs.Common.{◌≡◌, ℕ, ◌-◌, ◌≤◌, Bool, true, false, cond, not, ◌&&◌, List, [], ◌∷◌, length, take, replicate, filter_map, Option, Some, None, refl, sym, ap, ◌∙◌, subst, arith, length-append, length-take}
 use Rattle.std.specs.Prelude.{is_some, option_map, unwrap_or, find, IfSome}
 use Rattle.std.specs.List.{AllByRecursion, cons_option}
 use Rattle.std.specs.declared.cmp.Ordering.{Ordering}
@@ -15,8 +15,8 @@ use Rattle.ivy_base.specs.declared.operation.Change.{Change}
 use Rattle.ivy_base.specs.declared.operation.Op.{Op}
 use Rattle.ivy_base.specs.declared.operation.Op.TheVariants as op
 use Rattle.ivy_base.specs.Naming.{root_number}
-use Rattle.tree_model.specs.Tree.{Tree, Inode, Place, place_cmp, inode_at, entry, parent_in, listing, same_key, is_file, file_kind}
-use Rattle.tree_model.specs.Apply.{apply, apply_all, empty_tree, with_inode, changed_inode, at_inode, touched, move, add_inode, set_attributes, with_name, without_name, resized, may_link, may_rename}
+use Rattle.tree_model.specs.Tree.{Tree, Inode, Place, place_cmp, inode_at, entry, parent_in, same_key, is_file, file_kind}
+use Rattle.tree_model.specs.Apply.{apply, apply_all, empty_tree, with_inode, changed_inode, at_inode, touched, move, set_attributes, with_name, without_name, resized, may_link, may_rename}
 use Rattle.tree_model.proofs.Names.{inode_at-with_inode, names-touched, names-changed_inode}
 use Rattle.tree_model.proofs.Sound.{not_false}
 use Rattle.log_model.specs.Spelling.{IsKey, IsTarget, OperationFits}
@@ -70,6 +70,7 @@ keys_in (e ∷ es) dir keys = by (same_key dir e.0.0) (keys_in es dir keys.1)
   where
     rest : List (List ℕ × Key)
     rest = filter_map (λ (x : Place × Key). cond (same_key dir x.0.0) (Some (x.0.1, x.1)) None) es
+
     by : (b : Bool) → AllByRecursion (λ (x : List ℕ × Key). IsKey x.1) rest → AllByRecursion (λ (x : List ℕ × Key). IsKey x.1) (cons_option (cond b (Some (e.0.1, e.1)) None) rest)
     by true again = (keys.0.1, again)
     by false again = again

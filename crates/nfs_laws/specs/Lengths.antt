@@ -15,7 +15,6 @@ use Rattle.wire_model.specs.Rpc.{Identity}
 use Rattle.nfs_model.specs.declared.arguments.Args.{Args}
 use Rattle.nfs_model.specs.declared.arguments.Args.TheVariants as call
 use Rattle.nfs_model.specs.declared.replies.Listed.{Listed}
-use Rattle.nfs_model.specs.declared.replies.Reply.{Reply}
 use Rattle.nfs_model.specs.Reading.{answer, mount_answer}
 use Rattle.nfs_model.specs.Changing.{Plan, Refuse, Nothing, Operations, plan, finish}
 use Rattle.nfs_model.specs.Results.{result}

@@ -1,7 +1,7 @@
 -- A directory that is read page by page (RFC 1813, sections 3.3.16 and 3.3.17).
 use Rattle.std.specs.Prelude.{◌≡◌, ℕ, ◌≤◌, Bool, true, false, List, [], ◌∷◌, ◌++◌, length, map, Option}
 use Rattle.ivy_base.specs.declared.key.Key.{Key}
-use Rattle.tree_model.specs.Tree.{Tree, IsInOrder, listing}
+use Rattle.tree_model.specs.Tree.{Tree, listing}
 use Rattle.log_model.specs.Spelling.{IsKey}
 use Rattle.log_model.specs.View.{View}
 use Rattle.wire_model.specs.Rpc.{Identity}
