@@ -7,7 +7,7 @@ use Rattle.ivy_base.specs.declared.operation.Moment.{Moment}
 use Rattle.log_model.specs.Closed.{log_of, IsClosed, IsClosedPart}
 use Rattle.log_model.specs.Rank.{front}
 use Rattle.log_model.specs.Record.{Record}
-use Rattle.log_model.specs.Vector.{Stamp, Entry}
+use Rattle.log_model.specs.Vector.{Stamp, Entry, Vector}
 use Rattle.log_model.specs.View.{View}
 use Rattle.turn_model.specs.Candidates.{AreCandidates}
 use Rattle.turn_model.specs.Known.{IsBacked, IsVerified}
@@ -36,7 +36,7 @@ OwnLogIsKnown = (heads : Key → List Stamp) (blocks : List (List ℕ)) (view : 
 
 -- What is known after the turn, its own new records included, is backed by the floor of that, the same heads and blocks and whatever came to these.
 abbrev pub KnownStaysBacked : Type 0
-KnownStaysBacked = (a : Agent) (blocks more : List (List ℕ)) (received later : List Entry) (taken : List Record) (asked : Asked) (now : Moment)
+KnownStaysBacked = (a : Agent) (blocks more : List (List ℕ)) (floor : Vector) (received later : List Entry) (taken : List Record) (asked : Asked) (now : Moment)
     → AreAmong blocks more → AreAmong received later
-    → AllByRecursion (IsBacked blocks a.own (front taken) received) taken
+    → AllByRecursion (IsBacked blocks a.own floor received) taken
     → AllByRecursion (IsBacked more a.own (front (turn_on a taken asked now).set) later) (turn_on a taken asked now).set
