@@ -1,0 +1,126 @@
+-- What is known after a turn is backed by its own front, the same heads and blocks and whatever came to these.
+use Rattle.std.proofs.Common.{◌≡◌, ◌⊎◌, inl, inr, ⊎_elim, ℕ, ◌+◌, ◌≤◌, Bool, true, false, cond, ◌||◌, List, [], ◌∷◌, ◌++◌, length, map, Option, Some, refl, sym, ap, ◌∙◌, subst, arith, Contains}
+use Rattle.std.specs.Prelude.{fold, nat_lt, ◌==◌}
+use Rattle.std.specs.List.{AllByRecursion}
+use Rattle.ivy_base.specs.declared.key.Key.{Key}
+use Rattle.ivy_base.specs.declared.key.PubKey.{PubKey}
+use Rattle.ivy_base.specs.declared.operation.Moment.{Moment}
+use Rattle.ivy_base.specs.declared.operation.Op.{Op}
+use Rattle.ivy_base.specs.Naming.{head_key_of}
+use Rattle.tree_model.proofs.Keys.{same_key_itself}
+use Rattle.log_model.specs.Vector.{Entry, Vector, Stamp, stamp_at, reach, seq_of, Dominates, later_or, with_entry, join, without_log}
+use Rattle.log_model.specs.Record.{Record}
+use Rattle.log_model.specs.Spelling.{record_block, record_name}
+use Rattle.log_model.specs.Rank.{own_entry, full_vector, front}
+use Rattle.log_model.specs.Replay.{replay}
+use Rattle.log_model.proofs.Lists.{here, there, each, each_from, each_append}
+use Rattle.log_model.proofs.Vectors.{stamp_at-with_entry, later_or_reaches}
+use Rattle.log_model.proofs.Weights.{joins_reach}
+use Rattle.nfs_model.specs.Changing.{Plan, Refuse, Nothing, Operations, plan}
+use Rattle.turn_model.specs.Known.{Stand, IsUnderHead, IsBacked}
+use Rattle.turn_model.specs.Turn.{Agent, Asked, Turned, is_changing, most_records, own_seq, own_name, linked, appended, by_plan, turn_on}
+use Rattle.candidate_laws.specs.Verified.{AreAmong, KnownStaysBacked}
+
+-- ---- a front goes at least as far as each record of the set
+
+own_reach : (r : Record) → r.seq ≤ seq_of (full_vector r) (head_key_of r.owner)
+own_reach r =
+    let log = head_key_of r.owner in
+    subst (λ (o : Option Stamp). r.seq ≤ reach o)
+    (sym (stamp_at-with_entry r.vector (own_entry r) log ∙ ap (λ b. cond b (Some (later_or (stamp_at r.vector log) (own_entry r).1)) (stamp_at r.vector log)) (same_key_itself log)))
+    (later_or_reaches (stamp_at r.vector log) (own_entry r).1).1
+
+in_front : (v : Vector) (s : List Record) → AllByRecursion (λ w. Dominates v w) (map full_vector s) → AllByRecursion (λ r. r.seq ≤ seq_of v (head_key_of r.owner)) s
+in_front v [] h = tt
+in_front v (r ∷ s) h =
+    let far : seq_of (full_vector r) (head_key_of r.owner) ≤ seq_of v (head_key_of r.owner) = h.0 (head_key_of r.owner) in
+    let own = own_reach r in (omega arith, in_front v s h.1)
+
+within_front : (s : List Record) (r : Record) → Contains s r → r.seq ≤ seq_of (front s) (head_key_of r.owner)
+within_front s r c = each (λ (q : Record). q.seq ≤ seq_of (front s) (head_key_of q.owner)) s r (in_front (front s) s (joins_reach (map full_vector s) [])) c
+
+own_within : (own : PubKey) (s : List Record) (r : Record) → r.owner ≡ own → Contains s r → r.seq ≤ seq_of (front s) (head_key_of own)
+own_within own s r e c = subst (λ (o : PubKey). r.seq ≤ seq_of (front s) (head_key_of o)) e (within_front s r c)
+
+-- ---- with more blocks and heads
+
+module _ (own : PubKey) (blocks more : List (List ℕ)) (received later : List Entry) (in_more : AreAmong blocks more) (in_later : AreAmong received later) where
+  more_stand : (log : List Record) → Stand blocks log → Stand more log
+  more_stand [] h = tt
+  more_stand (r ∷ log) h = (in_more (record_block r) h.0, more_stand log h.1)
+
+  stays_under : (r : Record) → IsUnderHead blocks received r → IsUnderHead more later r
+  stays_under r u = record {
+    head = u.head;
+    received = in_later u.head u.received;
+    log = u.log;
+    linked = u.linked;
+    stand = more_stand u.log u.stand;
+    of_log = u.of_log;
+    ends = u.ends;
+    below = u.below;
+  }
+
+  -- the record is an own one, or stands under a head
+  abbrev IsFit : Record → Type 0
+  IsFit r = (r.owner ≡ own) ⊎ ((r.owner ≡ own → ⊥) × IsUnderHead more later r)
+
+  fit : (floor : Vector) (r : Record) → IsBacked blocks own floor received r → IsFit r
+  fit floor r (inl a) = inl a.0
+  fit floor r (inr b) = inr (b.0, stays_under r b.1)
+
+  fit_all : (floor : Vector) (s : List Record) → AllByRecursion (IsBacked blocks own floor received) s → AllByRecursion IsFit s
+  fit_all floor [] h = tt
+  fit_all floor (r ∷ s) h = (fit floor r h.0, fit_all floor s h.1)
+
+  linked_fit : (vector : Vector) (now : Moment) (seq : ℕ) (prev : Key) (ops : List Op) → AllByRecursion IsFit (linked own vector now seq prev ops)
+  linked_fit vector now seq prev [] = tt
+  linked_fit vector now seq prev (op ∷ ops) = (inl refl, linked_fit vector now (seq + 1) (record_name (record { owner = own; seq = seq; prev = prev; vector = vector; moment = now; op = op })) ops)
+
+  abbrev pub StaysBacked : List Record → Type 0
+  StaysBacked s = AllByRecursion (IsBacked more own (front s) later) s
+
+  backed_by_front : (s : List Record) (r : Record) → Contains s r → IsFit r → IsBacked more own (front s) later r
+  backed_by_front s r c (inl e) = inl (e, own_within own s r e c)
+  backed_by_front s r c (inr u) = inr u
+
+  backed : (s : List Record) → AllByRecursion IsFit s → StaysBacked s
+  backed s h = each_from (IsBacked more own (front s) later) s (λ r c. backed_by_front s r c (each IsFit s r h c))
+
+-- ---- along a turn
+
+module _ (a : Agent) (blocks more : List (List ℕ)) (received later : List Entry) (in_more : AreAmong blocks more) (in_later : AreAmong received later) (floor : Vector)
+    (s : List Record) (before : AllByRecursion (IsBacked blocks a.own floor received) s) (asked : Asked) (now : Moment) where
+  abbrev Keeps : Turned → Type 0
+  Keeps x = StaysBacked a.own blocks more received later in_more in_later x.set
+
+  all_fit : AllByRecursion (IsFit a.own blocks more received later in_more in_later) s
+  all_fit = fit_all a.own blocks more received later in_more in_later floor s before
+
+  same_set : StaysBacked a.own blocks more received later in_more in_later s
+  same_set = backed a.own blocks more received later in_more in_later s all_fit
+
+  longer_set : (ops : List Op) → StaysBacked a.own blocks more received later in_more in_later (appended a.own now s ops)
+  longer_set ops = backed a.own blocks more received later in_more in_later (appended a.own now s ops)
+      (each_append (IsFit a.own blocks more received later in_more in_later) s _ all_fit
+      (linked_fit a.own blocks more received later in_more in_later (without_log (head_key_of a.own) (front s)) now (own_seq a.own s + 1) (own_name a.own s) ops))
+
+  chosen : (b c : Bool) (x y z : Turned) → Keeps x → Keeps y → Keeps z → Keeps (cond b x (cond c y z))
+  chosen true c x y z p q o = p
+  chosen false true x y z p q o = q
+  chosen false false x y z p q o = o
+
+  in_plan : (p : Plan) → Keeps (by_plan a s asked now p)
+  in_plan (Refuse reply) = same_set
+  in_plan (Nothing reply) = same_set
+  in_plan (Operations ops) = chosen (a.leaves == 0 || nat_lt most_records (own_seq a.own s + length ops)) a.has_failed _ _ _ same_set same_set (longer_set ops)
+
+  either : (b : Bool) (x y : Turned) → Keeps x → Keeps y → Keeps (cond b x y)
+  either true x y p q = p
+  either false x y p q = q
+
+  pub in_turn : Keeps (turn_on a s asked now)
+  in_turn = either (is_changing asked.args) _ _ (in_plan (plan (replay s) a.view asked.caller asked.args now a.own (own_seq a.own s + 1))) same_set
+
+pub known_stays_backed : KnownStaysBacked
+known_stays_backed a blocks more floor received later taken asked now in_more in_later before = in_turn a blocks more received later in_more in_later floor taken before asked now

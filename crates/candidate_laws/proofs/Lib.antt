@@ -1,0 +1,4 @@
+pub mod OneChain
+pub mod OneCandidate
+pub mod Taken
+pub mod Backed

@@ -1,0 +1,23 @@
+//! What follows from the definition of candidates: they are one list, and what a turn takes of them is verified.
+//!
+//! Layer: laws and no code, above `turn_model`. For the layers above: what is known, the heads and the blocks determine the
+//! candidates; the set that a turn takes has, of each member's log, the beginning of a chain at or under a received head,
+//! and of the own log just what was known; and what is known then is backed again. Statements: `specs/One.antt`,
+//! `specs/Verified.antt`.
+#![tactic(auto)]
+
+ghost use Rattle.candidate_laws.specs.One.{CandidatesAreOne};
+ghost use Rattle.candidate_laws.specs.Verified.{TakenIsVerified, OwnLogIsKnown, KnownStaysBacked};
+
+/// A law and no code: what an agent knows, the heads and the blocks determine the candidates, where no two different blocks
+/// have one name.
+pub fn candidates_are_one()
+    ensures { CandidatesAreOne }
+{}
+
+/// A law and no code: what a turn takes is verified, has of the own log just what was known, and stays backed.
+pub fn what_is_taken_is_verified()
+    ensures verified { TakenIsVerified }
+    ensures own { OwnLogIsKnown }
+    ensures backed { KnownStaysBacked }
+{}
