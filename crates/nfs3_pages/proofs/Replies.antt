@@ -53,7 +53,7 @@ start_checks cookie given size count verifier left =
 -- the fault of the directory is that of the page
 pub reading_fails : (t : Tree) (who : Identity) (o : Object) (cookie : ℕ) (given : List ℕ) (size : List ℕ → ℕ) (count : ℕ) (fault : NfsStatus)
     → first_failure (reading_checks who o) ≡ Some fault → first_failure (page_checks t who o cookie given size count) ≡ Some fault
-reading_fails t who o cookie given size count fault h = by_two (not (directory_kind o.inode.kind)) (not (may_read who o.inode)) status.NotDir status.Acces _ fault h
+reading_fails t who o cookie given size count fault h = by_two (not (directory_kind o.inode.kind)) (not (may_read who o.inode)) status.NotDir status.Acces (start_checks cookie given size count (cookie_verifier t o.number) (entries_from t o.number cookie)) fault h
 
 -- where the directory has none, that of the start is
 pub start_decides : (t : Tree) (who : Identity) (o : Object) (cookie : ℕ) (given : List ℕ) (size : List ℕ → ℕ) (count : ℕ) (verifier : List ℕ) (left : List Place)
@@ -62,14 +62,6 @@ pub start_decides : (t : Tree) (who : Identity) (o : Object) (cookie : ℕ) (giv
 start_decides t who o cookie given size count verifier left h v l =
     past_two (not (directory_kind o.inode.kind)) (not (may_read who o.inode)) status.NotDir status.Acces (start_checks cookie given size count (cookie_verifier t o.number) (entries_from t o.number cookie)) h
     ∙ sym (λ i. first_failure (start_checks cookie given size count (v i) (l i)))
-
--- a directory can be read where nothing is wrong with it
-pub reads_directory : (who : Identity) (o : Object) → first_failure (reading_checks who o) ≡ None → directory_kind o.inode.kind ≡ true
-reads_directory who o h = by (directory_kind o.inode.kind) (may_read who o.inode) h
-  where
-    by : (a b : Bool) → first_failure ((not a, status.NotDir) ∷ (not b, status.Acces) ∷ []) ≡ None → a ≡ true
-    by true b h = refl
-    by false b h = cc
 
 -- ---- answers
 

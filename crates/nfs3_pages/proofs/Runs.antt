@@ -71,7 +71,8 @@ no_places k (e ∷ es) h = absurd (omega (arith, h))
 pub one_at_least : (k j : ℕ) (es fit : List Pair) → length fit ≡ 0 → placed k (take (min (length es) 1) es) ≡ at_least_one (placed k es) (placed j fit)
 one_at_least k j [] fit h = sym (no_places j fit h)
 one_at_least k j (e ∷ es) fit h =
-    ap (λ (m : ℕ). placed k (take m (e ∷ es))) (omega arith)
+    let one : min (suc (length es)) 1 ≡ 1 = omega arith in
+    ap (λ (m : ℕ). placed k (take m (e ∷ es))) one
     ∙ sym (ap (at_least_one ((k + 1, e) ∷ placed (k + 1) es)) (no_places j fit h))
 
 pub some_there : (n : ℕ) → nat_eq n 0 ≡ false → 0 < n
@@ -82,6 +83,10 @@ pub some_fit : (ps : List Place) (j : ℕ) (fit : List Pair) → 0 < length fit 
 some_fit ps j [] h = absurd (omega (arith, h))
 some_fit [] j (f ∷ fs) h = refl
 some_fit (p ∷ ps) j (f ∷ fs) h = refl
+
+-- a page ends where its entries do, by their places too
+pub same_end : (j k : ℕ) (page left : List Pair) → nat_eq (length page) (length left) ≡ nat_eq (length (placed j page)) (length (placed k left))
+same_end j k page left = sym (λ i. nat_eq (length-placed j page i) (length-placed k left i))
 
 -- ---- what fits
 
