@@ -1,6 +1,6 @@
 //! What is cut off a run of entries: those behind a cookie, and those that fit.
 
-ghost use Rattle.std.specs.Prelude.{◌≡◌, ◌≤◌, ◌<◌, ◌+◌, ◌^◌, length, take, drop};
+ghost use Rattle.std.specs.Prelude.{◌≡◌, ◌≤◌, ◌<◌, ◌+◌, ◌^◌, ◌==◌, length, take, drop};
 ghost use Rattle.nfs_model.specs.Pages.{placed, fitting, at_least_one, too_small};
 ghost use Rattle.nfs3_pages.specs.Measures.{length_by};
 ghost use Rattle.nfs3_pages.specs.Places.{places};
@@ -66,6 +66,13 @@ pub fn at_least_one<'a>(entries: &Entries<'a>, fit: &Entries<'a>) -> Entries<'a>
     } else {
         *fit
     }
+}
+
+/// Whether the page has all that was left.
+pub fn is_last(page: &Entries<'_>, left: &Entries<'_>) -> bool
+    ensures { result ≡ (length (places page.now) == length (places left.now)) }
+{
+    page.pairs.len() == left.pairs.len()
 }
 
 /// Whether a page of so many bytes has no place for the first of the entries.

@@ -12,7 +12,7 @@ ghost use Rattle.nfs_model.specs.Pages.{too_small, listed, listed_plus, read_dir
 ghost use Rattle.nfs3_pages.specs.Measures.{length_by};
 ghost use Rattle.nfs3_pages.specs.Places.{places};
 
-use crate::cuts::{at_least_one, behind, fitting, is_too_small};
+use crate::cuts::{at_least_one, behind, fitting, is_last, is_too_small};
 use crate::entries::Entries;
 use crate::listing::whole_of;
 use crate::measure::{Measure, room_for_entries};
@@ -70,7 +70,7 @@ pub fn read_directory(
         dir: told,
         verifier: whole.verifier,
         page: plain_page(alloc, &page)?,
-        eof: page.pairs.len() == left.pairs.len(),
+        eof: is_last(&page, &left),
     })
 }
 
@@ -108,7 +108,7 @@ pub fn read_directory_plus(
         dir: told,
         verifier: whole.verifier,
         page: page_plus(alloc, tree, view, &page)?,
-        eof: page.pairs.len() == left.pairs.len(),
+        eof: is_last(&page, &left),
     })
 }
 
@@ -182,12 +182,7 @@ fn plain_page(alloc: Global, entries: &Entries<'_>) -> Result<Page, Memory>
 }
 
 /// The page of these entries with their attributes and handles. The error is want of memory.
-fn page_plus(
-    alloc: Global,
-    tree: &Tree,
-    view: &View,
-    entries: &Entries<'_>,
-) -> Result<Page, Memory>
+fn page_plus(alloc: Global, tree: &Tree, view: &View, entries: &Entries<'_>) -> Result<Page, Memory>
     ensures { IfOk result (λ page. page ≡ map (listed_plus tree.now view.now) (places entries.now)) }
 {
     let mut page = Vec::with_capacity(alloc, entries.pairs.len())?;

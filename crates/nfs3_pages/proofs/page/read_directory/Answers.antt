@@ -1,4 +1,4 @@
-use Rattle.std.proofs.Common.{◌≡◌, ◌∙◌, sym, ap, List, ℕ, Option, Some, None, drop, length, nat_eq}
+use Rattle.std.proofs.Common.{◌≡◌, ◌∙◌, sym, ap, List, ℕ, Option, Some, None, drop}
 use Rattle.ivy_base.specs.declared.key.Key.{Key}
 use Rattle.nfs_model.specs.declared.replies.Fattr.{Fattr}
 use Rattle.nfs_model.specs.declared.replies.Tail.TheVariants as tails
@@ -7,7 +7,6 @@ use Rattle.rpc_wire.specs.Callers.{identity_of}
 use Rattle.nfs_model.specs.Pages.{placed, fitting, plain_length}
 use Rattle.nfs3_objects.specs.Seen.{seen}
 use Rattle.nfs3_pages.specs.Places.{places}
-use Rattle.nfs3_pages.proofs.Runs.{same_end}
 use Rattle.nfs3_pages.proofs.Replies.{reading_fails, start_decides, refused_page, given_page}
 use Rattle.nfs3_pages.proofs.page.read_directory.Goals as goal
 
@@ -47,14 +46,13 @@ returns c =
     let page = c.fitting-page.result in
     let readable : c.reading_fault.result ≡ None = c.in_default.is in
     let begins : c.start_fault.result ≡ None = c.in_default-start_fault.is in
-    let eof = nat_eq (length page.pairs.now) (length left.pairs.now) in
     let behind = c.behind-left.ensures ∙ ap (λ (all : List (List ℕ × Key)). drop c.args.start.cookie (placed 0 all)) (c.as_slice.ensures.value ∙ c.in_ok-whole.ensures.entries) in
-    ap (λ (a : Fattr). reply.Directory (Some a) c.in_ok-whole.whole.verifier c.in_ok-plain_page.field-0 eof) c.attributes.ensures
-    ∙ given_page t view who c.args.handle.now c.args.start.cookie c.args.start.verifier o c.args.count c.in_ok-whole.whole.verifier (places left) (places page) c.in_ok-plain_page.field-0 eof
+    ap (λ (a : Fattr). reply.Directory (Some a) c.in_ok-whole.whole.verifier c.in_ok-plain_page.field-0 c.is_last.result) c.attributes.ensures
+    ∙ given_page t view who c.args.handle.now c.args.start.cookie c.args.start.verifier o c.args.count c.in_ok-whole.whole.verifier (places left) (places page) c.in_ok-plain_page.field-0 c.is_last.result
     c.in-Ok.ensures.ok
     (start_decides t who o c.args.start.cookie c.args.start.verifier plain_length c.args.count c.in_ok-whole.whole.verifier (places left) (sym c.reading_fault.ensures ∙ readable) c.in_ok-whole.ensures.verifier behind ∙ sym c.start_fault.ensures ∙ begins)
     c.in_ok-whole.ensures.verifier
     behind
     (c.fitting-page.ensures ∙ ap (λ (room : ℕ). fitting plain_length room (places left)) c.room_for_entries.ensures)
     c.in_ok-plain_page.ensures
-    (same_end page.before left.before page.pairs.now left.pairs.now)
+    c.is_last.ensures
