@@ -15,9 +15,13 @@ use view_blocks::View;
 
 /// The bits of ACCESS (RFC 1813, section 3.3.4): READ, LOOKUP, MODIFY and EXTEND, DELETE, EXECUTE.
 const READ: u32 = 1;
+
 const LOOK_UP: u32 = 2;
+
 const MODIFY_AND_EXTEND: u32 = 12;
+
 const DELETE: u32 = 16;
+
 const EXECUTE: u32 = 32;
 
 /// ACCESS (RFC 1813, section 3.3.4): of the asked bits, those that the caller is granted; directories alone have
