@@ -1,0 +1,3 @@
+pub mod Measures
+pub mod Places
+pub mod Names
