@@ -166,6 +166,29 @@ impl World {
         self.ask(alloc, OTHER, args)
     }
 
+    /// The root's first entries in that many bytes.
+    fn list(&self, alloc: Global, count: u32) -> Result<Reply, Memory> {
+        let args = Args::ReadDir {
+            dir: self.handle(alloc, ROOT)?,
+            cookie: 0,
+            verifier: [0; 8],
+            count,
+        };
+        self.ask(alloc, OTHER, args)
+    }
+
+    /// The same with attributes.
+    fn list_plus(&self, alloc: Global, dircount: u32, maxcount: u32) -> Result<Reply, Memory> {
+        let args = Args::ReadDirPlus {
+            dir: self.handle(alloc, ROOT)?,
+            cookie: 0,
+            verifier: [0; 8],
+            dircount,
+            maxcount,
+        };
+        self.ask(alloc, OTHER, args)
+    }
+
     fn attributes(&self, alloc: Global, object: Bytes) -> Result<Reply, Memory> {
         self.ask(alloc, OTHER, Args::GetAttr { object })
     }
@@ -435,6 +458,40 @@ fn names_are_looked_at(rt: HostRuntime) -> Result<(), Fail> {
             NfsStatus::NameTooLong
         )
     );
+    Ok(())
+}
+
+// ---- READDIR, READDIRPLUS
+
+/// Whether so many entries are given, and whether they are the last.
+fn is_page(reply: &Reply, wanted: usize, end: bool) -> bool {
+    match reply {
+        Reply::Directory { page, eof, .. } | Reply::DirectoryPlus { page, eof, .. } => {
+            page.as_slice().len() == wanted && *eof == end
+        }
+        _ => false,
+    }
+}
+
+/// The root has six entries, each of 24 bytes, and a page 104 bytes beside them.
+#[test]
+fn a_directory_is_listed(rt: HostRuntime) -> Result<(), Fail> {
+    let alloc = rt.alloc();
+    let world = example(alloc)?;
+    assert!(rt; is_page(&world.list(alloc, 248)?, 6, true));
+    assert!(rt; is_page(&world.list(alloc, 247)?, 5, false));
+    assert!(rt; is_refused(&world.list(alloc, 127)?, NfsStatus::TooSmall));
+    Ok(())
+}
+
+/// Attributes and a file handle are 140 bytes more; numbers, names and cookies are 20 of an entry's bytes.
+#[test]
+fn a_directory_is_listed_with_attributes(rt: HostRuntime) -> Result<(), Fail> {
+    let alloc = rt.alloc();
+    let world = example(alloc)?;
+    assert!(rt; is_page(&world.list_plus(alloc, 120, 1088)?, 6, true));
+    assert!(rt; is_page(&world.list_plus(alloc, 120, 1087)?, 5, false));
+    assert!(rt; is_page(&world.list_plus(alloc, 40, 1088)?, 2, false));
     Ok(())
 }
 
