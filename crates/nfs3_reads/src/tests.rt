@@ -473,25 +473,25 @@ fn is_page(reply: &Reply, wanted: usize, end: bool) -> bool {
     }
 }
 
-/// The root has six entries, each of 24 bytes, and a page 104 bytes beside them.
+/// The root has six entries, each of 28 bytes (4 + 8 + 4 + 4 + 8), and a page 104 bytes beside them.
 #[test]
 fn a_directory_is_listed(rt: HostRuntime) -> Result<(), Fail> {
     let alloc = rt.alloc();
     let world = example(alloc)?;
-    assert!(rt; is_page(&world.list(alloc, 248)?, 6, true));
-    assert!(rt; is_page(&world.list(alloc, 247)?, 5, false));
-    assert!(rt; is_refused(&world.list(alloc, 127)?, NfsStatus::TooSmall));
+    assert!(rt; is_page(&world.list(alloc, 272)?, 6, true));
+    assert!(rt; is_page(&world.list(alloc, 271)?, 5, false));
+    assert!(rt; is_refused(&world.list(alloc, 131)?, NfsStatus::TooSmall));
     Ok(())
 }
 
-/// Attributes and a file handle are 140 bytes more; numbers, names and cookies are 20 of an entry's bytes.
+/// Attributes and a file handle are 140 bytes more; numbers, names and cookies are 24 of an entry's bytes.
 #[test]
 fn a_directory_is_listed_with_attributes(rt: HostRuntime) -> Result<(), Fail> {
     let alloc = rt.alloc();
     let world = example(alloc)?;
-    assert!(rt; is_page(&world.list_plus(alloc, 120, 1088)?, 6, true));
-    assert!(rt; is_page(&world.list_plus(alloc, 120, 1087)?, 5, false));
-    assert!(rt; is_page(&world.list_plus(alloc, 40, 1088)?, 2, false));
+    assert!(rt; is_page(&world.list_plus(alloc, 144, 1112)?, 6, true));
+    assert!(rt; is_page(&world.list_plus(alloc, 144, 1111)?, 5, false));
+    assert!(rt; is_page(&world.list_plus(alloc, 48, 1112)?, 2, false));
     Ok(())
 }
 
