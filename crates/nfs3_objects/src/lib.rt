@@ -15,9 +15,7 @@ pub mod names;
 pub mod object;
 pub mod permission;
 
-pub use fattr::{
-    attributes, attributes_at, before_at, cache_data, leading_number, no_cache_data,
-};
+pub use fattr::{attributes, attributes_at, before_at, cache_data, leading_number, no_cache_data};
 pub use names::{is_dot, is_dot_dot, name_fault};
 pub use object::{LiveObject, handle_of, live_object, object_of};
 pub use permission::{is_in_group, is_owner, may_read, may_search, may_write};

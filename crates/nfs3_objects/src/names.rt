@@ -1,6 +1,7 @@
 //! The checks on a name in a call.
 
-ghost use Rattle.std.specs.Prelude.{◌≡◌, [], ◌∷◌};
+ghost use Rattle.std.specs.Prelude.{◌≡◌, ◌||◌, ◌==◌, [], ◌∷◌};
+ghost use Rattle.std.specs.List.{list_any};
 ghost use Rattle.nfs_model.specs.Checks.{first_failure, too_long_name, invalid_name, is_dot, is_dot_dot};
 
 use nfs_model::NfsStatus;
@@ -16,10 +17,17 @@ pub fn name_fault(name: &[u8]) -> Option<NfsStatus>
     if name.len() > MOST_NAME {
         return Some(NfsStatus::NameTooLong);
     }
-    if name.is_empty() || name.iter().any(|byte| *byte == b'/' || *byte == 0) {
+    if name.is_empty() || has_forbidden(name) {
         return Some(NfsStatus::Inval);
     }
     None
+}
+
+/// Whether a byte stands in the name that may not: a slash or a zero byte.
+fn has_forbidden(name: &[u8]) -> bool
+    ensures { result ≡ list_any (λ b. b == 47 || b == 0) name.now }
+{
+    name.iter().any(|byte| *byte == b'/' || *byte == 0)
 }
 
 /// Whether the name is that of the directory itself.

@@ -1,7 +1,9 @@
 //! File handles, and the objects that they lead to.
 
-ghost use Rattle.std.specs.Prelude.{◌≡◌, IfOk, IfErr, Ok, Err, Some, length};
+ghost use Rattle.std.specs.Prelude.{◌≡◌, ◌&&◌, ◌==◌, IfOk, IfErr, Ok, Err, Some, [], ◌∷◌, length, take, drop};
+ghost use Rattle.log_model.specs.View.{view_name};
 ghost use Rattle.tree_model.specs.Tree.{inode_at};
+ghost use Rattle.nfs_model.specs.Checks.{same_bytes};
 ghost use Rattle.nfs_model.specs.Objects.{handle_of, live_object, object_of};
 ghost use Rattle.nfs3_objects.specs.Seen.{seen};
 
@@ -31,20 +33,47 @@ pub struct LiveObject<'t> {
 ///
 /// The fault is `BadHandle` where the handle hasn't 44 bytes of which the first four are `IVY1`, and else `Stale`
 /// where it is of another view, or the inode isn't live.
-pub fn object_of<'t>(tree: &'t Tree, view: &View, handle: &[u8]) -> Result<LiveObject<'t>, NfsStatus>
+pub fn object_of<'t>(
+    tree: &'t Tree,
+    view: &View,
+    handle: &[u8],
+) -> Result<LiveObject<'t>, NfsStatus>
     ensures ok { IfOk result (λ o. object_of tree.now view.now handle.now ≡ Ok (seen o)) }
     ensures there { IfOk result (λ o. inode_at tree.now o.number ≡ Some o.content.now) }
     ensures err { IfErr result (λ fault. object_of tree.now view.now handle.now ≡ Err fault) }
 {
-    if handle.len() != HANDLE || handle[..4] != TAG[..] {
+    if !is_handle(handle) {
         return Err(NfsStatus::BadHandle);
     }
-    if handle[4..24] != view.name().0[..] {
+    if !is_of_view(view, handle) {
         return Err(NfsStatus::Stale);
     }
+    live_object(tree, number_of(handle))
+}
+
+/// Whether the bytes have the length and the tag of a handle.
+fn is_handle(handle: &[u8]) -> bool
+    ensures { result ≡ (length handle.now == 44 && same_bytes (take 4 handle.now) (73 ∷ 86 ∷ 89 ∷ 49 ∷ [])) }
+{
+    handle.len() == HANDLE && handle[..4] == TAG[..]
+}
+
+/// Whether the handle is of that view.
+fn is_of_view(view: &View, handle: &[u8]) -> bool
+    requires { length handle.now ≡ 44 }
+    ensures { result ≡ same_bytes (take 20 (drop 4 handle.now)) (view_name view.now).0 }
+{
+    handle[4..24] == view.name().0[..]
+}
+
+/// The number of the inode in the handle.
+fn number_of(handle: &[u8]) -> Key
+    requires { length handle.now ≡ 44 }
+    ensures { result ≡ record { 0 = drop 24 handle.now } }
+{
     let mut number = [0; 20];
     number.copy_from_slice(&handle[24..]);
-    live_object(tree, Key(number))
+    Key(number)
 }
 
 /// The object of that number; the fault is `Stale`, where there is none or it isn't live.
