@@ -12,10 +12,15 @@
 //! the top.
 #![tactic(auto)]
 
+mod checks;
 pub mod finishing;
 pub mod ops;
 pub mod plans;
 pub mod planning;
+mod creating;
+mod refusals;
+mod setting;
+mod times;
 
 pub use finishing::finish;
 pub use ops::Ops;
