@@ -2,11 +2,10 @@
 
 ghost use Rattle.std.specs.Prelude.{◌≡◌, IfOk, ℕ, List, None, [], ◌∷◌, if◌then◌else◌};
 ghost use Rattle.rpc_wire.specs.Callers.{identity_of};
-ghost use Rattle.tree_model.specs.Tree.{entry};
 ghost use Rattle.nfs_model.specs.Checks.{first_failure};
 ghost use Rattle.nfs_model.specs.Changing.{Operations, plan_create, plan_directory, plan_existing, plan_file, plan_new, plan_symbolic_link, make, set_times, inode_under, is_positive, may_cut};
 ghost use Rattle.nfs3_objects.specs.Seen.{seen as seen_object};
-ghost use Rattle.nfs3_writes.specs.Checks.{directory_made_checks, file_made_checks, link_made_checks};
+ghost use Rattle.nfs3_writes.specs.Checks.{directory_made_checks, directory_made_rest, file_made_checks, file_made_rest, link_made_checks, link_made_rest};
 ghost use Rattle.nfs3_writes.specs.Seen.{seen};
 
 use crate::checks::{first_failure, is_dots, is_file_under, is_taken, place_fault};
@@ -67,10 +66,22 @@ fn directory_fault(
 ) -> Option<NfsStatus>
     ensures { result ≡ first_failure (directory_made_checks tree.now (identity_of caller.now) (seen_object dir.now) name.now what.now) }
 {
-    place_fault(caller, dir, name).or(first_failure(&[
+    place_fault(caller, dir, name).or(directory_rest(tree, dir, name, what))
+}
+
+/// The first of those checks of MKDIR that fails which follow those of the place.
+fn directory_rest(
+    tree: &Tree,
+    dir: &LiveObject<'_>,
+    name: &[u8],
+    what: &SetWhat,
+) -> Option<NfsStatus>
+    ensures { result ≡ first_failure (directory_made_rest tree.now (seen_object dir.now) name.now what.now) }
+{
+    first_failure(&[
         (has_invalid_time(what), NfsStatus::Inval),
         (is_taken(tree, dir, name), NfsStatus::Exist),
-    ]))
+    ])
 }
 
 /// The operation that makes an inode, with the caller as its owner. The error is want of memory.
@@ -181,12 +192,25 @@ fn link_fault(
 ) -> Option<NfsStatus>
     ensures { result ≡ first_failure (link_made_checks tree.now (identity_of caller.now) (seen_object dir.now) name.now what.now text.now) }
 {
-    place_fault(caller, dir, name).or(first_failure(&[
+    place_fault(caller, dir, name).or(link_rest(tree, dir, name, what, text))
+}
+
+/// The first of those checks of SYMLINK that fails which follow those of the place.
+fn link_rest(
+    tree: &Tree,
+    dir: &LiveObject<'_>,
+    name: &[u8],
+    what: &SetWhat,
+    text: &[u8],
+) -> Option<NfsStatus>
+    ensures { result ≡ first_failure (link_made_rest tree.now (seen_object dir.now) name.now what.now text.now) }
+{
+    first_failure(&[
         (text.len() > MOST_TEXT, NfsStatus::NameTooLong),
         (text.is_empty(), NfsStatus::Inval),
         (has_invalid_time(what), NfsStatus::Inval),
         (is_taken(tree, dir, name), NfsStatus::Exist),
-    ]))
+    ])
 }
 
 // ---- CREATE
@@ -275,23 +299,31 @@ fn file_fault(
     guarded: bool,
     what: &SetWhat,
 ) -> Option<NfsStatus>
-    requires { existing ≡ entry tree.now dir.now.number name.now }
-    ensures { result ≡ first_failure (file_made_checks tree.now (identity_of caller.now) (seen_object dir.now) name.now guarded what.now) }
+    ensures { result ≡ first_failure (file_made_checks tree.now (identity_of caller.now) (seen_object dir.now) name.now existing guarded what.now) }
+{
+    place_fault(caller, dir, name).or(file_rest(tree, caller, name, existing, guarded, what))
+}
+
+/// The first of those checks of CREATE that fails which follow those of the place.
+fn file_rest(
+    tree: &Tree,
+    caller: &Caller,
+    name: &[u8],
+    existing: Option<Key>,
+    guarded: bool,
+    what: &SetWhat,
+) -> Option<NfsStatus>
+    ensures { result ≡ first_failure (file_made_rest tree.now (identity_of caller.now) name.now existing guarded what.now) }
 {
     let there = existing.is_some();
-    place_fault(caller, dir, name).or(first_failure(&[
+    let cut = there && what.size.is_some();
+    first_failure(&[
         (has_invalid_time(what), NfsStatus::Inval),
         (is_too_large(what.size), NfsStatus::FBig),
         (is_dots(name), NfsStatus::Exist),
-        (
-            there && (guarded || !is_file_under(tree, existing)),
-            NfsStatus::Exist,
-        ),
-        (
-            there && what.size.is_some() && !may_cut(tree, caller, existing),
-            NfsStatus::Acces,
-        ),
-    ]))
+        (there && (guarded || !is_file_under(tree, existing)), NfsStatus::Exist),
+        (cut && !may_cut(tree, caller, existing), NfsStatus::Acces),
+    ])
 }
 
 /// Whether the caller may cut the file of that number: whoever may write it or owns it.

@@ -14,6 +14,7 @@
 
 mod checks;
 pub mod finishing;
+mod naming;
 pub mod ops;
 pub mod plans;
 pub mod planning;
