@@ -21,11 +21,11 @@ pub fn finish(
     before: &Tree,
     after: &Tree,
     view: &View,
-    _caller: &Caller,
+    caller: &Caller,
     args: &Args,
     ops: &[Op],
 ) -> Result<Reply, Memory>
-    ensures { IfOk result (λ reply. reply ≡ finish before.now after.now view.now (identity_of _caller.now) args.now ops.now) }
+    ensures { IfOk result (λ reply. reply ≡ finish before.now after.now view.now (identity_of caller.now) args.now ops.now) }
 {
     match args {
         Args::SetAttr { object, .. } => Ok(changed(before, after, view, object.as_slice())),

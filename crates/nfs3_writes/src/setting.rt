@@ -192,7 +192,8 @@ fn ends_too_far(offset: u64, bytes: &[u8]) -> bool
 
 /// The bytes of a WRITE that are taken.
 pub fn taken_part(bytes: &[u8]) -> &[u8]
-    ensures { result.now ≡ taken_part bytes.now }
+    ensures taken { result.now ≡ taken_part bytes.now }
+    ensures few { length result.now ≤ 8192 }
 {
     &bytes[..MOST_TAKEN.min(bytes.len())]
 }
