@@ -1,0 +1,10 @@
+use Rattle.rpc_wire.specs.Callers.{identity_of}
+use Rattle.std.proofs.Common.{◌≡◌, rules}
+use Rattle.nfs_model.specs.Checks.{first_failure}
+use Rattle.nfs3_objects.specs.Seen.{seen}
+use Rattle.nfs3_writes.specs.Checks.{place_checks, remove_rest}
+use Rattle.nfs3_writes.proofs.Passing.{in_turn}
+use Rattle.nfs3_writes.proofs.naming.remove_fault.Goals as goal
+
+pub returns : goal.returns
+returns c = in_turn (place_checks (identity_of c.args.caller.now) (seen c.args.dir.now) c.args.name.now) (remove_rest c.args.tree.now c.args.name.now c.args.target) c.or.ensures c.place_fault.ensures c.remove_rest.ensures

@@ -1,0 +1,409 @@
+//! CREATE, MKDIR and SYMLINK: what makes a new object.
+
+ghost use Rattle.std.specs.Prelude.{◌≡◌, IfOk, ℕ, List, None, [], ◌∷◌, if◌then◌else◌};
+ghost use Rattle.rpc_wire.specs.Callers.{identity_of};
+ghost use Rattle.nfs_model.specs.Checks.{first_failure};
+ghost use Rattle.nfs_model.specs.Changing.{Operations, plan_create, plan_directory, plan_existing, plan_file, plan_new, plan_symbolic_link, make, set_times, inode_under, is_positive, may_cut};
+ghost use Rattle.nfs3_objects.specs.Seen.{seen as seen_object};
+ghost use Rattle.nfs3_writes.specs.Checks.{directory_made_checks, directory_made_rest, file_made_checks, file_made_rest, link_made_checks, link_made_rest};
+ghost use Rattle.nfs3_writes.specs.Seen.{seen};
+
+use crate::checks::{first_failure, is_dots, is_file_under, is_taken, place_fault};
+use crate::ops::Ops;
+use crate::plans::Plan;
+use crate::refusals::{planned, refused_at, refused_handle, told_of};
+use crate::times::{
+    given_mode, given_time, has_invalid_time, is_too_large, new_owner, only_times,
+};
+use fs_tree::Tree;
+use ivy_base::{Bytes, Change, Key, Kind, Memory, Moment, Op};
+use nfs_model::{How, NfsStatus, Reply, SetWhat};
+use nfs3_objects::{
+    LiveObject, attributes_at, handle_of, is_owner, may_write, object_of,
+};
+use rpc_wire::Caller;
+use std::alloc::Global;
+use view_blocks::View;
+
+/// The most bytes of a symbolic link's text.
+const MOST_TEXT: usize = 1024;
+
+// ---- MKDIR
+
+/// MKDIR (RFC 1813, section 3.3.9), of which the new directory gets that number; a size is passed over. The error is want
+/// of memory.
+pub fn plan_directory(
+    alloc: Global,
+    tree: &Tree,
+    view: &View,
+    caller: &Caller,
+    handle: &[u8],
+    name: &[u8],
+    what: &SetWhat,
+    now: Moment,
+    number: Key,
+) -> Result<Plan, Memory>
+    ensures { IfOk result (λ given. seen given ≡ plan_directory tree.now view.now (identity_of caller.now) handle.now name.now what.now now number) }
+{
+    let dir = match object_of(tree, view, handle) {
+        Ok(dir) => dir,
+        Err(fault) => return Ok(refused_handle(fault)),
+    };
+    if let Some(fault) = directory_fault(tree, caller, &dir, name, what) {
+        return Ok(refused_at(tree, view, &dir, fault));
+    }
+    let inode = make(alloc, caller, Kind::Dir, what, number, b"".as_slice())?;
+    new_object(alloc, inode, &dir, name, what, now, number)
+}
+
+/// The first check of MKDIR that fails.
+fn directory_fault(
+    tree: &Tree,
+    caller: &Caller,
+    dir: &LiveObject<'_>,
+    name: &[u8],
+    what: &SetWhat,
+) -> Option<NfsStatus>
+    ensures { result ≡ first_failure (directory_made_checks tree.now (identity_of caller.now) (seen_object dir.now) name.now what.now) }
+{
+    place_fault(caller, dir, name).or(directory_rest(tree, dir, name, what))
+}
+
+/// The first of those checks of MKDIR that fails which follow those of the place.
+fn directory_rest(
+    tree: &Tree,
+    dir: &LiveObject<'_>,
+    name: &[u8],
+    what: &SetWhat,
+) -> Option<NfsStatus>
+    ensures { result ≡ first_failure (directory_made_rest tree.now (seen_object dir.now) name.now what.now) }
+{
+    first_failure(&[
+        (has_invalid_time(what), NfsStatus::Inval),
+        (is_taken(tree, dir, name), NfsStatus::Exist),
+    ])
+}
+
+/// The operation that makes an inode, with the caller as its owner. The error is want of memory.
+fn make(
+    alloc: Global,
+    caller: &Caller,
+    kind: Kind,
+    what: &SetWhat,
+    number: Key,
+    target: &[u8],
+) -> Result<Op, Memory>
+    ensures { IfOk result (λ op. op ≡ make (identity_of caller.now) kind what.now number target.now) }
+{
+    Ok(Op::Inode {
+        ino: number,
+        kind,
+        mode: given_mode(kind, what.mode),
+        uid: new_owner(caller, caller.uid, what.uid),
+        gid: new_owner(caller, caller.gid, what.gid),
+        target: Bytes::copy_of(alloc, target)?,
+    })
+}
+
+/// The operation that gives an inode a name. The error is want of memory.
+fn link(alloc: Global, dir: Key, name: &[u8], ino: Key) -> Result<Op, Memory>
+    ensures { IfOk result (λ op. op ≡ Op.Link dir name.now ino) }
+{
+    Ok(Op::Link {
+        dir,
+        name: Bytes::copy_of(alloc, name)?,
+        ino,
+    })
+}
+
+/// The operation that makes the inode of that number, the one that names it in the directory, and one that sets its
+/// times where any is given. The error is want of memory.
+fn new_object(
+    alloc: Global,
+    inode: Op,
+    dir: &LiveObject<'_>,
+    name: &[u8],
+    what: &SetWhat,
+    now: Moment,
+    number: Key,
+) -> Result<Plan, Memory>
+    ensures { IfOk result (λ given. seen given ≡ Operations (inode ∷ Op.Link dir.now.number name.now number ∷ set_times now what.now number)) }
+{
+    let link = link(alloc, dir.number, name, number)?;
+    let change = only_times(now, what);
+    if change.atime.is_some() || change.mtime.is_some() {
+        return three(alloc, inode, link, number, change);
+    }
+    two(alloc, inode, link)
+}
+
+/// The plan of the operations that make an inode and name it. The error is want of memory.
+fn two(alloc: Global, inode: Op, link: Op) -> Result<Plan, Memory>
+    ensures { IfOk result (λ given. seen given ≡ Operations (inode ∷ link ∷ [])) }
+{
+    Ok(Plan::Ops(Ops::of(vec![in alloc; inode, link]?)))
+}
+
+/// The plan of the operations that make an inode, name it and set its attributes. The error is want of memory.
+fn three(alloc: Global, inode: Op, link: Op, ino: Key, change: Change) -> Result<Plan, Memory>
+    ensures { IfOk result (λ given. seen given ≡ Operations (inode ∷ link ∷ Op.SetAttrs ino change ∷ [])) }
+{
+    let set = Op::SetAttrs { ino, change };
+    Ok(Plan::Ops(Ops::of(vec![in alloc; inode, link, set]?)))
+}
+
+// ---- SYMLINK
+
+/// SYMLINK (RFC 1813, section 3.3.10), of which the new link gets that number; its text has 1 to 1,024 bytes, and a size is
+/// passed over. The error is want of memory.
+pub fn plan_symbolic_link(
+    alloc: Global,
+    tree: &Tree,
+    view: &View,
+    caller: &Caller,
+    handle: &[u8],
+    name: &[u8],
+    what: &SetWhat,
+    text: &[u8],
+    now: Moment,
+    number: Key,
+) -> Result<Plan, Memory>
+    ensures { IfOk result (λ given. seen given ≡ plan_symbolic_link tree.now view.now (identity_of caller.now) handle.now name.now what.now text.now now number) }
+{
+    let dir = match object_of(tree, view, handle) {
+        Ok(dir) => dir,
+        Err(fault) => return Ok(refused_handle(fault)),
+    };
+    if let Some(fault) = link_fault(tree, caller, &dir, name, what, text) {
+        return Ok(refused_at(tree, view, &dir, fault));
+    }
+    let inode = make(alloc, caller, Kind::Lnk, what, number, text)?;
+    new_object(alloc, inode, &dir, name, what, now, number)
+}
+
+/// The first check of SYMLINK that fails.
+fn link_fault(
+    tree: &Tree,
+    caller: &Caller,
+    dir: &LiveObject<'_>,
+    name: &[u8],
+    what: &SetWhat,
+    text: &[u8],
+) -> Option<NfsStatus>
+    ensures { result ≡ first_failure (link_made_checks tree.now (identity_of caller.now) (seen_object dir.now) name.now what.now text.now) }
+{
+    place_fault(caller, dir, name).or(link_rest(tree, dir, name, what, text))
+}
+
+/// The first of those checks of SYMLINK that fails which follow those of the place.
+fn link_rest(
+    tree: &Tree,
+    dir: &LiveObject<'_>,
+    name: &[u8],
+    what: &SetWhat,
+    text: &[u8],
+) -> Option<NfsStatus>
+    ensures { result ≡ first_failure (link_made_rest tree.now (seen_object dir.now) name.now what.now text.now) }
+{
+    first_failure(&[
+        (text.len() > MOST_TEXT, NfsStatus::NameTooLong),
+        (text.is_empty(), NfsStatus::Inval),
+        (has_invalid_time(what), NfsStatus::Inval),
+        (is_taken(tree, dir, name), NfsStatus::Exist),
+    ])
+}
+
+// ---- CREATE
+
+/// CREATE (RFC 1813, section 3.3.8), of which a new file gets that number. Under a verifier it is not supported. The error
+/// is want of memory.
+pub fn plan_create(
+    alloc: Global,
+    tree: &Tree,
+    view: &View,
+    caller: &Caller,
+    handle: &[u8],
+    name: &[u8],
+    how: &How,
+    now: Moment,
+    number: Key,
+) -> Result<Plan, Memory>
+    ensures { IfOk result (λ given. seen given ≡ plan_create tree.now view.now (identity_of caller.now) handle.now name.now how.now now number) }
+{
+    match how {
+        How::Unchecked(what) => {
+            plan_file(alloc, tree, view, caller, handle, name, false, what, now, number)
+        }
+        How::Guarded(what) => {
+            plan_file(alloc, tree, view, caller, handle, name, true, what, now, number)
+        }
+        How::Exclusive(_) => Ok(refused_exclusive(tree, view, caller, handle, name)),
+    }
+}
+
+/// The refusal of a CREATE under a verifier, which is not supported.
+fn refused_exclusive(
+    tree: &Tree,
+    view: &View,
+    caller: &Caller,
+    handle: &[u8],
+    name: &[u8],
+) -> Plan
+    ensures { (verifier : List ℕ) (now : Moment) (number : Key) → seen result ≡ plan_create tree.now view.now (identity_of caller.now) handle.now name.now (How.Exclusive verifier) now number }
+{
+    match object_of(tree, view, handle) {
+        Ok(dir) => {
+            let fault = place_fault(caller, &dir, name).unwrap_or(NfsStatus::NotSupp);
+            refused_at(tree, view, &dir, fault)
+        }
+        Err(fault) => refused_handle(fault),
+    }
+}
+
+/// CREATE with attributes. A file that is there may stand where the creation is not guarded. The error is want of memory.
+fn plan_file(
+    alloc: Global,
+    tree: &Tree,
+    view: &View,
+    caller: &Caller,
+    handle: &[u8],
+    name: &[u8],
+    guarded: bool,
+    what: &SetWhat,
+    now: Moment,
+    number: Key,
+) -> Result<Plan, Memory>
+    ensures { IfOk result (λ given. seen given ≡ plan_file tree.now view.now (identity_of caller.now) handle.now name.now guarded what.now now number) }
+{
+    let dir = match object_of(tree, view, handle) {
+        Ok(dir) => dir,
+        Err(fault) => return Ok(refused_handle(fault)),
+    };
+    let existing = tree.entry(&dir.number, name);
+    if let Some(fault) = file_fault(tree, caller, &dir, name, existing, guarded, what) {
+        return Ok(refused_at(tree, view, &dir, fault));
+    }
+    match existing {
+        Some(existing) => plan_existing(alloc, tree, view, &dir, existing, what),
+        None => plan_new(alloc, caller, &dir, name, what, now, number),
+    }
+}
+
+/// The first check of CREATE with attributes that fails, where the name leads to that inode or to none.
+fn file_fault(
+    tree: &Tree,
+    caller: &Caller,
+    dir: &LiveObject<'_>,
+    name: &[u8],
+    existing: Option<Key>,
+    guarded: bool,
+    what: &SetWhat,
+) -> Option<NfsStatus>
+    ensures { result ≡ first_failure (file_made_checks tree.now (identity_of caller.now) (seen_object dir.now) name.now existing guarded what.now) }
+{
+    place_fault(caller, dir, name).or(file_rest(tree, caller, name, existing, guarded, what))
+}
+
+/// The first of those checks of CREATE that fails which follow those of the place.
+fn file_rest(
+    tree: &Tree,
+    caller: &Caller,
+    name: &[u8],
+    existing: Option<Key>,
+    guarded: bool,
+    what: &SetWhat,
+) -> Option<NfsStatus>
+    ensures { result ≡ first_failure (file_made_rest tree.now (identity_of caller.now) name.now existing guarded what.now) }
+{
+    let there = existing.is_some();
+    let cut = there && what.size.is_some();
+    first_failure(&[
+        (has_invalid_time(what), NfsStatus::Inval),
+        (is_too_large(what.size), NfsStatus::FBig),
+        (is_dots(name), NfsStatus::Exist),
+        (there && (guarded || !is_file_under(tree, existing)), NfsStatus::Exist),
+        (cut && !may_cut(tree, caller, existing), NfsStatus::Acces),
+    ])
+}
+
+/// Whether the caller may cut the file of that number: whoever may write it or owns it.
+fn may_cut(tree: &Tree, caller: &Caller, number: Option<Key>) -> bool
+    ensures { result ≡ may_cut (identity_of caller.now) (inode_under tree.now number) }
+{
+    let Some(number) = number else {
+        return true;
+    };
+    match tree.content(&number) {
+        Some(content) => may_write(caller, content) || is_owner(caller, content),
+        None => true,
+    }
+}
+
+/// What becomes of a file that is there: its size is set where one is given. The error is want of memory.
+fn plan_existing(
+    alloc: Global,
+    tree: &Tree,
+    view: &View,
+    dir: &LiveObject<'_>,
+    number: Key,
+    what: &SetWhat,
+) -> Result<Plan, Memory>
+    ensures { IfOk result (λ given. seen given ≡ plan_existing tree.now view.now (seen_object dir.now) number what.now) }
+{
+    if what.size.is_some() {
+        let change = Change {
+            mode: None,
+            uid: None,
+            gid: None,
+            size: what.size,
+            atime: None,
+            mtime: None,
+        };
+        return planned(
+            alloc,
+            Op::SetAttrs {
+                ino: number,
+                change,
+            },
+        );
+    }
+    Ok(Plan::Nothing(Reply::Made {
+        handle: handle_of(alloc, view, &number)?,
+        object: attributes_at(tree, view, &number),
+        cache: told_of(tree, view, dir),
+    }))
+}
+
+/// The size, where it is above 0.
+fn positive(size: Option<u64>) -> Option<u64>
+    ensures { result ≡ (if is_positive size then size else None) }
+{
+    match size {
+        Some(0) => None,
+        size => size,
+    }
+}
+
+/// A new file: its times are set where they are given, and its size where it is above 0. The error is want of memory.
+fn plan_new(
+    alloc: Global,
+    caller: &Caller,
+    dir: &LiveObject<'_>,
+    name: &[u8],
+    what: &SetWhat,
+    now: Moment,
+    number: Key,
+) -> Result<Plan, Memory>
+    ensures { IfOk result (λ given. seen given ≡ plan_new (identity_of caller.now) (seen_object dir.now) name.now what.now now number) }
+{
+    let inode = make(alloc, caller, Kind::Reg, what, number, b"".as_slice())?;
+    let link = link(alloc, dir.number, name, number)?;
+    let change = Change {
+        size: positive(what.size),
+        ..only_times(now, what)
+    };
+    if change.size.is_some() || change.atime.is_some() || change.mtime.is_some() {
+        return three(alloc, inode, link, number, change);
+    }
+    two(alloc, inode, link)
+}
