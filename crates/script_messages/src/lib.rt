@@ -1,0 +1,12 @@
+//! The messages that the pieces of a script's calls are.
+//!
+//! Layer: over `play_model`, which has the words, and `nfs3_objects`, which makes handles; below the world of a script.
+//! For the layer above: [`message`] gives exactly the bytes of the definition (`message_of` of `play_model`'s
+//! `specs/Messages.antt`), and none where the pieces are no call of the forms that are taken, or one has no value.
+#![tactic(auto)]
+
+pub mod messages;
+#[cfg(test)]
+mod tests;
+
+pub use messages::message;

@@ -1,0 +1,14 @@
+//! The set of records that a turn takes: the largest causally closed part of what is known and of what a refresh brings.
+//!
+//! Layer: over `view_refresh` and `causal_order`, which it joins; below whoever takes turns.
+//! For the layers above: [`new_records`] gives the records that are new in the set that a turn of `turn_model` takes
+//! (`specs/Taking.antt`). Where memory is short there are none.
+//!
+//! Costs: those of a refresh and of a closed part; nothing is hashed here.
+#![tactic(auto)]
+
+pub mod taking;
+#[cfg(test)]
+mod tests;
+
+pub use taking::new_records;
