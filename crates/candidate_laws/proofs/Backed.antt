@@ -1,6 +1,6 @@
 -- What is known after a turn is backed by its own front, the same heads and blocks and whatever came to these.
-use Rattle.std.proofs.Common.{◌≡◌, ◌⊎◌, inl, inr, ⊎_elim, ℕ, ◌+◌, ◌≤◌, Bool, true, false, cond, ◌||◌, List, [], ◌∷◌, ◌++◌, length, map, Option, Some, refl, sym, ap, ◌∙◌, subst, arith, Contains}
-use Rattle.std.specs.Prelude.{fold, nat_lt, ◌==◌}
+use Rattle.std.proofs.Common.{◌≡◌, ◌⊎◌, inl, inr, ℕ, ◌+◌, ◌≤◌, Bool, true, false, cond, ◌||◌, List, [], ◌∷◌, length, map, Option, Some, refl, sym, ap, ◌∙◌, subst, arith, Contains}
+use Rattle.std.specs.Prelude.{nat_lt, ◌==◌}
 use Rattle.std.specs.List.{AllByRecursion}
 use Rattle.ivy_base.specs.declared.key.Key.{Key}
 use Rattle.ivy_base.specs.declared.key.PubKey.{PubKey}
@@ -8,12 +8,12 @@ use Rattle.ivy_base.specs.declared.operation.Moment.{Moment}
 use Rattle.ivy_base.specs.declared.operation.Op.{Op}
 use Rattle.ivy_base.specs.Naming.{head_key_of}
 use Rattle.tree_model.proofs.Keys.{same_key_itself}
-use Rattle.log_model.specs.Vector.{Entry, Vector, Stamp, stamp_at, reach, seq_of, Dominates, later_or, with_entry, join, without_log}
+use Rattle.log_model.specs.Vector.{Entry, Vector, Stamp, stamp_at, reach, seq_of, Dominates, later_or, without_log}
 use Rattle.log_model.specs.Record.{Record}
 use Rattle.log_model.specs.Spelling.{record_block, record_name}
 use Rattle.log_model.specs.Rank.{own_entry, full_vector, front}
 use Rattle.log_model.specs.Replay.{replay}
-use Rattle.log_model.proofs.Lists.{here, there, each, each_from, each_append}
+use Rattle.log_model.proofs.Lists.{each, each_from, each_append}
 use Rattle.log_model.proofs.Vectors.{stamp_at-with_entry, later_or_reaches}
 use Rattle.log_model.proofs.Weights.{joins_reach}
 use Rattle.nfs_model.specs.Changing.{Plan, Refuse, Nothing, Operations, plan}
@@ -44,13 +44,13 @@ own_within own s r e c = subst (λ (o : PubKey). r.seq ≤ seq_of (front s) (hea
 
 -- ---- with more blocks and heads
 
-module _ (own : PubKey) (blocks more : List (List ℕ)) (received later : List Entry) (in_more : AreAmong blocks more) (in_later : AreAmong received later) where
+module _ (blocks more : List (List ℕ)) (received later : List Entry) (in_more : AreAmong blocks more) (in_later : AreAmong received later) where
   more_stand : (log : List Record) → Stand blocks log → Stand more log
   more_stand [] h = tt
   more_stand (r ∷ log) h = (in_more (record_block r) h.0, more_stand log h.1)
 
-  stays_under : (r : Record) → IsUnderHead blocks received r → IsUnderHead more later r
-  stays_under r u = record {
+  more_under : (r : Record) → IsUnderHead blocks received r → IsUnderHead more later r
+  more_under r u = record {
     head = u.head;
     received = in_later u.head u.received;
     log = u.log;
@@ -61,49 +61,42 @@ module _ (own : PubKey) (blocks more : List (List ℕ)) (received later : List E
     below = u.below;
   }
 
-  -- the record is an own one, or stands under a head
-  abbrev IsFit : Record → Type 0
-  IsFit r = (r.owner ≡ own) ⊎ ((r.owner ≡ own → ⊥) × IsUnderHead more later r)
+-- ---- a set of own records and of others under heads
 
-  fit : (floor : Vector) (r : Record) → IsBacked blocks own floor received r → IsFit r
-  fit floor r (inl a) = inl a.0
-  fit floor r (inr b) = inr (b.0, stays_under r b.1)
+module _ (own : PubKey) (blocks : List (List ℕ)) (heads : List Entry) where
+  -- an own record, however far, or another's under a head
+  abbrev IsSound : Record → Type 0
+  IsSound r = (r.owner ≡ own) ⊎ ((r.owner ≡ own → ⊥) × IsUnderHead blocks heads r)
 
-  fit_all : (floor : Vector) (s : List Record) → AllByRecursion (IsBacked blocks own floor received) s → AllByRecursion IsFit s
-  fit_all floor [] h = tt
-  fit_all floor (r ∷ s) h = (fit floor r h.0, fit_all floor s h.1)
+  linked_sound : (vector : Vector) (now : Moment) (seq : ℕ) (prev : Key) (ops : List Op) → AllByRecursion IsSound (linked own vector now seq prev ops)
+  linked_sound vector now seq prev [] = tt
+  linked_sound vector now seq prev (op ∷ ops) =
+      (inl refl, linked_sound vector now (seq + 1) (record_name (record { owner = own; seq = seq; prev = prev; vector = vector; moment = now; op = op })) ops)
 
-  linked_fit : (vector : Vector) (now : Moment) (seq : ℕ) (prev : Key) (ops : List Op) → AllByRecursion IsFit (linked own vector now seq prev ops)
-  linked_fit vector now seq prev [] = tt
-  linked_fit vector now seq prev (op ∷ ops) = (inl refl, linked_fit vector now (seq + 1) (record_name (record { owner = own; seq = seq; prev = prev; vector = vector; moment = now; op = op })) ops)
+  -- the set is backed by its own front
+  abbrev IsBackedByFront : List Record → Type 0
+  IsBackedByFront s = AllByRecursion (IsBacked blocks own (front s) heads) s
 
-  abbrev pub StaysBacked : List Record → Type 0
-  StaysBacked s = AllByRecursion (IsBacked more own (front s) later) s
+  one_backed : (s : List Record) (r : Record) → Contains s r → IsSound r → IsBacked blocks own (front s) heads r
+  one_backed s r c (inl e) = inl (e, own_within own s r e c)
+  one_backed s r c (inr u) = inr u
 
-  backed_by_front : (s : List Record) (r : Record) → Contains s r → IsFit r → IsBacked more own (front s) later r
-  backed_by_front s r c (inl e) = inl (e, own_within own s r e c)
-  backed_by_front s r c (inr u) = inr u
-
-  backed : (s : List Record) → AllByRecursion IsFit s → StaysBacked s
-  backed s h = each_from (IsBacked more own (front s) later) s (λ r c. backed_by_front s r c (each IsFit s r h c))
+  all_backed : (s : List Record) → AllByRecursion IsSound s → IsBackedByFront s
+  all_backed s h = each_from (IsBacked blocks own (front s) heads) s (λ r c. one_backed s r c (each IsSound s r h c))
 
 -- ---- along a turn
 
-module _ (a : Agent) (blocks more : List (List ℕ)) (received later : List Entry) (in_more : AreAmong blocks more) (in_later : AreAmong received later) (floor : Vector)
-    (s : List Record) (before : AllByRecursion (IsBacked blocks a.own floor received) s) (asked : Asked) (now : Moment) where
+module _ (a : Agent) (blocks : List (List ℕ)) (heads : List Entry) (s : List Record) (sound : AllByRecursion (IsSound a.own blocks heads) s) (asked : Asked) (now : Moment) where
   abbrev Keeps : Turned → Type 0
-  Keeps x = StaysBacked a.own blocks more received later in_more in_later x.set
+  Keeps x = IsBackedByFront a.own blocks heads x.set
 
-  all_fit : AllByRecursion (IsFit a.own blocks more received later in_more in_later) s
-  all_fit = fit_all a.own blocks more received later in_more in_later floor s before
+  same_set : IsBackedByFront a.own blocks heads s
+  same_set = all_backed a.own blocks heads s sound
 
-  same_set : StaysBacked a.own blocks more received later in_more in_later s
-  same_set = backed a.own blocks more received later in_more in_later s all_fit
-
-  longer_set : (ops : List Op) → StaysBacked a.own blocks more received later in_more in_later (appended a.own now s ops)
-  longer_set ops = backed a.own blocks more received later in_more in_later (appended a.own now s ops)
-      (each_append (IsFit a.own blocks more received later in_more in_later) s _ all_fit
-      (linked_fit a.own blocks more received later in_more in_later (without_log (head_key_of a.own) (front s)) now (own_seq a.own s + 1) (own_name a.own s) ops))
+  longer_set : (ops : List Op) → IsBackedByFront a.own blocks heads (appended a.own now s ops)
+  longer_set ops =
+      let new = linked_sound a.own blocks heads (without_log (head_key_of a.own) (front s)) now (own_seq a.own s + 1) (own_name a.own s) ops in
+      all_backed a.own blocks heads (appended a.own now s ops) (each_append (IsSound a.own blocks heads) s _ sound new)
 
   chosen : (b c : Bool) (x y z : Turned) → Keeps x → Keeps y → Keeps z → Keeps (cond b x (cond c y z))
   chosen true c x y z p q o = p
@@ -119,8 +112,20 @@ module _ (a : Agent) (blocks more : List (List ℕ)) (received later : List Entr
   either true x y p q = p
   either false x y p q = q
 
-  pub in_turn : Keeps (turn_on a s asked now)
+  in_turn : Keeps (turn_on a s asked now)
   in_turn = either (is_changing asked.args) _ _ (in_plan (plan (replay s) a.view asked.caller asked.args now a.own (own_seq a.own s + 1))) same_set
 
+-- ---- the law
+
+module _ (own : PubKey) (blocks more : List (List ℕ)) (floor : Vector) (received later : List Entry) (in_more : AreAmong blocks more) (in_later : AreAmong received later) where
+  one_sound : (r : Record) → IsBacked blocks own floor received r → IsSound own more later r
+  one_sound r (inl mine) = inl mine.0
+  one_sound r (inr other) = inr (other.0, more_under blocks more received later in_more in_later r other.1)
+
+  all_sound : (s : List Record) → AllByRecursion (IsBacked blocks own floor received) s → AllByRecursion (IsSound own more later) s
+  all_sound [] h = tt
+  all_sound (r ∷ s) h = (one_sound r h.0, all_sound s h.1)
+
 pub known_stays_backed : KnownStaysBacked
-known_stays_backed a blocks more floor received later taken asked now in_more in_later before = in_turn a blocks more received later in_more in_later floor taken before asked now
+known_stays_backed a blocks more floor received later taken asked now in_more in_later backed =
+    in_turn a more later taken (all_sound a.own blocks more floor received later in_more in_later taken backed) asked now

@@ -1,17 +1,16 @@
 -- What a turn takes is verified, and of the own log it has just what was known.
 use Rattle.std.proofs.Common.{◌≡◌, ◌⊎◌, inl, inr, ⊎_elim, ℕ, ◌+◌, Bool, true, false, cond, List, [], ◌∷◌, sym, ap, ◌∙◌, subst, filter, Contains}
-use Rattle.std.specs.List.{AllByRecursion}
 use Rattle.std.specs.Ordering.{eq_by_cmp}
 use Rattle.ivy_base.specs.declared.key.Key.{Key}
 use Rattle.ivy_base.specs.declared.key.PubKey.{PubKey}
 use Rattle.ivy_base.specs.Naming.{head_key_of, owner_cmp}
 use Rattle.log_model.specs.View.{View}
-use Rattle.log_model.specs.Vector.{Stamp, Entry, Vector}
+use Rattle.log_model.specs.Vector.{Stamp, Entry}
 use Rattle.log_model.specs.Record.{Record}
 use Rattle.log_model.specs.Spelling.{no_name, record_name}
 use Rattle.log_model.specs.Rank.{front}
 use Rattle.log_model.specs.Chain.{IsGood, GoesOn, IsChain}
-use Rattle.log_model.specs.Closed.{log_of, IsAscending, IsClosed, IsClosedPart}
+use Rattle.log_model.specs.Closed.{log_of, IsAscending}
 use Rattle.log_model.proofs.Lists.{each, each_from, in_filter, from_filter}
 use Rattle.log_model.proofs.Opening.{same_owner}
 use Rattle.log_model.proofs.Part.{chain_good}
@@ -75,9 +74,9 @@ pub taken_is_verified : TakenIsVerified
 taken_is_verified heads blocks view own known candidates received taken are were closed backed part = record {
   chains = part.closed.chains;
   backed = each_from (IsBacked blocks own (front known) received) taken (λ r within. ⊎_elim
-    (λ k. each (IsBacked blocks own (front known) received) known r backed k)
-    (λ n. new_is_backed heads blocks view own known received were n.0.owner n.0.chain r n.2 n.1)
-    (of_hand heads blocks view own known candidates are r (part.part r within)));
+      (λ k. each (IsBacked blocks own (front known) received) known r backed k)
+      (λ n. new_is_backed heads blocks view own known received were n.0.owner n.0.chain r n.2 n.1)
+      (of_hand heads blocks view own known candidates are r (part.part r within)));
 }
 
 -- ---- of the own log
@@ -90,14 +89,21 @@ filter_ascends test (x ∷ s) h = by (test x) (filter_ascends test s h.1)
     by true again = (each_from (IsBefore x) (filter test s) (λ r c. each (IsBefore x) s r h.0 (from_filter test s r c).0), again)
     by false again = again
 
-abbrev is_owned : PubKey → Record → Bool
-is_owned own r = eq_by_cmp owner_cmp own r.owner
+module _ (own : PubKey) (known taken : List Record) where
+  abbrev is_owned : Record → Bool
+  is_owned r = eq_by_cmp owner_cmp own r.owner
+
+  in_both : (s t : List Record) → ((r : Record) → Contains s r → own ≡ r.owner → Contains t r) → (r : Record) → Contains (log_of own s) r → Contains (log_of own t) r
+  in_both s t to r c = let w = from_filter is_owned s r c in in_filter is_owned t r (to r w.0 (sym (same_owner own r.owner w.1))) w.1
+
+  one_log : IsAscending known → IsAscending taken → ((r : Record) → Contains taken r → own ≡ r.owner → Contains known r) → ((r : Record) → Contains known r → Contains taken r)
+      → log_of own taken ≡ log_of own known
+  one_log up_known up_taken back kept =
+      same_list (log_of own taken) (log_of own known) (filter_ascends is_owned taken up_taken) (filter_ascends is_owned known up_known)
+      (in_both taken known back) (in_both known taken (λ r c e. kept r c))
 
 pub own_log_is_known : OwnLogIsKnown
 own_log_is_known heads blocks view own known candidates taken are closed part =
-    same_list (log_of own taken) (log_of own known) (filter_ascends (is_owned own) taken part.closed.ascending) (filter_ascends (is_owned own) known closed.ascending)
-    (λ r c. let w = from_filter (is_owned own) taken r c in in_filter (is_owned own) known r (⊎_elim
-    (λ k. k)
-    (λ n. absurd (n.2.1 (sym n.2.0 ∙ same_owner own r.owner w.1)))
-    (of_hand heads blocks view own known candidates are r (part.part r w.0))) w.1)
-    (λ r c. let w = from_filter (is_owned own) known r c in in_filter (is_owned own) taken r (part.largest known (λ q k. inl k) closed r w.0) w.1)
+    one_log own known taken closed.ascending part.closed.ascending
+    (λ r c mine. ⊎_elim (λ k. k) (λ n. absurd (n.2.1 (sym n.2.0 ∙ sym mine))) (of_hand heads blocks view own known candidates are r (part.part r c)))
+    (part.largest known (λ r k. inl k) closed)

@@ -11,7 +11,7 @@ use Rattle.log_model.specs.Vector.{Stamp, Entry, Vector}
 use Rattle.log_model.specs.View.{View}
 use Rattle.turn_model.specs.Candidates.{AreCandidates}
 use Rattle.turn_model.specs.Known.{IsBacked, IsVerified}
-use Rattle.turn_model.specs.Turn.{Agent, Asked, Candidate, Turned, IsAtHand, turn_on}
+use Rattle.turn_model.specs.Turn.{Agent, Asked, Candidate, IsAtHand, turn_on}
 
 -- all these are among those
 abbrev pub AreAmong : {A : Type 0} → List A → List A → Type 0

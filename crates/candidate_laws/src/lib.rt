@@ -1,9 +1,9 @@
 //! What follows from the definition of candidates: they are one list, and what a turn takes of them is verified.
 //!
-//! Layer: laws and no code, above `turn_model`. For the layers above: what is known, the heads and the blocks determine the
-//! candidates; the set that a turn takes has, of each member's log, the beginning of a chain at or under a received head,
-//! and of the own log just what was known; and what is known then is backed again. Statements: `specs/One.antt`,
-//! `specs/Verified.antt`.
+//! Layer: laws and no code, above `turn_model`; that an owner's block is of one record is the law of `log_records`.
+//! For the layers above: what is known, the heads and the blocks determine the candidates; the set that a turn takes has,
+//! of each member's log, the beginning of a chain at or under a received head, and of the own log just what was known;
+//! and what is known then is backed again. Statements: `specs/One.antt`, `specs/Verified.antt`.
 #![tactic(auto)]
 
 ghost use Rattle.candidate_laws.specs.One.{CandidatesAreOne};
