@@ -10,8 +10,8 @@ ghost use Rattle.nfs3_writes.specs.Checks.{place_checks};
 
 use fs_tree::Tree;
 use ivy_base::{Key, Kind};
-use nfs3_objects::{LiveObject, is_dot, is_dot_dot, may_search, may_write, name_fault};
 use nfs_model::NfsStatus;
+use nfs3_objects::{LiveObject, is_dot, is_dot_dot, may_search, may_write, name_fault};
 use rpc_wire::Caller;
 
 /// The status of the first check that fails; a check is whether it fails, and with which status.

@@ -12,15 +12,11 @@ use crate::checks::{first_failure, is_dots, is_file_under, is_taken, place_fault
 use crate::ops::Ops;
 use crate::plans::Plan;
 use crate::refusals::{planned, refused_at, refused_handle, told_of};
-use crate::times::{
-    given_mode, given_time, has_invalid_time, is_too_large, new_owner, only_times,
-};
+use crate::times::{given_mode, given_time, has_invalid_time, is_too_large, new_owner, only_times};
 use fs_tree::Tree;
 use ivy_base::{Bytes, Change, Key, Kind, Memory, Moment, Op};
 use nfs_model::{How, NfsStatus, Reply, SetWhat};
-use nfs3_objects::{
-    LiveObject, attributes_at, handle_of, is_owner, may_write, object_of,
-};
+use nfs3_objects::{LiveObject, attributes_at, handle_of, is_owner, may_write, object_of};
 use rpc_wire::Caller;
 use std::alloc::Global;
 use view_blocks::View;
@@ -28,10 +24,33 @@ use view_blocks::View;
 /// The most bytes of a symbolic link's text.
 const MOST_TEXT: usize = 1024;
 
+/// What is asked of a new object, when, and which number it gets.
+#[derive(Clone, Copy)]
+pub struct Asked {
+    /// The attributes that the client gives.
+    pub what: SetWhat,
+    /// The moment of the call.
+    pub moment: Moment,
+    /// The number of the new inode.
+    pub number: Key,
+}
+
+impl Asked {
+    /// These attributes, at that moment, for the inode of that number.
+    pub fn of(what: &SetWhat, moment: Moment, number: Key) -> Asked
+        ensures { result ≡ record { what = what.now; moment = moment; number = number } }
+    {
+        Asked {
+            what: *what,
+            moment,
+            number,
+        }
+    }
+}
+
 // ---- MKDIR
 
-/// MKDIR (RFC 1813, section 3.3.9), of which the new directory gets that number; a size is passed over. The error is want
-/// of memory.
+/// MKDIR (RFC 1813, section 3.3.9); a size is passed over. The error is want of memory.
 pub fn plan_directory(
     alloc: Global,
     tree: &Tree,
@@ -39,21 +58,19 @@ pub fn plan_directory(
     caller: &Caller,
     handle: &[u8],
     name: &[u8],
-    what: &SetWhat,
-    now: Moment,
-    number: Key,
+    asked: &Asked,
 ) -> Result<Plan, Memory>
-    ensures { IfOk result (λ given. seen given ≡ plan_directory tree.now view.now (identity_of caller.now) handle.now name.now what.now now number) }
+    ensures { IfOk result (λ given. seen given ≡ plan_directory tree.now view.now (identity_of caller.now) handle.now name.now asked.now.what asked.now.moment asked.now.number) }
 {
     let dir = match object_of(tree, view, handle) {
         Ok(dir) => dir,
         Err(fault) => return Ok(refused_handle(fault)),
     };
-    if let Some(fault) = directory_fault(tree, caller, &dir, name, what) {
+    if let Some(fault) = directory_fault(tree, caller, &dir, name, &asked.what) {
         return Ok(refused_at(tree, view, &dir, fault));
     }
-    let inode = make(alloc, caller, Kind::Dir, what, number, b"".as_slice())?;
-    new_object(alloc, inode, &dir, name, what, now, number)
+    let inode = make(alloc, caller, Kind::Dir, asked, b"".as_slice())?;
+    new_object(alloc, inode, &dir, name, asked)
 }
 
 /// The first check of MKDIR that fails.
@@ -84,19 +101,19 @@ fn directory_rest(
     ])
 }
 
-/// The operation that makes an inode, with the caller as its owner. The error is want of memory.
+/// The operation that makes the inode, with the caller as its owner. The error is want of memory.
 fn make(
     alloc: Global,
     caller: &Caller,
     kind: Kind,
-    what: &SetWhat,
-    number: Key,
+    asked: &Asked,
     target: &[u8],
 ) -> Result<Op, Memory>
-    ensures { IfOk result (λ op. op ≡ make (identity_of caller.now) kind what.now number target.now) }
+    ensures { IfOk result (λ op. op ≡ make (identity_of caller.now) kind asked.now.what asked.now.number target.now) }
 {
+    let what = &asked.what;
     Ok(Op::Inode {
-        ino: number,
+        ino: asked.number,
         kind,
         mode: given_mode(kind, what.mode),
         uid: new_owner(caller, caller.uid, what.uid),
@@ -116,23 +133,21 @@ fn link(alloc: Global, dir: Key, name: &[u8], ino: Key) -> Result<Op, Memory>
     })
 }
 
-/// The operation that makes the inode of that number, the one that names it in the directory, and one that sets its
-/// times where any is given. The error is want of memory.
+/// The plan of the operation that makes an inode, of one that names it in the directory, and of one that sets its times
+/// where any is given. The error is want of memory.
 fn new_object(
     alloc: Global,
     inode: Op,
     dir: &LiveObject<'_>,
     name: &[u8],
-    what: &SetWhat,
-    now: Moment,
-    number: Key,
+    asked: &Asked,
 ) -> Result<Plan, Memory>
-    ensures { IfOk result (λ given. seen given ≡ Operations (inode ∷ Op.Link dir.now.number name.now number ∷ set_times now what.now number)) }
+    ensures { IfOk result (λ given. seen given ≡ Operations (inode ∷ Op.Link dir.now.number name.now asked.now.number ∷ set_times asked.now.moment asked.now.what asked.now.number)) }
 {
-    let link = link(alloc, dir.number, name, number)?;
-    let change = only_times(now, what);
+    let link = link(alloc, dir.number, name, asked.number)?;
+    let change = only_times(asked.moment, &asked.what);
     if change.atime.is_some() || change.mtime.is_some() {
-        return three(alloc, inode, link, number, change);
+        return three(alloc, inode, link, asked.number, change);
     }
     two(alloc, inode, link)
 }
@@ -154,8 +169,8 @@ fn three(alloc: Global, inode: Op, link: Op, ino: Key, change: Change) -> Result
 
 // ---- SYMLINK
 
-/// SYMLINK (RFC 1813, section 3.3.10), of which the new link gets that number; its text has 1 to 1,024 bytes, and a size is
-/// passed over. The error is want of memory.
+/// SYMLINK (RFC 1813, section 3.3.10); the text has 1 to 1,024 bytes, and a size is passed over. The error is want of
+/// memory.
 pub fn plan_symbolic_link(
     alloc: Global,
     tree: &Tree,
@@ -163,22 +178,20 @@ pub fn plan_symbolic_link(
     caller: &Caller,
     handle: &[u8],
     name: &[u8],
-    what: &SetWhat,
+    asked: &Asked,
     text: &[u8],
-    now: Moment,
-    number: Key,
 ) -> Result<Plan, Memory>
-    ensures { IfOk result (λ given. seen given ≡ plan_symbolic_link tree.now view.now (identity_of caller.now) handle.now name.now what.now text.now now number) }
+    ensures { IfOk result (λ given. seen given ≡ plan_symbolic_link tree.now view.now (identity_of caller.now) handle.now name.now asked.now.what text.now asked.now.moment asked.now.number) }
 {
     let dir = match object_of(tree, view, handle) {
         Ok(dir) => dir,
         Err(fault) => return Ok(refused_handle(fault)),
     };
-    if let Some(fault) = link_fault(tree, caller, &dir, name, what, text) {
+    if let Some(fault) = link_fault(tree, caller, &dir, name, &asked.what, text) {
         return Ok(refused_at(tree, view, &dir, fault));
     }
-    let inode = make(alloc, caller, Kind::Lnk, what, number, text)?;
-    new_object(alloc, inode, &dir, name, what, now, number)
+    let inode = make(alloc, caller, Kind::Lnk, asked, text)?;
+    new_object(alloc, inode, &dir, name, asked)
 }
 
 /// The first check of SYMLINK that fails.
@@ -215,8 +228,8 @@ fn link_rest(
 
 // ---- CREATE
 
-/// CREATE (RFC 1813, section 3.3.8), of which a new file gets that number. Under a verifier it is not supported. The error
-/// is want of memory.
+/// CREATE (RFC 1813, section 3.3.8) at that moment, of which a new file gets that number. Under a verifier it is not
+/// supported. The error is want of memory.
 pub fn plan_create(
     alloc: Global,
     tree: &Tree,
@@ -232,23 +245,19 @@ pub fn plan_create(
 {
     match how {
         How::Unchecked(what) => {
-            plan_file(alloc, tree, view, caller, handle, name, false, what, now, number)
+            let asked = Asked::of(what, now, number);
+            plan_file(alloc, tree, view, caller, handle, name, false, &asked)
         }
         How::Guarded(what) => {
-            plan_file(alloc, tree, view, caller, handle, name, true, what, now, number)
+            let asked = Asked::of(what, now, number);
+            plan_file(alloc, tree, view, caller, handle, name, true, &asked)
         }
         How::Exclusive(_) => Ok(refused_exclusive(tree, view, caller, handle, name)),
     }
 }
 
 /// The refusal of a CREATE under a verifier, which is not supported.
-fn refused_exclusive(
-    tree: &Tree,
-    view: &View,
-    caller: &Caller,
-    handle: &[u8],
-    name: &[u8],
-) -> Plan
+fn refused_exclusive(tree: &Tree, view: &View, caller: &Caller, handle: &[u8], name: &[u8]) -> Plan
     ensures { (verifier : List ℕ) (now : Moment) (number : Key) → seen result ≡ plan_create tree.now view.now (identity_of caller.now) handle.now name.now (How.Exclusive verifier) now number }
 {
     match object_of(tree, view, handle) {
@@ -269,23 +278,22 @@ fn plan_file(
     handle: &[u8],
     name: &[u8],
     guarded: bool,
-    what: &SetWhat,
-    now: Moment,
-    number: Key,
+    asked: &Asked,
 ) -> Result<Plan, Memory>
-    ensures { IfOk result (λ given. seen given ≡ plan_file tree.now view.now (identity_of caller.now) handle.now name.now guarded what.now now number) }
+    ensures { IfOk result (λ given. seen given ≡ plan_file tree.now view.now (identity_of caller.now) handle.now name.now guarded asked.now.what asked.now.moment asked.now.number) }
 {
     let dir = match object_of(tree, view, handle) {
         Ok(dir) => dir,
         Err(fault) => return Ok(refused_handle(fault)),
     };
+    let what = &asked.what;
     let existing = tree.entry(&dir.number, name);
     if let Some(fault) = file_fault(tree, caller, &dir, name, existing, guarded, what) {
         return Ok(refused_at(tree, view, &dir, fault));
     }
     match existing {
         Some(existing) => plan_existing(alloc, tree, view, &dir, existing, what),
-        None => plan_new(alloc, caller, &dir, name, what, now, number),
+        None => plan_new(alloc, caller, &dir, name, asked),
     }
 }
 
@@ -321,7 +329,10 @@ fn file_rest(
         (has_invalid_time(what), NfsStatus::Inval),
         (is_too_large(what.size), NfsStatus::FBig),
         (is_dots(name), NfsStatus::Exist),
-        (there && (guarded || !is_file_under(tree, existing)), NfsStatus::Exist),
+        (
+            there && (guarded || !is_file_under(tree, existing)),
+            NfsStatus::Exist,
+        ),
         (cut && !may_cut(tree, caller, existing), NfsStatus::Acces),
     ])
 }
@@ -390,20 +401,18 @@ fn plan_new(
     caller: &Caller,
     dir: &LiveObject<'_>,
     name: &[u8],
-    what: &SetWhat,
-    now: Moment,
-    number: Key,
+    asked: &Asked,
 ) -> Result<Plan, Memory>
-    ensures { IfOk result (λ given. seen given ≡ plan_new (identity_of caller.now) (seen_object dir.now) name.now what.now now number) }
+    ensures { IfOk result (λ given. seen given ≡ plan_new (identity_of caller.now) (seen_object dir.now) name.now asked.now.what asked.now.moment asked.now.number) }
 {
-    let inode = make(alloc, caller, Kind::Reg, what, number, b"".as_slice())?;
-    let link = link(alloc, dir.number, name, number)?;
+    let inode = make(alloc, caller, Kind::Reg, asked, b"".as_slice())?;
+    let link = link(alloc, dir.number, name, asked.number)?;
     let change = Change {
-        size: positive(what.size),
-        ..only_times(now, what)
+        size: positive(asked.what.size),
+        ..only_times(asked.moment, &asked.what)
     };
     if change.size.is_some() || change.atime.is_some() || change.mtime.is_some() {
-        return three(alloc, inode, link, number, change);
+        return three(alloc, inode, link, asked.number, change);
     }
     two(alloc, inode, link)
 }

@@ -111,13 +111,7 @@ fn made_number(ops: &[Op]) -> Option<Key>
 }
 
 /// The reply to RENAME: both directories before and after.
-fn renamed(
-    before: &Tree,
-    after: &Tree,
-    view: &View,
-    handle: &[u8],
-    to_handle: &[u8],
-) -> Reply
+fn renamed(before: &Tree, after: &Tree, view: &View, handle: &[u8], to_handle: &[u8]) -> Reply
     ensures { result ≡ standing (object_of before.now view.now handle.now) (λ d. standing (object_of before.now view.now to_handle.now) (λ e. Reply.Renamed (cache_data before.now after.now view.now d) (cache_data before.now after.now view.now e))) }
 {
     let Ok(dir) = object_of(before, view, handle) else {
@@ -133,13 +127,7 @@ fn renamed(
 }
 
 /// The reply to LINK: the file after, and the directory before and after.
-fn linked(
-    before: &Tree,
-    after: &Tree,
-    view: &View,
-    file_handle: &[u8],
-    handle: &[u8],
-) -> Reply
+fn linked(before: &Tree, after: &Tree, view: &View, file_handle: &[u8], handle: &[u8]) -> Reply
     ensures { result ≡ standing (object_of before.now view.now file_handle.now) (λ f. standing (object_of before.now view.now handle.now) (λ d. Reply.Linked (attributes_at after.now view.now f) (cache_data before.now after.now view.now d))) }
 {
     let Ok(file) = object_of(before, view, file_handle) else {

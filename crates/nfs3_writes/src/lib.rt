@@ -13,17 +13,17 @@
 #![tactic(auto)]
 
 mod checks;
+mod creating;
 pub mod finishing;
 mod naming;
 pub mod ops;
-pub mod plans;
 pub mod planning;
-mod creating;
+pub mod plans;
 mod refusals;
 mod setting;
 mod times;
 
 pub use finishing::finish;
 pub use ops::Ops;
-pub use plans::Plan;
 pub use planning::plan;
+pub use plans::Plan;

@@ -173,12 +173,7 @@ fn told_at_both(tree: &Tree, view: &View, handle: &[u8], to_handle: &[u8]) -> Ta
 }
 
 /// What a refusal of RENAME tells of its two objects.
-fn told_of_both(
-    tree: &Tree,
-    view: &View,
-    dir: &LiveObject<'_>,
-    to_dir: &LiveObject<'_>,
-) -> Tail
+fn told_of_both(tree: &Tree, view: &View, dir: &LiveObject<'_>, to_dir: &LiveObject<'_>) -> Tail
     ensures { result ≡ Tail.TwoCaches (cache_data tree.now tree.now view.now dir.now.number) (cache_data tree.now tree.now view.now to_dir.now.number) }
 {
     Tail::TwoCaches(told_of(tree, view, dir), told_of(tree, view, to_dir))
@@ -242,7 +237,10 @@ fn both_directories_fault(
     ensures { result ≡ first_failure (both_directories_checks (identity_of caller.now) (seen_object dir.now) (seen_object to_dir.now)) }
 {
     first_failure(&[
-        (!is_directory(dir) || !is_directory(to_dir), NfsStatus::NotDir),
+        (
+            !is_directory(dir) || !is_directory(to_dir),
+            NfsStatus::NotDir,
+        ),
         (
             !may_change(caller, dir) || !may_change(caller, to_dir),
             NfsStatus::Acces,
@@ -284,7 +282,10 @@ fn move_fault(
     let other_kind = is_directory_under(tree, moved) != directory;
     first_failure(&[
         (replaced.is_some() && other_kind, NfsStatus::Exist),
-        (directory && !is_empty_under(tree, replaced), NfsStatus::Exist),
+        (
+            directory && !is_empty_under(tree, replaced),
+            NfsStatus::Exist,
+        ),
         (is_inside_moved(tree, to_dir, moved), NfsStatus::Inval),
     ])
 }

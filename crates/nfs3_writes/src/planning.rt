@@ -5,7 +5,7 @@ ghost use Rattle.rpc_wire.specs.Callers.{identity_of};
 ghost use Rattle.nfs_model.specs.Changing.{plan};
 ghost use Rattle.nfs3_writes.specs.Seen.{seen};
 
-use crate::creating::{plan_create, plan_directory, plan_symbolic_link};
+use crate::creating::{Asked, plan_create, plan_directory, plan_symbolic_link};
 use crate::naming::{plan_link, plan_remove, plan_remove_directory, plan_rename};
 use crate::plans::Plan;
 use crate::setting::{plan_attributes, plan_write};
@@ -80,9 +80,7 @@ pub fn plan(
             caller,
             dir.as_slice(),
             name.as_slice(),
-            what,
-            now,
-            number_of(own, seq),
+            &Asked::of(what, now, number_of(own, seq)),
         ),
         Args::SymLink {
             dir,
@@ -96,10 +94,8 @@ pub fn plan(
             caller,
             dir.as_slice(),
             name.as_slice(),
-            what,
+            &Asked::of(what, now, number_of(own, seq)),
             text.as_slice(),
-            now,
-            number_of(own, seq),
         ),
         Args::Remove { dir, name } => {
             plan_remove(alloc, tree, view, caller, dir.as_slice(), name.as_slice())
