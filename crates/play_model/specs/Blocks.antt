@@ -1,7 +1,8 @@
--- The blocks that were met, and the newest head of each log.
+-- The blocks that were met, each once, and the newest head of each log.
 use Rattle.std.specs.Prelude.{ℕ, ◌++◌, nat_lt, Bool, length, List, [], ◌∷◌, sum_by, fold, map, Option, Some, None, if◌then◌else◌}
 use Rattle.std.specs.FinMap.Entries.{find as value_at, put}
-use Rattle.std.specs.List.{list_any}
+use Rattle.std.specs.List.{filter_map, list_any}
+use Rattle.std.specs.Str.{bytes_eq}
 use Rattle.ivy_base.specs.declared.key.Key.{Key}
 use Rattle.ivy_base.specs.declared.key.PubKey.{PubKey}
 use Rattle.ivy_base.specs.Naming.{name, key_cmp, head_key_of}
@@ -9,20 +10,27 @@ use Rattle.tree_model.specs.Tree.{same_key}
 use Rattle.log_model.specs.Record.{Record}
 use Rattle.log_model.specs.Rank.{own_entry}
 use Rattle.log_model.specs.Spelling.{record_block, head_block}
-use Rattle.log_model.specs.Vector.{Stamp, reach}
+use Rattle.log_model.specs.Vector.{Entry, Stamp, reach}
 use Rattle.dht_ids.specs.declared.judge.Judged.{Judged}
-use Rattle.log_records.specs.Heads.{stamp, plain_judged}
+use Rattle.log_records.specs.Heads.{stamp, owner_in, plain_judged}
 
--- a block of that name was met
-abbrev pub is_met : List (List ℕ) → Key → Bool
-is_met blocks key = list_any (λ b. same_key (name b) key) blocks
-
--- the blocks with one more, each under its name: where a block of that name was met, it stays
+-- the blocks with one more, where it isn't among them
 abbrev pub met_with : List (List ℕ) → List ℕ → List (List ℕ)
-met_with blocks block = if is_met blocks (name block) then blocks else blocks ++ block ∷ []
+met_with blocks block = if list_any (bytes_eq block) blocks then blocks else blocks ++ block ∷ []
 
 abbrev pub all_met : List (List ℕ) → List (List ℕ) → List (List ℕ)
 all_met blocks more = fold met_with blocks more
+
+-- a block of that name is among them
+abbrev pub is_found : List (List ℕ) → Key → Bool
+is_found blocks key = list_any (λ b. same_key (name b) key) blocks
+
+-- the blocks that are found by their names: of each name the first that was met
+abbrev pub found_with : List (List ℕ) → List ℕ → List (List ℕ)
+found_with found block = if is_found found (name block) then found else found ++ block ∷ []
+
+abbrev pub found_in : List (List ℕ) → List (List ℕ)
+found_in blocks = fold found_with [] blocks
 
 -- how many bytes they have
 abbrev pub bytes_met : List (List ℕ) → ℕ
@@ -59,6 +67,17 @@ abbrev pub with_head : Heads → PubKey → Stamp → Heads
 with_head heads owner newest =
     if nat_lt (reach (head_at heads (head_key_of owner))) newest.seq
     then put key_cmp (head_key_of owner) (head_block owner newest []) heads else heads
+
+-- the heads among the blocks, each as a log and its newest record
+abbrev pub entry_with : Key → Option Stamp → Option Entry
+entry_with key None = None
+entry_with key (Some t) = Some (key, t)
+
+abbrev pub entry_of_head : List ℕ → Option Entry
+entry_of_head block = entry_with (head_key_of (owner_in block)) (judged_stamp (plain_judged (head_key_of (owner_in block)) block))
+
+abbrev pub heads_among : List (List ℕ) → List Entry
+heads_among blocks = filter_map entry_of_head blocks
 
 -- ---- what an owner publishes
 
