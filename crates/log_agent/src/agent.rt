@@ -12,7 +12,7 @@ ghost use Rattle.rpc_wire.specs.Callers.{identity_of};
 ghost use Rattle.view_refresh.specs.Refreshed.{OthersStand};
 ghost use Rattle.wire_model.specs.Rpc.{IsIdentity};
 ghost use Rattle.turn_serving.specs.Serving.{asked_of};
-ghost use Rattle.log_agent.specs.Kept.{IsKeptWell};
+ghost use Rattle.play_model.specs.Kept.{IsKeptWell};
 ghost use Rattle.log_agent.specs.Turns.{TakesTurn};
 
 use block_map::{Block, Blocks, Heads};
@@ -45,7 +45,7 @@ impl Model for Agent {
     ghost use Rattle.log_model.specs.Rank.{front as front_of};
     ghost use Rattle.log_records.specs.Records.{records_of};
     ghost use Rattle.play_model.specs.World.{Participant};
-    ghost use Rattle.log_agent.specs.Kept.{IsKeptWell};
+    ghost use Rattle.play_model.specs.Kept.{IsKeptWell};
 
     ghost Value = { Participant };
 

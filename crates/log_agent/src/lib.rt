@@ -4,7 +4,7 @@
 //! For the layers above: contracts see an [`Agent`] as the participant of `play_model` (`specs/World.antt` there).
 //! [`Agent::create`] opens a log, [`Agent::enter`] enters a view, and [`Agent::turn`] is one turn of `turn_model` on the
 //! candidates of a refresh (`specs/Turns.antt`): afterwards the participant knows and holds the turn's set. What holds at all
-//! times is in `specs/Kept.antt`: what is known is causally closed under the view. Where memory is short nothing has changed.
+//! times is in `specs/Kept.antt` there: what is known is causally closed under the view. Where memory is short nothing has changed.
 //!
 //! Costs: a turn costs what its new records cost, and a replay of all that is known from nothing. The front is kept, so no
 //! record that was known is hashed again.

@@ -1,6 +1,7 @@
 pub mod Script
 pub mod Blocks
 pub mod World
+pub mod Kept
 pub mod Messages
 pub mod Calls
 pub mod Step

@@ -4,7 +4,8 @@
 //! is the step that it is to be run with.
 //!
 //! Definitions, in reading order: `specs/Script.antt` (which command a line is), `specs/Blocks.antt` (blocks and heads),
-//! `specs/World.antt` (the world and the lines that change it), `specs/Messages.antt` (the message of a call),
+//! `specs/World.antt` (the world and the lines that change it), `specs/Kept.antt` (what holds of a participant),
+//! `specs/Messages.antt` (the message of a call),
 //! `specs/Calls.antt` (its answer), `specs/Step.antt` (the step).
 #![tactic(auto)]
 
