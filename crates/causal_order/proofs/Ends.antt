@@ -109,5 +109,6 @@ pub is_new_part : (view : View) (front : Vector) (held : List Record) (chains : 
 is_new_part view front held chains out queues p none = record {
   ascending = p.ascending;
   fresh = is_fresh view front (IsAtHand view front held chains) held out queues p;
+  within = each_from (λ r. Contains (in_order (held ++ out)) r) out (λ r c. in_order_keeps view front (IsAtHand view front held chains) (held ++ out) out queues p r (Contains-append_right held out r c));
   largest = is_part view front (IsAtHand view front held chains) (held ++ out) out queues p none;
 }

@@ -53,4 +53,6 @@ pub record IsFetched (view : View) (front : Vector) (held chain : List Record) :
 pub record IsNewPart (view : View) (front : Vector) (held : List Record) (chains : List (List Record)) (new : List Record) : Type 0 where
   pub ascending : IsAscending new
   pub fresh : AllByRecursion (λ r. Contains held r → ⊥) new
+  -- each of them is in the part: none has the rank of a held record, which would stand there in its place
+  pub within : AllByRecursion (λ r. Contains (in_order (held ++ new)) r) new
   pub largest : IsClosedPart view front (IsAtHand view front held chains) (in_order (held ++ new))
