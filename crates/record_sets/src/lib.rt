@@ -9,6 +9,7 @@
 //! once, from an empty tree.
 #![tactic(auto)]
 
+mod greatest;
 pub mod sets;
 #[cfg(test)]
 mod tests;
