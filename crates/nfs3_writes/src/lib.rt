@@ -21,6 +21,8 @@ pub mod planning;
 pub mod plans;
 mod refusals;
 mod setting;
+#[cfg(test)]
+mod tests;
 mod times;
 
 pub use finishing::finish;
