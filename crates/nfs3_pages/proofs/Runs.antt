@@ -1,6 +1,6 @@
 -- Runs of a directory's entries with their places.
 use Rattle.std.proofs.Common.{◌≡◌, ℕ, zero, suc, ◌+◌, ◌-◌, ◌<◌, ◌≤◌, min, Bool, true, false, cond, List, [], ◌∷◌, ◌++◌, length, get_or, take, drop, map, refl, sym, ap, ◌∙◌, arith, append_assoc, nat_lt, nat_eq}
-use Rattle.std.proofs.lemmas.List.{append-nil, take_rest, take_all, drop_all, drop_more, take_more, take_min, drop_min, map_push}
+use Rattle.std.proofs.lemmas.List.{append-nil, take_rest, take_all, drop_all, drop_more, take_more, drop_min, map_push}
 use Rattle.std.proofs.lemmas.Bool.{le-ltb, lt-ltb}
 use Rattle.ivy_base.specs.declared.key.Key.{Key}
 use Rattle.nfs_model.specs.Pages.{placed, fitting, at_least_one}

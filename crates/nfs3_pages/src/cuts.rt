@@ -1,6 +1,6 @@
 //! What is cut off a run of entries: those behind a cookie, and those that fit.
 
-ghost use Rattle.std.specs.Prelude.{◌≡◌, ◌≤◌, ◌<◌, ◌+◌, ◌^◌, ◌==◌, length, take, drop};
+ghost use Rattle.std.specs.Prelude.{◌≡◌, ◌≤◌, ◌==◌, length, take, drop};
 ghost use Rattle.nfs_model.specs.Pages.{placed, fitting, at_least_one, too_small};
 ghost use Rattle.nfs3_pages.specs.Measures.{length_by};
 ghost use Rattle.nfs3_pages.specs.Places.{places};

@@ -1,6 +1,6 @@
 //! Pages of directories: READDIR and READDIRPLUS of NFS version 3 (RFC 1813, sections 3.3.16 and 3.3.17).
 //!
-//! Layer: above `nfs3_objects` (handles, attributes, permission) and `nfs3_replies`; below `nfs3_reads`, which answers all
+//! Layer: above `fs_tree` (trees) and `nfs3_objects` (handles, attributes, permission); below `nfs3_reads`, which answers all
 //! reading procedures.
 //! For the layers above: [`read_directory`] and [`read_directory_plus`] give exactly the answers of the definitions
 //! (`nfs_model`'s `specs/Pages.antt`), of the tree, the view and the caller as contracts see these. That pages put together

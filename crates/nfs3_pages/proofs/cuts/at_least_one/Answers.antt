@@ -1,6 +1,6 @@
 use Rattle.std.proofs.Common.{sym, ◌∙◌}
 use Rattle.nfs3_pages.specs.Places.{places}
-use Rattle.nfs3_pages.proofs.Runs.{one_at_least, some_fit, some_there}
+use Rattle.nfs3_pages.proofs.Runs.{some_fit, some_there}
 use Rattle.nfs3_pages.proofs.cuts.at_least_one.Goals as goal
 
 pub returns-else-is_empty : goal.returns-else-is_empty

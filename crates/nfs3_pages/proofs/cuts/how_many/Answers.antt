@@ -1,7 +1,6 @@
-use Rattle.std.proofs.Common.{◌≡◌, ◌∙◌, ◌+◌, ℕ, List, ap, sym, arith}
+use Rattle.std.proofs.Common.{◌≡◌, ◌∙◌, ◌+◌, ℕ, ap, arith}
 use Rattle.nfs3_pages.specs.Measures.{length_by}
-use Rattle.nfs3_pages.specs.Places.{places}
-use Rattle.nfs3_pages.proofs.Runs.{FitsBefore, one_fits, one_is_too_long, all_fit}
+use Rattle.nfs3_pages.proofs.Runs.{one_fits, one_is_too_long, all_fit}
 use Rattle.nfs3_pages.proofs.cuts.how_many.Goals as goal
 
 pub returns-then-left-length-clause-fitting : goal.returns-then-left-length-clause-fitting

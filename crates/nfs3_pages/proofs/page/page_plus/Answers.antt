@@ -1,5 +1,4 @@
-use Rattle.std.proofs.Common.{◌≡◌, ◌∙◌, ◌+◌, ◌++◌, [], ◌∷◌, List, sym, ap, arith, Some}
-use Rattle.nfs_model.specs.declared.replies.Listed.{Listed}
+use Rattle.std.proofs.Common.{◌≡◌, ◌∙◌, ◌+◌, ◌++◌, [], ◌∷◌, arith, Some}
 use Rattle.nfs_model.specs.Pages.{listed_plus}
 use Rattle.nfs3_pages.proofs.Runs.{one_listed, all_listed}
 use Rattle.nfs3_pages.proofs.page.page_plus.Goals as goal
