@@ -53,7 +53,7 @@ module _ (key : Key) where
       by false rest = ap (option_map suc) rest ∙ moved (place_of key bs) (same_key (name block) key) (length bs)
 
   -- a block that was met has a name that was met
-  name_met : (blocks : List (List ℕ)) (b : List ℕ) → Contains blocks b → name b ≡ key → is_met blocks key ≡ true
+  pub name_met : (blocks : List (List ℕ)) (b : List ℕ) → Contains blocks b → name b ≡ key → is_met blocks key ≡ true
   name_met blocks b there same =
       list_any_at (λ b. same_key (name b) key) blocks there.0 b there.1 (ap (λ x. same_key (name x) key) there.2 ∙ ap (λ n. same_key n key) same ∙ same_key_itself key)
 

@@ -1,8 +1,10 @@
 //! All blocks that were met, each once.
 
-ghost use Rattle.std.specs.Prelude.{◌≡◌, OnErr, OnOk};
-ghost use Rattle.ivy_base.specs.Naming.{NamesTellApart};
-ghost use Rattle.play_model.specs.Blocks.{all_of, bytes_met, meets, nothing_met};
+ghost use Rattle.std.specs.Prelude.{◌≡◌, ◌+◌, [], ◌∷◌, ◌++◌, length, IfOk, OnErr, OnOk, true, false};
+ghost use Rattle.std.specs.List.{list_any};
+ghost use Rattle.std.specs.Str.{bytes_eq};
+ghost use Rattle.ivy_base.specs.Naming.{name, NamesTellApart};
+ghost use Rattle.play_model.specs.Blocks.{all_of, bytes_met, is_met, meets, nothing_met};
 
 use crate::block::Block;
 use crate::blocks::Blocks;
@@ -56,7 +58,13 @@ impl Met {
         ensures ok { OnOk result (self.new ≡ meets self.old block) }
         ensures err { OnErr result (self.new ≡ self.old) }
     {
-        todo!()
+        let Some(found) = self.found.get(&block.name()) else {
+            return self.add_found(block);
+        };
+        if block.as_slice() == found || self.is_among_others(&block) {
+            return Ok(());
+        }
+        self.add_other(block)
     }
 
     /// How many bytes all of them have.
@@ -64,5 +72,46 @@ impl Met {
         ensures { result ≡ bytes_met (all_of self.now) }
     {
         self.total
+    }
+
+    // Whether the block is one of those whose name another block had before them.
+    fn is_among_others(&self, block: &Block) -> bool
+        ensures { result ≡ list_any (bytes_eq block.now) self.now.others }
+    {
+        self.others
+            .iter()
+            .any(|other| block.as_slice() == other.as_slice())
+    }
+
+    // How many bytes they have with one more block.
+    fn total_with(&self, block: &Block) -> Result<u64, Memory>
+        ensures { IfOk result (λ total. total ≡ bytes_met (all_of self.now) + length block.now) }
+    {
+        let len = block.as_slice().len() as u64;
+        self.total.checked_add(len).ok_or(Memory)
+    }
+
+    // Adds a block of a name that none of the others has.
+    fn add_found(&mut self, block: Block) -> Result<(), Memory>
+        requires { is_met self.old.found (name block) ≡ false }
+        ensures ok { OnOk result (self.new ≡ record self.old { found = self.old.found ++ block ∷ [] }) }
+        ensures err { OnErr result (self.new ≡ self.old) }
+    {
+        let total = self.total_with(&block)?;
+        self.found.meet(block)?;
+        self.total = total;
+        Ok(())
+    }
+
+    // Adds a block whose name another block had before it.
+    fn add_other(&mut self, block: Block) -> Result<(), Memory>
+        requires { is_met self.old.found (name block) ≡ true }
+        ensures ok { OnOk result (self.new ≡ record self.old { others = self.old.others ++ block ∷ [] }) }
+        ensures err { OnErr result (self.new ≡ self.old) }
+    {
+        let total = self.total_with(&block)?;
+        self.others.push(block)?;
+        self.total = total;
+        Ok(())
     }
 }
