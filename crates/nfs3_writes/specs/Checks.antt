@@ -5,7 +5,6 @@ use Rattle.ivy_base.specs.declared.key.Key.{Key}
 use Rattle.wire_model.specs.Rpc.{Identity}
 use Rattle.tree_model.specs.Tree.{Tree, is_file, is_directory, directory_kind, file_kind, name_count}
 use Rattle.nfs_model.specs.declared.arguments.SetWhat.{SetWhat}
-use Rattle.nfs_model.specs.declared.replies.NfsStatus.{NfsStatus}
 use Rattle.nfs_model.specs.declared.replies.NfsStatus.TheVariants as status
 use Rattle.nfs_model.specs.Checks.{Check, is_dot, is_dot_dot}
 use Rattle.nfs_model.specs.Objects.{Object, may_write, is_owner}

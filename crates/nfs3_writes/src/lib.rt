@@ -7,9 +7,13 @@
 //! `specs/Seen.antt`. That the operations may stand in records is a law of `turn_model` (`planned_records`), that they are
 //! one to three and that replies are short are laws of `nfs_laws`.
 //!
+//! Inside, `creating`, `setting` and `naming` plan a few procedures each; `checks` and `times` answer what their checks
+//! ask, and `refusals` makes the plans that refuse. A procedure's checks stand in one table each, in their order, and the
+//! first that fails decides; `specs/Checks.antt` has these tables by their names.
+//!
 //! Costs: a plan takes some look-ups in the tree's maps, and memory for its operations or its reply alone: the names, a
-//! link's text, and of a WRITE one copy of the bytes that are taken. A RENAME of a directory also climbs from its target to
-//! the top.
+//! link's text, and of a WRITE one copy of the bytes that are taken. A RENAME of a directory that has
+//! entries also climbs from its target to the top.
 #![tactic(auto)]
 
 mod checks;

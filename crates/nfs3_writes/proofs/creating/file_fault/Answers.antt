@@ -1,6 +1,4 @@
 use Rattle.rpc_wire.specs.Callers.{identity_of}
-use Rattle.std.proofs.Common.{◌≡◌, rules}
-use Rattle.nfs_model.specs.Checks.{first_failure}
 use Rattle.nfs3_objects.specs.Seen.{seen}
 use Rattle.nfs3_writes.specs.Checks.{place_checks, file_made_rest}
 use Rattle.nfs3_writes.proofs.Passing.{in_turn}
