@@ -1,2 +1,3 @@
 pub mod Walking
 pub mod Reading
+pub mod Held
