@@ -1,3 +1,5 @@
 pub mod Walking
 pub mod Reading
 pub mod Held
+pub mod Behind
+pub mod Taking
