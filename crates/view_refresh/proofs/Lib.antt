@@ -3,3 +3,4 @@ pub mod Reading
 pub mod Held
 pub mod Behind
 pub mod Taking
+pub mod Bringing
