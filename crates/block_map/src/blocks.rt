@@ -1,6 +1,6 @@
 //! The blocks that were met.
 
-ghost use Rattle.std.specs.Prelude.{◌≡◌, [], Contains, IfNone, IfSome, OnErr, OnOk, false, true};
+ghost use Rattle.std.specs.Prelude.{◌≡◌, [], ◌∷◌, ◌++◌, Contains, IfNone, IfSome, OnErr, OnOk, false};
 ghost use Rattle.ivy_base.specs.Naming.{name, NamesTellApart};
 ghost use Rattle.play_model.specs.Blocks.{is_met, met_with, bytes_met};
 
@@ -22,12 +22,13 @@ pub struct Blocks {
 
 impl Model for Blocks {
     ghost use Rattle.std.specs.Prelude.{List, ℕ};
+    ghost use Rattle.block_map.specs.Places.{ArePlaced};
 
     ghost Value = { List (List ℕ) };
 
     ghost view = { λ b. b.blocks.items };
 
-    ghost invariant = { λ b. Unit {0} };
+    ghost invariant = { λ b. ArePlaced b.blocks.items b.places.entries b.total };
 }
 
 impl Blocks {
@@ -49,7 +50,10 @@ impl Blocks {
         ensures err { OnErr result (self.new ≡ self.old) }
         ensures apart { OnOk result (NamesTellApart self.new) }
     {
-        todo!()
+        if self.holds(&block.name()) {
+            return Ok(());
+        }
+        self.add(block)
     }
 
     /// The block of that name, where one was met.
@@ -59,7 +63,8 @@ impl Blocks {
         ensures none { IfNone result (is_met self.now key.now ≡ false) }
         ensures apart { NamesTellApart self.now }
     {
-        todo!()
+        let place = *self.places.get(key)?;
+        Some(self.blocks[place].as_slice())
     }
 
     /// How many bytes the blocks have.
@@ -67,5 +72,31 @@ impl Blocks {
         ensures { result ≡ bytes_met self.now }
     {
         self.total
+    }
+    // Whether a block of that name was met.
+    fn holds(&self, key: &Key) -> bool
+        ensures met { result ≡ is_met self.now key.now }
+        ensures apart { NamesTellApart self.now }
+    {
+        self.places.contains_key(key)
+    }
+
+    // Adds a block of another name than those that are there. Room for it is made first, so that nothing has to be
+    // undone once its place is known.
+    fn add(&mut self, block: Block) -> Result<(), Memory>
+        requires { is_met self.old (name block) ≡ false }
+        ensures ok { OnOk result (self.new ≡ self.old ++ block ∷ []) }
+        ensures err { OnErr result (self.new ≡ self.old) }
+        ensures apart { OnOk result (NamesTellApart self.new) }
+    {
+        let len = block.as_slice().len() as u64;
+        let Some(total) = self.total.checked_add(len) else {
+            return Err(Memory);
+        };
+        self.blocks.try_reserve(1)?;
+        self.places.insert(block.name(), self.blocks.len())?;
+        self.blocks.push(block)?;
+        self.total = total;
+        Ok(())
     }
 }

@@ -1,11 +1,13 @@
 //! The newest head of each log.
 
-ghost use Rattle.std.specs.Prelude.{◌≡◌, ◌≤◌, [], OnErr, OnOk, option_map};
+ghost use Rattle.std.specs.Prelude.{◌≡◌, [], OnErr, OnOk, option_map};
+ghost use Rattle.log_model.specs.Vector.{reach};
 ghost use Rattle.log_records.specs.Heads.{stamp};
 ghost use Rattle.play_model.specs.Blocks.{head_at, with_head};
 
-use dht_ids::Judged;
-use ivy_base::{Bytes, Key, Memory, PubKey};
+use dht_ids::{Judge, Judged};
+use ivy_base::{Bytes, Key, Memory, PubKey, head_key};
+use log_records::{PlainJudge, plain_head};
 use std::alloc::Global;
 use std::collections::BTreeMap;
 use std::marker::Model;
@@ -38,7 +40,7 @@ impl Heads {
     pub fn newest(&self, key: &Key) -> Option<Judged>
         ensures { option_map (λ judged. stamp judged.seq judged.name) result ≡ head_at self.now key.now }
     {
-        todo!()
+        PlainJudge.judge(key, self.heads.get(key)?.as_slice())
     }
 
     /// Puts the owner's head over its record of that number and name, where none of that number or a greater one is
@@ -47,6 +49,21 @@ impl Heads {
         ensures ok { OnOk result (self.new ≡ with_head self.old owner.now (stamp seq name.now)) }
         ensures err { OnErr result (self.new ≡ self.old) }
     {
-        todo!()
+        let key = head_key(owner);
+        if self.reach(&key) >= seq {
+            return Ok(());
+        }
+        let block = plain_head(alloc, owner, seq, name)?;
+        self.heads.insert(key, block)?;
+        Ok(())
+    }
+    // The number that the newest head says, and 0 where there is none.
+    fn reach(&self, key: &Key) -> u32
+        ensures { result ≡ reach (head_at self.now key.now) }
+    {
+        match self.newest(key) {
+            Some(judged) => judged.seq,
+            None => 0,
+        }
     }
 }
