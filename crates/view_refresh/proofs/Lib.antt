@@ -4,3 +4,4 @@ pub mod Held
 pub mod Behind
 pub mod Taking
 pub mod Bringing
+pub mod Gathering
