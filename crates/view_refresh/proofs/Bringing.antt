@@ -28,7 +28,7 @@ use Rattle.causal_order.proofs.Fetching.{sound_is_fetched}
 use Rattle.play_model.specs.Blocks.{Heads, head_at, heads_at}
 use Rattle.view_refresh.specs.Refreshed.{OthersStand}
 use Rattle.view_refresh.specs.Walked.{IsWalk, newest}
-use Rattle.view_refresh.specs.Brought.{IsNew, IsFound, FindsNothing, BringsChain}
+use Rattle.view_refresh.specs.Brought.{IsNew, BringsChain}
 use Rattle.view_refresh.proofs.Walking.{one_walk}
 use Rattle.view_refresh.proofs.Held.{stamp_of, edge_of, held_stamp, held_number, newest_number}
 use Rattle.view_refresh.proofs.Behind.{GoesBehind, HasNews, news_of, newest_good}
@@ -61,7 +61,7 @@ breaks view held floor head edge rest Bad other f sound onward = f sound
 breaks view held floor head edge rest Fork other f sound onward = f.1 onward
 breaks view held floor head edge rest Memory other f sound onward = other refl
 
-module _ (blocks : List (List ℕ)) (apart : NamesTellApart blocks) (heads : Heads) (view : View) (well : IsView view) (own : PubKey) (known : List Record) (closed : IsClosed view known) (stand : OthersStand blocks own known)
+module _ (blocks : List (List ℕ)) (heads : Heads) (view : View) (well : IsView view) (own : PubKey) (known : List Record) (closed : IsClosed view known) (stand : OthersStand blocks own known)
     (owner : PubKey) (member : Contains view.members owner) (not_own : owner ≡ own → ⊥) where
   log : List Record
   log = log_of owner known
@@ -84,42 +84,47 @@ module _ (blocks : List (List ℕ)) (apart : NamesTellApart blocks) (heads : Hea
   abbrev IsOfLog : List Record → Type 0
   IsOfLog chain = IsCandidate (heads_at heads) blocks view own (front known) known owner chain
 
-  new_of : (t : Stamp) → IsTried (heads_at heads) (front known) (head_key_of owner) t → IsNew heads (front known) owner t
+  new_of : (t : Stamp) → IsTried (heads_at heads) (front known) (head_key_of owner) t → IsNew heads (front known) (head_key_of owner) t
   new_of t tried = record { newest_head = is_head heads (head_key_of owner) t tried.0; further = tried.1 }
 
-  same_head : (s t : Stamp) → IsNew heads (front known) owner s → IsNew heads (front known) owner t → s ≡ t
+  same_head : (s t : Stamp) → IsNew heads (front known) (head_key_of owner) s → IsNew heads (front known) (head_key_of owner) t → s ≡ t
   same_head s t new other = let both = sym new.newest_head ∙ other.newest_head in cc
 
   -- each chain to a head has the walk to it
-  walk_of : (head : Stamp) (chain : List Record) → IsNew heads (front known) owner head → MakeChain blocks view owner (front known) head chain → HasNews blocks apart view owner (front known) head (log_of owner known) chain
-  walk_of head chain new m =
+  walk_of : (apart : NamesTellApart blocks) (head : Stamp) (chain : List Record) → IsNew heads (front known) (head_key_of owner) head → MakeChain blocks view owner (front known) head chain → HasNews blocks apart view owner (front known) head (log_of owner known) chain
+  walk_of apart head chain new m =
       let further = new.further in let count = number in
       news_of blocks apart view owner (front known) head (log_of owner known) chain chain_of_log log_stands at (omega (arith, further, count)) m
 
   counted : (head : Stamp) (rs : List Record) → IsWalk blocks owner (length (log_of owner known)) head rs → IsWalk blocks owner (seq_of (front known) (head_key_of owner)) head rs
   counted head rs w = subst (λ (n : ℕ). IsWalk blocks owner n head rs) (sym number) w
 
-  -- nothing is found
-  pub found_nothing : FindsNothing blocks heads (front known) owner → IsCandidate (heads_at heads) blocks view own (front known) known owner (log_of owner known)
-  found_nothing none = candidate.as_known not_own (λ head tried chain m.
-      let new = new_of head tried in
-      let w = walk_of head chain new m in
-      none head w.rest (new, counted head w.rest w.goes.walk))
+  -- no head is new
+  pub no_news : ((head : Stamp) → IsNew heads (front known) (head_key_of owner) head → ⊥) → IsCandidate (heads_at heads) blocks view own (front known) known owner (log_of owner known)
+  no_news none = candidate.as_known not_own (λ head tried chain m. none head (new_of head tried))
 
-  module _ (head : Stamp) (rest : List Record) (found : IsFound blocks heads (front known) owner head rest) (edge : Option Vector) (edge_is : edge ≡ edge_of (newest (log_of owner known))) where
+  -- or its records don't stand
+  pub no_walk : NamesTellApart blocks → (head : Stamp) → IsNew heads (front known) (head_key_of owner) head → ((rs : List Record) → IsWalk blocks owner (seq_of (front known) (head_key_of owner)) head rs → ⊥)
+      → IsCandidate (heads_at heads) blocks view own (front known) known owner (log_of owner known)
+  no_walk apart head new none = candidate.as_known not_own (λ t tried chain m.
+      let same : t ≡ head = same_head t head (new_of t tried) new in
+      let w = walk_of apart head chain new (subst (λ (s : Stamp). MakeChain blocks view owner (front known) s chain) same m) in
+      none w.rest (counted head w.rest w.goes.walk))
+
+  module _ (apart : NamesTellApart blocks) (head : Stamp) (rest : List Record) (new : IsNew heads (front known) (head_key_of owner) head) (walk : IsWalk blocks owner (seq_of (front known) (head_key_of owner)) head rest)
+      (edge : Option Vector) (edge_is : edge ≡ edge_of (newest (log_of owner known))) where
     owned : owner_of rest ≡ owner
-    owned = walk_owner blocks owner head (seq_of (front known) (head_key_of owner)) rest found.0.further found.1
+    owned = walk_owner blocks owner head (seq_of (front known) (head_key_of owner)) rest new.further walk
 
     -- what was found isn't taken
     pub not_taken : (fault : ChainFault) → fault ≢ Memory → ChainFails view (front known) (front known) head edge rest fault
         → IsCandidate (heads_at heads) blocks view own (front known) known owner (log_of owner known)
     not_taken fault other fails = candidate.as_known not_own (λ t tried chain m.
-        let new = new_of t tried in
-        let same : t ≡ head = same_head t head new found.0 in
+        let same : t ≡ head = same_head t head (new_of t tried) new in
         let made : MakeChain blocks view owner (front known) head chain = subst (λ (s : Stamp). MakeChain blocks view owner (front known) s chain) same m in
-        let w = walk_of head chain found.0 made in
+        let w = walk_of apart head chain new made in
         let mine = counted head w.rest w.goes.walk in
-        let one : w.rest ≡ rest = (one_walk blocks owner apart head (seq_of (front known) (head_key_of owner)) mine.0 found.1.0 w.rest rest mine.1 found.1.1).1 in
+        let one : w.rest ≡ rest = (one_walk blocks owner apart head (seq_of (front known) (head_key_of owner)) mine.0 walk.0 w.rest rest mine.1 walk.1).1 in
         let goes : GoesBehind view owner blocks head (log_of owner known) rest = subst (λ (l : List Record). GoesBehind view owner blocks head (log_of owner known) l) one w.goes in
         let t = is_taken view owner (front known) head (log_of owner known) rest at owned blocks edge edge_is goes in
         breaks view (front known) (front known) head edge rest fault other fails t.0 t.1)
@@ -127,17 +132,17 @@ module _ (blocks : List (List ℕ)) (apart : NamesTellApart blocks) (heads : Hea
     -- what was found is taken
     pub taken : IsSound view (front known) edge head rest → IsOnward (front known) (front known) rest → BringsChain blocks heads view own known owner rest
     taken sound onward = record {
-      candidate = candidate.newest head (log_of owner known ++ rest) not_own (tried, found.0.further)
-          (makes view owner (front known) head (log_of owner known) rest at owned blocks edge edge_is chain_of_log log_stands (walk_stands blocks owner head (seq_of (front known) (head_key_of owner)) rest found.1) sound onward)
-          (λ t other before chain m. not_before_itself head (subst (λ (s : Stamp). IsTriedBefore s head) (same_head t head (new_of t other) found.0) before));
-      owned = walk_owned blocks owner head (seq_of (front known) (head_key_of owner)) rest found.1;
+      candidate = candidate.newest head (log_of owner known ++ rest) not_own (tried, new.further)
+          (makes view owner (front known) head (log_of owner known) rest at owned blocks edge edge_is chain_of_log log_stands (walk_stands blocks owner head (seq_of (front known) (head_key_of owner)) rest walk) sound onward)
+          (λ t other before chain m. not_before_itself head (subst (λ (s : Stamp). IsTriedBefore s head) (same_head t head (new_of t other) new) before));
+      owned = walk_owned blocks owner head (seq_of (front known) (head_key_of owner)) rest walk;
       of_owner = owned;
       whole = makes_chain view owner (front known) head (log_of owner known) rest at owned edge edge_is chain_of_log sound onward;
       fetched = sound_is_fetched view [] known (front known) edge head rest (subst (λ (o : PubKey). Contains view.members o) (sym owned) member) near some sound;
     }
       where
         tried : Contains (heads_at heads (head_key_of owner)) head
-        tried = subst (λ (l : List Stamp). Contains l head) (sym (one_head heads (head_key_of owner) head found.0.newest_head)) (here head [])
+        tried = subst (λ (l : List Stamp). Contains l head) (sym (one_head heads (head_key_of owner) head new.newest_head)) (here head [])
 
         stamp_is : stamp_in (front known) rest ≡ stamp_of (newest (log_of owner known))
         stamp_is = ap (λ (o : PubKey). stamp_at (front known) (head_key_of o)) owned ∙ at

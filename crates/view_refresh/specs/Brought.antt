@@ -1,8 +1,8 @@
 -- What is found and brought of the members' logs, one after the other.
-use Rattle.std.specs.Prelude.{◌≡◌, ◌⊎◌, ℕ, ◌<◌, List, [], ◌∷◌, ◌++◌, map, Contains, Option, Some, None}
+use Rattle.std.specs.Prelude.{◌≡◌, ◌⊎◌, ℕ, ◌<◌, List, [], ◌∷◌, ◌++◌, map, Contains, Some}
 use Rattle.std.specs.List.{AllByRecursion}
+use Rattle.ivy_base.specs.declared.key.Key.{Key}
 use Rattle.ivy_base.specs.declared.key.PubKey.{PubKey}
-use Rattle.ivy_base.specs.Naming.{head_key_of}
 use Rattle.log_model.specs.View.{View}
 use Rattle.log_model.specs.Vector.{Stamp, Vector, seq_of}
 use Rattle.log_model.specs.Record.{Record}
@@ -14,20 +14,11 @@ use Rattle.turn_model.specs.Candidates.{IsCandidate}
 use Rattle.turn_model.specs.Turn.{Candidate}
 use Rattle.causal_order.specs.AtHand.{IsFetched}
 use Rattle.play_model.specs.Blocks.{Heads, head_at, heads_at}
-use Rattle.view_refresh.specs.Walked.{IsWalk}
 
 -- the newest head of the log goes further than what is known of it
-pub record IsNew (heads : Heads) (floor : Vector) (owner : PubKey) (head : Stamp) : Type 0 where
-  pub newest_head : head_at heads (head_key_of owner) ≡ Some head
-  pub further : seq_of floor (head_key_of owner) < head.seq
-
--- the head is such a one, and these are the records behind what is known
-abbrev pub IsFound : List (List ℕ) → Heads → Vector → PubKey → Stamp → List Record → Type 0
-IsFound blocks heads floor owner head rs = IsNew heads floor owner head × IsWalk blocks owner (seq_of floor (head_key_of owner)) head rs
-
--- there are no such records
-abbrev pub FindsNothing : List (List ℕ) → Heads → Vector → PubKey → Type 0
-FindsNothing blocks heads floor owner = (head : Stamp) (rs : List Record) → IsFound blocks heads floor owner head rs → ⊥
+pub record IsNew (heads : Heads) (floor : Vector) (log : Key) (head : Stamp) : Type 0 where
+  pub newest_head : head_at heads log ≡ Some head
+  pub further : seq_of floor log < head.seq
 
 -- a chain behind what is known of the owner's log, with which it is a candidate
 pub record BringsChain (blocks : List (List ℕ)) (heads : Heads) (view : View) (own : PubKey) (known : List Record) (owner : PubKey) (chain : List Record) : Type 0 where
