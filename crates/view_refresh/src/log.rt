@@ -1,14 +1,14 @@
 //! What is new of one member's log.
 
 ghost use Rattle.std.specs.Prelude.{◌≡◌, ◌↔◌, IsTrue, Contains, IfNone, IfOk, IfSome, OnOk, option_map};
-ghost use Rattle.ivy_base.specs.Naming.{NamesTellApart};
 ghost use Rattle.log_model.specs.Closed.{IsClosed, log_of};
 ghost use Rattle.log_model.specs.Rank.{front};
+ghost use Rattle.log_model.specs.Vector.{Stamp};
 ghost use Rattle.log_model.specs.View.{IsView};
 ghost use Rattle.log_records.specs.Batches.{owners_in};
 ghost use Rattle.log_records.specs.Heads.{stamp};
-ghost use Rattle.log_records.specs.Records.{record_of, records_of};
-ghost use Rattle.view_refresh.specs.Brought.{Brings, FindsNothing, IsFound};
+ghost use Rattle.log_records.specs.Records.{records_of};
+ghost use Rattle.view_refresh.specs.Brought.{Brings, IsNew};
 ghost use Rattle.view_refresh.specs.Refreshed.{OthersStand};
 ghost use Rattle.view_refresh.specs.Walked.{newest};
 
@@ -16,7 +16,7 @@ use crate::refreshing::Known;
 use crate::walk::walk;
 use block_map::{Blocks, Heads};
 use dht_ids::Judged;
-use ivy_base::{Memory, PubKey, head_key};
+use ivy_base::{Key, Memory, PubKey, head_key};
 use log_records::{Batch, ChainFault, Record};
 use std::alloc::Global;
 use version_vectors::Vector;
@@ -47,7 +47,12 @@ pub fn bring(
     if is_one(owner, known.own) {
         return Ok(());
     }
-    let Some((head, chain)) = find(alloc, blocks, heads, known.front, owner)? else {
+    let log = head_key(owner);
+    let Some(head) = new_head(heads, known.front, &log) else {
+        return Ok(());
+    };
+    let held = known.front.seq_of(&log);
+    let Some(chain) = walk(alloc, blocks, owner, held, &head)? else {
         return Ok(());
     };
     let edge = edge_of(alloc, known.records, owner)?;
@@ -64,30 +69,14 @@ fn is_one(a: &PubKey, b: &PubKey) -> bool
     a == b
 }
 
-/// The owner's newest head that goes beyond what is known, and the records from there on, oldest first. None where there is
-/// no such head, or one of the records doesn't stand among the blocks. The error is want of memory.
-fn find(
-    alloc: Global,
-    blocks: &Blocks,
-    heads: &Heads,
-    front: &Vector,
-    owner: &PubKey,
-) -> Result<Option<(Judged, Vec<Record>)>, Memory>
-    ensures some { IfOk result (λ found. IfSome found (λ f. IsFound blocks.now heads.now front.now owner.now (stamp f.0.seq f.0.name) (records_of f.1.items))) }
-    ensures none { IfOk result (λ found. IfNone found (FindsNothing blocks.now heads.now front.now owner.now)) }
-    ensures apart { IfOk result (λ found. IfSome found (λ f. NamesTellApart blocks.now)) }
+/// The log's newest head, where it goes further than what is known of the log.
+fn new_head(heads: &Heads, front: &Vector, log: &Key) -> Option<Judged>
+    ensures some { IfSome result (λ head. IsNew heads.now front.now log.now (stamp head.seq head.name)) }
+    ensures none { IfNone result ((head : Stamp) → IsNew heads.now front.now log.now head → ⊥) }
 {
-    let log = head_key(owner);
-    let held = front.seq_of(&log);
-    let Some(head) = heads.newest(&log) else {
-        return Ok(None);
-    };
-    if head.seq <= held {
-        return Ok(None);
-    }
-    match walk(alloc, blocks, owner, held, &head)? {
-        Some(chain) => Ok(Some((head, chain))),
-        None => Ok(None),
+    match heads.newest(log) {
+        Some(head) if head.seq > front.seq_of(log) => Some(head),
+        _ => None,
     }
 }
 
@@ -95,14 +84,12 @@ fn find(
 fn edge_of(alloc: Global, records: &[Record], owner: &PubKey) -> Result<Option<Vector>, Memory>
     ensures { IfOk result (λ edge. edge ≡ option_map (λ r. r.vector) (newest (log_of owner.now (records_of records.now)))) }
 {
-    match last_of(records, owner) {
-        Some(i) => Ok(Some(records[i].vector.copy(alloc)?)),
-        None => Ok(None),
+    let mut i = records.len();
+    'later: while i > 0 {
+        i -= 1;
+        if is_one(&records[i].owner, owner) {
+            return Ok(Some(records[i].vector.copy(alloc)?));
+        }
     }
-}
-
-/// Where the owner's last record stands.
-fn last_of(records: &[Record], owner: &PubKey) -> Option<usize>
-{
-    records.iter().rposition(|record| is_one(&record.owner, owner))
+    Ok(None)
 }

@@ -1,6 +1,7 @@
 //! The walk along one log, from a head back to what is known.
 
-ghost use Rattle.std.specs.Prelude.{◌≡◌, ◌≤◌, IfNone, IfOk, IfSome};
+ghost use Rattle.std.specs.Prelude.{◌<◌, List, IfNone, IfOk, IfSome, OnOk};
+ghost use Rattle.ivy_base.specs.Naming.{NamesTellApart};
 ghost use Rattle.log_model.specs.Record.{Record as Seen};
 ghost use Rattle.log_records.specs.Heads.{stamp};
 ghost use Rattle.log_records.specs.Records.{record_of, records_of};
@@ -21,9 +22,10 @@ pub fn walk(
     held: u32,
     head: &Judged,
 ) -> Result<Option<Vec<Record>>, Memory>
-    requires { held ≤ head.now.seq }
+    requires { held < head.now.seq }
     ensures some { IfOk result (λ found. IfSome found (λ chain. IsWalk blocks.now owner.now held (stamp head.now.seq head.now.name) (records_of chain.items))) }
     ensures none { IfOk result (λ found. IfNone found ((chain : List Seen) → IsWalk blocks.now owner.now held (stamp head.now.seq head.now.name) chain → ⊥)) }
+    ensures apart { OnOk result (NamesTellApart blocks.now) }
 {
     let mut found = Vec::new(alloc);
     let mut name = head.name;
@@ -50,13 +52,17 @@ fn record_named(
 ) -> Result<Option<Record>, Memory>
     ensures some { IfOk result (λ found. IfSome found (λ r. IsNamed blocks.now owner.now seq name.now (record_of r))) }
     ensures none { IfOk result (λ found. IfNone found ((r : Seen) → IsNamed blocks.now owner.now seq name.now r → ⊥)) }
+    ensures apart { OnOk result (NamesTellApart blocks.now) }
 {
     let Some(block) = blocks.get(name) else {
         return Ok(None);
     };
     match Record::read(alloc, block, owner) {
         Ok(record) if record.seq == seq => Ok(Some(record)),
-        Err(RecordFault::Memory) => Err(Memory),
-        _ => Ok(None),
+        Ok(_) => Ok(None),
+        Err(fault) => match fault {
+            RecordFault::Memory => Err(Memory),
+            _ => Ok(None),
+        },
     }
 }
