@@ -13,3 +13,6 @@ invariant-back l = record {
   leads : LeadsTo l.blocks l.owner (stamp l.head.seq l.head.name) l.seq l.name (records_of (reverse l.found.items));
   apart : l.seq < l.head.seq → NamesTellApart l.blocks;
 }
+
+abbrev pub decreases-back : goal.decreases-back
+decreases-back l = l.seq
