@@ -5,3 +5,4 @@ pub mod Behind
 pub mod Taking
 pub mod Bringing
 pub mod Gathering
+pub mod Edges
