@@ -6,3 +6,4 @@ pub mod Taking
 pub mod Bringing
 pub mod Gathering
 pub mod Edges
+pub mod Cases

@@ -57,8 +57,11 @@ pub fn bring(
     };
     let edge = edge_of(alloc, known.records, owner)?;
     match batch.add_chain(alloc, view, head, chain, edge) {
-        Err(ChainFault::Memory) => Err(Memory),
-        _ => Ok(()),
+        Ok(()) => Ok(()),
+        Err(fault) => match fault {
+            ChainFault::Memory => Err(Memory),
+            _ => Ok(()),
+        },
     }
 }
 
