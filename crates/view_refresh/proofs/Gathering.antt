@@ -4,7 +4,7 @@ use Rattle.std.specs.Prelude.{nat_lt, ◌↔◌}
 use Rattle.std.specs.List.{AllByRecursion}
 use Rattle.std.specs.Ordering.{eq_by_cmp}
 use Rattle.std.proofs.lemmas.Bool.{lt-ltb}
-use Rattle.std.proofs.lemmas.List.{map-append}
+use Rattle.std.proofs.lemmas.List.{map-append, take_all, take_more}
 use Rattle.std.proofs.lemmas.List.Elements.{Contains-append_left, Contains-append_right, Contains-append_cases, Contains-get_or}
 use Rattle.ivy_base.specs.declared.key.PubKey.{PubKey}
 use Rattle.ivy_base.specs.Naming.{owner_cmp}
@@ -22,7 +22,7 @@ use Rattle.turn_model.specs.Turn.{Candidate}
 use Rattle.turn_model.specs.Turn as turn
 use Rattle.causal_order.specs.AtHand.{IsFetched, IsAtHand, held_to, above, news, Extends}
 use Rattle.causal_order.proofs.Meeting.{to_map}
-use Rattle.causal_order.proofs.StartLogs.{AllApart}
+use Rattle.causal_order.proofs.StartLogs.{AllApart, members_apart}
 use Rattle.play_model.specs.Blocks.{Heads, heads_at}
 use Rattle.view_refresh.specs.Refreshed.{IsRefreshed}
 use Rattle.view_refresh.specs.Brought.{BringsChain, Brings, AreBrought}
@@ -47,6 +47,20 @@ all_news view owner known chain c =
     let behind = numbered_behind 1 (long + 1) (log_of owner known) chain (omega arith) (numbered view owner (log_of owner known ++ chain) c) in
     let none_under : held_to [] known owner ≡ long = omega arith in
     ap (λ (n : ℕ). above n chain) none_under ∙ all_above long chain (numbers_from (long + 1) chain behind (long + 1) (omega arith))
+
+-- ---- members stand once each
+
+pub apart_at : (ks : List PubKey) (i : ℕ) (k : PubKey) → AllApart ks → i < length ks → Contains (take i ks) (get_or ks i k) → ⊥
+apart_at [] i k h within c = absurd (omega (arith, within))
+apart_at (x ∷ ks) zero k h within c = absurd (in_nothing x c)
+apart_at (x ∷ ks) (suc i) k h within c =
+    let less : i < length ks = omega (arith, within) in
+    ⊎_elim
+    (λ e. each (λ l. x ≡ l → ⊥) ks (get_or ks i k) h.0 (Contains-get_or ks i k less) e)
+    (λ more. apart_at ks i k h.1 less more)
+    (in_cons x (take i ks) (get_or ks i k) c)
+
+-- ---- owner by owner
 
 module _ (blocks : List (List ℕ)) (heads : Heads) (view : View) (own : PubKey) (known : List Record) where
   abbrev IsOf : Candidate → Type 0
@@ -160,14 +174,20 @@ module _ (blocks : List (List ℕ)) (heads : Heads) (view : View) (own : PubKey)
       by_candidates r (inl old) = inl old
       by_candidates r (inr (c, stands, prefix, within)) = of_chain c r within (each (HasChain chains) b.candidates c b.of_candidates stands)
 
--- ---- members stand once each
+  module _ (members : List PubKey) (value : members ≡ view.members) (i : ℕ) where
+    -- no chain was brought of the next of the members
+    pub no_chain_yet : (d : PubKey) (old : List (Stamp × List Record)) → IsView view → i < length members → Brought (take i members) (map (λ c. c.1) old) → Contains (owners_in old) (get_or members i d) → ⊥
+    no_chain_yet d old well within b = new_owner (take i members) (get_or members i d) old b (apart_at members i d (subst AllApart (sym value) (members_apart view.members well.members_ascend)) within)
 
-pub apart_at : (ks : List PubKey) (i : ℕ) (k : PubKey) → AllApart ks → i < length ks → Contains (take i ks) (get_or ks i k) → ⊥
-apart_at [] i k h within c = absurd (omega (arith, within))
-apart_at (x ∷ ks) zero k h within c = absurd (in_nothing x c)
-apart_at (x ∷ ks) (suc i) k h within c =
-    let less : i < length ks = omega (arith, within) in
-    ⊎_elim
-    (λ e. each (λ l. x ≡ l → ⊥) ks (get_or ks i k) h.0 (Contains-get_or ks i k less) e)
-    (λ more. apart_at ks i k h.1 less more)
-    (in_cons x (take i ks) (get_or ks i k) c)
+    pub is_member : (d : PubKey) → i < length members → Contains view.members (get_or members i d)
+    is_member d within = subst (λ (l : List PubKey). Contains l (get_or members i d)) value (Contains-get_or members i d within)
+
+    -- one member more
+    pub brought_more : (d : PubKey) (old new : List (Stamp × List Record)) → i < length members → Brought (take i members) (map (λ c. c.1) old) → Brings blocks heads view own known (get_or members i d) old new
+        → Brought (take (i + 1) members) (map (λ c. c.1) new)
+    brought_more d old new within b more =
+        subst (λ (l : List PubKey). Brought l (map (λ c. c.1) new)) (sym (take_more members i d within)) (brought_next (take i members) (get_or members i d) old new b more)
+
+    -- all of them
+    pub all_passed : (chains : List (List Record)) → length members ≤ i → Brought (take i members) chains → IsRefreshed blocks heads view own known chains
+    all_passed chains past b = all_brought chains (subst (λ (l : List PubKey). Brought l chains) (take_all i members past ∙ value) b)
