@@ -73,7 +73,7 @@ fn is_one(a: &PubKey, b: &PubKey) -> bool
 }
 
 /// The log's newest head, where it goes further than what is known of the log.
-fn new_head(heads: &Heads, front: &Vector, log: &Key) -> Option<Judged>
+pub fn new_head(heads: &Heads, front: &Vector, log: &Key) -> Option<Judged>
     ensures some { IfSome result (λ head. IsNew heads.now front.now log.now (stamp head.seq head.name)) }
     ensures none { IfNone result ((head : Stamp) → IsNew heads.now front.now log.now head → ⊥) }
 {
@@ -84,7 +84,7 @@ fn new_head(heads: &Heads, front: &Vector, log: &Key) -> Option<Judged>
 }
 
 /// The vector of the owner's last record, where there is one. The error is want of memory.
-fn edge_of(alloc: Global, records: &[Record], owner: &PubKey) -> Result<Option<Vector>, Memory>
+pub fn edge_of(alloc: Global, records: &[Record], owner: &PubKey) -> Result<Option<Vector>, Memory>
     ensures { IfOk result (λ edge. edge ≡ option_map (λ r. r.vector) (newest (log_of owner.now (records_of records.now)))) }
 {
     let mut i = records.len();
