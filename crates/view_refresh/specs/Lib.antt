@@ -1,1 +1,3 @@
 pub mod Refreshed
+pub mod Walked
+pub mod Brought

@@ -7,12 +7,17 @@
 //! names from the newest head, where all stand among the blocks and keep the rules of chains under the view; a log whose head
 //! doesn't so is passed over. `specs/Refreshed.antt` says it.
 //!
+//! Within: `walk` goes back along one log (`specs/Walked.antt`), `log` brings what is new of it, and `refreshing` goes over
+//! the members (`specs/Brought.antt`).
+//!
 //! Costs: each log's newest head is judged once. A log that brings nothing new costs that alone; of others each new record is
 //! looked up, read and tested once, and hashed once.
 #![tactic(auto)]
 
+mod log;
 pub mod refreshing;
 #[cfg(test)]
 mod tests;
+mod walk;
 
 pub use refreshing::{Known, refresh};

@@ -6,6 +6,7 @@ ghost use Rattle.log_model.specs.Rank.{front};
 ghost use Rattle.log_records.specs.Records.{records_of};
 ghost use Rattle.view_refresh.specs.Refreshed.{OthersStand, IsRefreshed};
 
+use crate::log::bring;
 use block_map::{Blocks, Heads};
 use ivy_base::{Memory, PubKey};
 use log_records::{Batch, Record};
@@ -38,5 +39,10 @@ pub fn refresh(
     requires stand { OthersStand blocks.now known.now.own.now (records_of known.now.records.now) }
     ensures { IfOk result (λ batch. IsRefreshed blocks.now heads.now view.now known.now.own.now (records_of known.now.records.now) (map (λ c. c.1) batch.chains)) }
 {
-    Err(Memory)
+    let mut batch = Batch::over(alloc, known.front, known.front)?;
+    let members = view.members();
+    'members: for owner in members {
+        bring(alloc, blocks, heads, view, known, owner, &mut batch)?;
+    }
+    Ok(batch)
 }

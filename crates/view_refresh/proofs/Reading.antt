@@ -1,0 +1,66 @@
+-- What a block of a name says of the owner's record of that name.
+use Rattle.std.proofs.Common.{◌≡◌, ℕ, ◌<◌, ◌≤◌, true, false, List, length, refl, sym, ap, ◌∙◌, subst, arith, Contains}
+use Rattle.std.specs.Prelude.{◌≢◌}
+use Rattle.ivy_base.specs.declared.key.Key.{Key}
+use Rattle.ivy_base.specs.declared.key.PubKey.{PubKey}
+use Rattle.ivy_base.specs.Naming.{name as name_of_bytes, NamesTellApart}
+use Rattle.tree_model.specs.Tree.{same_key}
+use Rattle.tree_model.proofs.Keys.{same_key_itself}
+use Rattle.wire_model.proofs.OneReading.{whole}
+use Rattle.log_model.specs.Record.{Record}
+use Rattle.log_model.specs.Spelling.{record_block, record_name, IsRecordOf, HasSpelling}
+use Rattle.log_model.specs.Chain.{HasMadeNumber}
+use Rattle.log_model.proofs.Lists.{some_passes}
+use Rattle.log_records.specs.Records.{IsRead, ReadFault}
+use Rattle.log_records.specs.declared.fault.RecordFault.{RecordFault}
+use Rattle.log_records.specs.declared.fault.RecordFault.TheVariants.{Malformed, TooLong, BadNumber, Memory}
+use Rattle.log_records.proofs.OneRecord.{one_record}
+use Rattle.log_records.proofs.Sizes.{short_records}
+use Rattle.play_model.specs.Blocks.{is_met}
+use Rattle.view_refresh.specs.Walked.{Stands, IsNamed}
+
+module _ (blocks : List (List ℕ)) (owner : PubKey) (seq : ℕ) (key : Key) where
+  -- where no block of the name was met, no record stands
+  pub none_met : is_met blocks key ≡ false → (r : Record) → IsNamed blocks owner seq key r → ⊥
+  none_met none r is =
+      let met : is_met blocks key ≡ true = some_passes (λ (b : List ℕ). same_key (name_of_bytes b) key) blocks (record_block r) is.stands.block
+      (subst (λ (k : Key). same_key (record_name r) k ≡ true) is.named (same_key_itself (record_name r))) in
+      absurd (cc (none, met))
+
+  module _ (apart : NamesTellApart blocks) (block : List ℕ) (within : Contains blocks block) (named : name_of_bytes block ≡ key) where
+    is_block : (r : Record) → IsNamed blocks owner seq key r → block ≡ record_block r
+    is_block r is = apart block (record_block r) within is.stands.block (named ∙ sym is.named)
+
+    of_block : (r : Record) → IsNamed blocks owner seq key r → IsRecordOf owner block r
+    of_block r is = record { owned = is.stands.owned; fits = is.stands.spelled; spelled = is_block r is }
+
+    one_of_block : (r q : Record) → IsRecordOf owner block r → IsRecordOf owner block q → r ≡ q
+    one_of_block r q f g = whole (one_record owner) r q (f.owned, f.fits) (g.owned, g.fits) (sym f.spelled ∙ g.spelled)
+
+    -- the record that was read
+    pub is_named : (r : Record) → IsRead owner block r → r.seq ≡ seq → IsNamed blocks owner seq key r
+    is_named r read number = record {
+      stands = record {
+        owned = read.spelled.owned;
+        spelled = read.spelled.fits;
+        made = read.number;
+        block = subst (λ (b : List ℕ). Contains blocks b) read.spelled.spelled within;
+      };
+      numbered = number;
+      named = ap name_of_bytes (sym read.spelled.spelled) ∙ named;
+    }
+
+    -- where it has another number, no record stands
+    pub other_number : (r : Record) → IsRead owner block r → r.seq ≢ seq → (q : Record) → IsNamed blocks owner seq key q → ⊥
+    other_number r read other q is = other (ap (λ (x : Record). x.seq) (one_of_block r q read.spelled (of_block q is)) ∙ is.numbered)
+
+    -- nor where none was read
+    pub unread : (fault : RecordFault) → fault ≢ Memory → ReadFault owner block fault → (q : Record) → IsNamed blocks owner seq key q → ⊥
+    unread Malformed other f q is = f.1 q (of_block q is)
+    unread TooLong other f q is =
+        let short : length block ≤ 12288 = subst (λ (b : List ℕ). length b ≤ 12288) (sym (is_block q is)) (short_records q is.stands.spelled) in
+        absurd (omega (arith, f, short))
+    unread BadNumber other f q is =
+        let same : q ≡ f.1 = one_of_block q f.1 (of_block q is) f.2 in
+        f.3 (subst (λ (r : Record). HasMadeNumber owner r.seq r.op) same is.stands.made)
+    unread Memory other f q is = absurd (other refl)
