@@ -1,7 +1,7 @@
 use crate::{Ops, Plan, finish, plan};
 use fs_tree::{ROOT, Tree};
 use ivy_base::{Bytes, Key, Kind, Memory, Moment, Op, PubKey};
-use nfs_model::{Args, How, NfsStatus, Reply, SetTime, SetWhat, Tail};
+use nfs_model::{Args, Fattr, How, NfsStatus, Reply, SetTime, SetWhat, Tail, Wcc};
 use nfs3_objects::handle_of;
 use rpc_wire::Caller;
 use std::alloc::Global;
@@ -136,10 +136,16 @@ fn refusal(plan: &Plan) -> Option<NfsStatus> {
     }
 }
 
-// The status with which the call of that user is refused.
-fn refused(alloc: Global, uid: u32, args: &Args) -> Result<Option<NfsStatus>, Fail> {
-    let plan = planned(alloc, uid, args)?;
-    Ok(refusal(&plan))
+// Whether the call of that user is refused with that status.
+fn refuses(
+    alloc: Global,
+    uid: u32,
+    args: Result<Args, Fail>,
+    want: NfsStatus,
+) -> Result<bool, Fail> {
+    let args = args?;
+    let plan = planned(alloc, uid, &args)?;
+    Ok(refusal(&plan) == Some(want))
 }
 
 fn letter(op: &Op) -> u8 {
@@ -162,18 +168,19 @@ fn letters_of(alloc: Global, ops: &Ops) -> Result<Vec<u8>, Memory> {
     Ok(text)
 }
 
-// The operations of a plan as letters, 0 where there is nothing to be done, and - for a refusal.
+// The operations of a plan as letters: none where there is nothing to be done, and - for a refusal.
 fn letters(alloc: Global, plan: &Plan) -> Result<Vec<u8>, Memory> {
     match plan {
         Plan::Refuse(_) => Ok(b"-".as_slice().to_vec(alloc)?),
-        Plan::Nothing(_) => Ok(b"0".as_slice().to_vec(alloc)?),
+        Plan::Nothing(_) => Ok(Vec::new(alloc)),
         Plan::Ops(ops) => letters_of(alloc, ops),
     }
 }
 
 // Whether the call of that user plans these operations.
-fn plans(alloc: Global, uid: u32, args: &Args, want: &[u8]) -> Result<bool, Fail> {
-    let plan = planned(alloc, uid, args)?;
+fn plans(alloc: Global, uid: u32, args: Result<Args, Fail>, want: &[u8]) -> Result<bool, Fail> {
+    let args = args?;
+    let plan = planned(alloc, uid, &args)?;
     let text = letters(alloc, &plan)?;
     Ok(text.as_slice() == want)
 }
@@ -193,81 +200,76 @@ fn write(alloc: Global, offset: u64, text: &[u8], count: u32) -> Result<Args, Fa
 #[test]
 fn a_write_ends_at_the_limit(rt: HostRuntime) -> Result<(), Fail> {
     let alloc = rt.alloc();
-    let last = write(alloc, 16_777_215, b"x".as_slice(), 1)?;
-    assert!(rt; plans(alloc, OWNER, &last, b"W".as_slice())?);
-    let past = write(alloc, 16_777_216, b"x".as_slice(), 1)?;
-    assert_eq!(rt; refused(alloc, OWNER, &past)?, Some(NfsStatus::FBig));
+    let last = write(alloc, 16_777_215, b"x".as_slice(), 1);
+    assert!(rt; plans(alloc, OWNER, last, b"W".as_slice())?);
+    let past = write(alloc, 16_777_216, b"x".as_slice(), 1);
+    assert!(rt; refuses(alloc, OWNER, past, NfsStatus::FBig)?);
     Ok(())
 }
 
-// How many bytes are told to be written where nothing is to be done.
-fn written_by_nothing(plan: &Plan) -> Option<u32> {
+// How many bytes are told to be written where nothing is to be done, and how many the first operation writes.
+fn written(plan: &Plan) -> Option<usize> {
     match plan {
-        Plan::Nothing(Reply::Written { count, .. }) => Some(*count),
+        Plan::Nothing(Reply::Written { count, .. }) => Some(*count as usize),
+        Plan::Ops(ops) => written_first(ops.as_slice()),
         _ => None,
     }
+}
+
+fn written_first(ops: &[Op]) -> Option<usize> {
+    match ops.first()? {
+        Op::Write { bytes, .. } => Some(bytes.as_slice().len()),
+        _ => None,
+    }
+}
+
+// Whether the owner's write is of so many bytes.
+fn writes(alloc: Global, args: Result<Args, Fail>, want: usize) -> Result<bool, Fail> {
+    let args = args?;
+    let plan = planned(alloc, OWNER, &args)?;
+    Ok(written(&plan) == Some(want))
 }
 
 #[test]
 fn nothing_is_written(rt: HostRuntime) -> Result<(), Fail> {
     let alloc = rt.alloc();
-    let none = write(alloc, 16_777_216, b"".as_slice(), 0)?;
-    let plan = planned(alloc, OWNER, &none)?;
-    assert_eq!(rt; written_by_nothing(&plan), Some(0));
-    let past = write(alloc, 16_777_217, b"".as_slice(), 0)?;
-    assert_eq!(rt; refused(alloc, OWNER, &past)?, Some(NfsStatus::FBig));
+    let none = write(alloc, 16_777_216, b"".as_slice(), 0);
+    assert!(rt; writes(alloc, none, 0)?);
+    let past = write(alloc, 16_777_217, b"".as_slice(), 0);
+    assert!(rt; refuses(alloc, OWNER, past, NfsStatus::FBig)?);
     Ok(())
-}
-
-// How many bytes the operation writes.
-fn written(op: &Op) -> usize {
-    match op {
-        Op::Write { bytes, .. } => bytes.as_slice().len(),
-        _ => 0,
-    }
-}
-
-// How many bytes the first operation of a plan writes.
-fn written_first(plan: &Plan) -> Option<usize> {
-    match plan {
-        Plan::Ops(ops) => Some(written(ops.as_slice().first()?)),
-        _ => None,
-    }
 }
 
 #[test]
 fn a_write_takes_a_page(rt: HostRuntime) -> Result<(), Fail> {
     let alloc = rt.alloc();
-    let long = write(alloc, 0, [7; 8193].as_slice(), 8193)?;
-    let plan = planned(alloc, OWNER, &long)?;
-    assert_eq!(rt; written_first(&plan), Some(8192));
-    let more = write(alloc, 0, b"x".as_slice(), 2)?;
-    assert_eq!(rt; refused(alloc, OWNER, &more)?, Some(NfsStatus::Inval));
+    let long = write(alloc, 0, [7; 8193].as_slice(), 8193);
+    assert!(rt; writes(alloc, long, 8192)?);
+    let more = write(alloc, 0, b"x".as_slice(), 2);
+    assert!(rt; refuses(alloc, OWNER, more, NfsStatus::Inval)?);
     Ok(())
 }
 
 // ---- SETATTR
 
-fn set(alloc: Global, what: SetWhat, guard: Option<Moment>) -> Result<Args, Fail> {
+// A call that sets the mode of the file, where its ctime is that one.
+fn set_mode(alloc: Global, guard: Moment) -> Result<Args, Fail> {
     Ok(Args::SetAttr {
         object: handle(alloc, 2)?,
-        what,
-        guard,
+        what: SetWhat {
+            mode: Some(0o600),
+            ..NOTHING
+        },
+        guard: Some(guard),
     })
 }
 
 #[test]
 fn a_mode_is_set_by_the_owner(rt: HostRuntime) -> Result<(), Fail> {
     let alloc = rt.alloc();
-    let what = SetWhat {
-        mode: Some(0o600),
-        ..NOTHING
-    };
-    let mode = set(alloc, what, Some(at(1)))?;
-    assert!(rt; plans(alloc, OWNER, &mode, b"S".as_slice())?);
-    assert_eq!(rt; refused(alloc, OTHER, &mode)?, Some(NfsStatus::Perm));
-    let guarded = set(alloc, what, Some(at(2)))?;
-    assert_eq!(rt; refused(alloc, OWNER, &guarded)?, Some(NfsStatus::NotSync));
+    assert!(rt; plans(alloc, OWNER, set_mode(alloc, at(1)), b"S".as_slice())?);
+    assert!(rt; refuses(alloc, OTHER, set_mode(alloc, at(1)), NfsStatus::Perm)?);
+    assert!(rt; refuses(alloc, OWNER, set_mode(alloc, at(2)), NfsStatus::NotSync)?);
     Ok(())
 }
 
@@ -281,46 +283,46 @@ fn create(alloc: Global, dir: u8, text: &[u8], how: How) -> Result<Args, Fail> {
     })
 }
 
-fn sized(size: u64) -> SetWhat {
-    SetWhat {
+// A creation in d that isn't guarded, with that size.
+fn create_sized(alloc: Global, text: &[u8], size: u64) -> Result<Args, Fail> {
+    let what = SetWhat {
         size: Some(size),
         ..NOTHING
-    }
+    };
+    create(alloc, 1, text, How::Unchecked(what))
 }
 
 #[test]
 fn a_new_file_is_created(rt: HostRuntime) -> Result<(), Fail> {
     let alloc = rt.alloc();
-    let empty = create(alloc, 1, b"n".as_slice(), How::Unchecked(sized(0)))?;
-    assert!(rt; plans(alloc, OWNER, &empty, b"IL".as_slice())?);
-    let long = create(alloc, 1, b"n".as_slice(), How::Guarded(sized(1)))?;
-    assert!(rt; plans(alloc, OWNER, &long, b"ILS".as_slice())?);
-    assert_eq!(rt; refused(alloc, OTHER, &long)?, Some(NfsStatus::Acces));
+    let empty = create_sized(alloc, b"n".as_slice(), 0);
+    assert!(rt; plans(alloc, OWNER, empty, b"IL".as_slice())?);
+    let long = create_sized(alloc, b"n".as_slice(), 1);
+    assert!(rt; plans(alloc, OWNER, long, b"ILS".as_slice())?);
+    let locked = create_sized(alloc, b"n".as_slice(), 1);
+    assert!(rt; refuses(alloc, OTHER, locked, NfsStatus::Acces)?);
     Ok(())
 }
 
 #[test]
 fn a_file_that_is_there_is_created(rt: HostRuntime) -> Result<(), Fail> {
     let alloc = rt.alloc();
-    let same = create(alloc, 1, b"f".as_slice(), How::Unchecked(NOTHING))?;
-    assert!(rt; plans(alloc, OWNER, &same, b"0".as_slice())?);
-    let cut = create(alloc, 1, b"f".as_slice(), How::Unchecked(sized(0)))?;
-    assert!(rt; plans(alloc, OWNER, &cut, b"S".as_slice())?);
-    let guarded = create(alloc, 1, b"f".as_slice(), How::Guarded(NOTHING))?;
-    assert_eq!(rt; refused(alloc, OWNER, &guarded)?, Some(NfsStatus::Exist));
+    let same = create(alloc, 1, b"f".as_slice(), How::Unchecked(NOTHING));
+    assert!(rt; plans(alloc, OWNER, same, b"".as_slice())?);
+    let cut = create_sized(alloc, b"f".as_slice(), 0);
+    assert!(rt; plans(alloc, OWNER, cut, b"S".as_slice())?);
+    let guarded = create(alloc, 1, b"f".as_slice(), How::Guarded(NOTHING));
+    assert!(rt; refuses(alloc, OWNER, guarded, NfsStatus::Exist)?);
     Ok(())
 }
 
 #[test]
 fn exclusive_creation_is_not_supported(rt: HostRuntime) -> Result<(), Fail> {
     let alloc = rt.alloc();
-    let exclusive = create(alloc, 1, b"n".as_slice(), How::Exclusive([1; 8]))?;
-    assert_eq!(rt;
-        refused(alloc, OWNER, &exclusive)?,
-        Some(NfsStatus::NotSupp)
-    );
-    let file = create(alloc, 2, b"n".as_slice(), How::Exclusive([1; 8]))?;
-    assert_eq!(rt; refused(alloc, OWNER, &file)?, Some(NfsStatus::NotDir));
+    let exclusive = create(alloc, 1, b"n".as_slice(), How::Exclusive([1; 8]));
+    assert!(rt; refuses(alloc, OWNER, exclusive, NfsStatus::NotSupp)?);
+    let in_file = create(alloc, 2, b"n".as_slice(), How::Exclusive([1; 8]));
+    assert!(rt; refuses(alloc, OWNER, in_file, NfsStatus::NotDir)?);
     Ok(())
 }
 
@@ -346,44 +348,19 @@ fn apply_all(tree: &mut Tree, alloc: Global, ops: &[Op]) -> Result<(), Memory> {
     Ok(())
 }
 
+// The small tree after these operations.
+fn small_tree_after(alloc: Global, ops: &[Op]) -> Result<Tree, Memory> {
+    let mut tree = small_tree(alloc)?;
+    apply_all(&mut tree, alloc, ops)?;
+    Ok(tree)
+}
+
 // What the owner's call is answered once its operations stand.
 fn answered(alloc: Global, args: &Args, ops: &[Op]) -> Result<Reply, Fail> {
     let before = small_tree(alloc)?;
-    let mut after = before.copy(alloc)?;
-    apply_all(&mut after, alloc, ops)?;
+    let after = small_tree_after(alloc, ops)?;
     let view = small_view(alloc)?;
     Ok(finish(alloc, &before, &after, &view, &user(OWNER), args, ops)?)
-}
-
-// The handle of a new object.
-fn made_handle(reply: &Reply) -> &[u8] {
-    match reply {
-        Reply::Made { handle, .. } => handle.as_slice(),
-        _ => b"".as_slice(),
-    }
-}
-
-// Of a new object the kind, the mode, the number of its links and the owner.
-fn made_object(reply: &Reply) -> Option<(Kind, u32, u32, u32)> {
-    match reply {
-        Reply::Made { object, .. } => {
-            let object = (*object)?;
-            Some((object.kind, object.mode, object.nlink, object.uid))
-        }
-        _ => None,
-    }
-}
-
-// When the directory of a new object last changed, before and after, and how many links it has after.
-fn made_cache(reply: &Reply) -> Option<(u32, u32, u32)> {
-    match reply {
-        Reply::Made { cache, .. } => {
-            let before = cache.before?;
-            let after = cache.after?;
-            Some((before.mtime.sec, after.mtime.sec, after.nlink))
-        }
-        _ => None,
-    }
 }
 
 // The operations of a plan.
@@ -394,17 +371,52 @@ fn ops_of(alloc: Global, plan: Plan) -> Vec<Op> {
     }
 }
 
+// What the owner is answered to the making of a directory.
+fn made_directory(alloc: Global) -> Result<Reply, Fail> {
+    let args = make_directory(alloc)?;
+    let ops = ops_of(alloc, planned(alloc, OWNER, &args)?);
+    answered(alloc, &args, &ops)
+}
+
+// Whether the handle of a new object is of the view and of the new number.
+fn is_made_handle(handle: &[u8]) -> bool {
+    handle.len() == 44 && handle[4..24] == VIEW[..] && handle[24..] == NUMBER[..]
+}
+
+// Of a new object the kind, the mode, the number of its links and the owner.
+fn seen_of(object: &Fattr) -> (Kind, u32, u32, u32) {
+    (object.kind, object.mode, object.nlink, object.uid)
+}
+
+// When a directory last changed, before and after, and how many links it has after.
+fn changes_of(cache: &Wcc) -> Option<(u32, u32, u32)> {
+    let before = cache.before?;
+    let after = cache.after?;
+    Some((before.mtime.sec, after.mtime.sec, after.nlink))
+}
+
+// Whether the reply is of the new directory, as it and the directory above are to be seen.
+fn is_made(reply: &Reply) -> bool {
+    match reply {
+        Reply::Made {
+            handle,
+            object: Some(object),
+            cache,
+        } => {
+            is_made_handle(handle.as_slice())
+                && seen_of(object) == (Kind::Dir, 0o755, 2, OWNER)
+                && changes_of(cache) == Some((2, 9, 4))
+        }
+        _ => false,
+    }
+}
+
 #[test]
 fn a_directory_is_made(rt: HostRuntime) -> Result<(), Fail> {
     let alloc = rt.alloc();
-    let args = make_directory(alloc)?;
-    assert!(rt; plans(alloc, OWNER, &args, b"IL".as_slice())?);
-    let ops = ops_of(alloc, planned(alloc, OWNER, &args)?);
-    let reply = answered(alloc, &args, &ops)?;
-    let handle = made_handle(&reply);
-    assert!(rt; handle.len() == 44 && handle[4..24] == VIEW[..] && handle[24..] == NUMBER[..]);
-    assert_eq!(rt; made_object(&reply), Some((Kind::Dir, 0o755, 2, OWNER)));
-    assert_eq!(rt; made_cache(&reply), Some((2, 9, 4)));
+    assert!(rt; plans(alloc, OWNER, make_directory(alloc), b"IL".as_slice())?);
+    let reply = made_directory(alloc)?;
+    assert!(rt; is_made(&reply));
     Ok(())
 }
 
@@ -422,20 +434,20 @@ fn make_link(alloc: Global, text: &[u8]) -> Result<Args, Fail> {
 #[test]
 fn a_link_has_a_text(rt: HostRuntime) -> Result<(), Fail> {
     let alloc = rt.alloc();
-    let link = make_link(alloc, [b'x'; 1024].as_slice())?;
-    assert!(rt; plans(alloc, OWNER, &link, b"IL".as_slice())?);
-    let empty = make_link(alloc, b"".as_slice())?;
-    assert_eq!(rt; refused(alloc, OWNER, &empty)?, Some(NfsStatus::Inval));
-    let long = make_link(alloc, [b'x'; 1025].as_slice())?;
-    assert_eq!(rt; refused(alloc, OWNER, &long)?, Some(NfsStatus::NameTooLong));
+    let link = make_link(alloc, [b'x'; 1024].as_slice());
+    assert!(rt; plans(alloc, OWNER, link, b"IL".as_slice())?);
+    let empty = make_link(alloc, b"".as_slice());
+    assert!(rt; refuses(alloc, OWNER, empty, NfsStatus::Inval)?);
+    let long = make_link(alloc, [b'x'; 1025].as_slice());
+    assert!(rt; refuses(alloc, OWNER, long, NfsStatus::NameTooLong)?);
     Ok(())
 }
 
 // ---- REMOVE and RMDIR
 
-fn remove(alloc: Global, dir: u8, text: &[u8]) -> Result<Args, Fail> {
+fn remove(alloc: Global, text: &[u8]) -> Result<Args, Fail> {
     Ok(Args::Remove {
-        dir: handle(alloc, dir)?,
+        dir: handle(alloc, 1)?,
         name: bytes(alloc, text)?,
     })
 }
@@ -450,24 +462,24 @@ fn remove_directory(alloc: Global, dir: u8, text: &[u8]) -> Result<Args, Fail> {
 #[test]
 fn a_file_is_removed(rt: HostRuntime) -> Result<(), Fail> {
     let alloc = rt.alloc();
-    let file = remove(alloc, 1, b"f".as_slice())?;
-    assert!(rt; plans(alloc, OWNER, &file, b"U".as_slice())?);
-    let directory = remove(alloc, 1, b"e".as_slice())?;
-    assert_eq!(rt; refused(alloc, OWNER, &directory)?, Some(NfsStatus::IsDir));
-    let none = remove(alloc, 1, b"n".as_slice())?;
-    assert_eq!(rt; refused(alloc, OWNER, &none)?, Some(NfsStatus::NoEnt));
+    let file = remove(alloc, b"f".as_slice());
+    assert!(rt; plans(alloc, OWNER, file, b"U".as_slice())?);
+    let directory = remove(alloc, b"e".as_slice());
+    assert!(rt; refuses(alloc, OWNER, directory, NfsStatus::IsDir)?);
+    let none = remove(alloc, b"n".as_slice());
+    assert!(rt; refuses(alloc, OWNER, none, NfsStatus::NoEnt)?);
     Ok(())
 }
 
 #[test]
 fn an_empty_directory_is_removed(rt: HostRuntime) -> Result<(), Fail> {
     let alloc = rt.alloc();
-    let empty = remove_directory(alloc, 1, b"e".as_slice())?;
-    assert!(rt; plans(alloc, OWNER, &empty, b"U".as_slice())?);
-    let full = remove_directory(alloc, 0, b"d".as_slice())?;
-    assert_eq!(rt; refused(alloc, OWNER, &full)?, Some(NfsStatus::NotEmpty));
-    let above = remove_directory(alloc, 1, b"..".as_slice())?;
-    assert_eq!(rt; refused(alloc, OWNER, &above)?, Some(NfsStatus::Exist));
+    let empty = remove_directory(alloc, 1, b"e".as_slice());
+    assert!(rt; plans(alloc, OWNER, empty, b"U".as_slice())?);
+    let full = remove_directory(alloc, 0, b"d".as_slice());
+    assert!(rt; refuses(alloc, ROOT_USER, full, NfsStatus::NotEmpty)?);
+    let above = remove_directory(alloc, 1, b"..".as_slice());
+    assert!(rt; refuses(alloc, OWNER, above, NfsStatus::Exist)?);
     Ok(())
 }
 
@@ -485,22 +497,22 @@ fn rename(alloc: Global, dir: u8, from: &[u8], to_dir: u8, to: &[u8]) -> Result<
 #[test]
 fn names_move(rt: HostRuntime) -> Result<(), Fail> {
     let alloc = rt.alloc();
-    let file = rename(alloc, 1, b"f".as_slice(), 0, b"n".as_slice())?;
-    assert!(rt; plans(alloc, OWNER, &file, b"R".as_slice())?);
-    let empty = rename(alloc, 0, b"x".as_slice(), 1, b"e".as_slice())?;
-    assert!(rt; plans(alloc, OWNER, &empty, b"R".as_slice())?);
-    let same = rename(alloc, 1, b"f".as_slice(), 1, b"g".as_slice())?;
-    assert!(rt; plans(alloc, OWNER, &same, b"0".as_slice())?);
+    let file = rename(alloc, 1, b"f".as_slice(), 0, b"n".as_slice());
+    assert!(rt; plans(alloc, OWNER, file, b"R".as_slice())?);
+    let empty = rename(alloc, 0, b"x".as_slice(), 1, b"e".as_slice());
+    assert!(rt; plans(alloc, OWNER, empty, b"R".as_slice())?);
+    let same = rename(alloc, 1, b"f".as_slice(), 1, b"g".as_slice());
+    assert!(rt; plans(alloc, OWNER, same, b"".as_slice())?);
     Ok(())
 }
 
 #[test]
 fn directories_stay(rt: HostRuntime) -> Result<(), Fail> {
     let alloc = rt.alloc();
-    let full = rename(alloc, 0, b"x".as_slice(), 0, b"d".as_slice())?;
-    assert_eq!(rt; refused(alloc, OWNER, &full)?, Some(NfsStatus::Exist));
-    let itself = rename(alloc, 0, b"d".as_slice(), 3, b"n".as_slice())?;
-    assert_eq!(rt; refused(alloc, OWNER, &itself)?, Some(NfsStatus::Inval));
+    let full = rename(alloc, 0, b"x".as_slice(), 0, b"d".as_slice());
+    assert!(rt; refuses(alloc, OWNER, full, NfsStatus::Exist)?);
+    let itself = rename(alloc, 0, b"d".as_slice(), 3, b"n".as_slice());
+    assert!(rt; refuses(alloc, OWNER, itself, NfsStatus::Inval)?);
     Ok(())
 }
 
@@ -540,11 +552,11 @@ fn link(alloc: Global, file: u8, text: &[u8]) -> Result<Args, Fail> {
 #[test]
 fn a_file_gets_a_name(rt: HostRuntime) -> Result<(), Fail> {
     let alloc = rt.alloc();
-    let file = link(alloc, 2, b"n".as_slice())?;
-    assert!(rt; plans(alloc, ROOT_USER, &file, b"L".as_slice())?);
-    let directory = link(alloc, 4, b"n".as_slice())?;
-    assert_eq!(rt; refused(alloc, OWNER, &directory)?, Some(NfsStatus::Inval));
-    let taken = link(alloc, 2, b"e".as_slice())?;
-    assert_eq!(rt; refused(alloc, OWNER, &taken)?, Some(NfsStatus::Exist));
+    let file = link(alloc, 2, b"n".as_slice());
+    assert!(rt; plans(alloc, ROOT_USER, file, b"L".as_slice())?);
+    let directory = link(alloc, 4, b"n".as_slice());
+    assert!(rt; refuses(alloc, OWNER, directory, NfsStatus::Inval)?);
+    let taken = link(alloc, 2, b"e".as_slice());
+    assert!(rt; refuses(alloc, OWNER, taken, NfsStatus::Exist)?);
     Ok(())
 }
