@@ -16,7 +16,7 @@ use Rattle.log_model.specs.Closed.{IsAscending}
 use Rattle.log_model.specs.Replay.{with_record, in_order}
 use Rattle.log_model.proofs.Lists.{each_from, each, each_left, each_append}
 use Rattle.log_model.proofs.Owners.{records_total}
-use Rattle.log_model.proofs.Sets.{IsBefore, before_trans, greater_is_before, in_with, all_before, with_last, ascending_in_order}
+use Rattle.log_model.proofs.Sets.{IsBefore, before_trans, greater_is_before, in_with, in_order_in, all_before, with_last, ascending_in_order}
 use Rattle.record_sets.specs.Rows.{IsRow, union, TakesGreatest, last_of, order_of, last_order}
 
 -- ---- rows without their last record
@@ -36,6 +36,9 @@ fold_on acc (x ∷ xs) ys = fold_on (with_record acc x) xs ys
 
 pub union_in_order : (s t : List Record) → IsAscending s → in_order (s ++ t) ≡ union s t
 union_in_order s t up = fold_on [] s t ∙ ap (λ (acc : List Record). fold with_record acc t) (ascending_in_order s up)
+
+pub spelled_in_order : (s t : List Record) → AllByRecursion HasSpelling s → AllByRecursion HasSpelling t → AllByRecursion HasSpelling (in_order (s ++ t))
+spelled_in_order s t left right = each_from HasSpelling (in_order (s ++ t)) (λ q c. each HasSpelling (s ++ t) q (each_append HasSpelling s t left right) (in_order_in (s ++ t) q c))
 
 -- what holds of each record of both rows holds of their union
 each_with : (P : Record → Type 0) (s : List Record) (r : Record) → AllByRecursion P s → P r → AllByRecursion P (with_record s r)

@@ -17,7 +17,7 @@ use std::alloc::Global;
 use version_vectors::{Entry, Vector};
 
 /// Takes the new records into the held ones, by rank; of two of one rank the held one stays. The error is want of memory,
-/// and then what is held is as it was.
+/// and then what is held is as it was. Either way it ascends, and each of its records has a spelling.
 pub fn merge(alloc: Global, held: &mut Vec<Record>, new: Vec<Record>) -> Result<(), Memory>
     requires held { IsAscending (records_of held.old.items) }
     requires new { IsAscending (records_of new.items) }
@@ -25,6 +25,8 @@ pub fn merge(alloc: Global, held: &mut Vec<Record>, new: Vec<Record>) -> Result<
     requires new_spelled { AllByRecursion HasSpelling (records_of new.items) }
     ensures ok { OnOk result (records_of held.new.items ≡ in_order (records_of held.old.items ++ records_of new.items)) }
     ensures err { OnErr result (held.new ≡ held.old) }
+    ensures ascending { IsAscending (records_of held.new.items) }
+    ensures spelled { AllByRecursion HasSpelling (records_of held.new.items) }
 {
     // The only step that may fail: from here on there is room for each record.
     let mut merged = Vec::with_capacity(alloc, held.len() + new.len())?;
