@@ -2,7 +2,7 @@
 
 ghost use Rattle.std.specs.Prelude.{◌≡◌, ◌+◌, ◌<◌, ◌^◌, length, map, IfOk};
 ghost use Rattle.log_model.specs.Spelling.{record_block};
-ghost use Rattle.log_records.specs.Records.{records_of};
+ghost use Rattle.log_records.specs.Records.{record_of, records_of};
 ghost use Rattle.turn_model.specs.Turn.{linked};
 
 use block_map::Block;
@@ -42,5 +42,42 @@ pub fn write_records(
     ensures records { IfOk result (λ w. records_of w.records.items ≡ linked own.now cited.now now (before.seq + 1) before.name ops.items) }
     ensures blocks { IfOk result (λ w. w.blocks.items ≡ map record_block (records_of w.records.items)) }
 {
-    Err(Memory)
+    let mut records = Vec::with_capacity(alloc, ops.len())?;
+    let mut blocks = Vec::with_capacity(alloc, ops.len())?;
+    let mut last = before;
+    'ops: for op in ops {
+        let (record, block) = write_one(alloc, own, cited, now, last, op)?;
+        last = Before {
+            seq: record.seq,
+            name: block.name(),
+        };
+        records.push(record)?;
+        blocks.push(block)?;
+    }
+    Ok(Written { records, blocks })
+}
+
+/// The operation's record, behind `before`, and its block.
+fn write_one(
+    alloc: Global,
+    own: &PubKey,
+    cited: &Vector,
+    now: Moment,
+    before: Before,
+    op: Op,
+) -> Result<(Record, Block), Memory>
+    requires { before.seq + 1 < 2 ^ 32 }
+    ensures record { IfOk result (λ w. record_of w.0 ≡ record { owner = own.now; seq = before.seq + 1; prev = before.name; vector = cited.now; moment = now; op = op }) }
+    ensures block { IfOk result (λ w. w.1 ≡ record_block (record_of w.0)) }
+{
+    let record = Record {
+        owner: *own,
+        seq: before.seq + 1,
+        prev: before.name,
+        vector: cited.copy(alloc)?,
+        moment: now,
+        op,
+    };
+    let block = Block::of(record.write(alloc)?);
+    Ok((record, block))
 }
