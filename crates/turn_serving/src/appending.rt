@@ -83,7 +83,7 @@ fn applied(alloc: Global, tree: &Tree, now: Moment, ops: &[Op]) -> Result<Tree, 
     ensures { IfOk result (λ after. after ≡ apply_all tree.now (map (λ op. (now, op)) ops.now)) }
 {
     let mut after = tree.copy(alloc)?;
-    for op in ops {
+    'ops: for op in ops {
         after.apply(alloc, now, op)?;
     }
     Ok(after)
