@@ -8,8 +8,8 @@
 //! Costs: the set is replayed from nothing, once; a call that writes goes on from that tree with its own records alone.
 #![tactic(auto)]
 
+mod appending;
+mod kinds;
 pub mod serving;
-#[cfg(test)]
-mod tests;
 
 pub use serving::{Asked, Served, Taken, serve};
