@@ -1,5 +1,5 @@
 -- What one more block changes, by whether it is there and whether its name is.
-use Rattle.std.proofs.Common.{◌≡◌, ℕ, ◌+◌, Bool, true, false, cond, ◌||◌, List, [], ◌∷◌, ◌++◌, length, refl, sym, ap, ◌∙◌, subst, arith}
+use Rattle.std.proofs.Common.{◌≡◌, ℕ, ◌+◌, Bool, true, false, cond, List, [], ◌∷◌, ◌++◌, length, refl, sym, ◌∙◌, subst, arith}
 use Rattle.std.specs.List.{AllByRecursion, Contains, list_any}
 use Rattle.std.specs.Str.{bytes_eq}
 use Rattle.std.proofs.lemmas.Bool.{both_ways, false_from_ne_true, or_from, or_left}
@@ -52,13 +52,13 @@ module _ (found others : List (List ℕ)) (block : List ℕ) (unmet : is_met fou
 pub one_found : (found more others : List (List ℕ)) (block : List ℕ) (total grown : ℕ) → AreMet found others total → is_met found (name block) ≡ false → more ≡ met_with found block
     → grown ≡ bytes_met (found ++ others) + length block → AreMet more others grown
 one_found found more others block total grown valid unmet is sum = subst (λ bs. AreMet bs others grown) (sym (rw unmet at is)) (record {
-    counted =
+  counted =
       let all : bytes_met ((found ++ block ∷ []) ++ others) ≡ bytes_met (found ++ block ∷ []) + bytes_met others = sum_by-append (λ (b : List ℕ). length b) (found ++ block ∷ []) others in
       let pushed : bytes_met (found ++ block ∷ []) ≡ bytes_met found + length block = sum_by_push (λ (b : List ℕ). length b) found block in
       let before : bytes_met (found ++ others) ≡ bytes_met found + bytes_met others = sum_by-append (λ (b : List ℕ). length b) found others in
       omega (arith, all, pushed, before, sum);
-    named = still_named found others block valid.named;
-  })
+  named = still_named found others block valid.named;
+})
 
 -- a block of the name of one that is found, but of other bytes, is another one
 pub meets_other : (found others : List (List ℕ)) (block one : List ℕ) → Contains found one → name one ≡ name block → NamesTellApart found → bytes_eq block one ≡ false → list_any (bytes_eq block) others ≡ false

@@ -10,7 +10,7 @@ use Rattle.ivy_base.specs.declared.key.Key.{Key}
 use Rattle.ivy_base.specs.Naming.{name, NamesTellApart}
 use Rattle.tree_model.specs.Tree.{same_key}
 use Rattle.tree_model.proofs.Keys.{same_key_is, same_key_itself}
-use Rattle.play_model.specs.Blocks.{is_met, bytes_met}
+use Rattle.play_model.specs.Blocks.{is_met}
 use Rattle.block_map.specs.Places.{place_of, ArePlaced}
 
 module _ (key : Key) where

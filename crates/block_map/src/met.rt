@@ -58,6 +58,7 @@ impl Met {
         ensures ok { OnOk result (self.new ≡ meets self.old block) }
         ensures err { OnErr result (self.new ≡ self.old) }
     {
+        // Each of the others has the name of a block that is found, so one of a new name isn't among them.
         let Some(found) = self.found.get(&block.name()) else {
             return self.add_found(block);
         };

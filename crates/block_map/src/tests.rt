@@ -1,4 +1,4 @@
-use crate::{Block, Blocks, Heads};
+use crate::{Block, Blocks, Heads, Met};
 use dht_ids::Judged;
 use ivy_base::{Bytes, Key, Memory, PubKey};
 use std::alloc::Global;
@@ -44,6 +44,15 @@ fn two_blocks(alloc: Global) -> Result<Blocks, Memory> {
     Ok(blocks)
 }
 
+/// All that was met of `abc`, `ivy!` and `abc` again.
+fn all_met(alloc: Global) -> Result<Met, Memory> {
+    let mut met = Met::new(alloc);
+    met.meet(block(alloc, b"abc".as_slice())?)?;
+    met.meet(block(alloc, b"ivy!".as_slice())?)?;
+    met.meet(block(alloc, b"abc".as_slice())?)?;
+    Ok(met)
+}
+
 /// The heads after the owner's, one after another, each with its number as its record's name.
 fn heads_of(alloc: Global, numbers: [u8; 3]) -> Result<Heads, Memory> {
     let mut heads = Heads::new(alloc);
@@ -77,6 +86,15 @@ fn a_block_met_twice_counts_once(rt: HostRuntime) -> Result<(), Fail> {
     let alloc = rt.alloc();
     let blocks = two_blocks(alloc)?;
     assert_eq!(rt; blocks.total(), 7);
+    Ok(())
+}
+
+#[test]
+fn all_that_was_met_is_there_once(rt: HostRuntime) -> Result<(), Fail> {
+    let alloc = rt.alloc();
+    let met = all_met(alloc)?;
+    assert_eq!(rt; met.total(), 7);
+    assert!(rt; holds(met.found(), &IVY, b"ivy!".as_slice()));
     Ok(())
 }
 

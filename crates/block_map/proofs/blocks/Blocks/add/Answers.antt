@@ -1,4 +1,4 @@
-use Rattle.std.proofs.Common.{ap, length, arith, rules}
+use Rattle.std.proofs.Common.{arith, rules}
 use Rattle.block_map.proofs.Places.{one_more, still_apart}
 use Rattle.block_map.proofs.blocks.Blocks.add.Goals as goal
 

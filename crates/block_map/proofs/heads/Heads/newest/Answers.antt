@@ -1,5 +1,4 @@
-use Rattle.std.proofs.Common.{sym, ap, ◌∙◌}
-use Rattle.block_map.proofs.Raised.{says, no_head, some_head}
+use Rattle.block_map.proofs.Raised.{no_head, some_head}
 use Rattle.block_map.proofs.heads.Heads.newest.Goals as goal
 
 pub returns-in_err-get : goal.returns-in_err-get

@@ -10,7 +10,7 @@ pub returns-in_default-clause-ok : goal.returns-in_default-clause-ok
 returns-in_default-clause-ok c =
     rw (← c.self.view_is)
     (on_ok_weaker c.add_found.result (λ h. h ∙ sym (meets_found c.self.inside.found c.self.inside.others.items c.args.block (rw c.name.ensures at c.in_default.ensures.none) c.self.invariant.named))
-      (rw (← c.self.view_is) at c.add_found.ensures.ok))
+    (rw (← c.self.view_is) at c.add_found.ensures.ok))
 
 pub add_other-requires : goal.add_other-requires
 add_other-requires c = rw (← c.self.view_is) (name_met (name c.args.block) c.self.inside.found c.in-Some.found.now c.in-Some.ensures.some (c.in-Some.ensures.named ∙ c.name.ensures))
@@ -20,4 +20,4 @@ returns-clause-ok c =
     let differs : bytes_eq c.args.block c.in-Some.found.now ≡ false = ap (λ b. bytes_eq b c.in-Some.found.now) (sym c.as_slice.ensures) ∙ sym c.eq.ensures ∙ c.if-eq.false in
     rw (← c.self.view_is)
     (on_ok_weaker c.add_other.result (λ h. h ∙ sym (meets_other c.self.inside.found c.self.inside.others.items c.args.block c.in-Some.found.now c.in-Some.ensures.some (c.in-Some.ensures.named ∙ c.name.ensures) c.in-Some.ensures.apart differs (rw (← c.self.view_is) at (sym c.is_among_others.ensures ∙ c.if-is_among_others.false))))
-      (rw (← c.self.view_is) at c.add_other.ensures.ok))
+    (rw (← c.self.view_is) at c.add_other.ensures.ok))
