@@ -2,7 +2,7 @@
 
 ghost use Rattle.std.specs.Prelude.{◌≡◌, [], ◌∷◌, ◌++◌, Contains, IfNone, IfSome, OnErr, OnOk, false};
 ghost use Rattle.ivy_base.specs.Naming.{name, NamesTellApart};
-ghost use Rattle.play_model.specs.Blocks.{found_in, is_found, met_with, bytes_met};
+ghost use Rattle.play_model.specs.Blocks.{is_met, met_with, bytes_met};
 
 use crate::block::Block;
 use ivy_base::{Key, Memory};
@@ -43,11 +43,12 @@ impl Blocks {
         }
     }
 
-    /// Meets a block, which is taken where it isn't there. The error is want of memory, and then nothing has changed; it
-    /// also comes where the blocks would have 2^64 bytes or more.
+    /// Meets a block. Where one of its name was met, that one stays, and nothing changes. The error is want of memory, and
+    /// then nothing has changed; it also comes where the blocks would have 2^64 bytes or more.
     pub fn meet(&mut self, block: Block) -> Result<(), Memory>
         ensures ok { OnOk result (self.new ≡ met_with self.old block) }
         ensures err { OnErr result (self.new ≡ self.old) }
+        ensures apart { OnOk result (NamesTellApart self.new) }
     {
         if self.holds(&block.name()) {
             return Ok(());
@@ -55,12 +56,12 @@ impl Blocks {
         self.add(block)
     }
 
-    /// The first block of that name that was met, where there is one.
+    /// The block of that name, where one was met.
     pub fn get(&self, key: &Key) -> Option<&[u8]>
-        ensures some { IfSome result (λ block. Contains (found_in self.now) block.now) }
+        ensures some { IfSome result (λ block. Contains self.now block.now) }
         ensures named { IfSome result (λ block. name block.now ≡ key.now) }
-        ensures none { IfNone result (is_found self.now key.now ≡ false) }
-        ensures apart { NamesTellApart (found_in self.now) }
+        ensures none { IfNone result (is_met self.now key.now ≡ false) }
+        ensures apart { NamesTellApart self.now }
     {
         let place = *self.places.get(key)?;
         Some(self.blocks[place].as_slice())

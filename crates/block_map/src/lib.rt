@@ -4,7 +4,8 @@
 //! fetches records while nothing is stored at nodes.
 //! For the layers above: [`Blocks`] is the list of the blocks that were met, in the order in which they were, each under its
 //! name (`met_with`, `bytes_met` of `play_model`'s `specs/Blocks.antt`); a name tells which of them it is. A [`Block`] is
-//! bytes that know their name, so that nothing is hashed twice. [`Heads`] is the map of the blocks of heads by head keys
+//! bytes that know their name, so that nothing is hashed twice. [`Met`] is all blocks that were met, each once (`meets`), of which
+//! `found` are those that a name leads to. [`Heads`] is the map of the blocks of heads by head keys
 //! (`with_head`, `head_at`): a head takes the place of one of a smaller number. Where memory is short nothing has changed.
 //!
 //! Costs: a look-up takes the logarithm of the number of blocks or heads; a head is judged when it is asked for, which
@@ -14,9 +15,11 @@
 pub mod block;
 pub mod blocks;
 pub mod heads;
+pub mod met;
 #[cfg(test)]
 mod tests;
 
 pub use block::Block;
 pub use blocks::Blocks;
 pub use heads::Heads;
+pub use met::Met;

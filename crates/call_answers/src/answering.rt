@@ -1,6 +1,5 @@
 //! One message's answer.
 
-ghost use Rattle.play_model.specs.Blocks.{found_in};
 ghost use Rattle.std.specs.Prelude.{◌≡◌, IfOk, IfSome, IsSomeAnd, OnErr, OnOk};
 ghost use Rattle.log_model.specs.Spelling.{IsMoment};
 ghost use Rattle.view_refresh.specs.Refreshed.{OthersStand};
@@ -37,10 +36,10 @@ pub fn answer_message(
     now: Moment,
 ) -> Result<Answered, Memory>
     requires view { IsSomeAnd agent.old.view (λ view. Unit {0}) }
-    requires stand { OthersStand (found_in blocks.now) agent.old.own agent.old.known }
+    requires stand { OthersStand blocks.now agent.old.own agent.old.known }
     requires moment { IsMoment now }
-    ensures ok { IfOk result (λ given. IfSome agent.old.view (λ view. IsAnswered (found_in blocks.now) heads.now view now message.now agent.old agent.new given)) }
-    ensures stand { OnOk result (OthersStand (found_in blocks.now) agent.new.own agent.new.known) }
+    ensures ok { IfOk result (λ given. IfSome agent.old.view (λ view. IsAnswered blocks.now heads.now view now message.now agent.old agent.new given)) }
+    ensures stand { OnOk result (OthersStand blocks.now agent.new.own agent.new.known) }
     ensures err { OnErr result (agent.new ≡ agent.old) }
 {
     Err(Memory)

@@ -1,6 +1,5 @@
 //! Participants.
 
-ghost use Rattle.play_model.specs.Blocks.{found_in};
 ghost use Rattle.std.specs.Prelude.{◌≡◌, ◌∷◌, [], map, Contains, IfOk, IsSomeAnd, IfSome, None, OnErr, OnOk, Option, Some, option_map};
 ghost use Rattle.log_model.specs.Chain.{opening};
 ghost use Rattle.log_model.specs.Spelling.{IsMoment, record_block, record_name};
@@ -132,12 +131,12 @@ impl Agent {
         now: Moment,
     ) -> Result<Turned, Memory>
         requires view { IsSomeAnd self.old.view (λ view. Unit {0}) }
-        requires stand { OthersStand (found_in blocks.now) self.old.own self.old.known }
+        requires stand { OthersStand blocks.now self.old.own self.old.known }
         requires caller { IsIdentity (identity_of asked.now.caller) }
         requires args { ArgumentsFit asked.now.args }
         requires moment { IsMoment now }
-        ensures ok { IfOk result (λ given. IfSome self.old.view (λ view. TakesTurn (found_in blocks.now) heads.now view (asked_of asked.now) now self.old self.new given)) }
-        ensures stand { OnOk result (OthersStand (found_in blocks.now) self.new.own self.new.known) }
+        ensures ok { IfOk result (λ given. IfSome self.old.view (λ view. TakesTurn blocks.now heads.now view (asked_of asked.now) now self.old self.new given)) }
+        ensures stand { OnOk result (OthersStand blocks.now self.new.own self.new.known) }
         ensures err { OnErr result (self.new ≡ self.old) }
     {
         Err(Memory)

@@ -14,27 +14,39 @@ use Rattle.log_model.specs.Vector.{Entry, Stamp, reach}
 use Rattle.dht_ids.specs.declared.judge.Judged.{Judged}
 use Rattle.log_records.specs.Heads.{stamp, owner_in, plain_judged}
 
--- the blocks with one more, where it isn't among them
+-- a block of that name was met
+abbrev pub is_met : List (List ℕ) → Key → Bool
+is_met blocks key = list_any (λ b. same_key (name b) key) blocks
+
+-- the blocks with one more, each under its name: where a block of that name was met, it stays
 abbrev pub met_with : List (List ℕ) → List ℕ → List (List ℕ)
-met_with blocks block = if list_any (bytes_eq block) blocks then blocks else blocks ++ block ∷ []
-
-abbrev pub all_met : List (List ℕ) → List (List ℕ) → List (List ℕ)
-all_met blocks more = fold met_with blocks more
-
--- a block of that name is among them
-abbrev pub is_found : List (List ℕ) → Key → Bool
-is_found blocks key = list_any (λ b. same_key (name b) key) blocks
-
--- the blocks that are found by their names: of each name the first that was met
-abbrev pub found_with : List (List ℕ) → List ℕ → List (List ℕ)
-found_with found block = if is_found found (name block) then found else found ++ block ∷ []
-
-abbrev pub found_in : List (List ℕ) → List (List ℕ)
-found_in blocks = fold found_with [] blocks
+met_with blocks block = if is_met blocks (name block) then blocks else blocks ++ block ∷ []
 
 -- how many bytes they have
 abbrev pub bytes_met : List (List ℕ) → ℕ
 bytes_met blocks = sum_by (λ b. length b) blocks
+
+-- All blocks that were met, each once: those that are found by their names, and those whose name another block had. Nobody
+-- knows how to make one of the latter.
+pub record Met : Type 0 where
+  pub found : List (List ℕ)
+  pub others : List (List ℕ)
+
+abbrev pub nothing_met : Met
+nothing_met = record { found = []; others = [] }
+
+abbrev pub all_of : Met → List (List ℕ)
+all_of m = m.found ++ m.others
+
+-- with one more block, where it isn't among them
+abbrev pub meets : Met → List ℕ → Met
+meets m block =
+    if list_any (bytes_eq block) (all_of m) then m
+    else if is_met m.found (name block) then record m { others = m.others ++ block ∷ [] }
+    else record m { found = m.found ++ block ∷ [] }
+
+abbrev pub meets_all : Met → List (List ℕ) → Met
+meets_all m blocks = fold meets m blocks
 
 -- ---- heads
 

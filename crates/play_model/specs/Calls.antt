@@ -18,7 +18,7 @@ use Rattle.turn_model.specs.Candidates.{AreCandidates}
 use Rattle.turn_model.specs.Turn.{Agent, Asked, Candidate, Turned, IsTurn, own_seq}
 use Rattle.script_driver.specs.Run.{Outcome, Goes, Refuses}
 use Rattle.play_model.specs.declared.command.Piece.{Piece}
-use Rattle.play_model.specs.Blocks.{found_in, heads_at}
+use Rattle.play_model.specs.Blocks.{heads_at}
 use Rattle.play_model.specs.Messages.{message_of}
 use Rattle.play_model.specs.Script.{◌>>=◌}
 use Rattle.play_model.specs.World.{World, Participant, participant, with_participant, publishing}
@@ -80,7 +80,7 @@ agent_of p view = record { view = view; own = p.own; leaves = 1; has_failed = fa
 -- The candidates of a refresh: of each member's log but the own one the chain up to its newest head, where that goes on from what
 -- is known and its blocks are found by their names; else what is known.
 abbrev pub Refreshes : World → Participant → View → List Candidate → Type 0
-Refreshes w p view candidates = AreCandidates (heads_at w.heads) (found_in w.blocks) view p.own (front p.known) p.known candidates
+Refreshes w p view candidates = AreCandidates (heads_at w.heads) w.blocks.found view p.own (front p.known) p.known candidates
 
 -- the own records of the set that go beyond that number
 abbrev pub own_beyond : PubKey → ℕ → List Record → List Record

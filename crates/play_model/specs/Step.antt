@@ -4,7 +4,7 @@ use Rattle.wire_model.specs.Rpc.{SystemError, reply}
 use Rattle.script_driver.specs.Run.{Outcome, Goes, Ends, Refuses, Exceeds}
 use Rattle.play_model.specs.declared.command.Command.{Command}
 use Rattle.play_model.specs.declared.command.Command.TheVariants.{Ring, Log, View, Use, At, As, Order, Nothing, End}
-use Rattle.play_model.specs.Blocks.{bytes_met}
+use Rattle.play_model.specs.Blocks.{all_of, bytes_met}
 use Rattle.play_model.specs.Calls.{CallLine, reply_line}
 use Rattle.play_model.specs.Script.{command_of}
 use Rattle.play_model.specs.World.{World, ring_line, log_line, view_line, use_line, at_line, order_line}
@@ -31,7 +31,7 @@ most_bytes = 16777216
 
 -- what a line that isn't the end may do: it meets the limit where too much was met, whatever the line is
 abbrev pub WithinLimit : World → Option Command → Outcome World → Type 0
-WithinLimit w command outcome = MatchBool (nat_lt most_bytes (bytes_met w.blocks)) (outcome ≡ Exceeds) (MayDo w command outcome)
+WithinLimit w command outcome = MatchBool (nat_lt most_bytes (bytes_met (all_of w.blocks))) (outcome ≡ Exceeds) (MayDo w command outcome)
 
 abbrev pub MayDoFirst : World → Option Command → Outcome World → Type 0
 MayDoFirst w (Some End) outcome = outcome ≡ Ends

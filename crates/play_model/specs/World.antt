@@ -15,7 +15,7 @@ use Rattle.log_model.specs.Rank.{weight}
 use Rattle.log_model.specs.Chain.{opening}
 use Rattle.log_model.specs.View.{View, have_own_head_keys, is_member, view_block}
 use Rattle.script_driver.specs.Run.{Outcome, Goes, Refuses, Exceeds}
-use Rattle.play_model.specs.Blocks.{Heads, met_with, all_met, bytes_met, newest_stamp, published_blocks, published_heads}
+use Rattle.play_model.specs.Blocks.{Heads, Met, nothing_met, meets, meets_all, newest_stamp, published_blocks, published_heads}
 use Rattle.play_model.specs.Script.{◌>>=◌}
 
 -- who writes a log: its name in the script, its public key, the view that it entered, the records that it knows, and those
@@ -38,13 +38,13 @@ pub record World : Type 0 where
   pub has_ring : Bool
   pub participants : List Participant
   pub views : List NamedView
-  pub blocks : List (List ℕ)
+  pub blocks : Met
   pub heads : Heads
   pub now : Moment
   pub handles : List (Option (List ℕ))
 
 abbrev pub empty_world : World
-empty_world = record { has_ring = false; participants = []; views = []; blocks = []; heads = []; now = record { sec = 0; nsec = 0 }; handles = [] }
+empty_world = record { has_ring = false; participants = []; views = []; blocks = nothing_met; heads = []; now = record { sec = 0; nsec = 0 }; handles = [] }
 
 -- the participant, or the view, of that name
 abbrev pub participant : World → List ℕ → Option Participant
@@ -59,7 +59,7 @@ with_participant w p = record w { participants = map (λ q. if bytes_eq q.name p
 
 -- the world once the owner published these records
 abbrev pub publishing : World → PubKey → List Record → World
-publishing w owner records = record w { blocks = all_met w.blocks (published_blocks owner records); heads = published_heads w.heads owner (newest_stamp records) }
+publishing w owner records = record w { blocks = meets_all w.blocks (published_blocks owner records); heads = published_heads w.heads owner (newest_stamp records) }
 
 -- where the test holds the world goes on to the next one, and shows nothing
 abbrev pub goes_if : Bool → World → Outcome World
@@ -113,7 +113,7 @@ view_with w name members former =
     if not (have_own_head_keys (members ++ former)) then Refuses
     else if nat_lt 16 (length members) || nat_lt 16 (length former) then Exceeds
     else (let view = view_of_keys members former in
-    Goes (record w { views = w.views ++ record { name = name; view = view } ∷ []; blocks = met_with w.blocks (view_block view) }) [])
+    Goes (record w { views = w.views ++ record { name = name; view = view } ∷ []; blocks = meets w.blocks (view_block view) }) [])
 
 abbrev pub view_by : World → List ℕ → Option (List PubKey) → Option (List PubKey) → Outcome World
 view_by w name (Some members) (Some former) = view_with w name members former

@@ -19,7 +19,7 @@ use Rattle.turn_model.specs.Turn.{Asked, Candidate, IsAtHand, is_changing, bare_
 use Rattle.script_driver.specs.Run.{Outcome, Goes}
 use Rattle.play_model.specs.declared.command.Piece.{Piece}
 use Rattle.play_model.specs.declared.command.Command.TheVariants.{As}
-use Rattle.play_model.specs.Blocks.{found_in, heads_among}
+use Rattle.play_model.specs.Blocks.{all_of, heads_among}
 use Rattle.play_model.specs.Calls.{Sending, sending_of, Asks, IsByMessage, Refreshes, reply_line, shown_reply, replied}
 use Rattle.play_model.specs.Script.{command_of}
 use Rattle.play_model.specs.World.{World, Participant, participant}
@@ -60,7 +60,7 @@ pub record IsServed (w : World) (s : Sending) (next : World) (output : List ℕ)
   pub keeps_what_was_known : (r : Record) → Contains s.by.known r → Contains taken r
   pub own_log_is_known : log_of s.by.own taken ≡ log_of s.by.own s.by.known
   -- of each member's log they are the beginning of a chain, and each of another log stands at or under a judged head that was met
-  pub is_verified : IsVerified (found_in w.blocks) s.view s.by.own (front s.by.known) (heads_among w.blocks) taken
+  pub is_verified : IsVerified w.blocks.found s.view s.by.own (front s.by.known) (heads_among (all_of w.blocks)) taken
   -- the reply is on their replay; and what the participant then knows is closed again
   pub on_replay : IsOnReplay s.by s.view asked w.now taken reply_given set
   pub set_is_closed : IsClosed s.view set

@@ -7,14 +7,14 @@ use Rattle.log_model.specs.Spelling.{HasSpelling, record_block}
 use Rattle.log_model.specs.View.{View}
 use Rattle.script_driver.specs.Run.{Goes}
 use Rattle.turn_model.specs.Turn.{Candidate}
-use Rattle.play_model.specs.Blocks.{found_in, head_at}
+use Rattle.play_model.specs.Blocks.{head_at}
 use Rattle.play_model.specs.Calls.{Sending, Answers, Refreshes}
 use Rattle.play_model.specs.World.{World, Participant}
 
 -- of the view's members both worlds have the same newest heads, and the same records' blocks are found
 pub record AgreeOnMembers (view : View) (w v : World) : Type 0 where
   pub heads : (owner : PubKey) → Contains view.members owner → head_at w.heads (head_key_of owner) ≡ head_at v.heads (head_key_of owner)
-  pub records : (r : Record) → Contains view.members r.owner → HasSpelling r → Contains (found_in w.blocks) (record_block r) ↔ Contains (found_in v.blocks) (record_block r)
+  pub records : (r : Record) → Contains view.members r.owner → HasSpelling r → Contains w.blocks.found (record_block r) ↔ Contains v.blocks.found (record_block r)
 
 -- In two such worlds a refresh has the same candidates, whatever other logs there are.
 abbrev pub OtherLogsDontCount : Type 0

@@ -1,5 +1,6 @@
 -- Laws of the step and of its runs.
 use Rattle.std.specs.Prelude.{◌≡◌, ◌⊎◌, ℕ, ◌<◌, List, length}
+use Rattle.ivy_base.specs.Naming.{NamesTellApart}
 use Rattle.script_driver.specs.Run.{Outcome, Goes, Ran, Runs, WithLaw, HasPiece, line_limit}
 use Rattle.play_model.specs.Step.{IvyStep, HasMemory, lacks_memory_line}
 use Rattle.play_model.specs.World.{World}
@@ -12,9 +13,9 @@ EachLineDoesSomething = (w : World) (line : List ℕ) → (outcome : Outcome Wor
 abbrev pub LongLinesStop : Type 0
 LongLinesStop = (w : World) (line : List ℕ) (next : World) (output : List ℕ) → line_limit < length line → IvyStep w line (Goes next output) → ⊥
 
--- Two runs of the same lines in which no call is refused for want of memory are one run.
+-- Two runs of the same lines in which no call is refused for want of memory are one run, where a name tells which of the blocks it is.
 abbrev pub FullRunsAreOne : Type 0
-FullRunsAreOne = (w : World) (number : ℕ) (lines : List (List ℕ)) (first second : Ran)
+FullRunsAreOne = (w : World) (number : ℕ) (lines : List (List ℕ)) (first second : Ran) → NamesTellApart w.blocks.found
     → Runs (WithLaw IvyStep HasMemory) w number lines first → Runs (WithLaw IvyStep HasMemory) w number lines second → first ≡ second
 
 -- a run in which a call is refused so shows it

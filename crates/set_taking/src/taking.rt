@@ -1,6 +1,5 @@
 //! What is new.
 
-ghost use Rattle.play_model.specs.Blocks.{found_in};
 ghost use Rattle.std.specs.Prelude.{◌≡◌, IfOk};
 ghost use Rattle.log_model.specs.Closed.{IsClosed};
 ghost use Rattle.log_model.specs.Rank.{front};
@@ -28,8 +27,8 @@ pub fn new_records(
 ) -> Result<Vec<Record>, Memory>
     requires closed { IsClosed view.now (records_of known.now.records.now) }
     requires front { known.now.front.now ≡ front (records_of known.now.records.now) }
-    requires stand { OthersStand (found_in blocks.now) known.now.own.now (records_of known.now.records.now) }
-    ensures { IfOk result (λ new. AreNewTaken (found_in blocks.now) heads.now view.now known.now.own.now (records_of known.now.records.now) (records_of new.items)) }
+    requires stand { OthersStand blocks.now known.now.own.now (records_of known.now.records.now) }
+    ensures { IfOk result (λ new. AreNewTaken blocks.now heads.now view.now known.now.own.now (records_of known.now.records.now) (records_of new.items)) }
 {
     let batch = refresh(alloc, blocks, heads, view, known)?;
     let nothing = Vector::empty(alloc);

@@ -1,6 +1,5 @@
 //! Refreshes.
 
-ghost use Rattle.play_model.specs.Blocks.{found_in};
 ghost use Rattle.std.specs.Prelude.{◌≡◌, map, IfOk};
 ghost use Rattle.log_model.specs.Closed.{IsClosed};
 ghost use Rattle.log_model.specs.Rank.{front};
@@ -36,8 +35,8 @@ pub fn refresh(
 ) -> Result<Batch, Memory>
     requires closed { IsClosed view.now (records_of known.now.records.now) }
     requires front { known.now.front.now ≡ front (records_of known.now.records.now) }
-    requires stand { OthersStand (found_in blocks.now) known.now.own.now (records_of known.now.records.now) }
-    ensures { IfOk result (λ batch. IsRefreshed (found_in blocks.now) heads.now view.now known.now.own.now (records_of known.now.records.now) (map (λ c. c.1) batch.chains)) }
+    requires stand { OthersStand blocks.now known.now.own.now (records_of known.now.records.now) }
+    ensures { IfOk result (λ batch. IsRefreshed blocks.now heads.now view.now known.now.own.now (records_of known.now.records.now) (map (λ c. c.1) batch.chains)) }
 {
     Err(Memory)
 }
