@@ -35,7 +35,7 @@ linked_chain view owner (r ∷ rs) c =
 
 module _ (heads : Key → List Stamp) (blocks : List (List ℕ)) (view : View) (own : PubKey) (known : List Record) where
   -- a candidate's record is known, or of the chain of a head of another member's log
-  abbrev IsNew : PubKey → List Record → Record → Type 0
+  abbrev pub IsNew : PubKey → List Record → Record → Type 0
   IsNew owner chain r = (r.owner ≡ owner) × (owner ≡ own → ⊥) × IsNewest heads blocks view own (front known) known owner chain
 
   in_log : (owner : PubKey) (chain : List Record) (r : Record) → chain ≡ log_of owner known → Contains chain r → Contains known r
@@ -47,7 +47,7 @@ module _ (heads : Key → List Stamp) (blocks : List (List ℕ)) (view : View) (
   of_candidate owner chain r (inr (apart, inr k)) c = inl (in_log owner chain r k.1 c)
 
   -- so is each record at hand
-  of_hand : (candidates : List Candidate) → AreCandidates heads blocks view own (front known) known candidates → (r : Record) → IsAtHand known candidates r
+  pub of_hand : (candidates : List Candidate) → AreCandidates heads blocks view own (front known) known candidates → (r : Record) → IsAtHand known candidates r
       → Contains known r ⊎ ((c : Candidate) × Contains c.chain r × IsNew c.owner c.chain r)
   of_hand candidates are r (inl k) = inl k
   of_hand candidates are r (inr (c, within, goes_on, in_chain)) =

@@ -8,11 +8,13 @@ ghost use Rattle.view_refresh.specs.Refreshed.{OthersStand};
 ghost use Rattle.set_taking.specs.Taking.{AreNewTaken};
 
 use block_map::{Blocks, Heads};
+use causal_order::closed_part;
 use ivy_base::Memory;
 use log_records::Record;
 use std::alloc::Global;
+use version_vectors::Vector;
 use view_blocks::View;
-use view_refresh::Known;
+use view_refresh::{Known, refresh};
 
 /// The records that a turn of the participant takes beside those that are known, ascending by rank. The error is want of
 /// memory.
@@ -28,5 +30,7 @@ pub fn new_records(
     requires stand { OthersStand blocks.now known.now.own.now (records_of known.now.records.now) }
     ensures { IfOk result (λ new. AreNewTaken blocks.now heads.now view.now known.now.own.now (records_of known.now.records.now) (records_of new.items)) }
 {
-    Err(Memory)
+    let batch = refresh(alloc, blocks, heads, view, known)?;
+    let nothing = Vector::empty(alloc);
+    closed_part(alloc, view, &nothing, known.records, batch)
 }
