@@ -1,5 +1,5 @@
 -- The union of two ascending rows ends with the greater of their last records.
-use Rattle.std.proofs.Common.{◌≡◌, ⊎_elim, ℕ, ◌+◌, ◌-◌, suc, true, List, [], ◌∷◌, ◌++◌, length, Option, Some, None, refl, sym, ap, ◌∙◌, subst, arith, Contains}
+use Rattle.std.proofs.Common.{◌≡◌, ⊎_elim, ℕ, ◌-◌, true, List, [], ◌∷◌, ◌++◌, length, Option, Some, None, refl, sym, ap, ◌∙◌, subst, arith, Contains}
 use Rattle.std.specs.Prelude.{fold, slice_get}
 use Rattle.std.specs.List.{AllByRecursion}
 use Rattle.std.specs.Cmp.{tied_back}
@@ -7,8 +7,8 @@ use Rattle.std.specs.Ordering.{is_lt, ordering_reverse}
 use Rattle.std.specs.declared.cmp.Ordering.{Ordering}
 use Rattle.std.specs.declared.cmp.Ordering.TheVariants.{Less, Equal, Greater}
 use Rattle.std.specs.FinMap.Entries.{by_order}
-use Rattle.std.proofs.lemmas.List.{length-append, append-nil, map-append, length-map}
-use Rattle.std.proofs.lemmas.Option.{slice_get_within, get_or_from_slice_get, slice_get-map}
+use Rattle.std.proofs.lemmas.List.{length-append}
+use Rattle.std.proofs.lemmas.Option.{slice_get_within, get_or_from_slice_get}
 use Rattle.log_model.specs.Record.{Record}
 use Rattle.log_model.specs.Rank.{record_cmp}
 use Rattle.log_model.specs.Spelling.{HasSpelling}
@@ -16,7 +16,7 @@ use Rattle.log_model.specs.Closed.{IsAscending}
 use Rattle.log_model.specs.Replay.{with_record, in_order}
 use Rattle.log_model.proofs.Lists.{each_from, each, each_left, each_append}
 use Rattle.log_model.proofs.Owners.{records_total}
-use Rattle.log_model.proofs.Sets.{IsBefore, before_trans, greater_is_before, in_with, in_order_in, all_before, with_last, ascending_in_order}
+use Rattle.log_model.proofs.Sets.{IsBefore, before_trans, in_with, in_order_in, all_before, with_last, ascending_in_order}
 use Rattle.record_sets.specs.Rows.{IsRow, union, TakesGreatest, last_of, order_of, last_order}
 
 -- ---- rows without their last record

@@ -1,6 +1,6 @@
 //! The union of two rows of records, taken apart from its end.
 
-ghost use Rattle.std.specs.Prelude.{◌≡◌, ◌+◌, ◌<◌, ◌≤◌, [], ◌∷◌, ◌++◌, length, vec_len, IsTrue, IfSome, IfNone};
+ghost use Rattle.std.specs.Prelude.{◌≡◌, ◌+◌, ◌<◌, ◌≤◌, [], ◌∷◌, ◌++◌, vec_len, IfSome, IfNone};
 ghost use Rattle.std.specs.Vec.{vec_capacity};
 ghost use Rattle.log_records.specs.Records.{record_of, records_of};
 ghost use Rattle.record_sets.specs.Rows.{IsRow, last_order, TakesGreatest};
