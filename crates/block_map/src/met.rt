@@ -92,7 +92,7 @@ impl Met {
         self.total.checked_add(len).ok_or(Memory)
     }
 
-    // Adds a block of a name that none of the others has.
+    // Adds a block of a new name, by which it is found from now on.
     fn add_found(&mut self, block: Block) -> Result<(), Memory>
         requires { is_met self.old.found (name block) ≡ false }
         ensures ok { OnOk result (self.new ≡ record self.old { found = self.old.found ++ block ∷ [] }) }
