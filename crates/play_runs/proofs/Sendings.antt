@@ -105,5 +105,5 @@ sends w name pieces s h =
     let by = bind_some (participant w name) (λ p. p.view >>= λ view. message_of w.handles view pieces >>= λ message. Some (record { by = p; view = view; message = message })) h in
     let under = bind_some by.0.view (λ view. message_of w.handles view pieces >>= λ message. Some (record { by = by.0; view = view; message = message })) by.2 in
     let sent = bind_some (message_of w.handles under.0 pieces) (λ message. Some (record { by = by.0; view = under.0; message = message })) under.2 in
-    let is_sent : record { by = by.0; view = under.0; message = sent.0 } ≡ s = some_is sent.2 in
+    let is_sent : record { by = by.0; view = under.0; message = sent.0 } ≡ s = cc sent.2 in
     subst (λ (t : Sending). Begins t.message) is_sent (message_begins w.handles under.0 pieces sent.0 sent.1)
