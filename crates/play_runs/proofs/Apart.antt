@@ -1,6 +1,6 @@
 -- Names go on telling blocks apart: a block is found by its name only where none of that name was.
 use Rattle.std.proofs.Common.{◌≡◌, ℕ, Bool, true, false, cond, ◌||◌, List, [], ◌∷◌, ◌++◌, Option, Some, None, refl, sym, ap, ◌∙◌, subst, inl, inr, ◌⊎◌, Contains}
-use Rattle.std.specs.Prelude.{MatchOption, fold, is_some, nat_lt, length, not}
+use Rattle.std.specs.Prelude.{MatchOption, is_some, nat_lt, length, not}
 use Rattle.std.specs.List.{list_any}
 use Rattle.std.specs.Str.{bytes_eq}
 use Rattle.std.proofs.lemmas.List.Elements.{Contains-push_cases}
@@ -14,12 +14,11 @@ use Rattle.log_model.specs.Record.{Record}
 use Rattle.log_model.specs.View.{View, have_own_head_keys, view_block}
 use Rattle.log_model.proofs.Lists.{some_passes}
 use Rattle.script_driver.specs.Run.{Outcome, Goes, Ends, Refuses, Exceeds}
-use Rattle.play_model.specs.declared.command.Piece.{Piece}
 use Rattle.play_model.specs.declared.command.Command.{Command}
 use Rattle.play_model.specs.declared.command.Command.TheVariants as command
-use Rattle.play_model.specs.Blocks.{Met, is_met, all_of, meets, meets_all, newest_stamp, published_blocks}
+use Rattle.play_model.specs.Blocks.{Met, is_met, all_of, meets, meets_all, published_blocks}
 use Rattle.play_model.specs.Script.{command_of}
-use Rattle.play_model.specs.World.{World, Participant, publishing, goes_if, ring_line, plain_key, log_line, keys_of, view_with, view_by, view_line, view_named, view_of_keys, participant, entering, use_line, at_line, order_text, showing_order, order_line}
+use Rattle.play_model.specs.World.{World, Participant, publishing, goes_if, plain_key, keys_of, view_by, view_named, view_of_keys, participant, entering, order_text, showing_order}
 use Rattle.play_model.specs.Calls.{Sending, sending_of, Answers, by_message, by_turn, out_of_memory, own_beyond}
 use Rattle.turn_model.specs.Turn.{own_seq}
 use Rattle.play_model.specs.Step.{Does, MayDo, IvyStep}

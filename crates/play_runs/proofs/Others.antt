@@ -1,6 +1,5 @@
 -- Logs that a view leaves out don't count: neither their heads nor their records' blocks make a candidate, or unmake one.
-use Rattle.std.proofs.Common.{◌≡◌, ℕ, List, [], ◌∷◌, map, refl, sym, ap, ◌∙◌, subst, Contains, None, ◌⊎◌, inl, inr, arith}
-use Rattle.ivy_base.specs.declared.key.Key.{Key}
+use Rattle.std.proofs.Common.{◌≡◌, List, [], ◌∷◌, map, refl, sym, subst, Contains, None, ◌⊎◌, inl, inr, arith}
 use Rattle.ivy_base.specs.declared.key.PubKey.{PubKey}
 use Rattle.ivy_base.specs.declared.operation.Moment.{Moment}
 use Rattle.ivy_base.specs.Naming.{head_key_of}
@@ -13,12 +12,11 @@ use Rattle.log_model.specs.View.{View}
 use Rattle.log_model.proofs.Lists.{here, there, each, each_from, in_cons}
 use Rattle.log_model.proofs.Part.{chain_good}
 use Rattle.script_driver.specs.Run.{Outcome, Goes, Ends, Refuses, Exceeds}
-use Rattle.turn_model.specs.Candidates.{MakeChain, IsPassedOver, IsTried, IsTriedBefore, IsCandidate, own_log, newest, as_known}
-use Rattle.turn_model.specs.Known.{Stand}
+use Rattle.turn_model.specs.Candidates.{MakeChain, IsPassedOver, IsTried, IsCandidate, own_log, newest, as_known}
 use Rattle.turn_model.specs.Turn.{Candidate, IsTurn}
 use Rattle.play_model.specs.Blocks.{heads_at}
 use Rattle.play_model.specs.Calls.{Sending, Answers, by_message, by_turn, out_of_memory, agent_of, replied}
-use Rattle.play_model.specs.World.{World, Participant}
+use Rattle.play_model.specs.World.{World}
 use Rattle.play_runs.specs.Others.{AgreeOnMembers, OtherLogsDontCount, CallsAreAnsweredAlike}
 
 -- the worlds agree the other way round too

@@ -1,5 +1,5 @@
 -- A message has one reply by itself, or asks one thing of a turn.
-use Rattle.std.proofs.Common.{◌≡◌, ◌≢◌, ◌⊎◌, inl, inr, ℕ, ◌<◌, ◌≤◌, List, [], Option, Some, None, refl, sym, ap, ◌∙◌, subst, arith}
+use Rattle.std.proofs.Common.{◌≡◌, ◌≢◌, ◌⊎◌, inl, inr, ℕ, ◌<◌, ◌≤◌, List, [], Option, Some, refl, sym, ap, ◌∙◌, subst, arith}
 use Rattle.wire_model.specs.Rpc.{CallMessage, IsCall, IsCaller, Identity, Success, ProgramUnavailable, ProgramMismatch, ProcedureUnavailable, GarbageArguments, BadCredential, reply}
 use Rattle.wire_model.proofs.OneReading.{one_call, one_caller, no_other_version}
 use Rattle.nfs_model.specs.declared.arguments.Args.{Args}
@@ -102,7 +102,6 @@ module _ (m : List ℕ) (c : CallMessage) (is_c : IsCall m c) where
   of_turn : (xid : ℕ) (asked : Asked) → Asks m xid asked → OfProgram c (Turns xid asked)
   of_turn xid asked a = of_this a.call _ a.is_call
       (served a.call _ a.served (inr (asked.caller, a.caller, inr (asked.args, a.arguments, inr (a.not_null, ap (λ (n : ℕ). Turns n asked) (sym a.xid_is))))))
-
 
   pub one_reply : (given other : Option (List ℕ)) → IsByMessage m given → IsByMessage m other → given ≡ other
   one_reply given other a b = cc (one_of_program c (Says given) (Says other) (of_message given a) (of_message other b))

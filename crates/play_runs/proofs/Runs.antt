@@ -1,7 +1,7 @@
 -- Laws of runs, from those of the step.
-use Rattle.std.proofs.Common.{◌≡◌, ℕ, List}
+use Rattle.std.proofs.Common.{ℕ, List}
 use Rattle.ivy_base.specs.Naming.{NamesTellApart}
-use Rattle.script_driver.specs.Run.{Outcome, Goes, WithLaw}
+use Rattle.script_driver.specs.Run.{Outcome, WithLaw}
 use Rattle.script_driver.proofs.RunLaws.{runs_with_law, one_run, sure_or_marked}
 use Rattle.play_model.specs.World.{World}
 use Rattle.play_model.specs.Step.{IvyStep, HasMemory, lacks_memory_line}

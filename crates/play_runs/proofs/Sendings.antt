@@ -8,7 +8,7 @@ use Rattle.play_model.specs.declared.command.Piece.{Piece}
 use Rattle.play_model.specs.declared.command.Piece.TheVariants.{Call, Root, HandleOf, Text, Mode}
 use Rattle.play_model.specs.Script.{◌>>=◌}
 use Rattle.play_model.specs.World.{World, Participant, participant}
-use Rattle.play_model.specs.Messages.{call_head, is_place, is_file_name, is_form, are_parts, are_no_parts, are_place_parts, are_name_parts, are_directory_parts, bytes_of_pieces, message_of}
+use Rattle.play_model.specs.Messages.{call_head, is_form, are_parts, are_no_parts, are_place_parts, are_name_parts, are_directory_parts, bytes_of_pieces, message_of}
 use Rattle.play_model.specs.Calls.{Sending, sending_of}
 use Rattle.play_runs.proofs.Messages.{call_record, head_is_call}
 
@@ -99,11 +99,20 @@ module _ (handles : List (Option (List ℕ))) (view : View) where
   message_begins : (pieces : List Piece) (m : List ℕ) → message_of handles view pieces ≡ Some m → Begins m
   message_begins pieces m h = let made = if_some (is_form pieces) (bytes_of_pieces handles view pieces) h in form_begins pieces m made.0 made.1
 
+-- what is sent is the message that is there
+sent_is : (p : Participant) (view : View) (message : Option (List ℕ)) (s : Sending) → (message >>= λ m. Some (record { by = p; view = view; message = m })) ≡ Some s → message ≡ Some s.message
+sent_is p view None s h = cc h
+sent_is p view (Some m) s h = ap (λ (t : Sending). Some t.message) (some_is h)
+
+module _ (w : World) (pieces : List Piece) (s : Sending) where
+  view_sends : (p : Participant) (view : Option View) → (view >>= λ v. message_of w.handles v pieces >>= λ m. Some (record { by = p; view = v; message = m })) ≡ Some s → Begins s.message
+  view_sends p None h = cc h
+  view_sends p (Some view) h = message_begins w.handles view pieces s.message (sent_is p view (message_of w.handles view pieces) s h)
+
+  who_sends : (p : Option Participant) → (p >>= λ q. q.view >>= λ v. message_of w.handles v pieces >>= λ m. Some (record { by = q; view = v; message = m })) ≡ Some s → Begins s.message
+  who_sends None h = cc h
+  who_sends (Some p) h = view_sends p p.view h
+
 -- what a line sends begins so
 pub sends : (w : World) (name : List ℕ) (pieces : List Piece) (s : Sending) → sending_of w name pieces ≡ Some s → Begins s.message
-sends w name pieces s h =
-    let by = bind_some (participant w name) (λ p. p.view >>= λ view. message_of w.handles view pieces >>= λ message. Some (record { by = p; view = view; message = message })) h in
-    let under = bind_some by.0.view (λ view. message_of w.handles view pieces >>= λ message. Some (record { by = by.0; view = view; message = message })) by.2 in
-    let sent = bind_some (message_of w.handles under.0 pieces) (λ message. Some (record { by = by.0; view = under.0; message = message })) under.2 in
-    let is_sent : record { by = by.0; view = under.0; message = sent.0 } ≡ s = cc sent.2 in
-    subst (λ (t : Sending). Begins t.message) is_sent (message_begins w.handles under.0 pieces sent.0 sent.1)
+sends w name pieces s h = who_sends w pieces s (participant w name) h

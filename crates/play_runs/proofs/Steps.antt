@@ -1,6 +1,6 @@
 -- Laws of the step: each line does something, a line that is too long goes nowhere, and where memory isn't wanting a line
 -- does one thing.
-use Rattle.std.proofs.Common.{◌≡◌, ◌≢◌, ℕ, ◌<◌, Bool, true, false, cond, List, [], ◌∷◌, ◌++◌, length, Option, Some, None, refl, sym, ap, ◌∙◌, subst, inl, inr, ◌⊎◌}
+use Rattle.std.proofs.Common.{◌≡◌, ◌≢◌, ℕ, ◌<◌, Bool, true, false, cond, List, [], length, Option, Some, None, refl, sym, ap, ◌∙◌, subst, inl, inr, ◌⊎◌}
 use Rattle.std.specs.Prelude.{MatchOption, MatchBool, nat_lt}
 use Rattle.std.proofs.lemmas.Bool.{lt-ltb}
 use Rattle.std.proofs.lemmas.Slice.Eq.{bytes_eq-Decides}
@@ -19,7 +19,7 @@ use Rattle.play_model.specs.declared.command.Command.TheVariants as command
 use Rattle.play_model.specs.Blocks.{all_of, bytes_met, heads_at}
 use Rattle.play_model.specs.Script.{command_of, command_of_words, words_of, is_comment}
 use Rattle.play_model.specs.World.{World, ring_line, log_line, view_line, use_line, at_line, order_line}
-use Rattle.play_model.specs.Calls.{Sending, sending_of, Asks, IsByMessage, Refreshes, Answers, by_message, by_turn, out_of_memory, agent_of, reply_line, shown_reply, replied, answered}
+use Rattle.play_model.specs.Calls.{Sending, sending_of, Asks, Refreshes, Answers, by_message, by_turn, out_of_memory, agent_of, reply_line, shown_reply, replied, answered}
 use Rattle.play_model.specs.Step.{Does, MayDo, WithinLimit, MayDoFirst, most_bytes, IvyStep, HasMemory, lacks_memory_line}
 use Rattle.play_runs.proofs.Messages.{call_record}
 use Rattle.play_runs.proofs.Sendings.{Begins, begins_is_call, sends}
@@ -154,8 +154,8 @@ module _ (w : World) (apart : NamesTellApart w.blocks.found) (s : Sending) (begi
       let ask = one_asked s.message this_call is_this xid other_xid asked other asks asks_other in
       let chains : others ≡ candidates = candidates_are_one (heads_at w.heads) w.blocks.found s.view s.by.own (front s.by.known) s.by.known others candidates apart has_others has in
       let same : turned ≡ next = turn_is_one (agent_of s.by s.view) s.by.known candidates asked w.now turned next takes
-          (subst (λ (a : Asked). IsTurn (agent_of s.by s.view) s.by.known candidates a w.now next) (sym ask.1)
-          (subst (λ (c : List Candidate). IsTurn (agent_of s.by s.view) s.by.known c other w.now next) chains takes_other)) in
+      (subst (λ (a : Asked). IsTurn (agent_of s.by s.view) s.by.known candidates a w.now next) (sym ask.1)
+      (subst (λ (c : List Candidate). IsTurn (agent_of s.by s.view) s.by.known c other w.now next) chains takes_other)) in
       λ i. answered w s.by (ask.0 i) (same i)
 
   same_call : (o p : Outcome World) → Answers w s o → Answers w s p → HasMemory w line o → HasMemory w line p → o ≡ p
