@@ -1,0 +1,7 @@
+pub mod Messages
+pub mod Sendings
+pub mod Replies
+pub mod Steps
+pub mod Apart
+pub mod Runs
+pub mod Others
