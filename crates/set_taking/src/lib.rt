@@ -8,7 +8,7 @@
 #![tactic(auto)]
 
 pub mod taking;
-
-
+#[cfg(test)]
+mod tests;
 
 pub use taking::new_records;
