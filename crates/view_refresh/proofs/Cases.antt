@@ -64,9 +64,6 @@ module _ (blocks : List (List ℕ)) (heads : Heads) (view : View) (well : IsView
       pub is_owner : owner_of rest ≡ owner
       is_owner = walk_owner blocks owner head held rest further walk
 
-      pub still_new : (Contains (owners_in chains) owner → ⊥) → Contains (owners_in chains) (owner_of rest) → ⊥
-      still_new none c = none (subst (λ (o : PubKey). Contains (owners_in chains) o) is_owner c)
-
       module _ (edge : Option Vector) (edge_is : edge ≡ edge_of (newest (log_of owner known))) where
         pub edge_case : IfSome edge (λ v. stamp_in v rest ≡ None)
         edge_case = edge_is_apart view owner (log_of owner known) rest edge (closed.chains owner) edge_is is_owner

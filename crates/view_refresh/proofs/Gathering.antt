@@ -179,9 +179,6 @@ module _ (blocks : List (List ℕ)) (heads : Heads) (view : View) (own : PubKey)
     pub no_chain_yet : (d : PubKey) (old : List (Stamp × List Record)) → IsView view → i < length members → Brought (take i members) (map (λ c. c.1) old) → Contains (owners_in old) (get_or members i d) → ⊥
     no_chain_yet d old well within b = new_owner (take i members) (get_or members i d) old b (apart_at members i d (subst AllApart (sym value) (members_apart view.members well.members_ascend)) within)
 
-    pub is_member : (d : PubKey) → i < length members → Contains view.members (get_or members i d)
-    is_member d within = subst (λ (l : List PubKey). Contains l (get_or members i d)) value (Contains-get_or members i d within)
-
     -- one member more
     pub brought_more : (d : PubKey) (old new : List (Stamp × List Record)) → i < length members → Brought (take i members) (map (λ c. c.1) old) → Brings blocks heads view own known (get_or members i d) old new
         → Brought (take (i + 1) members) (map (λ c. c.1) new)

@@ -19,18 +19,6 @@ module _ (blocks : List (List ℕ)) (owner : PubKey) where
   reaches head seq name [] h = let e = h.0 in omega (arith, e)
   reaches head seq name (r ∷ rs) h = let more = reaches head (seq + 1) (record_name r) rs h.3 in omega (arith, more)
 
-  -- one record further back
-  pub further_back : (head : Stamp) (seq : ℕ) (name : Key) (r : Record) (rs : List Record) → 1 ≤ seq → LeadsTo blocks owner head seq name rs → IsNamed blocks owner seq name r
-      → LeadsTo blocks owner head (seq - 1) r.prev (r ∷ rs)
-  further_back head seq name r rs some h is =
-      let number = is.numbered in
-      let same : seq ≡ seq - 1 + 1 = omega (arith, some) in (
-        is.stands,
-        omega (arith, number, same),
-        refl,
-        subst (λ (k : ℕ). LeadsTo blocks owner head k (record_name r) rs) same (subst (λ (n : Key). LeadsTo blocks owner head seq n rs) (sym is.named) h),
-      )
-
   module _ (apart : NamesTellApart blocks) where
     pub one_named : (p q : Record) → Stands blocks owner p → Stands blocks owner q → record_name p ≡ record_name q → p ≡ q
     one_named p q of_p of_q e = whole (one_record owner) p q (of_p.owned, of_p.spelled) (of_q.owned, of_q.spelled) (apart (record_block p) (record_block q) of_p.block of_q.block e)

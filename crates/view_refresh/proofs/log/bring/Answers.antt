@@ -4,7 +4,7 @@ use Rattle.log_model.specs.Record.{Record}
 use Rattle.log_records.specs.Batches.{Batch}
 use Rattle.log_records.specs.Heads.{stamp}
 use Rattle.log_records.specs.Records.{records_of}
-use Rattle.view_refresh.proofs.Cases.{own_case, no_head_case, no_walk_case, one_owner, still_new, edge_case, fault_case, taken_case}
+use Rattle.view_refresh.proofs.Cases.{own_case, no_head_case, no_walk_case, one_owner, edge_case, fault_case, taken_case}
 use Rattle.view_refresh.proofs.log.bring.Goals as goal
 
 pub returns-then-is_one-clause-brought : goal.returns-then-is_one-clause-brought
