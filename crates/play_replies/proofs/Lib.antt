@@ -1,0 +1,4 @@
+pub mod Elements
+pub mod MetBlocks
+pub mod MadeViews
+pub mod Commands
