@@ -5,3 +5,4 @@ pub mod Commands
 pub mod Sendings
 pub mod Sound
 pub mod Served
+pub mod KeptWorlds

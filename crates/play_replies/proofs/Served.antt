@@ -92,7 +92,7 @@ call_is_served w s next output o ok sender (out_of_memory c is_call) e =
     inr (inr (record { call = c; is_call = is_call; shown = sym goes.1; same = sym goes.0 }))
 
 -- a line that goes on didn't meet the limit
-within_limit : (w : World) (b : Bool) (o : Outcome World) (P : Type 0) (next : World) (output : List ℕ) → o ≡ Goes next output → MatchBool b (o ≡ Exceeds) P → P
+pub within_limit : (w : World) (b : Bool) (o : Outcome World) (P : Type 0) (next : World) (output : List ℕ) → o ≡ Goes next output → MatchBool b (o ≡ Exceeds) P → P
 within_limit w true o P next output e does = cc (sym e ∙ does)
 within_limit w false o P next output e does = does
 
