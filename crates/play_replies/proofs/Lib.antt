@@ -6,3 +6,4 @@ pub mod Sendings
 pub mod Sound
 pub mod Served
 pub mod KeptWorlds
+pub mod Runs

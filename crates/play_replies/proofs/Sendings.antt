@@ -99,15 +99,35 @@ pub record IsSender (w : World) (s : Sending) : Type 0 where
   pub found : participant w s.by.name ≡ Some s.by
   pub entered : s.by.view ≡ Some s.view
 
+-- of what is sent, who sends it and under which view
+through_message : (p : Participant) (view : View) (o : Option (List ℕ)) (s : Sending) → (o >>= λ message. Some (record { by = p; view = view; message = message })) ≡ Some s
+    → (p ≡ s.by) × (view ≡ s.view)
+through_message p view None s e = cc e
+through_message p view (Some message) s e =
+    let same : record { by = p; view = view; message = message } ≡ s = some_is e in
+    (ap (λ (t : Sending). t.by) same, ap (λ (t : Sending). t.view) same)
+
+through_view : (w : World) (pieces : List Piece) (p : Participant) (o : Option View) (s : Sending)
+    → (o >>= λ view. message_of w.handles view pieces >>= λ message. Some (record { by = p; view = view; message = message })) ≡ Some s → (p ≡ s.by) × (o ≡ Some s.view)
+through_view w pieces p None s e = cc e
+through_view w pieces p (Some view) s e =
+    let same = through_message p view (message_of w.handles view pieces) s e in
+    (same.0, ap (λ (v : View). Some v) same.1)
+
+through_sender : (w : World) (pieces : List Piece) (o : Option Participant) (s : Sending)
+    → (o >>= λ p. p.view >>= λ view. message_of w.handles view pieces >>= λ message. Some (record { by = p; view = view; message = message })) ≡ Some s
+    → (o ≡ Some s.by) × (s.by.view ≡ Some s.view)
+through_sender w pieces None s e = cc e
+through_sender w pieces (Some p) s e =
+    let same = through_view w pieces p p.view s e in
+    (ap (λ (q : Participant). Some q) same.0, subst (λ (q : Participant). q.view ≡ Some s.view) same.0 same.1)
+
 pub sender_is : (w : World) (name : List ℕ) (pieces : List Piece) (s : Sending) → sending_of w name pieces ≡ Some s → IsSender w s
 sender_is w name pieces s h =
-    let p = bind_some (participant w name) (λ p. p.view >>= λ view. message_of w.handles view pieces >>= λ message. Some (record { by = p; view = view; message = message })) h in
-    let view = bind_some p.0.view (λ view. message_of w.handles view pieces >>= λ message. Some (record { by = p.0; view = view; message = message })) p.2 in
-    let sent = bind_some (message_of w.handles view.0 pieces) (λ message. Some (record { by = p.0; view = view.0; message = message })) view.2 in
-    let is_sent : record { by = p.0; view = view.0; message = sent.0 } ≡ s = some_is sent.2 in
-    let known = found_by_name w name p.0 p.1 in
-    subst (IsSender w) is_sent (record {
+    let sends = through_sender w pieces (participant w name) s h in
+    let known = found_by_name w name s.by sends.0 in
+    record {
       there = known.0;
-      found = subst (λ (n : List ℕ). participant w n ≡ Some p.0) (sym known.1) p.1;
-      entered = view.1;
-    })
+      found = subst (λ (n : List ℕ). participant w n ≡ Some s.by) (sym known.1) sends.0;
+      entered = sends.1;
+    }
