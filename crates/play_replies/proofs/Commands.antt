@@ -1,11 +1,10 @@
 -- The command for a view names a member at least.
-use Rattle.std.proofs.Common.{◌≡◌, ◌≢◌, ℕ, ◌+◌, ◌≤◌, ◌^◌, Bool, true, false, cond, List, [], ◌∷◌, length, Option, Some, None, refl, sym, ap, ◌∙◌, arith}
+use Rattle.std.proofs.Common.{◌≡◌, ◌≢◌, ℕ, ◌≤◌, ◌^◌, Bool, true, false, cond, List, [], ◌∷◌, length, Option, Some, None, refl, ◌∙◌, arith}
 use Rattle.std.specs.Prelude.{codes, nat_lt, ◌==◌}
 use Rattle.std.specs.List.{slice_split}
 use Rattle.std.specs.Str.{bytes_eq}
 use Rattle.std.proofs.lemmas.List.Splits.{length-slice_split}
 use Rattle.script_driver.specs.Run.{line_limit}
-use Rattle.play_model.specs.declared.command.Piece.{Piece}
 use Rattle.play_model.specs.declared.command.Command.{Command}
 use Rattle.play_model.specs.declared.command.Command.TheVariants as command
 use Rattle.play_model.specs.Script.{◌>>=◌, words_of, name_of, number_below, hex_bytes, are_sets, pieces_of, each_name, names_of, ring_of, log_of, view_of, use_of, at_of, as_of, order_of, end_of, command_of_words, is_comment, command_of}

@@ -1,5 +1,5 @@
 -- Each line leaves a valid world.
-use Rattle.std.proofs.Common.{◌≡◌, ◌≢◌, inl, inr, ℕ, ◌+◌, ◌<◌, ◌≤◌, ◌^◌, Bool, true, false, cond, not, ◌&&◌, ◌||◌, List, [], ◌∷◌, ◌++◌, length, map, Option, Some, None, refl, sym, ap, ◌∙◌, subst, arith, Contains}
+use Rattle.std.proofs.Common.{◌≡◌, ◌≢◌, inl, ℕ, ◌<◌, ◌≤◌, Bool, true, false, cond, not, ◌&&◌, ◌||◌, List, [], ◌∷◌, ◌++◌, length, Option, Some, None, refl, sym, ap, subst, arith, Contains}
 use Rattle.std.specs.Prelude.{find, is_some, is_none, option_map, nat_lt, MatchOption}
 use Rattle.std.specs.List.{AllByRecursion}
 use Rattle.std.specs.Option.{option_map_or}
@@ -12,7 +12,7 @@ use Rattle.ivy_base.specs.Naming.{owner_cmp, head_key_of}
 use Rattle.tree_model.proofs.Keys.{same_key_itself}
 use Rattle.tree_model.proofs.Sound.{both_true, both_false}
 use Rattle.log_model.specs.Chain.{opening}
-use Rattle.log_model.specs.Closed.{log_of, IsClosed}
+use Rattle.log_model.specs.Closed.{IsClosed}
 use Rattle.log_model.specs.Rank.{own_entry}
 use Rattle.log_model.specs.Record.{Record}
 use Rattle.log_model.specs.Spelling.{HasSpelling, IsMoment}
@@ -22,22 +22,22 @@ use Rattle.log_model.proofs.Lists.{here, in_nothing, each, each_append, in_filte
 use Rattle.log_model.proofs.Opening.{same_owner, opening_has_spelling, opening_is_closed}
 use Rattle.log_model.proofs.Owners.{owner_itself}
 use Rattle.turn_model.specs.Turn.{own_seq}
-use Rattle.script_driver.specs.Run.{Outcome, Goes, Ends, Refuses, Exceeds}
+use Rattle.script_driver.specs.Run.{Outcome, Goes, Refuses, Exceeds}
 use Rattle.play_model.specs.declared.command.Command.{Command}
 use Rattle.play_model.specs.declared.command.Command.TheVariants as command
 use Rattle.play_model.specs.declared.command.Piece.{Piece}
 use Rattle.play_model.specs.Blocks.{all_of, bytes_met, meets, published_blocks}
-use Rattle.play_model.specs.Calls.{Sending, sending_of, Answers, by_message, by_turn, out_of_memory, CallLine, own_beyond, handle_given, replied}
+use Rattle.play_model.specs.Calls.{Sending, sending_of, Answers, by_message, by_turn, out_of_memory, own_beyond, handle_given, replied}
 use Rattle.play_model.specs.Kept.{KnowsUnder, IsKeptWell}
 use Rattle.play_model.specs.Script.{◌>>=◌, command_of}
 use Rattle.play_model.specs.Step.{Does, MayDo, WithinLimit, MayDoFirst, IvyStep, most_bytes}
-use Rattle.play_model.specs.World.{World, Participant, NamedView, participant, view_named, with_participant, publishing, goes_if, ring_line, plain_key, newcomer, log_line, keys_of, view_of_keys, view_with, view_by, view_line, entering, use_line, at_line, order_text, showing_order, order_line}
+use Rattle.play_model.specs.World.{World, Participant, NamedView, participant, view_named, with_participant, publishing, goes_if, ring_line, plain_key, newcomer, log_line, keys_of, view_of_keys, view_with, view_by, view_line, entering, at_line, order_text, showing_order}
 use Rattle.play_replies.specs.Valid.{IsSound, AreApart, IsValid}
 use Rattle.play_replies.proofs.Elements.{some_is, bind_some, none_is, found_in, each_weaker}
 use Rattle.play_replies.proofs.MetBlocks.{Grows, grows_not, meets_grows, meets_all_grows, more_met, published_met}
 use Rattle.play_replies.proofs.MadeViews.{made_view_is_view}
 use Rattle.play_replies.proofs.Commands.{HasMembers, command_has}
-use Rattle.play_replies.proofs.Sendings.{names_in, found_by_name, each_put_for, names_put_for, unknown_name, apart_with, IsSender, sender_is}
+use Rattle.play_replies.proofs.Sendings.{found_by_name, each_put_for, names_put_for, unknown_name, apart_with, IsSender, sender_is}
 use Rattle.play_replies.proofs.Sound.{still_sound, set_sound}
 use Rattle.play_replies.proofs.Served.{within_limit}
 
@@ -264,7 +264,7 @@ module _ (w next : World) (output : List ℕ) (ok : IsValid w) where
   may_keeps (Some c) has does = command_keeps c has does
 
   limit_keeps : (c : Option Command) → HasMembers c → WithinLimit w c (Goes next output) → IsValid next
-  limit_keeps c has does = may_keeps c has (within_limit w (nat_lt most_bytes (bytes_met (all_of w.blocks))) (Goes next output) (MayDo w c (Goes next output)) next output refl does)
+  limit_keeps c has does = may_keeps c has (within_limit (nat_lt most_bytes (bytes_met (all_of w.blocks))) (Goes next output) (MayDo w c (Goes next output)) next output refl does)
 
   first_keeps : (c : Option Command) → HasMembers c → MayDoFirst w c (Goes next output) → IsValid next
   first_keeps None has does = limit_keeps None has does

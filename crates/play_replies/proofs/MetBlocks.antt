@@ -1,6 +1,6 @@
 -- Blocks that were met: there are only more of them, and of the heads among them.
-use Rattle.std.proofs.Common.{◌≡◌, ◌⊎◌, inl, inr, ⊎_elim, ℕ, Bool, true, false, cond, List, [], ◌∷◌, ◌++◌, map, Option, Some, None, refl, sym, ap, ◌∙◌, subst, Contains}
-use Rattle.std.specs.Prelude.{fold, nat_lt, ◌&&◌}
+use Rattle.std.proofs.Common.{◌≡◌, ⊎_elim, ℕ, Bool, true, false, cond, List, [], ◌∷◌, ◌++◌, Option, Some, None, refl, sym, ap, ◌∙◌, subst, Contains}
+use Rattle.std.specs.Prelude.{nat_lt, ◌&&◌}
 use Rattle.std.specs.List.{AllByRecursion, list_any}
 use Rattle.std.specs.FinMap.Entries.{find as value_at, put}
 use Rattle.std.specs.Str.{bytes_eq}
@@ -12,13 +12,13 @@ use Rattle.ivy_base.specs.declared.key.PubKey.{PubKey}
 use Rattle.ivy_base.specs.Naming.{name, key_cmp, head_key_of}
 use Rattle.log_model.specs.Record.{Record}
 use Rattle.log_model.specs.Spelling.{head_block}
-use Rattle.log_model.specs.Vector.{Entry, Stamp, reach}
+use Rattle.log_model.specs.Vector.{Stamp, reach}
 use Rattle.log_model.proofs.Lists.{here, in_cons, in_nothing, who_passes}
 use Rattle.dht_ids.specs.declared.judge.Judged.{Judged}
 use Rattle.log_records.specs.Heads.{owner_in, seq_in, name_in, is_plain, is_plain_head, plain_judged}
 use Rattle.candidate_laws.specs.Verified.{AreAmong, WereReceived}
 use Rattle.play_model.specs.Blocks.{Met, all_of, is_met, meets, meets_all, Heads, judged_stamp, head_in, head_at, heads_at, with_head, entry_with, entry_of_head, heads_among, newest_stamp, published_blocks, published_heads}
-use Rattle.play_replies.proofs.Elements.{some_is, in_filter_map, from_filter_map, each_value, each_put}
+use Rattle.play_replies.proofs.Elements.{in_filter_map, from_filter_map, each_value, each_put}
 
 -- all that was met before was met
 pub record Grows (m n : Met) : Type 0 where

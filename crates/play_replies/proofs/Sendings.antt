@@ -1,19 +1,19 @@
 -- Participants: whom a name finds, who takes another's place, and who sends.
-use Rattle.std.proofs.Common.{◌≡◌, ◌⊎◌, inl, inr, ⊎_elim, ℕ, Bool, true, false, cond, List, [], ◌∷◌, ◌++◌, map, Option, Some, None, refl, sym, ap, ◌∙◌, subst, Contains}
+use Rattle.std.proofs.Common.{◌≡◌, ⊎_elim, ℕ, Bool, true, false, cond, List, [], ◌∷◌, ◌++◌, map, Option, Some, None, refl, sym, ap, ◌∙◌, subst, Contains}
 use Rattle.std.specs.Prelude.{find}
 use Rattle.std.specs.List.{AllByRecursion}
 use Rattle.std.specs.Str.{bytes_eq}
 use Rattle.std.proofs.lemmas.List.Elements.{Contains-append_cases}
 use Rattle.std.proofs.lemmas.Slice.Eq.{bytes_eq-Decides}
 use Rattle.log_model.specs.View.{View}
-use Rattle.log_model.proofs.Lists.{here, there, in_cons, in_nothing, each}
+use Rattle.log_model.proofs.Lists.{here, there, in_cons, in_nothing}
 use Rattle.play_model.specs.declared.command.Piece.{Piece}
 use Rattle.play_model.specs.Calls.{Sending, sending_of}
 use Rattle.play_model.specs.Messages.{message_of}
 use Rattle.play_model.specs.Script.{◌>>=◌}
-use Rattle.play_model.specs.World.{World, Participant, participant, with_participant}
+use Rattle.play_model.specs.World.{World, Participant, participant}
 use Rattle.play_replies.specs.Valid.{AreApart}
-use Rattle.play_replies.proofs.Elements.{some_is, bind_some, found_in, none_found}
+use Rattle.play_replies.proofs.Elements.{some_is, found_in, none_found}
 
 abbrev pub names_in : List Participant → List (List ℕ)
 names_in ps = map (λ p. p.name) ps

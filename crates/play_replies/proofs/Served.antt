@@ -1,5 +1,5 @@
 -- Each call is answered by its message alone, or on the replay of a closed set of verified records, or memory was wanting.
-use Rattle.std.proofs.Common.{◌≡◌, ◌⊎◌, inl, inr, ℕ, ◌+◌, ◌<◌, ◌≤◌, Bool, true, false, List, ◌++◌, length, Option, Some, refl, sym, ap, ◌∙◌, subst, lit<, Contains}
+use Rattle.std.proofs.Common.{◌≡◌, ◌⊎◌, inl, inr, ℕ, ◌+◌, ◌<◌, ◌≤◌, Bool, true, false, List, length, Option, Some, refl, sym, ◌∙◌, subst, lit<}
 use Rattle.std.specs.Prelude.{nat_lt, MatchBool, MatchOption}
 use Rattle.std.proofs.lemmas.Bool.{ltb-true, ltb-false}
 use Rattle.ivy_base.specs.declared.operation.Moment.{Moment}
@@ -13,11 +13,8 @@ use Rattle.turn_model.proofs.Turns.{turn-reading, turn-refused, turn-nothing, tu
 use Rattle.candidate_laws.proofs.Taken.{own_log_is_known}
 use Rattle.script_driver.specs.Run.{Outcome, Goes, Refuses, Exceeds}
 use Rattle.play_model.specs.declared.command.Command.{Command}
-use Rattle.play_model.specs.declared.command.Command.TheVariants as command
-use Rattle.play_model.specs.declared.command.Piece.{Piece}
 use Rattle.play_model.specs.Blocks.{all_of, bytes_met, heads_at}
-use Rattle.play_model.specs.Calls.{Sending, sending_of, Answers, by_message, by_turn, out_of_memory, agent_of, CallLine}
-use Rattle.play_model.specs.Script.{command_of}
+use Rattle.play_model.specs.Calls.{Sending, Answers, by_message, by_turn, out_of_memory, agent_of, CallLine}
 use Rattle.play_model.specs.Step.{MayDoFirst, IvyStep, most_bytes}
 use Rattle.play_model.specs.World.{World, Participant, participant}
 use Rattle.play_replies.specs.Headline.{IsOnReplay, read, refused, unchanged, full, wrote, IsServed, IsAnsweredAlone, LacksMemory, Headline}
@@ -92,13 +89,13 @@ call_is_served w s next output o ok sender (out_of_memory c is_call) e =
     inr (inr (record { call = c; is_call = is_call; shown = sym goes.1; same = sym goes.0 }))
 
 -- a line that goes on didn't meet the limit
-pub within_limit : (w : World) (b : Bool) (o : Outcome World) (P : Type 0) (next : World) (output : List ℕ) → o ≡ Goes next output → MatchBool b (o ≡ Exceeds) P → P
-within_limit w true o P next output e does = cc (sym e ∙ does)
-within_limit w false o P next output e does = does
+pub within_limit : {World : Type 0} (b : Bool) (o : Outcome World) (P : Type 0) (next : World) (output : List ℕ) → o ≡ Goes next output → MatchBool b (o ≡ Exceeds) P → P
+within_limit true o P next output e does = cc (sym e ∙ does)
+within_limit false o P next output e does = does
 
 pub replies_are_served : (w : World) (line : List ℕ) (o : Outcome World) → IsValid w → IvyStep w line o → Headline w line o
 replies_are_served w line o ok does name pieces s next output is_command sent goes =
     let first = subst (λ (c : Option Command). MayDoFirst w c o) is_command does in
-    let calls = within_limit w (nat_lt most_bytes (bytes_met (all_of w.blocks))) o (CallLine w name pieces o) next output goes first in
+    let calls = within_limit (nat_lt most_bytes (bytes_met (all_of w.blocks))) o (CallLine w name pieces o) next output goes first in
     let answers = subst (λ (t : Option Sending). MatchOption t (o ≡ Refuses) (λ x. Answers w x o)) sent calls in
     call_is_served w s next output o ok (sender_is w name pieces s sent) answers goes

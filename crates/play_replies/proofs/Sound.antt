@@ -1,5 +1,5 @@
 -- Participants stay sound as more is met, and one that took a turn is sound again.
-use Rattle.std.proofs.Common.{◌≡◌, ◌≢◌, ◌⊎◌, inl, inr, ⊎_elim, ℕ, ◌≤◌, ◌^◌, List, [], ◌∷◌, Option, Some, None, refl, sym, ap, ◌∙◌, subst, arith, lit<, Contains}
+use Rattle.std.proofs.Common.{◌≡◌, ◌≢◌, inl, inr, ℕ, List, [], ◌∷◌, Option, Some, refl, sym, subst, arith, lit<, Contains}
 use Rattle.std.specs.List.{AllByRecursion}
 use Rattle.std.specs.Ordering.{eq_by_cmp}
 use Rattle.ivy_base.specs.declared.key.PubKey.{PubKey}
@@ -8,11 +8,11 @@ use Rattle.wire_model.specs.Rpc.{Auth, Identity, IsIdentity, IsCaller, none, sys
 use Rattle.log_model.specs.Closed.{log_of, IsClosed}
 use Rattle.log_model.specs.Rank.{front}
 use Rattle.log_model.specs.Record.{Record}
-use Rattle.log_model.specs.Spelling.{HasSpelling, IsMoment, record_block}
+use Rattle.log_model.specs.Spelling.{HasSpelling, record_block}
 use Rattle.log_model.specs.Vector.{Entry, Vector}
-use Rattle.log_model.specs.View.{View, IsView}
+use Rattle.log_model.specs.View.{View}
 use Rattle.log_model.proofs.Later.{good_of}
-use Rattle.log_model.proofs.Lists.{here, in_nothing, each_from, in_filter, from_filter}
+use Rattle.log_model.proofs.Lists.{here, in_nothing, each, each_from, in_filter, from_filter}
 use Rattle.turn_model.specs.Known.{Stand, IsUnderHead, IsBacked, IsVerified}
 use Rattle.turn_model.specs.Turn.{Asked, Candidate, Turned, IsTurn}
 use Rattle.turn_model.proofs.Keeps.{turn_keeps}
@@ -20,7 +20,7 @@ use Rattle.turn_laws.proofs.Turns.{turn_set_is_closed}
 use Rattle.candidate_laws.specs.Verified.{AreAmong}
 use Rattle.candidate_laws.proofs.Taken.{taken_is_verified}
 use Rattle.candidate_laws.proofs.Backed.{known_stays_backed}
-use Rattle.play_model.specs.Blocks.{Met, all_of, heads_at, heads_among}
+use Rattle.play_model.specs.Blocks.{all_of, heads_at, heads_among}
 use Rattle.play_model.specs.Calls.{Sending, Asks, Refreshes, agent_of}
 use Rattle.play_model.specs.Kept.{KnowsUnder, IsKeptWell}
 use Rattle.play_model.specs.World.{World, Participant}
@@ -28,7 +28,6 @@ use Rattle.play_replies.specs.Valid.{IsSound, IsValid}
 use Rattle.play_replies.proofs.Elements.{each_weaker}
 use Rattle.play_replies.proofs.MetBlocks.{Grows, more_heads, were_received}
 use Rattle.play_replies.proofs.Sendings.{IsSender}
-use Rattle.log_model.proofs.Lists.{each}
 
 -- ---- as more is met
 
