@@ -26,19 +26,3 @@ one_more handles view pieces i piece before after true inside is put done =
     at_drop_more (λ ps. option_map (λ b. before ++ b) (bytes_of_pieces handles view ps)) pieces i piece inside
     ∙ ap (λ p. option_map (λ b. before ++ b) (bytes_of_pieces handles view (p ∷ drop (i + 1) pieces))) (sym is)
     ∙ piece_in_front before after (piece_bytes handles view piece) (bytes_of_pieces handles view (drop (i + 1) pieces)) put
-
--- a piece without a value leaves the row without one
-pub one_missing : (handles : List (Option (List ℕ))) (view : View) (pieces : List Piece) (i : ℕ) (piece : Piece) (before after : List ℕ) (is_put : Bool)
-    → i < length pieces → piece ≡ get_or pieces i piece
-    → option_map (λ b. before ++ b) (piece_bytes handles view piece) ≡ (if is_put then Some after else None) → is_put ≡ false
-    → option_map (λ b. before ++ b) (bytes_of_pieces handles view (drop i pieces)) ≡ None
-one_missing handles view pieces i piece before after true inside is put done = cc done
-one_missing handles view pieces i piece before after false inside is put done =
-    at_drop_more (λ ps. option_map (λ b. before ++ b) (bytes_of_pieces handles view ps)) pieces i piece inside
-    ∙ ap (λ p. option_map (λ b. before ++ b) (bytes_of_pieces handles view (p ∷ drop (i + 1) pieces))) (sym is)
-    ∙ missing_in_front (piece_bytes handles view piece) put
-  where
-    missing_in_front : (bytes : Option (List ℕ)) → option_map (λ b. before ++ b) bytes ≡ None
-        → option_map (λ b. before ++ b) (bytes >>= λ b. bytes_of_pieces handles view (drop (i + 1) pieces) >>= λ r. Some (b ++ r)) ≡ None
-    missing_in_front None h = refl
-    missing_in_front (Some b) h = cc h

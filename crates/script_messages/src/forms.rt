@@ -86,7 +86,14 @@ pub fn is_form(pieces: &[Piece]) -> bool
     ensures { result ≡ is_form pieces.now }
 {
     match pieces {
-        [Piece::Call { procedure, uid: 0, gid: 0 }, parts @ ..] => are_parts(*procedure, parts),
+        [
+            Piece::Call {
+                procedure,
+                uid: 0,
+                gid: 0,
+            },
+            parts @ ..,
+        ] => are_parts(*procedure, parts),
         _ => false,
     }
 }

@@ -27,7 +27,11 @@ pub fn message(
     }
     let mut out = XdrWrite::new(alloc);
     let is_whole = put_pieces(alloc, &mut out, handles, view, pieces)?;
-    Ok(if is_whole { Some(out.into_bytes()) } else { None })
+    Ok(if is_whole {
+        Some(out.into_bytes())
+    } else {
+        None
+    })
 }
 
 /// Appends the bytes of the pieces in their order. It is false where one has no value.

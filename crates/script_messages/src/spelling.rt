@@ -129,7 +129,11 @@ pub fn put_piece(
         ≡ (if is_put then Some out.new.written else None)) }
 {
     match piece {
-        Piece::Call { procedure, uid, gid } => put_head(out, *procedure, *uid, *gid)?,
+        Piece::Call {
+            procedure,
+            uid,
+            gid,
+        } => put_head(out, *procedure, *uid, *gid)?,
         Piece::Root => put_root(alloc, out, view)?,
         Piece::HandleOf { reply } => {
             let Some(handle) = handle_numbered(handles, *reply) else {

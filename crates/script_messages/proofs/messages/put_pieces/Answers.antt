@@ -1,5 +1,5 @@
 use Rattle.std.proofs.Common.{◌∙◌}
-use Rattle.script_messages.proofs.Pieces.{one_more, one_missing}
+use Rattle.script_messages.proofs.Pieces.{one_more}
 use Rattle.script_messages.proofs.messages.put_pieces.Goals as goal
 
 pub loop-piece-preserved : goal.loop-piece-preserved
