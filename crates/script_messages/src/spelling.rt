@@ -94,7 +94,8 @@ fn put_root(alloc: Global, out: &mut XdrWrite, view: &View) -> Result<(), Memory
     put_data(out, handle.as_slice())
 }
 
-/// Appends new attributes that give a mode and nothing else (RFC 1813, section 2.5, sattr3).
+/// Appends new attributes that give a mode and nothing else (RFC 1813, section 2.5, sattr3): that the mode is set, the mode,
+/// that user, group and size are not set, and that neither time changes.
 fn put_attributes(out: &mut XdrWrite, mode: u32) -> Result<(), Memory>
     ensures { OnOk result (out.new.written ≡ out.old.written ++ (word 1 ++ word mode ++ word 0 ++ word 0 ++ word 0 ++ word 0 ++ word 0)) }
 {

@@ -1,6 +1,5 @@
 use Rattle.std.proofs.Common.{◌≡◌, ◌++◌, drop}
 use Rattle.std.specs.Prelude.{option_map}
-use Rattle.xdr_codec.specs.Writing.{Writing}
 use Rattle.play_model.specs.Messages.{bytes_of_pieces}
 use Rattle.script_messages.proofs.messages.put_pieces.Given as goal
 
