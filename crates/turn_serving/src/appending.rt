@@ -20,8 +20,8 @@ use crate::kinds::bare_tail;
 use crate::serving::{Asked, Served, Taken, unwritten};
 use fs_tree::Tree;
 use ivy_base::{Memory, Moment, Op, head_key};
-use nfs3_writes::finish;
 use nfs_model::{NfsStatus, Reply};
+use nfs3_writes::finish;
 use std::alloc::Global;
 use turn_records::{Before, write_records};
 

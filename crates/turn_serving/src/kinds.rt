@@ -3,8 +3,8 @@
 ghost use Rattle.std.specs.Prelude.{◌≡◌};
 ghost use Rattle.turn_model.specs.Turn.{bare_tail, is_changing};
 
-use nfs3_objects::no_cache_data;
 use nfs_model::{Args, Tail};
+use nfs3_objects::no_cache_data;
 
 /// Whether it is one of the procedures that may write records: SETATTR, WRITE, CREATE, MKDIR, SYMLINK, REMOVE, RMDIR, RENAME
 /// and LINK.

@@ -15,9 +15,9 @@ use crate::appending::append;
 use crate::kinds::is_changing;
 use ivy_base::{Memory, Moment, PubKey, head_key};
 use log_records::Record;
+use nfs_model::{Args, Reply};
 use nfs3_reads::answer;
 use nfs3_writes::{Plan, plan};
-use nfs_model::{Args, Reply};
 use record_sets::replay;
 use rpc_wire::Caller;
 use std::alloc::Global;
@@ -51,12 +51,7 @@ pub struct Served {
 /// Serves a call on the set at that moment: a reading call is answered on its replay; a changing one is planned on it, and
 /// refused, or without effect, or written as records behind the set, if numbers are left for them, and answered on the
 /// replays before and after. The error is want of memory.
-pub fn serve(
-    alloc: Global,
-    taken: &Taken<'_>,
-    asked: &Asked,
-    now: Moment,
-) -> Result<Served, Memory>
+pub fn serve(alloc: Global, taken: &Taken<'_>, asked: &Asked, now: Moment) -> Result<Served, Memory>
     requires closed { IsClosed taken.now.view.now (records_of taken.now.records.now) }
     requires begun { log_of taken.now.own.now (records_of taken.now.records.now) ≢ [] }
     requires front { taken.now.front.now ≡ front (records_of taken.now.records.now) }
