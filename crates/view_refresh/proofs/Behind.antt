@@ -1,9 +1,6 @@
 -- What goes on behind the known part of a log: as records that lead to a head, and as a chain of a batch.
-use Rattle.std.proofs.Common.{◌≡◌, ℕ, ◌+◌, ◌<◌, List, [], ◌∷◌, ◌++◌, length, Option, Some, None, refl, sym, ap, ◌∙◌, subst, arith, append_assoc, Contains}
-use Rattle.std.specs.Prelude.{◌≢◌, IfSome}
-use Rattle.std.specs.List.{AllByRecursion}
+use Rattle.std.proofs.Common.{◌≡◌, ℕ, ◌<◌, List, [], ◌∷◌, ◌++◌, length, Option, Some, None, refl, sym, ap, ◌∙◌, subst, arith, Contains}
 use Rattle.std.proofs.lemmas.List.{append-nil}
-use Rattle.ivy_base.specs.declared.key.Key.{Key}
 use Rattle.ivy_base.specs.declared.key.PubKey.{PubKey}
 use Rattle.ivy_base.specs.Naming.{head_key_of, NamesTellApart}
 use Rattle.log_model.specs.View.{View}
@@ -13,16 +10,15 @@ use Rattle.log_model.specs.Spelling.{record_block, record_name}
 use Rattle.log_model.specs.Rank.{own_entry, full_vector}
 use Rattle.log_model.specs.Chain.{IsGood, GoesOn, IsChain}
 use Rattle.log_model.proofs.Chains.{last_after}
-use Rattle.log_model.proofs.Lists.{each_from, each_left, each_right}
+use Rattle.log_model.proofs.Lists.{each_left, each_right}
 use Rattle.log_model.proofs.Part.{chain_front}
-use Rattle.log_records.specs.Batches.{owner_of, stamp_in, AreOfOneOwner, GoesOnFrom, EndsAt, OldestNames, Extends, IsSound, IsOnward}
-use Rattle.log_records.proofs.Batches.{extends, chains_begin, chains_go_on}
+use Rattle.log_records.specs.Batches.{GoesOnFrom, EndsAt, OldestNames}
 use Rattle.turn_model.specs.Known.{Stand}
 use Rattle.turn_model.specs.Known as known
 use Rattle.turn_model.specs.Candidates.{PassesThrough, MakeChain}
 use Rattle.candidate_laws.proofs.OneChain.{one_chain}
-use Rattle.view_refresh.specs.Walked.{Stands, LeadsTo, IsWalk, newest}
-use Rattle.view_refresh.proofs.Held.{newest_last, newest_ends, newest_number, stamp_of, edge_of, EndsIn}
+use Rattle.view_refresh.specs.Walked.{LeadsTo, IsWalk, newest}
+use Rattle.view_refresh.proofs.Held.{newest_last, newest_ends, newest_number, stamp_of, edge_of}
 
 no_last : (before : List Record) (last : Record) → [] ≡ before ++ last ∷ [] → ⊥
 no_last [] last e = cc
@@ -85,12 +81,15 @@ module _ (view : View) (owner : PubKey) where
     behind [] (r ∷ rs) c stand e more =
         let last : (own_entry (last_after r rs)).1 ≡ head = ap (λ (x : Record). (own_entry x).1) (last_is r rs e.0 e.1 e.2) ∙ e.3 in
         record {
-          walk = (r.prev, (
-            record { owned = c.0.owned; spelled = c.0.spelled; made = c.0.number; block = stand.0 },
-            c.1.seq,
-            refl,
-            subst (λ (k : ℕ). LeadsTo blocks owner head k (record_name r) rs) c.1.seq (leads r rs c.2 stand.1 last),
-          ));
+          walk = (
+            r.prev,
+            (
+              record { owned = c.0.owned; spelled = c.0.spelled; made = c.0.number; block = stand.0 },
+              c.1.seq,
+              refl,
+              subst (λ (k : ℕ). LeadsTo blocks owner head k (record_name r) rs) c.1.seq (leads r rs c.2 stand.1 last),
+            ),
+          );
           goes_on = (subst (λ (o : PubKey). IsGood view o r) (sym c.0.owned) c.0, c.1, tt, subst (λ (o : PubKey). GoesOn view o r rs) (sym c.0.owned) c.2);
           names = tt;
           ends = e;

@@ -1,7 +1,6 @@
 -- What is brought of one log: the chain that was taken, or nothing, where no records make a chain.
-use Rattle.std.proofs.Common.{◌≡◌, ⊎_elim, ℕ, ◌+◌, ◌<◌, ◌≤◌, true, false, List, [], ◌∷◌, ◌++◌, length, Option, Some, None, refl, sym, ap, ◌∙◌, subst, arith, Contains}
-use Rattle.std.specs.Prelude.{◌≢◌, IsTrue}
-use Rattle.std.specs.List.{AllByRecursion}
+use Rattle.std.proofs.Common.{◌≡◌, ⊎_elim, ℕ, ◌≤◌, false, List, [], ◌∷◌, ◌++◌, length, Option, Some, None, refl, sym, ap, ◌∙◌, subst, arith, Contains}
+use Rattle.std.specs.Prelude.{◌≢◌}
 use Rattle.std.specs.Cmp.{tied_itself}
 use Rattle.std.specs.Ordering.{eq_by_cmp, is_lt}
 use Rattle.ivy_base.specs.declared.key.Key.{Key}
@@ -23,7 +22,7 @@ use Rattle.log_records.specs.Batches.{owner_of, stamp_in, IsSound, IsOnward, Cha
 use Rattle.turn_model.specs.Known.{Stand}
 use Rattle.turn_model.specs.Candidates.{IsTriedBefore, IsTried, IsPassedOver, MakeChain, IsCandidate}
 use Rattle.turn_model.specs.Candidates as candidate
-use Rattle.causal_order.specs.AtHand.{IsFetched, held_to}
+use Rattle.causal_order.specs.AtHand.{held_to}
 use Rattle.causal_order.proofs.Fetching.{sound_is_fetched}
 use Rattle.play_model.specs.Blocks.{Heads, head_at, heads_at}
 use Rattle.view_refresh.specs.Refreshed.{OthersStand}

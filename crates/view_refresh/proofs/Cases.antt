@@ -11,7 +11,7 @@ use Rattle.log_model.specs.Rank.{front}
 use Rattle.log_model.specs.Closed.{log_of, IsClosed}
 use Rattle.log_records.specs.declared.chain_fault.ChainFault.{ChainFault}
 use Rattle.log_records.specs.declared.chain_fault.ChainFault.TheVariants.{Memory}
-use Rattle.log_records.specs.Batches.{owner_of, owners_in, stamp_in, AreOfOneOwner, IsSound, IsOnward, ChainFails}
+use Rattle.log_records.specs.Batches.{owner_of, stamp_in, AreOfOneOwner, IsSound, IsOnward, ChainFails}
 use Rattle.turn_model.specs.Candidates.{own_log}
 use Rattle.play_model.specs.Blocks.{Heads}
 use Rattle.view_refresh.specs.Refreshed.{OthersStand}

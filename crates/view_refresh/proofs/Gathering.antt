@@ -1,6 +1,6 @@
 -- What is brought of all members' logs, one after the other, is a refresh.
-use Rattle.std.proofs.Common.{◌≡◌, ◌⊎◌, inl, inr, ⊎_elim, ℕ, suc, zero, ◌+◌, ◌<◌, ◌≤◌, Bool, true, false, cond, List, [], ◌∷◌, ◌++◌, length, map, take, get_or, filter, refl, sym, ap, ◌∙◌, subst, arith, Contains}
-use Rattle.std.specs.Prelude.{nat_lt, ◌↔◌}
+use Rattle.std.proofs.Common.{◌≡◌, ◌⊎◌, inl, inr, ⊎_elim, ℕ, suc, zero, ◌+◌, ◌<◌, ◌≤◌, Bool, true, cond, List, [], ◌∷◌, ◌++◌, length, map, take, get_or, refl, sym, ap, ◌∙◌, subst, arith, Contains}
+use Rattle.std.specs.Prelude.{nat_lt}
 use Rattle.std.specs.List.{AllByRecursion}
 use Rattle.std.specs.Ordering.{eq_by_cmp}
 use Rattle.std.proofs.lemmas.Bool.{lt-ltb}
@@ -17,7 +17,7 @@ use Rattle.log_model.specs.Closed.{log_of}
 use Rattle.log_model.proofs.Lists.{here, in_cons, in_nothing, each, each_from, each_append, from_filter}
 use Rattle.log_model.proofs.Part.{Numbered, numbered, numbers_from}
 use Rattle.log_records.specs.Batches.{owner_of, owners_in}
-use Rattle.turn_model.specs.Candidates.{IsCandidate, AreCandidates}
+use Rattle.turn_model.specs.Candidates.{IsCandidate}
 use Rattle.turn_model.specs.Turn.{Candidate}
 use Rattle.turn_model.specs.Turn as turn
 use Rattle.causal_order.specs.AtHand.{IsFetched, IsAtHand, held_to, above, news, Extends}

@@ -1,5 +1,5 @@
 -- What a block of a name says of the owner's record of that name.
-use Rattle.std.proofs.Common.{◌≡◌, ℕ, ◌<◌, ◌≤◌, true, false, List, length, refl, sym, ap, ◌∙◌, subst, arith, Contains}
+use Rattle.std.proofs.Common.{◌≡◌, ℕ, ◌≤◌, true, false, List, length, refl, sym, ap, ◌∙◌, subst, arith, Contains}
 use Rattle.std.specs.Prelude.{◌≢◌}
 use Rattle.ivy_base.specs.declared.key.Key.{Key}
 use Rattle.ivy_base.specs.declared.key.PubKey.{PubKey}
@@ -8,7 +8,7 @@ use Rattle.tree_model.specs.Tree.{same_key}
 use Rattle.tree_model.proofs.Keys.{same_key_itself}
 use Rattle.wire_model.proofs.OneReading.{whole}
 use Rattle.log_model.specs.Record.{Record}
-use Rattle.log_model.specs.Spelling.{record_block, record_name, IsRecordOf, HasSpelling}
+use Rattle.log_model.specs.Spelling.{record_block, record_name, IsRecordOf}
 use Rattle.log_model.specs.Chain.{HasMadeNumber}
 use Rattle.log_model.proofs.Lists.{some_passes}
 use Rattle.log_records.specs.Records.{IsRead, ReadFault}
@@ -17,7 +17,7 @@ use Rattle.log_records.specs.declared.fault.RecordFault.TheVariants.{Malformed, 
 use Rattle.log_records.proofs.OneRecord.{one_record}
 use Rattle.log_records.proofs.Sizes.{short_records}
 use Rattle.play_model.specs.Blocks.{is_met}
-use Rattle.view_refresh.specs.Walked.{Stands, IsNamed}
+use Rattle.view_refresh.specs.Walked.{IsNamed}
 
 module _ (blocks : List (List ℕ)) (owner : PubKey) (seq : ℕ) (key : Key) where
   -- where no block of the name was met, no record stands

@@ -1,11 +1,10 @@
 -- A walk as a chain of a batch: that it is taken where it goes on from what is known, and what it is then.
-use Rattle.std.proofs.Common.{◌≡◌, ℕ, ◌+◌, ◌<◌, List, [], ◌∷◌, ◌++◌, length, Option, Some, None, refl, sym, ap, ◌∙◌, subst, arith, append_assoc, Contains}
+use Rattle.std.proofs.Common.{◌≡◌, ℕ, ◌+◌, ◌<◌, List, [], ◌∷◌, ◌++◌, Option, Some, None, refl, sym, ap, ◌∙◌, subst, arith, append_assoc, Contains}
 use Rattle.std.specs.Prelude.{◌≢◌, IfSome}
 use Rattle.std.specs.List.{AllByRecursion}
-use Rattle.std.proofs.lemmas.List.{append-nil}
 use Rattle.ivy_base.specs.declared.key.Key.{Key}
 use Rattle.ivy_base.specs.declared.key.PubKey.{PubKey}
-use Rattle.ivy_base.specs.Naming.{head_key_of, NamesTellApart}
+use Rattle.ivy_base.specs.Naming.{head_key_of}
 use Rattle.log_model.specs.View.{View}
 use Rattle.log_model.specs.Vector.{Stamp, Vector, stamp_at, reach}
 use Rattle.log_model.specs.Record.{Record}
@@ -13,13 +12,12 @@ use Rattle.log_model.specs.Spelling.{record_block, record_name}
 use Rattle.log_model.specs.Rank.{own_entry}
 use Rattle.log_model.specs.Chain.{IsChain}
 use Rattle.log_model.proofs.Lists.{each_append}
-use Rattle.log_records.specs.Batches.{owner_of, stamp_in, AreOfOneOwner, GoesOnFrom, EndsAt, PassesFloor, OldestNames, Extends, IsSound, IsOnward}
+use Rattle.log_records.specs.Batches.{owner_of, stamp_in, AreOfOneOwner, GoesOnFrom, PassesFloor, OldestNames, Extends, IsSound, IsOnward}
 use Rattle.log_records.proofs.Batches.{extends, chains_begin, chains_go_on, ends_behind}
 use Rattle.turn_model.specs.Known.{Stand}
-use Rattle.turn_model.specs.Known as known
 use Rattle.turn_model.specs.Candidates.{PassesThrough, MakeChain}
-use Rattle.view_refresh.specs.Walked.{Stands, LeadsTo, IsWalk, newest}
-use Rattle.view_refresh.proofs.Held.{newest_last, newest_ends, stamp_of, edge_of, EndsIn}
+use Rattle.view_refresh.specs.Walked.{LeadsTo, IsWalk, newest}
+use Rattle.view_refresh.proofs.Held.{newest_last, newest_ends, stamp_of, edge_of}
 use Rattle.view_refresh.proofs.Behind.{GoesBehind, newest_good}
 
 -- ---- of a walk

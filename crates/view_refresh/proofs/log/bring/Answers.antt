@@ -1,6 +1,4 @@
-use Rattle.std.proofs.Common.{◌≡◌, refl, sym, ap, ◌∙◌}
-use Rattle.log_model.specs.Vector.{Stamp}
-use Rattle.log_model.specs.Record.{Record}
+use Rattle.std.proofs.Common.{ap}
 use Rattle.log_records.specs.Batches.{Batch}
 use Rattle.log_records.specs.Heads.{stamp}
 use Rattle.log_records.specs.Records.{records_of}
