@@ -1,14 +1,13 @@
 -- The newest record of the own log stands in the front of a closed set.
-use Rattle.std.proofs.Common.{◌≡◌, ◌≢◌, ℕ, ◌≤◌, Option, Some, None, sym, ap, ◌∙◌, subst, arith, Contains, List, []}
+use Rattle.std.proofs.Common.{◌≡◌, ◌≢◌, ◌≤◌, Option, Some, None, sym, ap, ◌∙◌, subst, Contains, List, []}
 use Rattle.std.specs.Prelude.{option_map}
-use Rattle.std.specs.Option.{option_map_or}
 use Rattle.std.specs.List.{AllByRecursion}
 use Rattle.std.specs.Ordering.{eq_by_cmp}
 use Rattle.ivy_base.specs.declared.key.Key.{Key}
 use Rattle.ivy_base.specs.declared.key.PubKey.{PubKey}
 use Rattle.ivy_base.specs.Naming.{owner_cmp, head_key_of}
 use Rattle.log_model.specs.View.{View, IsView}
-use Rattle.log_model.specs.Vector.{Stamp, Vector, stamp_at}
+use Rattle.log_model.specs.Vector.{Vector, stamp_at}
 use Rattle.log_model.specs.Record.{Record}
 use Rattle.log_model.specs.Rank.{own_entry, front}
 use Rattle.log_model.specs.Closed.{log_of, IsClosed}

@@ -1,8 +1,6 @@
 -- What a turn makes of a plan.
-use Rattle.std.proofs.Common.{◌≡◌, ◌≢◌, ℕ, ◌+◌, ◌<◌, ◌≤◌, Bool, true, false, cond, zero, suc, List, [], ◌∷◌, ◌++◌, length, get_or, take, map, Option, refl, sym, ap, ◌∙◌, subst, arith, Contains}
-use Rattle.std.specs.Prelude.{nat_lt}
+use Rattle.std.proofs.Common.{◌≡◌, ◌≢◌, ℕ, ◌+◌, ◌<◌, ◌≤◌, Bool, cond, zero, suc, List, [], ◌∷◌, ◌++◌, length, get_or, take, map, refl, sym, ap, ◌∙◌, subst, arith}
 use Rattle.std.specs.List.{AllByRecursion}
-use Rattle.std.specs.Option.{option_map_or}
 use Rattle.std.proofs.lemmas.Bool.{lt-ltb, le-ltb}
 use Rattle.std.proofs.lemmas.List.{take_more, map-append, append-nil}
 use Rattle.ivy_base.specs.declared.key.Key.{Key}
@@ -13,9 +11,9 @@ use Rattle.ivy_base.specs.Naming.{head_key_of}
 use Rattle.tree_model.specs.Tree.{Tree}
 use Rattle.tree_model.specs.Apply.{apply, apply_all}
 use Rattle.log_model.specs.View.{View, IsView}
-use Rattle.log_model.specs.Vector.{Vector, without_log, reach, Stamp}
+use Rattle.log_model.specs.Vector.{Vector, without_log, reach}
 use Rattle.log_model.specs.Record.{Record}
-use Rattle.log_model.specs.Rank.{own_entry, front}
+use Rattle.log_model.specs.Rank.{front}
 use Rattle.log_model.specs.Chain.{AllMayBeWritten}
 use Rattle.log_model.specs.Closed.{log_of, IsClosed}
 use Rattle.log_model.specs.Replay.{effect, replay}
@@ -26,9 +24,8 @@ use Rattle.nfs_model.specs.Arguments.{ArgumentsFit}
 use Rattle.nfs_model.specs.declared.replies.Reply.{Reply}
 use Rattle.nfs_model.specs.declared.replies.Reply.TheVariants.{Refused}
 use Rattle.nfs_model.specs.declared.replies.NfsStatus.TheVariants.{RoFs}
-use Rattle.nfs_model.specs.Reading.{answer}
-use Rattle.nfs_model.specs.Changing.{Plan, Operations, plan, finish}
-use Rattle.turn_model.specs.Turn.{Asked, Turned, is_changing, bare_tail, own_seq, own_name, linked, appended, by_plan, turn_on}
+use Rattle.nfs_model.specs.Changing.{Operations, plan, finish}
+use Rattle.turn_model.specs.Turn.{Asked, Turned, bare_tail, own_seq, own_name, linked, appended, by_plan}
 use Rattle.turn_model.proofs.Plans.{plan_may_be_written}
 use Rattle.turn_laws.proofs.Starts.{ends_with, own_stamp}
 use Rattle.turn_laws.proofs.Turns.{closed_makes_keys, appended_closed}
