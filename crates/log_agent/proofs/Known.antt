@@ -198,9 +198,6 @@ module _ (view : View) (s n : List Record) (well : IsView view) (cs : IsClosed v
   pub union_front : front (in_order (s ++ beyond)) ≡ join (front s) (front beyond)
   union_front = fronts_join s beyond (one_among view (in_order (s ++ n)) (s ++ beyond) ct all_taken)
 
-
-
-
 pub filter_each : (P : Record → Type 0) (test : Record → Bool) (s : List Record) → AllByRecursion P s → AllByRecursion P (filter test s)
 filter_each P test s h = each_from P (filter test s) (λ q c. each P s q h (from_filter test s q c).0)
 

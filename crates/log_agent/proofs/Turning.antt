@@ -55,9 +55,11 @@ module _ (name : List ℕ) (own : PubKey) (entered : Option View) (view : View) 
         all_stand blocks heads view own known t f given_under.0 given_under.2 taken asked now after given g last.0 given_under.1 last.1 caller fits moment answered
 
     pub still_kept : (g ≡ front after) × IsKeptWell (with_known name own entered after after)
-    still_kept = let last = ends_with known own given_under.3 in
-        (answered.fronted, subst (λ (o : Option View). IsKeptWell (with_known name own o after after)) e
-        (kept_after blocks heads view own known t f given_under.0 given_under.2 taken asked now after given g last.0 given_under.1 last.1 caller fits moment answered name))
+    still_kept = let last = ends_with known own given_under.3 in (
+      answered.fronted,
+      subst (λ (o : Option View). IsKeptWell (with_known name own o after after)) e
+          (kept_after blocks heads view own known t f given_under.0 given_under.2 taken asked now after given g last.0 given_under.1 last.1 caller fits moment answered name),
+    )
 
     pub has_turned : IfSome entered (λ v. TakesTurn blocks heads v asked now (with_known name own entered known held) (with_known name own entered after after) given)
     has_turned = let last = ends_with known own given_under.3 in

@@ -71,7 +71,12 @@ pub struct Turned {
 impl Agent {
     /// A participant of that name and key who opens its log at that moment, and the opening record's block. The error is
     /// want of memory.
-    pub fn create(alloc: Global, name: Bytes, own: PubKey, now: Moment) -> Result<(Agent, Block), Memory>
+    pub fn create(
+        alloc: Global,
+        name: Bytes,
+        own: PubKey,
+        now: Moment,
+    ) -> Result<(Agent, Block), Memory>
         requires { IsMoment now }
         ensures made { IfOk result (λ made. made.0 ≡ newcomer name own now) }
         ensures block { IfOk result (λ made. made.1 ≡ record_block (opening own now)) }

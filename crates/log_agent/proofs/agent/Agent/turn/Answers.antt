@@ -43,9 +43,10 @@ invariant_of-self-in-Err c =
     let back : left ≡ known =
     as_before c.self.inside.name c.self.inside.own c.self.inside.view c.in-Some.view.now known _ c.args.blocks.now c.args.heads.now
     (records_of c.take_in.new.records.items) c.in_ok-taken.taken c.in-Some.ensures.value c.self.invariant.1 c.in_ok-taken.ensures.ok
-    c.self.inside.front (records_of c.answer.new.records.items) left c.self.invariant.0 (ap records_of c.in-Err.ensures.err) c.keep_within.ensures in
-    (c.self.invariant.0 ∙ ap front (sym back),
-    subst (λ (l : List Record). IsKeptWell (with_known c.self.inside.name c.self.inside.own c.self.inside.view l (if c.self.inside.holds then l else []))) (sym back) c.self.invariant.1)
+    c.self.inside.front (records_of c.answer.new.records.items) left c.self.invariant.0 (ap records_of c.in-Err.ensures.err) c.keep_within.ensures in (
+      c.self.invariant.0 ∙ ap front (sym back),
+      subst (λ (l : List Record). IsKeptWell (with_known c.self.inside.name c.self.inside.own c.self.inside.view l (if c.self.inside.holds then l else []))) (sym back) c.self.invariant.1,
+    )
 
 pub returns-clause-err : goal.returns-clause-err
 returns-clause-err c =
