@@ -6,5 +6,7 @@
 #![tactic(auto)]
 
 pub mod making;
+#[cfg(test)]
+mod tests;
 
 pub use making::{Made, make_view};

@@ -26,11 +26,7 @@ pub enum Made {
 }
 
 /// The view of these members and former members, whose keys may come in any order. The error is want of memory.
-pub fn make_view(
-    alloc: Global,
-    members: Vec<PubKey>,
-    former: Vec<PubKey>,
-) -> Result<Made, Memory>
+pub fn make_view(alloc: Global, members: Vec<PubKey>, former: Vec<PubKey>) -> Result<Made, Memory>
     requires { members.items ≢ [] }
     ensures { IfOk result (λ made. IsMade members.items former.items made) }
 {
