@@ -1,5 +1,5 @@
 -- Keys in order that are few and apart fail no test of a view.
-use Rattle.std.proofs.Common.{◌≡◌, ◌≢◌, ℕ, ◌≤◌, true, List, [], ◌∷◌, ◌++◌, length, refl, sym, ap, subst, arith}
+use Rattle.std.proofs.Common.{◌≡◌, ◌≢◌, ◌≤◌, true, List, [], ◌∷◌, ◌++◌, length, refl, subst, arith}
 use Rattle.ivy_base.specs.declared.key.PubKey.{PubKey}
 use Rattle.log_model.specs.View.{View, have_own_head_keys}
 use Rattle.view_blocks.specs.declared.fault.ViewFault.{ViewFault}

@@ -1,4 +1,4 @@
-use Rattle.std.proofs.Common.{◌∙◌, rules}
+use Rattle.std.proofs.Common.{◌∙◌}
 use Rattle.script_views.proofs.Passing.{only_memory}
 use Rattle.script_views.proofs.making.view_in_order.Goals as goal
 
