@@ -1,7 +1,7 @@
 -- What comes of a line that makes a view.
 use Rattle.std.specs.Prelude.{◌≡◌, ◌⊎◌, ◌<◌, ◌≤◌, List, ◌++◌, length, true, false}
 use Rattle.ivy_base.specs.declared.key.PubKey.{PubKey}
-use Rattle.log_model.specs.View.{View, IsView, have_own_head_keys, view_block}
+use Rattle.log_model.specs.View.{have_own_head_keys, view_block}
 use Rattle.play_model.specs.World.{view_of_keys}
 use Rattle.script_views.specs.declared.making.Made.{Made as Given}
 use Rattle.script_views.specs.declared.making.Made.TheVariants.{Refused, TooMany, View as Viewed}

@@ -1,12 +1,18 @@
 //! Views of keys in any order.
 
-ghost use Rattle.std.specs.Prelude.{◌≡◌, ◌≢◌, [], IfOk};
+ghost use Rattle.std.specs.Prelude.{◌≡◌, ◌≢◌, ◌≤◌, ◌++◌, [], true, length, IfOk, OnOk};
+ghost use Rattle.log_model.specs.View.{have_own_head_keys};
+ghost use Rattle.play_model.specs.World.{in_key_order, view_of_keys, with_key};
 ghost use Rattle.script_views.specs.Made.{IsMade};
 
 use block_map::Block;
-use ivy_base::{Memory, PubKey};
+use ivy_base::{Memory, PubKey, head_key};
 use std::alloc::Global;
-use view_blocks::View;
+use std::collections::BTreeSet;
+use view_blocks::{View, ViewFault};
+
+/// The most members that a view has, and the most former logs.
+const MOST: usize = 16;
 
 /// What comes of a line that makes a view.
 #[derive(Drop)]
@@ -20,13 +26,70 @@ pub enum Made {
 }
 
 /// The view of these members and former members, whose keys may come in any order. The error is want of memory.
-pub fn make_view(
-    alloc: Global,
-    members: Vec<PubKey>,
-    former: Vec<PubKey>,
-) -> Result<Made, Memory>
+pub fn make_view(alloc: Global, members: Vec<PubKey>, former: Vec<PubKey>) -> Result<Made, Memory>
     requires { members.items ≢ [] }
     ensures { IfOk result (λ made. IsMade members.items former.items made) }
 {
-    Err(Memory)
+    if !have_own_heads(alloc, &members, &former)? {
+        return Ok(Made::Refused);
+    }
+    if members.len() > MOST || former.len() > MOST {
+        return Ok(Made::TooMany);
+    }
+    let view = view_in_order(alloc, &members, &former)?;
+    let block = Block::of(view.write(alloc)?);
+    Ok(Made::View(view, block))
+}
+
+/// Whether no two of the keys have one head key. Each head key is computed once. The error is want of memory.
+fn have_own_heads(alloc: Global, members: &[PubKey], former: &[PubKey]) -> Result<bool, Memory>
+    ensures { IfOk result (λ own. own ≡ have_own_head_keys (members.now ++ former.now)) }
+{
+    let mut heads = BTreeSet::new(alloc);
+    for key in members.iter().chain(former) {
+        if !heads.insert(head_key(key))? {
+            return Ok(false);
+        }
+    }
+    Ok(true)
+}
+
+/// The view of these keys, which are put in order. The error is want of memory.
+fn view_in_order(alloc: Global, members: &[PubKey], former: &[PubKey]) -> Result<View, Memory>
+    requires some { members.now ≢ [] }
+    requires few { length members.now ≤ MOST }
+    requires few_former { length former.now ≤ MOST }
+    requires own { have_own_head_keys (members.now ++ former.now) ≡ true }
+    ensures { IfOk result (λ view. view ≡ view_of_keys members.now former.now) }
+{
+    let members = in_order(alloc, members)?;
+    let former = in_order(alloc, former)?;
+    match View::make(alloc, &members, &former) {
+        Ok(view) => Ok(view),
+        Err(fault) => match fault {
+            ViewFault::Memory => Err(Memory),
+            // The keys are few, in order and apart, so no test of a view fails.
+            _ => unreachable!(),
+        },
+    }
+}
+
+/// The keys in ascending order of their bytes. There are few, so each is put in its place. The error is want of memory.
+fn in_order(alloc: Global, keys: &[PubKey]) -> Result<Vec<PubKey>, Memory>
+    ensures { IfOk result (λ ordered. ordered.items ≡ in_key_order keys.now) }
+{
+    let mut ordered = Vec::with_capacity(alloc, keys.len())?;
+    for key in keys {
+        put_in_place(&mut ordered, *key)?;
+    }
+    Ok(ordered)
+}
+
+/// Puts the key before the first that isn't below it. The error is want of memory.
+fn put_in_place(keys: &mut Vec<PubKey>, key: PubKey) -> Result<(), Memory>
+    ensures { OnOk result (keys.new.items ≡ with_key keys.old.items key) }
+{
+    let place = keys.iter().position(|other| key <= *other);
+    keys.insert(place.unwrap_or(keys.len()), key)?;
+    Ok(())
 }
