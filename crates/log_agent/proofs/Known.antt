@@ -1,6 +1,5 @@
 -- What the front of a closed set tells of a larger one: which of its records were known, and which are new.
 use Rattle.std.proofs.Common.{◌≡◌, ◌⊎◌, inl, inr, ⊎_elim, ℕ, ◌+◌, ◌≤◌, Bool, true, false, cond, not, List, [], ◌∷◌, ◌++◌, Option, Some, refl, sym, ap, ◌∙◌, subst, filter, arith, Contains}
-use Rattle.std.specs.Prelude.{nat_le}
 use Rattle.std.specs.List.{AllByRecursion}
 use Rattle.std.specs.Cmp.{ranked}
 use Rattle.std.specs.Ordering.{eq_by_cmp, is_eq, nat_cmp, ordering_then}
@@ -13,7 +12,7 @@ use Rattle.ivy_base.specs.declared.key.PubKey.{PubKey}
 use Rattle.ivy_base.specs.Naming.{head_key_of, owner_cmp}
 use Rattle.tree_model.proofs.Keys.{same_key_itself}
 use Rattle.log_model.specs.View.{View, IsView, is_member}
-use Rattle.log_model.specs.Vector.{Stamp, Entry, Vector, stamp_at, reach, seq_of, later_or, join}
+use Rattle.log_model.specs.Vector.{Stamp, Entry, stamp_at, reach, seq_of, later_or, join}
 use Rattle.log_model.specs.Record.{Record}
 use Rattle.log_model.specs.Rank.{own_entry, full_vector, weight, record_cmp, front}
 use Rattle.log_model.specs.Closed.{log_of, IsAscending, IsClosed}

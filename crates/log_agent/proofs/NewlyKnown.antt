@@ -1,5 +1,5 @@
 -- What a merge of the new records that are beyond the front makes is the set that a turn takes.
-use Rattle.std.proofs.Common.{◌≡◌, ◌⊎◌, ⊎_elim, ℕ, Bool, List, [], ◌∷◌, ◌++◌, not, inl, refl, sym, ap, ◌∙◌, subst, filter, Contains}
+use Rattle.std.proofs.Common.{◌≡◌, ⊎_elim, ℕ, Bool, List, ◌++◌, not, inl, sym, ap, ◌∙◌, subst, filter, Contains}
 use Rattle.std.specs.List.{AllByRecursion}
 use Rattle.std.proofs.lemmas.List.Elements.{Contains-append_cases}
 use Rattle.ivy_base.specs.declared.key.PubKey.{PubKey}

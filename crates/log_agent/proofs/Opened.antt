@@ -6,7 +6,7 @@ use Rattle.ivy_base.specs.declared.key.PubKey.{PubKey}
 use Rattle.ivy_base.specs.declared.operation.Moment.{Moment}
 use Rattle.ivy_base.specs.Naming.{owner_cmp}
 use Rattle.log_model.specs.Chain.{opening}
-use Rattle.log_model.specs.Closed.{log_of, IsClosed}
+use Rattle.log_model.specs.Closed.{IsClosed}
 use Rattle.log_model.specs.Record.{Record}
 use Rattle.log_model.specs.Spelling.{IsMoment, HasSpelling}
 use Rattle.log_model.specs.View.{View, IsView}
@@ -14,7 +14,7 @@ use Rattle.log_model.proofs.Lists.{here, in_filter, in_nothing}
 use Rattle.log_model.proofs.Opening.{opening_has_spelling, opening_is_closed}
 use Rattle.log_model.proofs.Owners.{owner_itself}
 use Rattle.play_model.specs.Kept.{IsKeptWell}
-use Rattle.play_model.specs.World.{Participant, newcomer}
+use Rattle.play_model.specs.World.{newcomer}
 
 newcomer_kept : (name : List ℕ) (own : PubKey) (now : Moment) → IsMoment now → IsKeptWell (newcomer name own now)
 newcomer_kept name own now fits =

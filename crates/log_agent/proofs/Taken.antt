@@ -1,5 +1,5 @@
 -- What follows for a set that was taken, and for what was answered and written on it.
-use Rattle.std.proofs.Common.{◌≡◌, ◌≢◌, ◌⊎◌, inl, inr, ℕ, ◌≤◌, true, List, [], ◌++◌, map, Option, Some, refl, sym, ap, ◌∙◌, subst, filter, Contains}
+use Rattle.std.proofs.Common.{◌≡◌, ◌≢◌, inl, inr, ℕ, ◌≤◌, true, List, [], map, Some, refl, sym, ap, ◌∙◌, subst, filter, Contains}
 use Rattle.std.specs.List.{AllByRecursion}
 use Rattle.std.specs.Ordering.{eq_by_cmp}
 use Rattle.std.proofs.lemmas.List.Elements.{Contains-append_left}
@@ -18,14 +18,13 @@ use Rattle.log_model.proofs.Owners.{owner_itself}
 use Rattle.nfs_model.specs.Arguments.{ArgumentsFit}
 use Rattle.turn_model.specs.Turn as turn
 use Rattle.turn_model.specs.Turn.{own_seq}
-use Rattle.turn_laws.proofs.Starts.{ends_with, good_last, own_stamp}
+use Rattle.turn_laws.proofs.Starts.{good_last, own_stamp}
 use Rattle.turn_laws.proofs.Turns.{turn_closed}
 use Rattle.turn_serving.specs.Serving.{agent_in}
 use Rattle.candidate_laws.proofs.Taken.{own_log_is_known}
 use Rattle.play_model.specs.Blocks.{Heads, heads_at, newest_stamp}
 use Rattle.play_model.specs.Calls.{own_beyond}
 use Rattle.play_model.specs.Kept.{IsKeptWell}
-use Rattle.play_model.specs.World.{Participant}
 use Rattle.view_refresh.specs.Refreshed.{OthersStand}
 use Rattle.wire_model.specs.Rpc.{IsIdentity}
 use Rattle.log_agent.specs.declared.agent.Turned.{Turned}

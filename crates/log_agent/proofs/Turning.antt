@@ -1,6 +1,6 @@
 -- A turn of a participant whose view may be any, from what it took and what it answered.
-use Rattle.std.proofs.Common.{◌≡◌, ◌≢◌, ◌⊎◌, ℕ, Bool, List, [], Option, Some, refl, sym, ap, ◌∙◌, subst, filter, Contains}
-use Rattle.std.specs.Prelude.{IfSome, if◌then◌else◌}
+use Rattle.std.proofs.Common.{◌≡◌, ◌≢◌, ℕ, List, [], Option, Some, sym, ap, ◌∙◌, subst, filter, Contains}
+use Rattle.std.specs.Prelude.{IfSome}
 use Rattle.ivy_base.specs.declared.key.PubKey.{PubKey}
 use Rattle.ivy_base.specs.declared.operation.Moment.{Moment}
 use Rattle.log_model.specs.Closed.{log_of, IsClosed}

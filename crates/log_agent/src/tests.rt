@@ -1,4 +1,5 @@
-ghost use Rattle.std.specs.Prelude.{[], IfOk, IsSomeAnd};
+ghost use Rattle.std.specs.Prelude.{◌≡◌, [], ◌∷◌, IfOk, IsSomeAnd, None};
+ghost use Rattle.log_model.specs.Chain.{opening};
 ghost use Rattle.nfs_model.specs.Arguments.{ArgumentsFit, IsHandle};
 ghost use Rattle.view_refresh.specs.Refreshed.{OthersStand};
 
@@ -40,12 +41,18 @@ const SUPERUSER: Caller = Caller {
 };
 
 /// Who has opened the log, and the opening record's block.
-fn newcomer(alloc: Global) -> Result<(Agent, Block), Memory> {
+fn newcomer(alloc: Global) -> Result<(Agent, Block), Memory>
+    ensures view { IfOk result (λ made. made.0.view ≡ None) }
+    ensures own { IfOk result (λ made. made.0.own ≡ OWNER) }
+    ensures known { IfOk result (λ made. made.0.known ≡ opening OWNER NOW ∷ []) }
+{
     Agent::create(alloc, Bytes::copy_of(alloc, b"ann".as_slice())?, OWNER, NOW)
 }
 
 /// The view of that log alone.
-fn view(alloc: Global) -> Result<View, Fail> {
+fn view(alloc: Global) -> Result<View, Fail>
+    ensures { IfOk result (λ view. view.members ≡ OWNER ∷ []) }
+{
     Ok(View::make(alloc, &[OWNER], &[])?)
 }
 

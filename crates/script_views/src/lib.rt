@@ -2,7 +2,11 @@
 //!
 //! Layer: over `view_blocks`, and the words of `play_model`; below the world of a script.
 //! For the layer above: [`make_view`] makes of public keys, in any order, the view of `play_model` (`view_of_keys` of its
-//! `specs/World.antt`) with its block, or says why there is none (`specs/Made.antt`).
+//! `specs/World.antt`) with its block, or says why there is none (`specs/Made.antt`). That such a view may be made is
+//! proved in `play_replies` (`proofs/MadeViews.antt`), which the proofs here cite.
+//!
+//! Costs: each key is hashed once to see that its log stands once, and once more where the view is made; n keys take time
+//! in the order of n log n.
 #![tactic(auto)]
 
 pub mod making;

@@ -1,4 +1,4 @@
-use Rattle.std.proofs.Common.{◌≡◌, ◌++◌, List, [], sym, ap, ◌∙◌, subst}
+use Rattle.std.proofs.Common.{◌≡◌, List, [], sym, ap, ◌∙◌, subst}
 use Rattle.std.specs.Prelude.{IfSome, if◌then◌else◌}
 use Rattle.log_model.specs.Record.{Record}
 use Rattle.log_model.specs.Rank.{front}
