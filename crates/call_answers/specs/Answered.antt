@@ -1,0 +1,54 @@
+-- What a call is answered, over blocks and heads.
+use Rattle.std.specs.Prelude.{◌≡◌, ℕ, List, [], map, Option, Some, None, option_map}
+use Rattle.ivy_base.specs.declared.operation.Moment.{Moment}
+use Rattle.log_model.specs.Rank.{front}
+use Rattle.log_model.specs.Spelling.{record_block}
+use Rattle.log_model.specs.View.{View}
+use Rattle.nfs_model.specs.Results.{result}
+use Rattle.turn_model.specs.Candidates.{AreCandidates}
+use Rattle.turn_model.specs.Turn.{Asked, Candidate, Turned, IsTurn, own_seq}
+use Rattle.wire_model.specs.Rpc.{CallMessage, IsCall, Success, SystemError, reply}
+use Rattle.play_model.specs.Blocks.{Heads, heads_at, newest_stamp}
+use Rattle.play_model.specs.Calls.{IsByMessage, Asks, agent_of, own_beyond, handle_given}
+use Rattle.play_model.specs.World.{Participant}
+use Rattle.log_agent.specs.Turns.{stamp_of}
+use Rattle.call_answers.specs.declared.answering.Answered.{Answered}
+
+-- the call is answered by its message alone, and the participant is as it was
+pub record IsAnsweredAlone (message : List ℕ) (old new : Participant) (given : Answered) : Type 0 where
+  pub by : IsByMessage message given.reply
+  pub handle : given.handle ≡ None
+  pub none_written : given.blocks.items ≡ []
+  pub no_head : given.newest ≡ None
+  pub same : new ≡ old
+
+-- by a turn: the reply message, the handle that it made or found, and the blocks of what was written
+pub record IsAnsweredByTurn (blocks : List (List ℕ)) (heads : Heads) (view : View) (now : Moment) (message : List ℕ) (old new : Participant) (given : Answered) : Type 0 where
+  pub xid : ℕ
+  pub asked : Asked
+  pub candidates : List Candidate
+  pub turned : Turned
+  pub asks : Asks message xid asked
+  pub are : AreCandidates (heads_at heads) blocks view old.own (front old.known) old.known candidates
+  pub is_turn : IsTurn (agent_of old view) old.known candidates asked now turned
+  pub after : new ≡ record old { known = turned.set; held = turned.set }
+  pub reply_is : given.reply ≡ Some (reply xid (Success (result turned.reply)))
+  pub handle : given.handle ≡ handle_given turned.reply
+  pub blocks_are : given.blocks.items ≡ map record_block (own_beyond old.own (own_seq old.own old.known) turned.set)
+  pub newest : option_map stamp_of given.newest ≡ newest_stamp (own_beyond old.own (own_seq old.own old.known) turned.set)
+
+-- memory was wanting for the call, and the participant is as it was
+pub record LacksMemory (message : List ℕ) (old new : Participant) (given : Answered) : Type 0 where
+  pub call : CallMessage
+  pub is_call : IsCall message call
+  pub reply_is : given.reply ≡ Some (reply call.xid SystemError)
+  pub handle : given.handle ≡ None
+  pub none_written : given.blocks.items ≡ []
+  pub no_head : given.newest ≡ None
+  pub same : new ≡ old
+
+-- one of the three
+pub data IsAnswered (blocks : List (List ℕ)) (heads : Heads) (view : View) (now : Moment) (message : List ℕ) (old new : Participant) (given : Answered) : Type 0 where
+  alone : IsAnsweredAlone message old new given → IsAnswered blocks heads view now message old new given
+  by_turn : IsAnsweredByTurn blocks heads view now message old new given → IsAnswered blocks heads view now message old new given
+  lacks_memory : LacksMemory message old new given → IsAnswered blocks heads view now message old new given
