@@ -4,7 +4,7 @@ ghost use Rattle.std.specs.Prelude.{◌≡◌, ◌∷◌, [], map, Contains, IfO
 ghost use Rattle.log_model.specs.Chain.{opening};
 ghost use Rattle.log_model.specs.Spelling.{IsMoment, record_block, record_name};
 ghost use Rattle.log_model.specs.Vector.{Stamp};
-ghost use Rattle.log_records.specs.Records.{records_of};
+ghost use Rattle.log_records.specs.Records.{record_of, records_of};
 ghost use Rattle.nfs_model.specs.Arguments.{ArgumentsFit};
 ghost use Rattle.play_model.specs.World.{newcomer};
 ghost use Rattle.rpc_wire.specs.Callers.{identity_of};
@@ -14,10 +14,14 @@ ghost use Rattle.turn_serving.specs.Serving.{asked_of};
 ghost use Rattle.play_model.specs.Kept.{IsKeptWell};
 ghost use Rattle.log_agent.specs.Turns.{TakesTurn};
 
+use crate::answering::answer;
+use crate::taking::take_in;
+use crate::within::keep_within;
 use block_map::{Block, Blocks, Heads};
-use ivy_base::{Bytes, Memory, Moment, PubKey};
+use ivy_base::{Bytes, Key, Memory, Moment, Op, PubKey};
 use log_records::Record;
 use nfs_model::Reply;
+use record_sets::front;
 use std::alloc::Global;
 use std::marker::Model;
 use turn_records::Before;
@@ -67,12 +71,29 @@ pub struct Turned {
 impl Agent {
     /// A participant of that name and key who opens its log at that moment, and the opening record's block. The error is
     /// want of memory.
-    pub fn create(alloc: Global, name: Bytes, own: PubKey, now: Moment) -> Result<(Agent, Block), Memory>
+    pub fn create(
+        alloc: Global,
+        name: Bytes,
+        own: PubKey,
+        now: Moment,
+    ) -> Result<(Agent, Block), Memory>
         requires { IsMoment now }
         ensures made { IfOk result (λ made. made.0 ≡ newcomer name own now) }
         ensures block { IfOk result (λ made. made.1 ≡ record_block (opening own now)) }
     {
-        Err(Memory)
+        let first = opening(alloc, own, now);
+        let block = Block::of(first.write(alloc)?);
+        let records = vec![in alloc; first]?;
+        let front = front(alloc, records.as_slice())?;
+        let agent = Agent {
+            name,
+            own,
+            view: None,
+            records,
+            front,
+            holds: false,
+        };
+        Ok((agent, block))
     }
 
     /// The participant's name.
@@ -139,6 +160,36 @@ impl Agent {
         ensures stand { OnOk result (OthersStand blocks.now self.new.own self.new.known) }
         ensures err { OnErr result (self.new ≡ self.old) }
     {
-        Err(Memory)
+        let Some(view) = self.view.as_ref() else {
+            unreachable!();
+        };
+        let records = &mut self.records;
+        let taken = take_in(alloc, blocks, heads, view, &self.own, records, &self.front)?;
+        match answer(alloc, records, &taken, view, &self.own, asked, now) {
+            Ok((turned, front)) => {
+                self.front = front;
+                self.holds = true;
+                Ok(turned)
+            }
+            Err(Memory) => {
+                // What was taken is let go: what was known is within the old front.
+                keep_within(records, &self.front);
+                Err(Memory)
+            }
+        }
+    }
+}
+
+/// The first record of the owner's log.
+fn opening(alloc: Global, own: PubKey, now: Moment) -> Record
+    ensures { record_of result ≡ opening own now }
+{
+    Record {
+        owner: own,
+        seq: 1,
+        prev: Key([0; 20]),
+        vector: Vector::empty(alloc),
+        moment: now,
+        op: Op::End,
     }
 }

@@ -6,12 +6,18 @@
 //! candidates of a refresh (`specs/Turns.antt`): afterwards the participant knows and holds the turn's set. What holds at all
 //! times is in `specs/Kept.antt` there: what is known is causally closed under the view. Where memory is short nothing has changed.
 //!
+//! Within: `within` tells by a front which records were known, `taking` takes the new records in, and `answering` serves the
+//! call on the set and appends what it writes (`specs/Steps.antt`).
+//!
 //! Costs: a turn costs what its new records cost, and a replay of all that is known from nothing. The front is kept, so no
 //! record that was known is hashed again.
 #![tactic(auto)]
 
 pub mod agent;
+mod answering;
+mod taking;
 #[cfg(test)]
 mod tests;
+mod within;
 
 pub use agent::{Agent, Turned};

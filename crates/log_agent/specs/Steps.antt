@@ -1,0 +1,40 @@
+-- The steps of a turn: what it takes, and then what it answers and writes.
+use Rattle.std.specs.Prelude.{◌≡◌, ℕ, Bool, List, ◌++◌, map, nat_le, option_map}
+use Rattle.ivy_base.specs.declared.key.PubKey.{PubKey}
+use Rattle.ivy_base.specs.declared.operation.Moment.{Moment}
+use Rattle.ivy_base.specs.Naming.{head_key_of}
+use Rattle.log_model.specs.Closed.{IsClosedPart}
+use Rattle.log_model.specs.Rank.{front}
+use Rattle.log_model.specs.Record.{Record}
+use Rattle.log_model.specs.Spelling.{record_block}
+use Rattle.log_model.specs.Vector.{Vector, seq_of}
+use Rattle.log_model.specs.View.{View}
+use Rattle.turn_model.specs.Candidates.{AreCandidates}
+use Rattle.turn_model.specs.Turn as turn
+use Rattle.turn_model.specs.Turn.{Candidate, IsAtHand, turn_on}
+use Rattle.turn_serving.specs.Serving.{agent_in}
+use Rattle.play_model.specs.Blocks.{Heads, heads_at, newest_stamp}
+use Rattle.view_refresh.specs.Refreshed.{OthersStand}
+use Rattle.log_agent.specs.declared.agent.Turned.{Turned}
+use Rattle.log_agent.specs.Turns.{stamp_of}
+
+-- the vector goes as far as the record in its log
+abbrev pub is_within : Vector → Record → Bool
+is_within v r = nat_le r.seq (seq_of v (head_key_of r.owner))
+
+-- from what was known the set was taken, and that is its front
+pub record HasTaken (blocks : List (List ℕ)) (heads : Heads) (view : View) (own : PubKey) (known taken : List Record) (f : Vector) : Type 0 where
+  pub candidates : List Candidate
+  pub are : AreCandidates (heads_at heads) blocks view own (front known) known candidates
+  pub largest : IsClosedPart view (IsAtHand known candidates) taken
+  pub fronted : f ≡ front taken
+  pub stand : OthersStand blocks own taken
+
+-- the call was answered on the set, what it wrote stands behind the set, and that is the front of all
+pub record HasAnswered (view : View) (own : PubKey) (asked : turn.Asked) (now : Moment) (taken after : List Record) (given : Turned) (f : Vector) : Type 0 where
+  pub written : List Record
+  pub turn : turn_on (agent_in view own) taken asked now ≡ record { reply = given.reply; set = after }
+  pub behind : after ≡ taken ++ written
+  pub blocks : given.blocks.items ≡ map record_block written
+  pub newest : option_map stamp_of given.newest ≡ newest_stamp written
+  pub fronted : f ≡ front after

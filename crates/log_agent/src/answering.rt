@@ -1,0 +1,83 @@
+//! The call's answer on the set that a turn took.
+
+ghost use Rattle.std.specs.Prelude.{◌≡◌, ◌≢◌, [], map, option_map, Contains, IfOk, OnErr};
+ghost use Rattle.log_model.specs.Closed.{IsClosed, log_of};
+ghost use Rattle.log_model.specs.Rank.{front};
+ghost use Rattle.log_model.specs.Spelling.{IsMoment, record_block};
+ghost use Rattle.log_model.specs.View.{IsView};
+ghost use Rattle.log_records.specs.Records.{records_of};
+ghost use Rattle.nfs_model.specs.Arguments.{ArgumentsFit};
+ghost use Rattle.play_model.specs.Blocks.{newest_stamp};
+ghost use Rattle.rpc_wire.specs.Callers.{identity_of};
+ghost use Rattle.turn_serving.specs.Serving.{asked_of};
+ghost use Rattle.wire_model.specs.Rpc.{IsIdentity};
+ghost use Rattle.log_agent.specs.Steps.{HasAnswered};
+ghost use Rattle.log_agent.specs.Turns.{stamp_of};
+
+use crate::agent::Turned;
+use block_map::Block;
+use ivy_base::{Memory, Moment, PubKey};
+use log_records::Record;
+use record_sets::front;
+use std::alloc::Global;
+use turn_records::{Before, Written};
+use turn_serving::{Asked, Served, Taken, serve};
+use version_vectors::Vector;
+use view_blocks::View;
+
+/// Serves the call on the set at that moment, appends the records that it writes, and gives their front with that of the set.
+/// The error is want of memory, and then the set is as it was.
+pub fn answer(
+    alloc: Global,
+    records: &mut Vec<Record>,
+    set_front: &Vector,
+    view: &View,
+    own: &PubKey,
+    asked: &Asked,
+    now: Moment,
+) -> Result<(Turned, Vector), Memory>
+    requires view { IsView view.now }
+    requires member { Contains view.now.members own.now }
+    requires closed { IsClosed view.now (records_of records.old.items) }
+    requires begun { log_of own.now (records_of records.old.items) ≢ [] }
+    requires front { set_front.now ≡ front (records_of records.old.items) }
+    requires caller { IsIdentity (identity_of asked.now.caller) }
+    requires args { ArgumentsFit asked.now.args }
+    requires moment { IsMoment now }
+    ensures ok { IfOk result (λ a. HasAnswered view.now own.now (asked_of asked.now) now (records_of records.old.items) (records_of records.new.items) a.0 a.1) }
+    ensures err { OnErr result (records.new.items ≡ records.old.items) }
+{
+    let taken = Taken {
+        records: records.as_slice(),
+        front: set_front,
+        view,
+        own,
+    };
+    let Served { reply, written } = serve(alloc, &taken, asked, now)?;
+    let newest = newest_of(written.records.as_slice(), written.blocks.as_slice());
+    let front = set_front.join(alloc, &front(alloc, written.records.as_slice())?)?;
+    let Written {
+        records: mut more,
+        blocks,
+    } = written;
+    records.append(&mut more)?;
+    let turned = Turned {
+        reply,
+        blocks,
+        newest,
+    };
+    Ok((turned, front))
+}
+
+/// The last of the records, whose blocks these are, by its number and its name.
+fn newest_of(records: &[Record], blocks: &[Block]) -> Option<Before>
+    requires { blocks.now ≡ map record_block (records_of records.now) }
+    ensures { option_map stamp_of result ≡ newest_stamp (records_of records.now) }
+{
+    let record = records.last()?;
+    let block = blocks.last()?;
+    Some(Before {
+        seq: record.seq,
+        name: block.name(),
+    })
+}
