@@ -3,5 +3,5 @@ mod Plans
 mod Writable
 mod Turns
 mod Callers
-mod Asking
-mod Answered
+mod GoodCalls
+mod Told

@@ -15,20 +15,22 @@ use Rattle.log_model.proofs.Later.{good_of}
 use Rattle.log_model.proofs.Sets.{ascending_in_order}
 use Rattle.nfs_model.specs.declared.replies.Fattr.{Fattr}
 use Rattle.nfs_model.specs.declared.replies.NfsStatus.{NfsStatus}
+use Rattle.nfs_model.specs.declared.replies.NfsStatus.TheVariants.{RoFs, ServerFault}
 use Rattle.nfs_model.specs.declared.replies.Reply.{Reply}
 use Rattle.nfs_model.specs.declared.replies.Reply.TheVariants.{Refused}
 use Rattle.nfs_model.specs.declared.replies.Tail.{Tail}
 use Rattle.nfs_model.specs.declared.replies.Tail.TheVariants as tails
 use Rattle.nfs_model.specs.declared.replies.Wcc.{Wcc}
 use Rattle.nfs_model.specs.declared.replies.WccBefore.{WccBefore}
-use Rattle.nfs_model.specs.Changing.{Plan, Refuse, Nothing, Operations, plan}
+use Rattle.nfs_model.specs.Changing.{Plan, Refuse, Nothing, Operations, plan, finish}
 use Rattle.nfs_model.specs.Results.{status_number, fattr, before, wcc, tail, result}
 use Rattle.nfs3_replies.specs.Writable.{IsWritable}
 use Rattle.nfs_laws.specs.Lengths.{NamesAreKeys, LinksAreShort, AnswersFit, PlansFit, FinishesFit, RecordsMakeNames, RecordsMakeShortLinks, IsShortPlan}
 use Rattle.play_model.specs.Blocks.{Heads}
+use Rattle.play_model.specs.Calls.{agent_of}
 use Rattle.play_model.specs.World.{Participant}
 use Rattle.turn_laws.proofs.Turns.{closed_makes_keys}
-use Rattle.turn_model.specs.Turn.{Agent, Asked, Turned, is_changing, bare_tail, most_records, own_seq, by_plan, turn_on}
+use Rattle.turn_model.specs.Turn.{Agent, Asked, Turned, is_changing, bare_tail, most_records, own_seq, appended, by_plan, turn_on}
 use Rattle.wire_model.specs.Xdr.{word, optional}
 use Rattle.log_agent.specs.Turns.{TakesTurn}
 use Rattle.log_agent.specs.declared.agent.Turned.{Turned as Given}
@@ -105,10 +107,16 @@ module _ (answers : AnswersFit) (plans : PlansFit) (finishes : FinishesFit) (nam
       shows = subst PlansNoHandle planned (plan_shows (replay s) a.view asked.caller now a.own (own_seq a.own s + 1) asked.args);
     }
     in_plan (Operations ops) planned =
-        chosen (a.leaves == 0 || nat_lt most_records (own_seq a.own s + length ops)) a.has_failed _ _ _ (short_refused _ _) (short_refused _ _) (record {
-          few = finishes (replay s) _ a.view asked.caller asked.args now a.own (own_seq a.own s + 1) ops (closed_makes_keys a.view s closed) planned;
-          shows = finish_shows (replay s) _ a.view asked.caller asked.args ops;
-        })
+        let more : List Record = appended a.own now s ops in
+        let finished : IsShort (finish (replay s) (replay more) a.view asked.caller asked.args ops) = record {
+          few = finishes (replay s) (replay more) a.view asked.caller asked.args now a.own (own_seq a.own s + 1) ops (closed_makes_keys a.view s closed) planned;
+          shows = finish_shows (replay s) (replay more) a.view asked.caller asked.args ops;
+        } in
+        chosen (a.leaves == 0 || nat_lt most_records (own_seq a.own s + length ops)) a.has_failed
+        (record { reply = Refused RoFs (bare_tail asked.args); set = s })
+        (record { reply = Refused ServerFault (bare_tail asked.args); set = s })
+        (record { reply = finish (replay s) (replay more) a.view asked.caller asked.args ops; set = more })
+        (short_refused RoFs (bare_tail asked.args)) (short_refused ServerFault (bare_tail asked.args)) finished
 
     short_turn : IsShort (turn_on a s asked now).reply
     short_turn = either (is_changing asked.args) _ _ (in_plan _ refl) (record {
@@ -121,5 +129,5 @@ module _ (answers : AnswersFit) (plans : PlansFit) (finishes : FinishesFit) (nam
       → TakesTurn blocks heads view asked now old new given → IsWritable given.reply
   writable_turn blocks heads view asked now old new given takes =
       let short : IsShort takes.turned.reply =
-      subst (λ (t : Turned). IsShort t.reply) (sym takes.is_turn.by_set) (short_turn _ takes.is_turn.taken asked now takes.is_turn.largest.closed) in
+      subst (λ (t : Turned). IsShort t.reply) (sym takes.is_turn.by_set) (short_turn (agent_of old view) takes.is_turn.taken asked now takes.is_turn.largest.closed) in
       subst IsWritable (sym takes.reply) (writable takes.turned.reply short.few short.shows)

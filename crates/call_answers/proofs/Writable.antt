@@ -62,7 +62,8 @@ plus_entries (e ∷ page) few =
 page_in : (front : List ℕ) (f : Listed → List ℕ) (page : List Listed) (end eof : List ℕ)
     → length (front ++ flat_map f page ++ end ++ eof) ≤ 32772 → AllByRecursion (λ e. length (f e) ≤ 32772) page
 page_in front f page end eof few =
-    let within = before (front ++ flat_map f page ++ end) eof (before (front ++ flat_map f page) end (behind front (flat_map f page) (record { least = omega arith }))) in
+    let whole : AtLeast (length (flat_map f page)) (flat_map f page) = record { least = omega arith } in
+    let within = before (front ++ flat_map f page ++ end) eof (before (front ++ flat_map f page) end (behind front (flat_map f page) whole)) in
     each_entry f page (omega (arith, within.least, few))
 
 pub writable : (r : Reply) → length (result r) ≤ 32772 → ShowsNoHandle r → IsWritable r

@@ -1,11 +1,11 @@
 //! What a message asks for.
 
-ghost use Rattle.std.specs.Prelude.{ℕ, List, MatchOption};
+ghost use Rattle.std.specs.Prelude.{◌≡◌, ℕ, List, MatchOption, Some};
 ghost use Rattle.rpc_wire.specs.Callers.{IsGoodCall};
 ghost use Rattle.call_answers.specs.Asking.{IsAsking, IsNotThere, IsThere};
 
 use nfs3_args::{Args, ArgsFault, NFS_PROGRAM, read_args};
-use rpc_wire::{Call, Heading, ReplyHead, read_call};
+use rpc_wire::{Call, Caller, Heading, ReplyHead, read_call};
 use std::alloc::Global;
 use turn_serving::Asked;
 
@@ -79,13 +79,22 @@ fn asking_there(alloc: Global, call: &Call<'_>) -> Asking
     requires { IsThere call.now }
     ensures { (message : List ℕ) → IsGoodCall message call.now → IsAsking message result }
 {
-    let xid = call.xid;
-    let Some(caller) = call.caller else {
-        return Asking::Head {
-            xid,
+    match call.caller {
+        None => Asking::Head {
+            xid: call.xid,
             head: ReplyHead::BadCred,
-        };
-    };
+        },
+        Some(caller) => asking_by(alloc, call, caller),
+    }
+}
+
+/// What a caller's call of a procedure that is there asks for.
+fn asking_by(alloc: Global, call: &Call<'_>, caller: Caller) -> Asking
+    requires there { IsThere call.now }
+    requires caller { call.now.caller ≡ Some caller }
+    ensures { (message : List ℕ) → IsGoodCall message call.now → IsAsking message result }
+{
+    let xid = call.xid;
     match read_args(alloc, call.program, call.procedure, call.args) {
         Ok(Args::Null) => Asking::Head {
             xid,
