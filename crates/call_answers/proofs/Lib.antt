@@ -1,0 +1,7 @@
+mod Pages
+mod Plans
+mod Writable
+mod Turns
+mod Callers
+mod GoodCalls
+mod Told

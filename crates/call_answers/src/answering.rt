@@ -1,10 +1,13 @@
 //! One message's answer.
 
-ghost use Rattle.std.specs.Prelude.{◌≡◌, IfOk, IfSome, IsSomeAnd, OnErr, OnOk};
+ghost use Rattle.std.specs.Prelude.{IfOk, IfSome, IsSomeAnd, OnOk};
 ghost use Rattle.log_model.specs.Spelling.{IsMoment};
 ghost use Rattle.view_refresh.specs.Refreshed.{OthersStand};
 ghost use Rattle.call_answers.specs.Answered.{IsAnswered};
 
+use crate::asking::{Asking, read_asking};
+use crate::heads::{head_alone, room_for_head, without_turn};
+use crate::served::serve_call;
 use block_map::{Block, Blocks, Heads};
 use ivy_base::{Bytes, Memory, Moment};
 use log_agent::Agent;
@@ -25,8 +28,8 @@ pub struct Answered {
 }
 
 /// Answers a message of the participant's own, which entered a view, at that moment, over these blocks and heads. Where memory
-/// is wanting for the call itself the reply is SYSTEM_ERR, and nothing has changed; the error is want of memory for that reply,
-/// and then nothing has changed either.
+/// is wanting for reading the call or for its turn, the reply is SYSTEM_ERR, and nothing has changed. The error is want of
+/// memory for a reply; it may come behind a turn, whose records are lost then, so the agent is of no more use after it.
 pub fn answer_message(
     alloc: Global,
     agent: &mut Agent,
@@ -40,7 +43,16 @@ pub fn answer_message(
     requires moment { IsMoment now }
     ensures ok { IfOk result (λ given. IfSome agent.old.view (λ view. IsAnswered blocks.now heads.now view now message.now agent.old agent.new given)) }
     ensures stand { OnOk result (OthersStand blocks.now agent.new.own agent.new.known) }
-    ensures err { OnErr result (agent.new ≡ agent.old) }
 {
-    Err(Memory)
+    let out = room_for_head(alloc)?;
+    match read_asking(alloc, message) {
+        Asking::NoCall => Ok(without_turn(alloc, None)),
+        Asking::Head { xid, head } => {
+            let reply = head_alone(out, xid, &head);
+            Ok(without_turn(alloc, Some(reply)))
+        }
+        Asking::Turn { xid, asked } => {
+            serve_call(alloc, agent, blocks, heads, xid, &asked, now, out)
+        }
+    }
 }

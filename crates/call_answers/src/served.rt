@@ -1,0 +1,106 @@
+//! A turn, and its reply.
+
+ghost use Rattle.std.specs.Prelude.{◌≡◌, ◌≤◌, ℕ, [], List, IfOk, IfSome, IsSomeAnd, OnOk, Some};
+ghost use Rattle.log_model.specs.Spelling.{IsMoment};
+ghost use Rattle.nfs_model.specs.Arguments.{ArgumentsFit};
+ghost use Rattle.nfs_model.specs.Results.{result as bytes_of};
+ghost use Rattle.nfs3_replies.specs.Writable.{IsWritable};
+ghost use Rattle.play_model.specs.Calls.{Asks, handle_given};
+ghost use Rattle.rpc_wire.specs.Callers.{identity_of};
+ghost use Rattle.turn_serving.specs.Serving.{asked_of};
+ghost use Rattle.view_refresh.specs.Refreshed.{OthersStand};
+ghost use Rattle.wire_model.specs.Rpc.{IsIdentity, Success, reply as reply_bytes};
+ghost use Rattle.call_answers.specs.Answered.{IsAnswered};
+ghost use Rattle.call_answers.specs.Asking.{IsAskedWell};
+
+use crate::answering::Answered;
+use crate::heads::{head_alone, without_turn};
+use block_map::{Blocks, Heads};
+use ivy_base::{Bytes, Memory, Moment};
+use log_agent::{Agent, Turned};
+use nfs_laws::results_are_short;
+use nfs_model::Reply;
+use nfs3_replies::put_reply;
+use rpc_wire::{LONGEST_HEAD, ReplyHead, write_head};
+use std::alloc::Global;
+use turn_serving::Asked;
+use xdr_codec::XdrWrite;
+
+/// Answers the call `xid`, which asks for that, by a turn; by SYSTEM_ERR where the turn failed for want of memory. The error
+/// is want of memory behind the turn.
+pub fn serve_call(
+    alloc: Global,
+    agent: &mut Agent,
+    blocks: &Blocks,
+    heads: &Heads,
+    xid: u32,
+    asked: &Asked,
+    now: Moment,
+    out: XdrWrite,
+) -> Result<Answered, Memory>
+    requires view { IsSomeAnd agent.old.view (λ view. Unit {0}) }
+    requires stand { OthersStand blocks.now agent.old.own agent.old.known }
+    requires caller { IsIdentity (identity_of asked.now.caller) }
+    requires args { ArgumentsFit asked.now.args }
+    requires moment { IsMoment now }
+    requires empty { out.written ≡ [] }
+    requires room { LONGEST_HEAD ≤ out.spare }
+    ensures ok { IfOk result (λ given. IfSome agent.old.view (λ view. (message : List ℕ) → IsAskedWell message xid asked.now → IsAnswered blocks.now heads.now view now message agent.old agent.new given)) }
+    ensures stand { OnOk result (OthersStand blocks.now agent.new.own agent.new.known) }
+{
+    results_are_short();
+    match agent.turn(alloc, blocks, heads, asked, now) {
+        Ok(turned) => answered_by(alloc, out, xid, turned),
+        Err(_) => {
+            let reply = head_alone(out, xid, &ReplyHead::SystemErr);
+            Ok(without_turn(alloc, Some(reply)))
+        }
+    }
+}
+
+/// What the turn answers to the call `xid`.
+fn answered_by(
+    alloc: Global,
+    out: XdrWrite,
+    xid: u32,
+    turned: Turned,
+) -> Result<Answered, Memory>
+    requires writable { IsWritable turned.reply }
+    requires empty { out.written ≡ [] }
+    requires room { LONGEST_HEAD ≤ out.spare }
+    ensures reply { IfOk result (λ given. given.reply ≡ Some (reply_bytes xid (Success (bytes_of turned.reply)))) }
+    ensures handle { IfOk result (λ given. given.handle ≡ handle_given turned.reply) }
+    ensures blocks { IfOk result (λ given. given.blocks.items ≡ turned.blocks.items) }
+    ensures newest { IfOk result (λ given. given.newest ≡ turned.newest) }
+{
+    let handle = handle_of(alloc, &turned.reply)?;
+    let reply = reply_of(out, xid, &turned.reply)?;
+    Ok(Answered {
+        reply: Some(reply),
+        handle,
+        blocks: turned.blocks,
+        newest: turned.newest,
+    })
+}
+
+/// The message of success with that result. The error is want of memory.
+fn reply_of(mut out: XdrWrite, xid: u32, reply: &Reply) -> Result<Bytes, Memory>
+    requires writable { IsWritable reply.now }
+    requires empty { out.written ≡ [] }
+    requires room { LONGEST_HEAD ≤ out.spare }
+    ensures { IfOk result (λ bytes. bytes ≡ reply_bytes xid (Success (bytes_of reply.now))) }
+{
+    write_head(&mut out, xid, &ReplyHead::Success);
+    put_reply(&mut out, reply)?;
+    Ok(out.into_bytes())
+}
+
+/// A copy of the handle that the reply made or found, if any. The error is want of memory.
+fn handle_of(alloc: Global, reply: &Reply) -> Result<Option<Bytes>, Memory>
+    ensures { IfOk result (λ handle. handle ≡ handle_given reply.now) }
+{
+    match reply {
+        Reply::Found { handle, .. } | Reply::Made { handle, .. } => Ok(Some(handle.copy(alloc)?)),
+        _ => Ok(None),
+    }
+}
