@@ -56,6 +56,7 @@ module _ (blocks : List (List ℕ)) (heads : Heads) (view : View) (own : PubKey)
     where
       spelled_in : (s : List Record) → IsClosed view s → (r : Record) → Contains s r → HasSpelling r
       spelled_in s h r c = (good_of view s r h c).spelled
+
       stands : (r : Record) → IsAtHand known refreshed.candidates r → (r.owner ≡ own → ⊥) → Contains blocks (record_block r)
       stands r h other = ⊎_elim (λ k. each Stands known r stand k other) (λ n. each (λ q. Contains blocks (record_block q)) n.0.chain r n.2.2.2.stand n.1)
           (of_hand (heads_at heads) blocks view own known refreshed.candidates refreshed.are r h)
