@@ -59,12 +59,7 @@ pub fn serve_call(
 }
 
 /// What the turn answers to the call `xid`.
-fn answered_by(
-    alloc: Global,
-    out: XdrWrite,
-    xid: u32,
-    turned: Turned,
-) -> Result<Answered, Memory>
+fn answered_by(alloc: Global, out: XdrWrite, xid: u32, turned: Turned) -> Result<Answered, Memory>
     requires writable { IsWritable turned.reply }
     requires empty { out.written ≡ [] }
     requires room { LONGEST_HEAD ≤ out.spare }
