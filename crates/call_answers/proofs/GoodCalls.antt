@@ -1,6 +1,6 @@
 -- What a good call comes to.
-use Rattle.std.proofs.Common.{◌≡◌, ◌≢◌, ℕ, ◌<◌, ◌≤◌, List, [], Option, Some, None, refl, sym, ◌∙◌, subst}
-use Rattle.wire_model.specs.Rpc.{Identity, IsCaller, IsOtherVersion, Outcome, ProgramUnavailable, ProgramMismatch, ProcedureUnavailable, BadCredential, GarbageArguments, Success, SystemError, reply}
+use Rattle.std.proofs.Common.{◌≡◌, ◌≢◌, ℕ, ◌<◌, ◌≤◌, List, [], Some, None, refl, sym, ◌∙◌, subst}
+use Rattle.wire_model.specs.Rpc.{IsCaller, IsOtherVersion, Outcome, ProgramUnavailable, ProgramMismatch, ProcedureUnavailable, BadCredential, GarbageArguments, Success, reply}
 use Rattle.rpc_wire.specs.Callers.{IsGoodCall, IsNoCall, IsCallerOf, identity_of}
 use Rattle.rpc_wire.specs.declared.call.Call.{Call}
 use Rattle.rpc_wire.specs.declared.call.Caller.{Caller}
@@ -11,7 +11,7 @@ use Rattle.nfs_model.specs.declared.arguments.Args.TheVariants.{Null}
 use Rattle.nfs_model.specs.Arguments.{AreArguments}
 use Rattle.nfs3_args.specs.Reading.{AreNoArguments}
 use Rattle.turn_serving.specs.declared.serving.Asked.{Asked}
-use Rattle.play_model.specs.Calls.{IsServed, IsByMessage, no_call, other_version, no_program, no_version, no_procedure, no_caller, no_arguments, null, Asks}
+use Rattle.play_model.specs.Calls.{IsServed, IsByMessage, no_call, other_version, no_program, no_version, no_procedure, no_caller, no_arguments, null}
 use Rattle.call_answers.specs.Asking.{IsThere, IsNotThere, IsHeadAlone, by_message, lacks_memory, IsAskedWell}
 use Rattle.call_answers.specs.Asking as missing
 use Rattle.call_answers.proofs.Callers.{caller_is_identity}

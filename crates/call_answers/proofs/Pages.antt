@@ -19,7 +19,7 @@ use Rattle.nfs_model.specs.Changing.{made_number, made, standing, finish}
 use Rattle.nfs_model.specs.Checks.{Check}
 use Rattle.nfs_model.specs.Objects.{Object, object_of, may_read, is_owner}
 use Rattle.nfs_model.specs.Pages.{listed, plain_length, long_length, page_checks, read_directory, read_directory_plus}
-use Rattle.nfs_model.specs.Reading.{answer, get_attributes, lookup, lookup_checks, target_of, found, found_inode, access, link_kind, read_link, read, make_node, commit, with_attributes}
+use Rattle.nfs_model.specs.Reading.{answer, lookup, lookup_checks, target_of, found, found_inode, link_kind, read_link, read, commit, with_attributes}
 use Rattle.nfs3_replies.specs.Writable.{IsShortHandle}
 
 -- where the reply is a page without handles, it has none that is long

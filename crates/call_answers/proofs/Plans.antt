@@ -5,7 +5,7 @@ use Rattle.ivy_base.specs.declared.key.Key.{Key}
 use Rattle.ivy_base.specs.declared.key.PubKey.{PubKey}
 use Rattle.ivy_base.specs.declared.operation.Moment.{Moment}
 use Rattle.ivy_base.specs.Naming.{inode_number}
-use Rattle.tree_model.specs.Tree.{Tree, inode_at, entry, is_directory, is_file, directory_kind, file_kind, name_count}
+use Rattle.tree_model.specs.Tree.{Tree, entry, is_directory, is_file, directory_kind, file_kind, name_count}
 use Rattle.log_model.specs.View.{View}
 use Rattle.wire_model.specs.Rpc.{Identity}
 use Rattle.nfs_model.specs.declared.arguments.Args.{Args}

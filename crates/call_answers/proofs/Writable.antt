@@ -1,10 +1,9 @@
 -- Each string of a short result is short.
-use Rattle.std.proofs.Common.{ℕ, true, ◌+◌, ◌≤◌, ◌<◌, ◌^◌, List, [], ◌∷◌, ◌++◌, length, Option, Some, None, arith, length-append}
+use Rattle.std.proofs.Common.{ℕ, true, ◌≤◌, ◌<◌, ◌^◌, List, [], ◌∷◌, ◌++◌, length, Option, Some, None, arith, length-append}
 use Rattle.std.specs.List.{AllByRecursion, flat_map}
 use Rattle.std.proofs.lemmas.List.Elements.{All-from_recursion}
 use Rattle.wire_model.specs.Xdr.{word, double_word, boolean, opaque, optional}
 use Rattle.xdr_codec.proofs.Lengths.{length-opaque}
-use Rattle.nfs_model.specs.declared.replies.Fattr.{Fattr}
 use Rattle.nfs_model.specs.declared.replies.Listed.{Listed}
 use Rattle.nfs_model.specs.declared.replies.Reply.{Reply}
 use Rattle.nfs_model.specs.declared.replies.Reply.TheVariants as reply

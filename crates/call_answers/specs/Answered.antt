@@ -1,5 +1,5 @@
 -- What a call is answered, over blocks and heads.
-use Rattle.std.specs.Prelude.{◌≡◌, ℕ, List, [], map, Option, Some, None, option_map}
+use Rattle.std.specs.Prelude.{◌≡◌, ℕ, List, [], map, Some, None, option_map}
 use Rattle.ivy_base.specs.declared.operation.Moment.{Moment}
 use Rattle.log_model.specs.Rank.{front}
 use Rattle.log_model.specs.Spelling.{record_block}

@@ -1,5 +1,5 @@
 -- What a message comes to before any turn.
-use Rattle.std.specs.Prelude.{◌≡◌, ◌≢◌, ℕ, ◌≤◌, ◌<◌, List, Option, Some, None}
+use Rattle.std.specs.Prelude.{◌≡◌, ◌≢◌, ℕ, ◌≤◌, ◌<◌, List, Some, None}
 use Rattle.wire_model.specs.Rpc.{CallMessage, IsCall, IsIdentity}
 use Rattle.rpc_wire.specs.Callers.{identity_of}
 use Rattle.rpc_wire.specs.ReplyHead.{head_bytes}
