@@ -9,8 +9,8 @@
 //! Within: `within` tells by a front which records were known, `taking` takes the new records in, and `answering` serves the
 //! call on the set and appends what it writes (`specs/Steps.antt`).
 //!
-//! Costs: a turn costs what its new records cost, and a replay of all that is known from nothing. The front is kept, so no
-//! record that was known is hashed again.
+//! Costs: a turn costs what its new records cost, and a replay of all that is known from nothing. The front is kept, so of
+//! what was known only the newest record of each log is hashed again, for its name.
 #![tactic(auto)]
 
 pub mod agent;
