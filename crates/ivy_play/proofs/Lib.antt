@@ -1,7 +1,1 @@
-pub mod CallLemmas
-pub mod DirectoryLemmas
-pub mod NameTests
-pub mod PlayLemmas
-pub mod RequestLemmas
-pub mod ServingLemmas
-pub mod WorldLemmas
+mod Plays

@@ -1,13 +1,2 @@
-pub mod Owners
-pub mod Entries
-pub mod Participants
-pub mod Directories
-pub mod Lives
-pub mod Asked
-pub mod Handles
-pub mod Requests
-pub mod Turns
-pub mod Serving
-pub mod Worlds
 pub mod Status
 pub mod Playing

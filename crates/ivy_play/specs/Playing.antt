@@ -4,16 +4,16 @@ use Rattle.ivy_io.specs.Known.{then}
 use Rattle.script_driver.specs.Lines.{lines_of}
 use Rattle.script_driver.specs.Run.{Ran, Runs, WithLaw, HasPiece}
 use Rattle.script_driver.specs.Told.{run_of}
-use Rattle.run_model.specs.World.{empty_world}
-use Rattle.run_model.specs.Step.{IvyStep, HasMemory, lacks_memory_line}
-use Rattle.run_model.specs.Headline.{Headline}
+use Rattle.play_model.specs.World.{empty_world}
+use Rattle.play_model.specs.Step.{IvyStep, HasMemory, lacks_memory_line}
+use Rattle.play_replies.specs.Headline.{Headline}
 use Rattle.ivy_play.specs.Status.{status_of}
 
--- the runs of what a source has left, in each of which each reply is on the replay of the listed records
+-- the runs of what a source has left, in each of which each reply is on the replay of a closed set of verified records
 abbrev pub ivy_runs : Option (List ℕ) → Ran → Type 0
 ivy_runs left = run_of (WithLaw IvyStep Headline) empty_world left
 
--- a run of the script in which no call is refused for want of memory: there is one
+-- a run of the script in which no call is refused for want of memory: there is one at most
 abbrev pub IsFullRun : List ℕ → Ran → Type 0
 IsFullRun script ran = Runs (WithLaw IvyStep HasMemory) empty_world 1 (lines_of (take (2 ^ 40) script)) ran
 

@@ -2,39 +2,43 @@
 
 ghost use Rattle.std.specs.Prelude.{◌≡◌, ◌⊎◌, ◌≤◌, ℕ, List, IfSome};
 ghost use Rattle.ivy_io.specs.Causes.{Rose};
-ghost use Rattle.script_driver.specs.Run.{Ran, Ending, Ended, RefusedAt};
+ghost use Rattle.script_driver.specs.Run.{Ran, Ending, Ended, RefusedAt, LimitAt};
 ghost use Rattle.script_driver.specs.Told.{TellsAll, TellsFront, TellsLess, StopsShort};
-ghost use Rattle.run_model.specs.Step.{IvyStep};
+ghost use Rattle.play_model.specs.Step.{IvyStep};
 ghost use Rattle.ivy_play.specs.Playing.{ivy_runs, IsFullRun, IsPlayed};
 ghost use Rattle.ivy_play.specs.Status.{status_of};
 
-use crate::world::World;
 use ivy_io::{Sink, Source};
+use ivy_world::World;
 use script_driver::{Fault, Stop, run_script};
 use std::alloc::Global;
 
 /// How a program ended.
 ///
 /// 0: the script was played to its line `end`. 3: a line was refused. 4, 5: reading or writing failed. 6: memory was
-/// wanting.
+/// wanting. 7: a line met a limit.
 pub type Status = u8;
 
 /// Plays the script of a source, and writes what its lines show to a sink.
 ///
 /// The script is the first 2^40 bytes of the source. Each line is obeyed as it is read, and what it shows is written
-/// before the next one is looked at; a line that is refused shows `refused N`, with its number from 1, and ends the
-/// run. What follows the line `end` isn't looked at.
+/// before the next one is looked at; a line that is refused shows `refused N`, with its number from 1, and one that meets a
+/// limit `limit N`; either ends the run. What follows the line `end` isn't looked at.
 ///
-/// A run is defined line by line, by the step of `run_model`. In every run each call's reply is the answer of NFS
-/// version 3 (RFC 1813) on the replay, from nothing, of the records that the log then lists.
+/// A run is defined line by line, by the step of `play_model`. In every run each call is answered by its message alone, or by
+/// the answer of NFS version 3 (RFC 1813) on the replay, from nothing, of one causally closed set of verified records, or
+/// memory was wanting for it (`Headline` of `play_replies`).
 pub fn play<Q: Source, W: Sink>(alloc: Global, source: &mut Q, sink: &mut W) -> Status
-    ensures statuses { (result ≡ 0) ⊎ (result ≡ 3) ⊎ (result ≡ 4) ⊎ (result ≡ 5) ⊎ (result ≡ 6) }
+    ensures statuses { (result ≡ 0) ⊎ (result ≡ 3) ⊎ (result ≡ 4) ⊎ (result ≡ 5) ⊎ (result ≡ 6) ⊎ (result ≡ 7) }
 
     // 0: a run ended at its line `end`, and all that it shows was written.
     ensures ended { result ≡ 0 → TellsAll Ended
         (ivy_runs (Q.left source.old)) (W.contents sink.old) (W.contents sink.new) }
     // 3: a run ended at the first line that is refused, or behind the last one, and all that it shows was written.
     ensures refused { result ≡ 3 → (n : ℕ) × TellsAll (RefusedAt n)
+        (ivy_runs (Q.left source.old)) (W.contents sink.old) (W.contents sink.new) }
+    // 7: a run ended at the first line that meets a limit, and all that it shows was written.
+    ensures limited { result ≡ 7 → (n : ℕ) × TellsAll (LimitAt n)
         (ivy_runs (Q.left source.old)) (W.contents sink.old) (W.contents sink.new) }
     // 4 and 5: only where the count of faults of the source, of the sink rose.
     ensures read_fault { result ≡ 4 → Rose (Q.faults source.old) (Q.faults source.new) }
@@ -62,13 +66,13 @@ pub fn play<Q: Source, W: Sink>(alloc: Global, source: &mut Q, sink: &mut W) -> 
     ensures reads { Q.faults source.old ≤ Q.faults source.new }
     ensures writes { W.faults sink.old ≤ W.faults sink.new }
 {
-    let mut world = World::new();
+    let mut world = World::new(alloc);
     match run_script(alloc, &mut world, source, sink) {
         Ok(Stop::Ended) => 0,
         Ok(Stop::Refused(_)) => 3,
         Err(Fault::Read) => 4,
         Err(Fault::Write) => 5,
         Err(Fault::Memory) => 6,
-        Ok(Stop::Exceeded(_)) => unreachable!(),
+        Ok(Stop::Exceeded(_)) => 7,
     }
 }

@@ -112,10 +112,20 @@ fn scripts_end(rt: HostRuntime) -> Result<(), Fail> {
 #[test]
 fn calls_have_one_of_the_forms(rt: HostRuntime) -> Result<(), Fail> {
     let alloc = rt.alloc();
-    let lines: [&[u8]; 20] = [
+    let lines: [&[u8]; 33] = [
         b"use a v",
-        b"view w a",
-        b"log b 2 bb w4h5",
+        b"use a w",
+        b"use b v",
+        b"log a 2 bb w4h5",
+        b"log A 2 bb w4h5",
+        b"view v a",
+        b"view w b",
+        b"view w a,a",
+        b"view w a a",
+        b"view w a,",
+        b"view w a b c",
+        b"order",
+        b"order b",
         b"as b nfs:3:0:0 root s:a",
         b"as a nfs:0:0:0 root",
         b"as a nfs:0:1:0",
@@ -254,5 +264,123 @@ fn faults_are_told(rt: HostRuntime) -> Result<(), Fail> {
     assert_eq!(rt; status, 5);
     assert!(rt; written.len() < whole.len());
     assert!(rt; whole.starts_with(written.as_slice()));
+    Ok(())
+}
+
+/// Two participants make a directory each; the second one looks the first one's up.
+const SHARED_SCRIPT: &[u8] = b"ring 1 1
+log a 1 aa w4h5
+log b 2 aa w4h5
+view v a,b
+use a v
+use b v
+as a nfs:9:0:0 root s:x sa:493
+as b nfs:3:0:0 root s:x
+as b nfs:9:0:0 root s:y sa:493
+order b
+end
+";
+
+/// The order that the second one holds then: weights, logs and numbers, by hand.
+const SHARED_ORDER: &[u8] = b"order b 6\n1 a 1\n1 b 1\n3 a 2\n4 a 3\n5 b 2\n6 b 3\n";
+
+/// What a script writes, and that it ends with 0.
+fn shown(alloc: Global, script: &[u8], end: &[u8]) -> Result<bool, Fail> {
+    let (status, text) = played(alloc, script, &[], &[])?;
+    Ok(status == 0 && text.as_slice().ends_with(end))
+}
+
+#[test]
+fn several_logs_have_one_order(rt: HostRuntime) -> Result<(), Fail> {
+    assert!(rt; shown(rt.alloc(), SHARED_SCRIPT, SHARED_ORDER)?);
+    Ok(())
+}
+
+/// A view that leaves the second log out: what that log's participant makes isn't seen in it, so the look-up is NOENT
+/// (2), and the records that are held are those of the one log.
+#[test]
+fn a_log_that_is_left_out_does_not_count(rt: HostRuntime) -> Result<(), Fail> {
+    let script = b"ring 1 1
+log a 1 aa w4h5
+log b 2 aa w4h5
+view v a
+view w a,b
+use a v
+use b w
+as b nfs:9:0:0 root s:x sa:493
+as a nfs:9:0:0 root s:y sa:493
+order a
+end
+";
+    assert!(rt; shown(rt.alloc(), script, b"order a 3\n1 a 1\n2 a 2\n3 a 3\n")?);
+    Ok(())
+}
+
+/// Two logs of one key, opened at one moment, begin with one record. Each goes on from its own newest record, and is
+/// shown under the first one's name.
+#[test]
+fn two_logs_may_have_one_key(rt: HostRuntime) -> Result<(), Fail> {
+    let script = b"ring 1 1
+log a 1 aa w4h5
+log t 1 aa w4h5
+view v a
+use a v
+use t v
+as t nfs:9:0:0 root s:x sa:493
+as a nfs:1:0:0 root
+order a
+order t
+end
+";
+    let end = b"order a 1\n1 a 1\norder t 3\n1 a 1\n2 a 2\n3 a 3\n";
+    assert!(rt; shown(rt.alloc(), script, end)?);
+    Ok(())
+}
+
+/// What a participant holds: nothing before its first turn in the view, NULL being none.
+#[test]
+fn nothing_is_held_before_a_turn(rt: HostRuntime) -> Result<(), Fail> {
+    let alloc = rt.alloc();
+    let script = joined(alloc, &[OPENING, b"order a\nas a nfs:0:0:0\norder a\nend\n"])?;
+    let end = b"order a 0\nreply 000000010000000100000000000000000000000000000000\norder a 0\n";
+    assert!(rt; shown(alloc, script.as_slice(), end)?);
+    Ok(())
+}
+
+/// The name of a log by its number, of two digits in letters.
+fn put_log(text: &mut Vec<u8>, number: u8) -> Result<(), Fail> {
+    text.push(b'a' + number / 16)?;
+    text.push(b'a' + number % 16)?;
+    Ok(())
+}
+
+/// A ring, and so many logs.
+fn many_logs(alloc: Global, count: u8) -> Result<Vec<u8>, Fail> {
+    let mut text = b"ring 1 1\n".as_slice().to_vec(alloc)?;
+    for number in 0..count {
+        text.extend_from_slice(b"log ".as_slice())?;
+        put_log(&mut text, number)?;
+        let id = format!(in alloc; " {number} aa w4h5\n")?;
+        text.extend_from_slice(id.as_bytes())?;
+    }
+    Ok(text)
+}
+
+/// A view has 16 members at most: line 19 meets the limit, behind the ring and 17 logs.
+#[test]
+fn members_are_limited(rt: HostRuntime) -> Result<(), Fail> {
+    let alloc = rt.alloc();
+    let mut script = many_logs(alloc, 17)?;
+    script.extend_from_slice(b"view v ".as_slice())?;
+    for number in 0..17 {
+        if number > 0 {
+            script.push(b',')?;
+        }
+        put_log(&mut script, number)?;
+    }
+    script.extend_from_slice(b"\nend\n".as_slice())?;
+    let (status, written) = played(alloc, script.as_slice(), &[], &[])?;
+    assert_eq!(rt; status, 7);
+    assert_eq!(rt; written.as_slice(), b"limit 19\n".as_slice());
     Ok(())
 }

@@ -1,9 +1,9 @@
 -- Lines and what they are, computed from the definition.
 use Rattle.std.proofs.Common.{◌≡◌, [], ◌∷◌, ◌++◌, replicate, codes, Some, None, refl}
 use Rattle.hex.proofs.OnLiterals.{hex_on_literals}
-use Rattle.run_model.specs.Script.{command_of}
-use Rattle.run_model.specs.declared.command.Piece.TheVariants.{Call, Root, HandleOf, Text, Mode}
-use Rattle.run_model.specs.declared.command.Command.TheVariants as command
+use Rattle.play_model.specs.Script.{command_of}
+use Rattle.play_model.specs.declared.command.Piece.TheVariants.{Call, Root, HandleOf, Text, Mode}
+use Rattle.play_model.specs.declared.command.Command.TheVariants as command
 
 ring : command_of (codes "ring 1 1") ≡ Some (command.Ring 1 1)
 unfolding command_of
@@ -13,9 +13,17 @@ log : command_of (codes "log a 1 aa w4h5") ≡ Some (command.Log (codes "a") (re
 unfolding command_of hex_on_literals
 log = refl
 
-view : command_of (codes "view v a") ≡ Some (command.View (codes "v") (codes "a"))
+view : command_of (codes "view v a") ≡ Some (command.View (codes "v") (codes "a" ∷ []) [])
 unfolding command_of
 view = refl
+
+view_of_three : command_of (codes "view v a,b,c d,e") ≡ Some (command.View (codes "v") (codes "a" ∷ codes "b" ∷ codes "c" ∷ []) (codes "d" ∷ codes "e" ∷ []))
+unfolding command_of
+view_of_three = refl
+
+empty_name : command_of (codes "view v a,,b") ≡ None
+unfolding command_of
+empty_name = refl
 
 use_of_a_view : command_of (codes "use a v") ≡ Some (command.Use (codes "a") (codes "v"))
 unfolding command_of
@@ -32,6 +40,10 @@ call = refl
 call_of_a_handle : command_of (codes "as a nfs:3:0:0 h:1 s:a") ≡ Some (command.As (codes "a") (Call 3 0 0 ∷ HandleOf 1 ∷ Text (codes "a") ∷ []))
 unfolding command_of
 call_of_a_handle = refl
+
+order : command_of (codes "order a") ≡ Some (command.Order (codes "a"))
+unfolding command_of
+order = refl
 
 end : command_of (codes "end") ≡ Some command.End
 unfolding command_of

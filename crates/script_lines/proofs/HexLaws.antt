@@ -5,7 +5,7 @@ use Rattle.std.proofs.lemmas.Bool.{le-leb}
 use Rattle.std.proofs.lemmas.List.Recursion.{and_at}
 use Rattle.hex.specs.Hex.{encode_lower, encode_with, lower_digits, IsBytes}
 use Rattle.hex.proofs.HexLemmas.{decode_of-encode_lower, length-encode_with}
-use Rattle.run_model.specs.Script.{hex_bytes, is_lower_hex}
+use Rattle.play_model.specs.Script.{hex_bytes, is_lower_hex}
 
 lower_digit : (d : ℕ) → d < 16 → is_lower_hex (slice_index lower_digits d) ≡ true
 lower_digit d lt = and_at (list_all is_lower_hex) is_lower_hex refl (λ _ _. refl) lower_digits d 0 lt refl

@@ -3,6 +3,7 @@ mod Examples
 mod FillLemmas
 pub mod HexLaws
 pub mod LineLemmas
+mod NameLemmas
 pub mod NumberLaws
 mod PieceLemmas
 pub mod WordLaws

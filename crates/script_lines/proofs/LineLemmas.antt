@@ -1,8 +1,8 @@
 -- What a line that isn't too long is: nothing, or the command that its words are.
 use Rattle.std.proofs.Common.{◌≡◌, ℕ, ◌≤◌, true, false, List, length, Some, refl}
 use Rattle.std.proofs.lemmas.Bool.{le-ltb}
-use Rattle.run_model.specs.declared.command.Command.TheVariants.{Nothing}
-use Rattle.run_model.specs.Script.{command_of, command_of_words, words_of, is_comment}
+use Rattle.play_model.specs.declared.command.Command.TheVariants.{Nothing}
+use Rattle.play_model.specs.Script.{command_of, command_of_words, words_of, is_comment}
 use Rattle.script_driver.specs.Run.{line_limit}
 
 pub command_of_comment : (line : List ℕ) → length line ≤ line_limit → is_comment line ≡ true → command_of line ≡ Some Nothing

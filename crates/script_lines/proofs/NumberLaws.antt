@@ -8,7 +8,7 @@ use Rattle.std.proofs.lemmas.Bool.{lt-ltb, ltb-true, and_parts, cases_lt}
 use Rattle.std.proofs.lemmas.Fmt.{digits_decimal, digits_value-decimal, decimal-digits_value, decimal_nonempty, first_decimal, decimal_digit}
 use Rattle.std.proofs.lemmas.Option.{cond_some}
 use Rattle.std.proofs.lemmas.Str.Parse.{IsNumeralModel, numerals_by_fold}
-use Rattle.run_model.specs.Script.{is_decimal, decimal_value, number_below}
+use Rattle.play_model.specs.Script.{is_decimal, decimal_value, number_below}
 use Rattle.script_lines.proofs.DigitLemmas.{value_after}
 
 own : IsNumeralModel (λ ds. list_all is_ascii_digit ds ≡ true) decimal_value

@@ -1,6 +1,6 @@
 -- Reading pieces one after the other.
 use Rattle.std.proofs.Common.{ℕ, List, ◌++◌, map, Option, Some, None, Bor}
-use Rattle.run_model.specs.declared.command.Piece.{Piece}
+use Rattle.play_model.specs.declared.command.Piece.{Piece}
 
 abbrev pub seen : List (Bor (List ℕ)) → List (List ℕ)
 seen words = map (λ w. w.now) words

@@ -3,7 +3,7 @@ use Rattle.std.proofs.Common.{◌≡◌, ℕ, ◌<◌, ◌≤◌, ◌==◌, fals
 use Rattle.std.specs.List.{All, join_with_byte}
 use Rattle.std.proofs.lemmas.List.Elements.{All-head, All-tail}
 use Rattle.std.proofs.lemmas.List.Splits.{slice_split_none, slice_split_at, join_with_byte-slice_split}
-use Rattle.run_model.specs.Script.{command_of, command_of_words, words_of, is_comment}
+use Rattle.play_model.specs.Script.{command_of, command_of_words, words_of, is_comment}
 use Rattle.script_driver.specs.Run.{line_limit}
 use Rattle.script_lines.proofs.LineLemmas.{command_of_short}
 

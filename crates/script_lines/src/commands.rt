@@ -1,16 +1,16 @@
 //! Which command a line is.
 
-ghost use Rattle.std.specs.Prelude.{◌≡◌, IfOk, map};
-ghost use Rattle.run_model.specs.Script.{ring_of, log_of, view_of, use_of, at_of, as_of, end_of, command_of_words, is_comment, command_of};
+ghost use Rattle.std.specs.Prelude.{◌≡◌, IfOk, map, [], ◌∷◌};
+ghost use Rattle.play_model.specs.Script.{ring_of, log_of, view_of, use_of, at_of, as_of, order_of, end_of, command_of_words, is_comment, command_of};
 
 use crate::hex_digits::{identifier, seed};
-use crate::names::name;
+use crate::names::{name, names};
 use crate::numbers::number_u64;
 use crate::pieces::pieces;
 use crate::sets::names_sets;
 use crate::words::parts;
 use ivy_base::{Bytes, Memory};
-use run_model::Command;
+use play_model::{Command, Names};
 use std::alloc::Global;
 
 /// The most bytes of a line, without its newline.
@@ -46,19 +46,53 @@ fn log(alloc: Global, words: &[&[u8]]) -> Result<Option<Command>, Memory>
     Ok(Some(Command::Log { log, id, seed }))
 }
 
-/// `view V P`, of the words behind the first. The error is want of memory.
+/// `view V M` and `view V M F`, of the words behind the first. The error is want of memory.
 fn view(alloc: Global, words: &[&[u8]]) -> Result<Option<Command>, Memory>
     ensures { IfOk result (λ command. command ≡ view_of (map (λ word. word.now) words.now)) }
 {
-    let [view, log] = words else {
+    match words {
+        [view, members] => view_of_members(alloc, view, members),
+        [view, members, former] => view_with_former(alloc, view, members, former),
+        _ => Ok(None),
+    }
+}
+
+/// A view of these members that nothing came before. The error is want of memory.
+fn view_of_members(alloc: Global, view: &[u8], members: &[u8]) -> Result<Option<Command>, Memory>
+    ensures { IfOk result (λ command. command ≡ view_of (view.now ∷ members.now ∷ [])) }
+{
+    let Some(view) = name(view) else {
         return Ok(None);
     };
-    let (Some(view), Some(log)) = (name(view), name(log)) else {
+    let Some(members) = names(alloc, members)? else {
         return Ok(None);
     };
     Ok(Some(Command::View {
         view: Bytes::copy_of(alloc, view)?,
-        log: Bytes::copy_of(alloc, log)?,
+        members,
+        former: Names::of(Vec::new(alloc)),
+    }))
+}
+
+/// A view of these members, and of former ones. The error is want of memory.
+fn view_with_former(
+    alloc: Global,
+    view: &[u8],
+    members: &[u8],
+    former: &[u8],
+) -> Result<Option<Command>, Memory>
+    ensures { IfOk result (λ command. command ≡ view_of (view.now ∷ members.now ∷ former.now ∷ [])) }
+{
+    let Some(view) = name(view) else {
+        return Ok(None);
+    };
+    let (Some(members), Some(former)) = (names(alloc, members)?, names(alloc, former)?) else {
+        return Ok(None);
+    };
+    Ok(Some(Command::View {
+        view: Bytes::copy_of(alloc, view)?,
+        members,
+        former,
     }))
 }
 
@@ -111,6 +145,20 @@ fn call(alloc: Global, words: &[&[u8]]) -> Result<Option<Command>, Memory>
     Ok(Some(Command::As { log, pieces }))
 }
 
+/// `order P`, of the words behind the first. The error is want of memory.
+fn order(alloc: Global, words: &[&[u8]]) -> Result<Option<Command>, Memory>
+    ensures { IfOk result (λ command. command ≡ order_of (map (λ word. word.now) words.now)) }
+{
+    let [log] = words else {
+        return Ok(None);
+    };
+    let Some(log) = name(log) else {
+        return Ok(None);
+    };
+    let log = Bytes::copy_of(alloc, log)?;
+    Ok(Some(Command::Order { log }))
+}
+
 /// `end`, of the words behind the first.
 fn end(words: &[&[u8]]) -> Option<Command>
     ensures { result ≡ end_of (map (λ word. word.now) words.now) }
@@ -141,6 +189,8 @@ fn command(alloc: Global, words: &[&[u8]]) -> Result<Option<Command>, Memory>
         Ok(moment(rest))
     } else if *first == b"as".as_slice() {
         call(alloc, rest)
+    } else if *first == b"order".as_slice() {
+        order(alloc, rest)
     } else if *first == b"end".as_slice() {
         Ok(end(rest))
     } else {

@@ -2,7 +2,7 @@
 
 ghost use Rattle.std.specs.Prelude.{◌≡◌, ◌-◌, ◌++◌, ◌&&◌, nat_le, length, replicate, if◌then◌else◌};
 ghost use Rattle.std.specs.List.{list_all};
-ghost use Rattle.run_model.specs.Script.{hex_bytes, is_lower_hex};
+ghost use Rattle.play_model.specs.Script.{hex_bytes, is_lower_hex};
 
 use hex::FromHex;
 

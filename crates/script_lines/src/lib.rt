@@ -1,7 +1,7 @@
 //! Reads the lines of a script.
 //!
-//! Layer: over the definitions of `run_model`, below the machine that plays a script.
-//! For the layer above: [`read_command`] is exactly `command_of` of `run_model`'s `specs/Script.antt`, the
+//! Layer: over the definitions of `play_model`, below the machine that plays a script.
+//! For the layer above: [`read_command`] is exactly `command_of` of `play_model`'s `specs/Script.antt`, the
 //! definition of which command a line is; its only error is want of memory.
 //! What the definition means for the text of a line is proved beside it: a line is its words joined by blanks
 //! (`proofs/WordLaws.antt`), a number is what `decimal` writes of it and nothing else (`proofs/NumberLaws.antt`), the

@@ -1,9 +1,14 @@
 //! Names of logs and views.
 
-ghost use Rattle.std.specs.Prelude.{◌≡◌};
+ghost use Rattle.std.specs.Prelude.{◌≡◌, IfOk, map};
 ghost use Rattle.std.specs.List.{list_all};
 ghost use Rattle.std.specs.Option.{option_map};
-ghost use Rattle.run_model.specs.Script.{name_of, is_name_byte};
+ghost use Rattle.play_model.specs.Script.{name_of, is_name_byte, each_name, names_of};
+
+use crate::words::parts;
+use ivy_base::{Bytes, Memory};
+use play_model::Names;
+use std::alloc::Global;
 
 /// The most characters that a name has.
 const NAME_LIMIT: usize = 16;
@@ -25,4 +30,27 @@ pub fn name(word: &[u8]) -> Option<&[u8]>
     } else {
         None
     }
+}
+
+/// The names that these words are, if each is one. The error is want of memory.
+fn all_names(alloc: Global, words: &[&[u8]]) -> Result<Option<Names>, Memory>
+    ensures { IfOk result (λ names. names ≡ each_name (map (λ word. word.now) words.now)) }
+{
+    let mut names = Vec::new(alloc);
+    for word in words {
+        let Some(name) = name(word) else {
+            return Ok(None);
+        };
+        names.push(Bytes::copy_of(alloc, name)?)?;
+    }
+    Ok(Some(Names::of(names)))
+}
+
+/// The names that stand in a word, in its order, if it is names joined by commas; they are copied. There is one at
+/// least: neither the empty word nor an empty part between commas is a name. The error is want of memory.
+pub fn names(alloc: Global, word: &[u8]) -> Result<Option<Names>, Memory>
+    ensures { IfOk result (λ names. names ≡ names_of word.now) }
+{
+    let words = parts(alloc, word, b',')?;
+    all_names(alloc, &words)
 }

@@ -3,7 +3,7 @@
 ghost use Rattle.std.specs.Prelude.{◌≡◌, ◌^◌, ◌&&◌, nat_lt, if◌then◌else◌};
 ghost use Rattle.std.specs.Char.{is_ascii_digit};
 ghost use Rattle.std.specs.List.{list_all};
-ghost use Rattle.run_model.specs.Script.{number_below, decimal_value};
+ghost use Rattle.play_model.specs.Script.{number_below, decimal_value};
 
 /// The value of these bytes, if they are digits and it is below 2^64.
 fn value_of_digits(digits: &[u8]) -> Option<u64>

@@ -2,12 +2,12 @@
 
 ghost use Rattle.std.specs.Prelude.{◌≡◌, ◌==◌, IfOk, map};
 ghost use Rattle.std.specs.List.{list_all, slice_split};
-ghost use Rattle.run_model.specs.Script.{is_printable, call_of, text_of, handle_of_reply, mode_of, piece_of, pieces_of};
+ghost use Rattle.play_model.specs.Script.{is_printable, call_of, text_of, handle_of_reply, mode_of, piece_of, pieces_of};
 
 use crate::numbers::{number_u32, number_u64};
 use crate::words::parts;
 use ivy_base::{Bytes, Memory};
-use run_model::{Piece, Pieces};
+use play_model::{Piece, Pieces};
 use std::alloc::Global;
 
 /// The head of a call, of its three numbers.

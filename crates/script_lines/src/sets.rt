@@ -2,7 +2,7 @@
 
 ghost use Rattle.std.specs.Prelude.{◌≡◌, IfOk, map};
 ghost use Rattle.std.specs.List.{list_all};
-ghost use Rattle.run_model.specs.Script.{is_set, are_sets};
+ghost use Rattle.play_model.specs.Script.{is_set, are_sets};
 
 use crate::words::parts;
 use ivy_base::Memory;

@@ -1,6 +1,6 @@
 use crate::read_command;
 use ivy_base::Bytes;
-use run_model::{Command, Piece};
+use play_model::{Command, Names, Piece};
 use std::alloc::Global;
 use std::process::Abort;
 use std::test::Fail;
@@ -28,6 +28,16 @@ fn show_piece(alloc: Global, piece: &Piece) -> Result<String, Fail> {
     })
 }
 
+/// Names, with a blank before each.
+fn show_names(alloc: Global, names: &Names) -> Result<String, Fail> {
+    let mut shown = String::new(alloc);
+    for name in names.as_slice() {
+        shown.push_str(" ")?;
+        shown.push_str(text(name)?)?;
+    }
+    Ok(shown)
+}
+
 /// A command in words, which name each member.
 fn show_command(alloc: Global, command: &Command) -> Result<String, Fail> {
     Ok(match command {
@@ -40,10 +50,15 @@ fn show_command(alloc: Global, command: &Command) -> Result<String, Fail> {
             let seed = hex::encode(alloc, seed)?;
             format!(in alloc; "Log {log} id={id} seed={seed}")?
         }
-        Command::View { view, log } => {
+        Command::View {
+            view,
+            members,
+            former,
+        } => {
             let view = text(view)?;
-            let log = text(log)?;
-            format!(in alloc; "View view={view} log={log}")?
+            let members = show_names(alloc, members)?;
+            let former = show_names(alloc, former)?;
+            format!(in alloc; "View view={view} members:{members} former:{former}")?
         }
         Command::Use { log, view } => {
             let log = text(log)?;
@@ -58,6 +73,10 @@ fn show_command(alloc: Global, command: &Command) -> Result<String, Fail> {
                 shown.push_str(show_piece(alloc, piece)?.as_str())?;
             }
             shown
+        }
+        Command::Order { log } => {
+            let log = text(log)?;
+            format!(in alloc; "Order {log}")?
         }
         Command::Nothing => format!(in alloc; "Nothing")?,
         Command::End => format!(in alloc; "End")?,
@@ -174,22 +193,63 @@ fn keys_of_logs(rt: HostRuntime) -> Result<(), Fail> {
 
 #[test]
 fn views(rt: HostRuntime) -> Result<(), Fail> {
-    let lines: [(&[u8], &str); 12] = [
-        (b"view v a", "View view=v log=a"),
+    let lines: [(&[u8], &str); 14] = [
+        (b"view v a", "View view=v members: a former:"),
         (
             b"view 0123456789abcdef ghijklmnopqrstuv",
-            "View view=0123456789abcdef log=ghijklmnopqrstuv",
+            "View view=0123456789abcdef members: ghijklmnopqrstuv former:",
         ),
         (b"view 0123456789abcdefg a", ""),
-        (b"view v a,b", ""),
-        (b"view v a b", ""),
+        (b"view v,w a", ""),
         (b"view v", ""),
+        (b"view v ", ""),
         (b"view  v", ""),
         (b"use a v", "Use view=v log=a"),
         (b"use a V", ""),
         (b"use a v ", ""),
+        (b"use a,b v", ""),
+        (b"use a v,w", ""),
         (b"use \xe9 v", ""),
         (b"use a 0123456789abcdefg", ""),
+    ];
+    expect_lines(&rt, rt.alloc(), &lines)
+}
+
+#[test]
+fn views_of_several_logs(rt: HostRuntime) -> Result<(), Fail> {
+    let lines: [(&[u8], &str); 14] = [
+        (
+            b"view v a,b,c d,e",
+            "View view=v members: a b c former: d e",
+        ),
+        (b"view v c,a,c", "View view=v members: c a c former:"),
+        (b"view v a b", "View view=v members: a former: b"),
+        (b"view v a,,b", ""),
+        (b"view v a,", ""),
+        (b"view v ,a", ""),
+        (b"view v ,", ""),
+        (b"view v a, b", ""),
+        (b"view v a b,,c", ""),
+        (b"view v a ", ""),
+        (b"view v a,B", ""),
+        (b"view v a b,0123456789abcdefg", ""),
+        (b"view v a;b", ""),
+        (b"view v a b c", ""),
+    ];
+    expect_lines(&rt, rt.alloc(), &lines)
+}
+
+#[test]
+fn orders(rt: HostRuntime) -> Result<(), Fail> {
+    let lines: [(&[u8], &str); 8] = [
+        (b"order a", "Order a"),
+        (b"order 0123456789abcdef", "Order 0123456789abcdef"),
+        (b"order 0123456789abcdefg", ""),
+        (b"order", ""),
+        (b"order ", ""),
+        (b"order a b", ""),
+        (b"order a,b", ""),
+        (b"orders a", ""),
     ];
     expect_lines(&rt, rt.alloc(), &lines)
 }

@@ -1,5 +1,5 @@
-use Rattle.script_driver.specs.Run.{Ended, RefusedAt}
-use Rattle.ivy_play.proofs.PlayLemmas.{told_all, told_front, told_less, stops_short, played, ends_alike, no_limit}
+use Rattle.script_driver.specs.Run.{Ended, RefusedAt, LimitAt}
+use Rattle.ivy_play.proofs.Plays.{told_all, told_front, told_less, stops_short, played, ends_alike}
 use Rattle.ivy_play.proofs.playing.play.Goals as goal
 
 pub returns-in-Ok-Ended-clause-ended : goal.returns-in-Ok-Ended-clause-ended
@@ -19,9 +19,6 @@ returns-in-Ok-Refused-clause-front g c = told_front _ _ _ (rw c.new-world.ensure
 
 pub returns-in-Ok-Refused-clause-complete : goal.returns-in-Ok-Refused-clause-complete
 returns-in-Ok-Refused-clause-complete g c = played (RefusedAt _) _ _ _ _ _ (rw (c.in-Ok-Refused.field-0-is, c.new-world.ensures) at c.in-Ok-Refused.ensures.told)
-
-pub unreachable-requires : goal.unreachable-requires
-unreachable-requires g c = no_limit (rw c.in-Ok-Exceeded.field-0-is at c.in-Ok-Exceeded.ensures.limits)
 
 pub returns-in-Err-Read-clause-front : goal.returns-in-Err-Read-clause-front
 returns-in-Err-Read-clause-front g c = told_front _ _ _ (rw c.new-world.ensures at c.run_script.ensures.front)
@@ -43,3 +40,15 @@ returns-in-Ok-Ended-clause-alike g c = ends_alike Ended _ _ _ _ _ (rw (c.in-Ok-E
 
 pub returns-in-Ok-Refused-clause-alike : goal.returns-in-Ok-Refused-clause-alike
 returns-in-Ok-Refused-clause-alike g c = ends_alike (RefusedAt _) _ _ _ _ _ (rw (c.in-Ok-Refused.field-0-is, c.new-world.ensures) at c.in-Ok-Refused.ensures.told)
+
+pub returns-clause-limited : goal.returns-clause-limited
+returns-clause-limited g c = λ seven. (_, told_all (LimitAt _) _ _ _ (rw (c.in-Ok-Exceeded.field-0-is, c.new-world.ensures) at c.in-Ok-Exceeded.ensures.told))
+
+pub returns-clause-front : goal.returns-clause-front
+returns-clause-front g c = told_front _ _ _ (rw c.new-world.ensures at c.run_script.ensures.front)
+
+pub returns-clause-complete : goal.returns-clause-complete
+returns-clause-complete g c = played (LimitAt _) _ _ _ _ _ (rw (c.in-Ok-Exceeded.field-0-is, c.new-world.ensures) at c.in-Ok-Exceeded.ensures.told)
+
+pub returns-clause-alike : goal.returns-clause-alike
+returns-clause-alike g c = ends_alike (LimitAt _) _ _ _ _ _ (rw (c.in-Ok-Exceeded.field-0-is, c.new-world.ensures) at c.in-Ok-Exceeded.ensures.told)

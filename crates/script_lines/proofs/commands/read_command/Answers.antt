@@ -1,5 +1,5 @@
 use Rattle.std.proofs.Common.{List, ℕ, Bor, map, rules, ◌∙◌, ap, sym}
-use Rattle.run_model.specs.Script.{command_of, command_of_words}
+use Rattle.play_model.specs.Script.{command_of, command_of_words}
 use Rattle.script_lines.proofs.LineLemmas.{command_of_comment, command_of_short}
 use Rattle.script_lines.proofs.commands.read_command.Goals as goal
 

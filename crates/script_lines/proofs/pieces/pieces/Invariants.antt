@@ -1,5 +1,5 @@
 use Rattle.std.proofs.Common.{◌≡◌, drop}
-use Rattle.run_model.specs.Script.{pieces_of}
+use Rattle.play_model.specs.Script.{pieces_of}
 use Rattle.script_lines.proofs.PieceLemmas.{behind, seen}
 use Rattle.script_lines.proofs.pieces.pieces.Given as goal
 

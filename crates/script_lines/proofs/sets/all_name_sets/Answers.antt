@@ -2,7 +2,7 @@ use Rattle.std.proofs.Common.{◌∙◌, sym, rules, tests, List, ℕ, Bor}
 use Rattle.std.proofs.lemmas.Iterator.{YieldsList-from_slice}
 use Rattle.std.proofs.lemmas.Iterator.Search.{all_from_yields_List}
 use Rattle.std.proofs.lemmas.List.Folds.{list_all-map}
-use Rattle.run_model.specs.Script.{is_set}
+use Rattle.play_model.specs.Script.{is_set}
 use Rattle.script_lines.proofs.sets.all_name_sets.Goals as goal
 
 pub returns : goal.returns

@@ -1,0 +1,61 @@
+-- A run of the step is one in which each reply is on the replay; and where memory isn't wanting it is the only one.
+use Rattle.std.proofs.Common.{◌≡◌, ⊥, ℕ, ◌^◌, List, [], ◌++◌, take, Contains, Option, Some, None, ap, ◌∙◌, inl, inr, ◌⊎◌}
+use Rattle.std.specs.Prelude.{IfSome}
+use Rattle.ivy_base.specs.Naming.{NamesTellApart}
+use Rattle.ivy_io.specs.Known.{then}
+use Rattle.script_driver.specs.Lines.{lines_of}
+use Rattle.script_driver.specs.Run.{Ran, Ending, behind}
+use Rattle.script_driver.specs.Told.{run_of, ran_of, TellsAll, TellsFront, TellsLess, StopsShort}
+use Rattle.play_model.specs.World.{empty_world}
+use Rattle.play_model.specs.Step.{IvyStep}
+use Rattle.play_replies.specs.Laws.{EmptyIsValid}
+use Rattle.play_replies.proofs.Runs.{each_reply_is_on_replay}
+use Rattle.play_runs.proofs.Runs.{full_runs_are_one, want_is_shown}
+use Rattle.ivy_play.specs.Status.{status_of}
+use Rattle.ivy_play.specs.Playing.{ivy_runs, IsFullRun, IsPlayed}
+
+empty_is_valid : EmptyIsValid
+empty_is_valid = auto
+
+nothing_is_apart : NamesTellApart empty_world.blocks.found
+nothing_is_apart b c holds = efq holds
+
+pub with_headline : (left : Option (List ℕ)) (ran : Ran) → run_of IvyStep empty_world left ran → ivy_runs left ran
+with_headline None ran runs = tt
+with_headline (Some script) ran runs = each_reply_is_on_replay empty_world 1 (lines_of (take (2 ^ 40) script)) ran empty_is_valid runs
+
+pub told_all : (ending : Ending) (left held holds : Option (List ℕ)) → TellsAll ending (run_of IvyStep empty_world left) held holds → TellsAll ending (ivy_runs left) held holds
+told_all ending left held holds t = record { told = t.told; run = with_headline left (ran_of t.told ending) t.run; sink = t.sink }
+
+abbrev pub told_front : (left held holds : Option (List ℕ)) → TellsFront (run_of IvyStep empty_world left) held holds → TellsFront (ivy_runs left) held holds
+told_front left held holds t = record { told = t.told; untold = t.untold; ending = t.ending; run = with_headline left (ran_of (t.told ++ t.untold) t.ending) t.run; sink = t.sink }
+
+pub told_less : (left held holds : Option (List ℕ)) → TellsLess (run_of IvyStep empty_world left) held holds → TellsLess (ivy_runs left) held holds
+told_less left held holds t = record { front = told_front left held holds t.front; less = t.less }
+
+pub stops_short : (start left held holds : Option (List ℕ)) → StopsShort IvyStep (run_of IvyStep empty_world start) left held holds → StopsShort IvyStep (ivy_runs start) left held holds
+stops_short start left held holds t = record {
+  world = t.world;
+  number = t.number;
+  partial = t.partial;
+  budget = t.budget;
+  no_newline = t.no_newline;
+  way = record { told = t.way.told; run = λ ran now. with_headline start (behind t.way.told ran) (t.way.run ran now); sink = t.way.sink };
+}
+
+-- what was told is the one full run, or a call lacked memory
+pub played : (ending : Ending) (left held holds : Option (List ℕ)) (A B : Type 0) → TellsAll ending (run_of IvyStep empty_world left) held holds
+    → IfSome left (λ script. (ran : Ran) → IsFullRun script ran → A → B → IsPlayed ran (status_of ending) held holds)
+played ending None held holds A B t = tt
+played ending (Some script) held holds A B t = λ ran full a b.
+    elim (want_is_shown empty_world 1 (lines_of (take (2 ^ 40) script)) (ran_of t.told ending) t.run) [
+      | inl sure ↦
+          let same : ran_of t.told ending ≡ ran = full_runs_are_one empty_world 1 (lines_of (take (2 ^ 40) script)) (ran_of t.told ending) ran nothing_is_apart sure full in
+          inl (ap (λ (r : Ran). status_of r.ending) same, t.sink ∙ ap (λ (r : Ran). then held r.text) same)
+      | inr piece ↦ inr (inr (t.told, t.sink, piece))
+    ]
+
+-- a run that was told whole ends as each run does
+pub ends_alike : (given : Ending) (left held holds : Option (List ℕ)) (A B : Type 0) → TellsAll given (run_of IvyStep empty_world left) held holds
+    → (ending : Ending) → ((ran : Ran) → ivy_runs left ran → ran.ending ≡ ending) → A → B → (status_of given ≡ status_of ending) ⊎ (status_of given ≡ 6)
+ends_alike given left held holds A B t ending each a b = inl (ap status_of (each (ran_of t.told given) (with_headline left (ran_of t.told given) t.run)))

@@ -1,0 +1,96 @@
+//! Calls, and the lines that show their replies.
+
+ghost use Rattle.std.specs.Prelude.{◌≡◌, IfOk};
+ghost use Rattle.script_driver.specs.Machine.{outcome_told};
+ghost use Rattle.play_model.specs.Calls.{CallLine, reply_line, shown_reply};
+ghost use Rattle.ivy_world.specs.Sendings.{IsSent};
+
+use super::World;
+use call_answers::{Answered, answer_message};
+use ivy_base::{Bytes, Memory};
+use play_model::Piece;
+use script_driver::Taken;
+use script_messages::message;
+use std::alloc::Global;
+
+/// The line that shows a reply message. The error is want of memory.
+fn reply_line(alloc: Global, message: &[u8]) -> Result<Vec<u8>, Memory>
+    ensures { IfOk result (λ text. text.items ≡ reply_line message.now) }
+{
+    let digits = hex::encode(alloc, message)?;
+    let text = format!(in alloc; "reply {digits}\n")?;
+    Ok(text.into_bytes())
+}
+
+/// The line that shows a reply message, or that there is none. The error is want of memory.
+fn shown_reply(alloc: Global, reply: Option<Bytes>) -> Result<Vec<u8>, Memory>
+    ensures { IfOk result (λ text. text.items ≡ shown_reply reply) }
+{
+    match reply {
+        Some(message) => reply_line(alloc, message.as_slice()),
+        None => Ok(b"none\n".as_slice().to_vec(alloc)?),
+    }
+}
+
+impl World {
+    /// `as P PIECES`: a call of the log's participant. The error is want of memory.
+    pub(super) fn call(
+        &mut self,
+        alloc: Global,
+        log: &[u8],
+        pieces: &[Piece],
+    ) -> Result<Taken, Memory>
+        ensures { IfOk result (λ taken. CallLine self.old log.now pieces.now (outcome_told taken self.new)) }
+    {
+        let Some((place, message)) = self.sending(alloc, log, pieces)? else {
+            return Ok(Taken::Refused);
+        };
+        let own = *self.agents[place].own();
+        let answered = answer_message(
+            alloc,
+            &mut self.agents[place],
+            self.blocks.found(),
+            &self.heads,
+            message.as_slice(),
+            self.now,
+        );
+        let Answered {
+            reply,
+            handle,
+            blocks,
+            newest,
+        } = match answered {
+            Ok(answered) => answered,
+            Err(memory) => {
+                // The participant is of no more use after it, and neither is the world.
+                self.agents.clear();
+                return Err(memory);
+            }
+        };
+        self.publish(alloc, &own, blocks, newest)?;
+        self.handles.push(handle)?;
+        Ok(Taken::Went(shown_reply(alloc, reply)?))
+    }
+
+    /// Who makes a call, by the place, and its message; None where there is no participant of that name, it has entered no
+    /// view, or the pieces are no message. The error is want of memory.
+    fn sending(
+        &self,
+        alloc: Global,
+        log: &[u8],
+        pieces: &[Piece],
+    ) -> Result<Option<(usize, Bytes)>, Memory>
+        ensures { IfOk result (IsSent self.entry.now log.now pieces.now) }
+    {
+        let Some(place) = self.place_of(log) else {
+            return Ok(None);
+        };
+        let Some(view) = self.agents[place].view() else {
+            return Ok(None);
+        };
+        let Some(message) = message(alloc, self.handles.as_slice(), view, pieces)? else {
+            return Ok(None);
+        };
+        Ok(Some((place, message)))
+    }
+}
