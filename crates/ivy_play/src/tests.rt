@@ -108,24 +108,69 @@ fn scripts_end(rt: HostRuntime) -> Result<(), Fail> {
     Ok(())
 }
 
-/// Each line is refused behind the opening ones, the fifth line of its script.
-#[test]
-fn calls_have_one_of_the_forms(rt: HostRuntime) -> Result<(), Fail> {
+/// Whether each line is refused behind the opening ones, the fifth line of its script.
+fn are_refused(rt: HostRuntime, lines: &[&[u8]]) -> Result<(), Fail> {
     let alloc = rt.alloc();
-    let lines: [&[u8]; 33] = [
+    for line in lines {
+        let script = joined(alloc, &[OPENING, line, b"\nend\n"])?;
+        let (status, written) = played(alloc, script.as_slice(), &[], &[])?;
+        assert_eq!(rt; status, 3, "at {line:?}");
+        assert_eq!(rt;
+            written.as_slice(),
+            b"refused 5\n".as_slice(),
+            "at {line:?}"
+        );
+    }
+    Ok(())
+}
+
+#[test]
+fn lines_have_one_of_the_forms(rt: HostRuntime) -> Result<(), Fail> {
+    let lines: [&[u8]; 34] = [
+        b"ring 1",
+        b"ring 1 1 1",
+        b"log",
+        b"log b 2 bb",
+        b"log b 2 bb w4h5 w4h5",
+        b"log b 2 bb w4h6",
+        b"log b 2 bb w4h5,w4h5,w4h5,w4h5",
+        b"log b 2 BB w4h5",
+        b"log b 123456789012345678901234567890123 bb w4h5",
+        b"log B 2 bb w4h5",
+        b"log abcdefghijklmnopq 2 bb w4h5",
+        b"log a 2 bb w4h5",
+        b"view",
+        b"view w",
+        b"view v a",
+        b"view w b",
+        b"view w a b",
+        b"view w a a",
+        b"view w a,a",
+        b"view w a,",
+        b"view w a b c",
+        b"use",
+        b"use a",
         b"use a v",
         b"use a w",
         b"use b v",
-        b"log a 2 bb w4h5",
-        b"log A 2 bb w4h5",
-        b"view v a",
-        b"view w b",
-        b"view w a,a",
-        b"view w a a",
-        b"view w a,",
-        b"view w a b c",
+        b"use a v v",
+        b"at 5",
+        b"at 05 0",
+        b"at 5 0 0",
         b"order",
         b"order b",
+        b"order a a",
+        b"end now",
+    ];
+    are_refused(rt, lines.as_slice())
+}
+
+#[test]
+fn calls_have_one_of_the_forms(rt: HostRuntime) -> Result<(), Fail> {
+    let lines: [&[u8]; 21] = [
+        b"as",
+        b"as a",
+        b"as a root",
         b"as b nfs:3:0:0 root s:a",
         b"as a nfs:0:0:0 root",
         b"as a nfs:0:1:0",
@@ -143,14 +188,26 @@ fn calls_have_one_of_the_forms(rt: HostRuntime) -> Result<(), Fail> {
         b"as a nfs:3:0:0 h:1 s:a",
         b"as a nfs:3:0:0 root s:a sa:493",
         b"as a nfs:9:0:0 root s:a",
+        b"as a nfs:9:0:0 root s:a sa:4294967296",
+    ];
+    are_refused(rt, lines.as_slice())
+}
+
+/// A log enters no view of which it isn't a member, and makes no call and shows no order before it entered one.
+#[test]
+fn a_view_is_entered_by_its_members(rt: HostRuntime) -> Result<(), Fail> {
+    let lines: [&[u8]; 3] = [
+        b"log b 2 bb w4h5\nuse b v",
+        b"log b 2 bb w4h5\norder b",
+        b"log b 2 bb w4h5\nas b nfs:0:0:0",
     ];
     for line in lines {
-        let script = joined(alloc, &[OPENING, line, b"\nend\n"])?;
-        let (status, written) = played(alloc, script.as_slice(), &[], &[])?;
+        let script = joined(rt.alloc(), &[OPENING, line, b"\nend\n"])?;
+        let (status, written) = played(rt.alloc(), script.as_slice(), &[], &[])?;
         assert_eq!(rt; status, 3, "at {line:?}");
         assert_eq!(rt;
             written.as_slice(),
-            b"refused 5\n".as_slice(),
+            b"refused 6\n".as_slice(),
             "at {line:?}"
         );
     }
@@ -366,21 +423,89 @@ fn many_logs(alloc: Global, count: u8) -> Result<Vec<u8>, Fail> {
     Ok(text)
 }
 
-/// A view has 16 members at most: line 19 meets the limit, behind the ring and 17 logs.
+/// The names of the logs from the first number up to the second one, joined by commas.
+fn put_logs(text: &mut Vec<u8>, from: u8, to: u8) -> Result<(), Fail> {
+    for number in from..to {
+        if number > from {
+            text.push(b',')?;
+        }
+        put_log(text, number)?;
+    }
+    Ok(())
+}
+
+/// A ring, 17 logs, and a view of them all and of these former ones: its line is the 19th.
+fn large_view(alloc: Global, former: &[u8]) -> Result<Vec<u8>, Fail> {
+    let mut script = many_logs(alloc, 17)?;
+    script.extend_from_slice(b"view v ".as_slice())?;
+    put_logs(&mut script, 0, 17)?;
+    script.extend_from_slice(former)?;
+    script.extend_from_slice(b"\nend\n".as_slice())?;
+    Ok(script)
+}
+
+/// A view has 16 members at most; one that would be refused otherwise is refused.
 #[test]
 fn members_are_limited(rt: HostRuntime) -> Result<(), Fail> {
     let alloc = rt.alloc();
-    let mut script = many_logs(alloc, 17)?;
-    script.extend_from_slice(b"view v ".as_slice())?;
-    for number in 0..17 {
-        if number > 0 {
-            script.push(b',')?;
-        }
-        put_log(&mut script, number)?;
+    let cases: [(&[u8], Status, &[u8]); 3] = [
+        (b"", 7, b"limit 19\n"),
+        (b" aa", 3, b"refused 19\n"),
+        (b" zz", 3, b"refused 19\n"),
+    ];
+    for (former, status, text) in cases {
+        let script = large_view(alloc, former)?;
+        let (got, written) = played(alloc, script.as_slice(), &[], &[])?;
+        assert_eq!(rt; got, status, "at {former:?}");
+        assert_eq!(rt; written.as_slice(), text, "at {former:?}");
     }
-    script.extend_from_slice(b"\nend\n".as_slice())?;
-    let (status, written) = played(alloc, script.as_slice(), &[], &[])?;
-    assert_eq!(rt; status, 7);
-    assert_eq!(rt; written.as_slice(), b"limit 19\n".as_slice());
+    Ok(())
+}
+
+/// The names of 16 of 32 logs, joined by commas: of each pair of neighbours the second one where the bit of the pair's
+/// number is set in the choice, else the first; or of each pair the other one.
+fn put_halves(text: &mut Vec<u8>, choice: u32, other: u32) -> Result<(), Fail> {
+    for pair in 0..16u8 {
+        if pair > 0 {
+            text.push(b',')?;
+        }
+        let second = (choice >> pair & 1) ^ (other & 1);
+        put_log(text, 2 * pair + second as u8)?;
+    }
+    Ok(())
+}
+
+/// A ring, 32 logs, and so many views, each of 16 members and of the 16 others as former ones, no two alike.
+fn many_views(alloc: Global, count: u32) -> Result<Vec<u8>, Fail> {
+    let mut text = many_logs(alloc, 32)?;
+    for choice in 0..count {
+        let begin = format!(in alloc; "view v{choice} ")?;
+        text.extend_from_slice(begin.as_bytes())?;
+        put_halves(&mut text, choice, 0)?;
+        text.push(b' ')?;
+        put_halves(&mut text, choice, 1)?;
+        text.push(b'\n')?;
+    }
+    Ok(text)
+}
+
+/// Such a view's block has 1,932 bytes, an opening record 64, and a head 92. With 32 logs 8,681 views have 16,776,684 bytes
+/// together, and one more view goes beyond 16,777,216: each line but the end meets the limit then, whatever it is.
+#[test]
+fn blocks_are_limited(rt: HostRuntime) -> Result<(), Fail> {
+    let alloc = rt.alloc();
+    let cases: [(u32, &[u8], Status, &[u8]); 4] = [
+        (8681, b"no command\n", 3, b"refused 8715\n"),
+        (8682, b"no command\n", 7, b"limit 8716\n"),
+        (8682, b"\n", 7, b"limit 8716\n"),
+        (8682, b"end\n", 0, b""),
+    ];
+    for (count, line, status, text) in cases {
+        let mut script = many_views(alloc, count)?;
+        script.extend_from_slice(line)?;
+        let (got, written) = played(alloc, script.as_slice(), &[], &[])?;
+        assert_eq!(rt; got, status, "at {line:?}");
+        assert_eq!(rt; written.as_slice(), text, "at {line:?}");
+    }
     Ok(())
 }
