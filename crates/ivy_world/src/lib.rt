@@ -11,6 +11,8 @@
 #![tactic(auto)]
 
 pub mod named;
+#[cfg(test)]
+mod tests;
 pub mod world;
 
 pub use named::NamedView;
