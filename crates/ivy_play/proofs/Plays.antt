@@ -1,11 +1,12 @@
 -- A run of the step is one in which each reply is on the replay; and where memory isn't wanting it is the only one.
-use Rattle.std.proofs.Common.{◌≡◌, ⊥, ℕ, ◌^◌, List, [], ◌++◌, take, Contains, Option, Some, None, ap, ◌∙◌, inl, inr, ◌⊎◌}
+use Rattle.std.proofs.Common.{◌≡◌, ℕ, ◌^◌, List, ◌++◌, take, Option, Some, None, ap, ◌∙◌, inl, inr, ◌⊎◌, arith}
 use Rattle.std.specs.Prelude.{IfSome}
 use Rattle.ivy_base.specs.Naming.{NamesTellApart}
 use Rattle.ivy_io.specs.Known.{then}
 use Rattle.script_driver.specs.Lines.{lines_of}
 use Rattle.script_driver.specs.Run.{Ran, Ending, behind}
 use Rattle.script_driver.specs.Told.{run_of, ran_of, TellsAll, TellsFront, TellsLess, StopsShort}
+use Rattle.log_model.proofs.Lists.{in_nothing}
 use Rattle.play_model.specs.World.{empty_world}
 use Rattle.play_model.specs.Step.{IvyStep}
 use Rattle.play_replies.specs.Laws.{EmptyIsValid}
@@ -15,10 +16,10 @@ use Rattle.ivy_play.specs.Status.{status_of}
 use Rattle.ivy_play.specs.Playing.{ivy_runs, IsFullRun, IsPlayed}
 
 empty_is_valid : EmptyIsValid
-empty_is_valid = auto
+empty_is_valid = record { participants = tt; apart = tt; views = tt; heads = tt; moment = record { sec = omega arith; nsec = omega arith } }
 
 nothing_is_apart : NamesTellApart empty_world.blocks.found
-nothing_is_apart b c holds = efq holds
+nothing_is_apart b c holds = absurd (in_nothing b holds)
 
 pub with_headline : (left : Option (List ℕ)) (ran : Ran) → run_of IvyStep empty_world left ran → ivy_runs left ran
 with_headline None ran runs = tt
