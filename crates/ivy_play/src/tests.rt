@@ -452,15 +452,15 @@ fn members_are_limited(rt: HostRuntime) -> Result<(), Fail> {
     Ok(())
 }
 
-/// The names of 16 of 32 logs, joined by commas: of each pair of neighbours the second one where the bit of the pair's
-/// number is set in the choice, else the first; or of each pair the other one.
-fn put_halves(text: &mut Vec<u8>, choice: u32, other: u32) -> Result<(), Fail> {
+/// The names of 16 of 32 logs, joined by commas: of each pair of neighbours the second one where the choice has that bit at
+/// the pair's number, else the first.
+fn put_half(text: &mut Vec<u8>, choice: u32, bit: u32) -> Result<(), Fail> {
     for pair in 0..16u8 {
         if pair > 0 {
             text.push(b',')?;
         }
-        let second = (choice >> pair & 1) ^ (other & 1);
-        put_log(text, 2 * pair + second as u8)?;
+        let is_second = (choice >> pair as u32) % 2 == bit;
+        put_log(text, if is_second { 2 * pair + 1 } else { 2 * pair })?;
     }
     Ok(())
 }
@@ -471,9 +471,9 @@ fn many_views(alloc: Global, count: u32) -> Result<Vec<u8>, Fail> {
     for choice in 0..count {
         let begin = format!(in alloc; "view v{choice} ")?;
         text.extend_from_slice(begin.as_bytes())?;
-        put_halves(&mut text, choice, 0)?;
+        put_half(&mut text, choice, 1)?;
         text.push(b' ')?;
-        put_halves(&mut text, choice, 1)?;
+        put_half(&mut text, choice, 0)?;
         text.push(b'\n')?;
     }
     Ok(text)
