@@ -1,3 +1,3 @@
 pub mod Apart
-pub mod Placing
+pub mod Sorting
 pub mod Passing

@@ -1,8 +1,8 @@
 //! Views of keys in any order.
 
-ghost use Rattle.std.specs.Prelude.{◌≡◌, ◌≢◌, ◌≤◌, ◌++◌, [], true, length, IfOk, OnOk};
+ghost use Rattle.std.specs.Prelude.{◌≡◌, ◌≢◌, ◌≤◌, ◌++◌, [], true, length, IfOk};
 ghost use Rattle.log_model.specs.View.{have_own_head_keys};
-ghost use Rattle.play_model.specs.World.{in_key_order, view_of_keys, with_key};
+ghost use Rattle.play_model.specs.World.{in_key_order, view_of_keys};
 ghost use Rattle.script_views.specs.Made.{IsMade};
 
 use block_map::Block;
@@ -36,7 +36,7 @@ pub fn make_view(alloc: Global, members: Vec<PubKey>, former: Vec<PubKey>) -> Re
     if members.len() > MOST || former.len() > MOST {
         return Ok(Made::TooMany);
     }
-    let view = view_in_order(alloc, &members, &former)?;
+    let view = view_in_order(alloc, members, former)?;
     let block = Block::of(view.write(alloc)?);
     Ok(Made::View(view, block))
 }
@@ -55,15 +55,15 @@ fn have_own_heads(alloc: Global, members: &[PubKey], former: &[PubKey]) -> Resul
 }
 
 /// The view of these keys, which are put in order. The error is want of memory.
-fn view_in_order(alloc: Global, members: &[PubKey], former: &[PubKey]) -> Result<View, Memory>
-    requires some { members.now ≢ [] }
-    requires few { length members.now ≤ MOST }
-    requires few_former { length former.now ≤ MOST }
-    requires own { have_own_head_keys (members.now ++ former.now) ≡ true }
-    ensures { IfOk result (λ view. view ≡ view_of_keys members.now former.now) }
+fn view_in_order(alloc: Global, members: Vec<PubKey>, former: Vec<PubKey>) -> Result<View, Memory>
+    requires some { members.items ≢ [] }
+    requires few { length members.items ≤ MOST }
+    requires few_former { length former.items ≤ MOST }
+    requires own { have_own_head_keys (members.items ++ former.items) ≡ true }
+    ensures { IfOk result (λ view. view ≡ view_of_keys members.items former.items) }
 {
-    let members = in_order(alloc, members)?;
-    let former = in_order(alloc, former)?;
+    let members = in_order(members);
+    let former = in_order(former);
     match View::make(alloc, &members, &former) {
         Ok(view) => Ok(view),
         Err(fault) => match fault {
@@ -74,22 +74,10 @@ fn view_in_order(alloc: Global, members: &[PubKey], former: &[PubKey]) -> Result
     }
 }
 
-/// The keys in ascending order of their bytes. There are few, so each is put in its place. The error is want of memory.
-fn in_order(alloc: Global, keys: &[PubKey]) -> Result<Vec<PubKey>, Memory>
-    ensures { IfOk result (λ ordered. ordered.items ≡ in_key_order keys.now) }
+/// The keys in ascending order of their bytes.
+fn in_order(mut keys: Vec<PubKey>) -> Vec<PubKey>
+    ensures { result.items ≡ in_key_order keys.items }
 {
-    let mut ordered = Vec::with_capacity(alloc, keys.len())?;
-    for key in keys {
-        put_in_place(&mut ordered, *key)?;
-    }
-    Ok(ordered)
-}
-
-/// Puts the key before the first that isn't below it. The error is want of memory.
-fn put_in_place(keys: &mut Vec<PubKey>, key: PubKey) -> Result<(), Memory>
-    ensures { OnOk result (keys.new.items ≡ with_key keys.old.items key) }
-{
-    let place = keys.iter().position(|other| key <= *other);
-    keys.insert(place.unwrap_or(keys.len()), key)?;
-    Ok(())
+    keys.sort_unstable();
+    keys
 }

@@ -30,6 +30,8 @@ pub fn new_records(
     requires stand { OthersStand blocks.now known.now.own.now (records_of known.now.records.now) }
     ensures { IfOk result (λ new. AreNewTaken blocks.now heads.now view.now known.now.own.now (records_of known.now.records.now) (records_of new.items)) }
 {
+    // That it is a view, so that each log is one member's.
+    let _ = view.members();
     let batch = refresh(alloc, blocks, heads, view, known)?;
     let nothing = Vector::empty(alloc);
     closed_part(alloc, view, &nothing, known.records, batch)

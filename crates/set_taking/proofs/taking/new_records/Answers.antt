@@ -19,5 +19,6 @@ returns c =
     IfOk-weaker c.closed_part.result
     (λ new. IsNewPart c.args.view.now [] known chains (records_of new.items))
     (λ new. AreNewTaken c.args.blocks.now c.args.heads.now c.args.view.now c.args.known.now.own.now known (records_of new.items))
-    (λ new part. are_new_taken c.args.blocks.now c.args.heads.now c.args.view.now c.args.known.now.own.now known (records_of new.items) chains c.in_ok-batch.ensures c.requires.stand part)
+    (λ new part. are_new_taken c.args.blocks.now c.args.heads.now c.args.view.now c.args.known.now.own.now known (records_of new.items) chains
+    c.members.ensures.legal c.requires.closed c.in_ok-batch.ensures c.requires.stand part)
     (rw c.empty-nothing.ensures at c.closed_part.ensures)
