@@ -2,7 +2,7 @@
 use Rattle.std.specs.Prelude.{ℕ, ◌<◌, ◌^◌, List, [], ◌∷◌, map, slice_index, slice_index_or}
 use Rattle.sha2.specs.Sha256.{digest_bytes}
 
--- the list of a list of lists
+-- list j of some lists
 abbrev pub bytes_at : List (List ℕ) → ℕ → List ℕ
 bytes_at lists j = slice_index_or lists j []
 
@@ -20,7 +20,7 @@ state j words =
     word_in words 0 j ∷ word_in words 1 j ∷ word_in words 2 j ∷ word_in words 3 j
     ∷ word_in words 4 j ∷ word_in words 5 j ∷ word_in words 6 j ∷ word_in words 7 j ∷ []
 
--- the bytes of lane j of five and of eight vectors, the high byte of each word first
+-- the bytes of lane j of five and of eight vectors, the high byte of each word first (FIPS 180-4, section 3.1)
 abbrev pub bytes_5 : ℕ → List ℕ → List ℕ → List ℕ → List ℕ → List ℕ → List ℕ
 bytes_5 j a b c d e = digest_bytes (slice_index a j ∷ slice_index b j ∷ slice_index c j ∷ slice_index d j ∷ slice_index e j ∷ []) 5
 

@@ -1,12 +1,13 @@
 //! SHA-256 (FIPS 180-4) of four messages at once, each of 55 bytes, which is one block.
 //!
-//! Layer: over the kit's `sha2`, whose definition `sha256` the contract is stated by; it knows nothing of what is hashed.
-//! For the layers above: [`hash_four`] gives the four digests of messages that are each a head of 20 bytes ([`Heads`]),
-//! three bytes that all four have in common, and a value of 32 bytes ([`Values`]); digests are [`Values`] again, so that
-//! chains of hashes stay as they are held. [`Values::of`] and [`Values::to_bytes`] are the ways in and out.
+//! Layer: over the kit's `sha2`, by whose definition `sha256` the contract is stated; it knows nothing of what is hashed.
+//! For the layers above: [`hash_four`] gives the digests of four messages, each of which is a head of 20 bytes
+//! ([`Heads`]), three bytes that all four have in common, and a value of 32 bytes ([`Values`]). Digests are [`Values`]
+//! again, so the values of a chain of hashes stay words until [`Values::to_bytes`].
 //!
-//! Costs: nothing allocates. Each word is a vector, with one lane for each message, so four messages cost some two hashes
-//! or less of the kit's (docs/ARCHITECTURE.md, "Measured"). Definitions: `specs/Lanes.antt` says which lane is which list.
+//! Nothing allocates. Each word is a vector with a lane for each message; four messages take about the time of two of the
+//! kit's hashes (docs/ARCHITECTURE.md, "Measured"). Definitions: `specs/Lanes.antt` says which lane is which list;
+//! `proofs/BlockLemmas.antt` has the block of a message, `proofs/LaneLemmas.antt` the lanes.
 #![tactic(auto)]
 
 mod block;

@@ -1,7 +1,7 @@
 use Rattle.std.proofs.Common.{◌≡◌, ℕ, List, ap, ◌∙◌, arith, length, slice_index}
 use Rattle.std.proofs.lemmas.List.{length-map}
-use Rattle.sha2.specs.Sha256.{add_state, compress, initial_hash_256, rounds, schedule}
-use Rattle.sha2.proofs.Schedule256.{IsRoundsAt_at, IsWindow_first}
+use Rattle.sha2.specs.Sha256.{add_state, compress, initial_hash_256, rounds}
+use Rattle.sha2.proofs.Schedule256.{IsWindow_first}
 use Rattle.sha256_lanes.specs.Lanes.{lane}
 use Rattle.sha256_lanes.proofs.block.compress.Goals as goal
 

@@ -1,5 +1,4 @@
-use Rattle.std.proofs.Common.{◌≡◌, ◌*◌, ◌/◌, ◌%◌, ◌^◌, ◌<◌, ◌∙◌, slice_index, arith}
-use Rattle.sha2.specs.Sha256.{add32}
+use Rattle.std.proofs.Common.{◌^◌, ◌<◌, ◌∙◌, slice_index}
 use Rattle.sha256_lanes.proofs.LaneLemmas.{lane_fits, left_shifts_of, shifts_of}
 use Rattle.sha256_lanes.proofs.BlockLemmas.{joined_word}
 use Rattle.sha256_lanes.proofs.messages.across.Goals as goal

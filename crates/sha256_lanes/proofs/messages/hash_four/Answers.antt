@@ -1,4 +1,4 @@
-use Rattle.std.proofs.Common.{rules, ◌≡◌, ℕ, List, [], ◌∷◌, ◌++◌, ◌^◌, ◌<◌, length, sym, ap, ◌∙◌, arith, refl, slice_index, slice_index_or}
+use Rattle.std.proofs.Common.{rules, ◌≡◌, ℕ, List, [], ◌∷◌, ◌<◌, sym, ap, ◌∙◌, refl, slice_index, slice_index_or}
 use Rattle.sha2.specs.Sha256.{digest_bytes, sha256}
 use Rattle.sha256_lanes.specs.Lanes.{bytes_at, bytes_5, bytes_8}
 use Rattle.sha256_lanes.proofs.LaneLemmas.{splat_at}

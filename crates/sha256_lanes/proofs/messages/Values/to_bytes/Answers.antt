@@ -1,4 +1,4 @@
-use Rattle.std.proofs.Common.{sym, ◌∙◌, arith, refl}
+use Rattle.std.proofs.Common.{◌∙◌}
 use Rattle.sha256_lanes.proofs.BlockLemmas.{four_lists}
 use Rattle.sha256_lanes.proofs.messages.Values.to_bytes.Goals as goal
 
