@@ -1,11 +1,14 @@
 //! Chains of a one-time signature, and the coefficients that say how far each goes.
 
-ghost use Rattle.std.specs.Prelude.{◌≡◌, ◌<◌, ◌≤◌, ◌-◌, ◌*◌, length};
+ghost use Rattle.std.specs.Prelude.{◌≡◌, ℕ, List, ◌<◌, ◌≤◌, ◌+◌, ◌-◌, ◌*◌, length};
 ghost use Rattle.hash_signature_model.specs.Parameters.{top, digest_digits, digits_in_byte};
 ghost use Rattle.hash_signature_model.specs.OneTime.{chain, coefficient, lacking, checked};
+ghost use Rattle.lms_core.specs.Fours.{AreHeads};
+ghost use Rattle.lms_core.specs.Kept.{at};
 
-use crate::hashing::step;
+use crate::hashing::{step, step_four};
 use hash_signature_model::Width;
+use sha256_lanes::{Heads, Values};
 
 /// The value after the steps of chain i from number `from` up to and without number `to`.
 pub fn walk(id: &[u8; 16], leaf: u32, i: u16, from: u8, to: u8, start: &[u8; 32]) -> [u8; 32]
@@ -17,6 +20,17 @@ pub fn walk(id: &[u8; 16], leaf: u32, i: u16, from: u8, to: u8, start: &[u8; 32]
         value = step(id, leaf, i, j, &value);
     }
     value
+}
+
+/// The values after the first steps of the chains i of four leaves.
+pub fn walk_four(heads: &Heads, i: u16, steps: u8, start: Values) -> Values
+    ensures { (id : List ℕ) (first k : ℕ) → AreHeads id first heads.now → k < 4 → at result k ≡ chain id (first + k) i 0 steps (at start k) }
+{
+    let mut values = start;
+    'steps: for j in 0..steps {
+        values = step_four(heads, i, j, &values);
+    }
+    values
 }
 
 /// Coefficient i of the bytes (RFC 8554, section 3.1.3).

@@ -1,14 +1,17 @@
 //! The hashes of RFC 8554, each of a few pieces one behind the other.
 
-ghost use Rattle.std.specs.Prelude.{◌≡◌, ◌++◌, ◌*◌, ◌+◌, ◌≤◌, length};
+ghost use Rattle.std.specs.Prelude.{◌≡◌, ℕ, List, [], ◌∷◌, ◌++◌, ◌*◌, ◌+◌, ◌^◌, ◌<◌, ◌≤◌, length};
 ghost use Rattle.sha2.specs.Hashers.{Holds256};
 ghost use Rattle.hash_signature_model.specs.OneTime.{word, step_of, derived, randomizer_of, lower_seed_of, lower_id_of, digest_of, value_at};
 ghost use Rattle.hash_signature_model.specs.Nodes.{leaf_node, inner_node, joined_above};
+ghost use Rattle.lms_core.specs.Fours.{AreHeads};
+ghost use Rattle.lms_core.specs.Kept.{at};
 
 use sha2::{Digest, Sha256};
+use sha256_lanes::{Heads, Values, hash_four};
 
 /// The domain of one-time public keys (RFC 8554, section 7.1).
-pub const D_PBLC: [u8; 2] = [0x80, 0x80];
+const D_PBLC: [u8; 2] = [0x80, 0x80];
 
 /// The domain of message digests.
 const D_MESG: [u8; 2] = [0x81, 0x81];
@@ -20,13 +23,45 @@ const D_LEAF: [u8; 2] = [0x82, 0x82];
 const D_INTR: [u8; 2] = [0x83, 0x83];
 
 /// A hasher of the identifier and a number, with which each hash begins.
-pub fn begin(id: &[u8; 16], number: u32) -> Sha256
+fn begin(id: &[u8; 16], number: u32) -> Sha256
     ensures { Holds256 result (id.now ++ word number) }
 {
     let mut hasher = Sha256::new();
     hasher.update(&id[..]);
     hasher.update(&number.to_be_bytes());
     hasher
+}
+
+/// A hasher of what the hash of a one-time public key begins with (RFC 8554, section 4.3).
+pub fn begin_key(id: &[u8; 16], leaf: u32) -> Sha256
+    ensures { Holds256 result (id.now ++ word leaf ++ 0x80 ∷ 0x80 ∷ []) }
+{
+    let mut hasher = begin(id, leaf);
+    hasher.update(&D_PBLC);
+    hasher
+}
+
+/// The identifier and a number, with which each hash begins.
+fn head_of(id: &[u8; 16], number: u32) -> [u8; 20]
+    ensures { result ≡ id.now ++ word number }
+{
+    let mut head = [0u8; 20];
+    head[..16].copy_from_slice(&id[..]);
+    head[16..].copy_from_slice(&number.to_be_bytes());
+    head
+}
+
+/// The identifier and each of four numbers, from `first` on.
+pub fn heads_of(id: &[u8; 16], first: u32) -> Heads
+    requires { first + 4 ≤ 2 ^ 32 }
+    ensures { AreHeads id.now first result }
+{
+    Heads::of(&[
+        head_of(id, first),
+        head_of(id, first + 1),
+        head_of(id, first + 2),
+        head_of(id, first + 3),
+    ])
 }
 
 /// Step j of chain i (RFC 8554, sections 4.3, 4.5 and 4.6).
@@ -38,6 +73,21 @@ pub fn step(id: &[u8; 16], leaf: u32, i: u16, j: u8, value: &[u8; 32]) -> [u8; 3
     hasher.update(&[j]);
     hasher.update(&value[..]);
     hasher.finalize()
+}
+
+/// Step j of the chains i of four leaves (RFC 8554, section 4.3).
+pub fn step_four(heads: &Heads, i: u16, j: u8, values: &Values) -> Values
+    ensures { (id : List ℕ) (first k : ℕ) → AreHeads id first heads.now → k < 4 → at result k ≡ step_of id (first + k) i j (at values.now k) }
+{
+    let [high, low] = i.to_be_bytes();
+    hash_four(heads, [high, low, j], values)
+}
+
+/// The secret value i of each of four leaves (RFC 8554, appendix A).
+pub fn derive_four(heads: &Heads, seeds: &Values, i: u16) -> Values
+    ensures { (id : List ℕ) (first k : ℕ) → AreHeads id first heads.now → k < 4 → at result k ≡ derived id (at seeds.now k) (first + k) i }
+{
+    step_four(heads, i, 0xff, seeds)
 }
 
 /// A secret value of a leaf (RFC 8554, appendix A).

@@ -1,7 +1,8 @@
 //! Signature trees of RFC 8554 (LMS over LM-OTS): a tree that signs messages by its leaves, and the check of a
 //! signature.
 //!
-//! Layer: over `hash_signature_model`, which has the definitions, and the kit's `sha2`, which has the hash.
+//! Layer: over `hash_signature_model`, which has the definitions, the kit's `sha2`, which has the hash, and
+//! `sha256_lanes`, which has it for four messages at once.
 //! For the layers above: [`verify`] answers yes exactly where RFC 8554 accepts, and otherwise the first fault in
 //! reading order. A [`Tree`] is seen as its private key; [`Tree::grow`] and [`Tree::grow_joined`] give the same tree,
 //! [`Tree::public`] is the key over the root of the whole tree, and what [`Tree::sign_leaf`] gives is the signature of
@@ -9,8 +10,9 @@
 //! For signatures of several levels: [`read_key`] and [`read_signature`] read from the front and give the bytes that
 //! are left, [`recompute_root`] is the check of one level, [`lower_id`] and [`lower_seed`] derive the tree below a leaf.
 //!
-//! Nothing allocates in [`verify`]. Definitions: `hash_signature_model`'s `specs/`; `specs/Kept.antt` says what a tree
-//! keeps, and `specs/Readers.antt` what the readers give.
+//! Nothing allocates in [`verify`]. Growing hashes the chains of four leaves at a time; the leaves' keys and the nodes
+//! are single hashes. Definitions: `hash_signature_model`'s `specs/`; `specs/Kept.antt` says what a tree keeps,
+//! `specs/Fours.antt` what four leaves' hashes begin with, and `specs/Readers.antt` what the readers give.
 #![tactic(auto)]
 
 mod chains;

@@ -1,27 +1,31 @@
 //! The array of a tree's nodes: node r stands at index r, and index 0 isn't used.
 
-ghost use Rattle.std.specs.Prelude.{◌≡◌, ◌+◌, ◌*◌, ◌<◌, ◌≤◌, length, IfOk};
+ghost use Rattle.std.specs.Prelude.{◌≡◌, ◌+◌, ◌*◌, ◌%◌, ◌<◌, ◌≤◌, length, IfOk};
 ghost use Rattle.hash_signature_model.specs.Parameters.{leaves};
 ghost use Rattle.lms_core.specs.Kept.{AreLeaves, HoldsLeaves, AreInner, SameFrom, AreNodes};
 
 use crate::hashing::{hash_inner, hash_leaf};
-use crate::one_time::make_key;
+use crate::one_time::make_keys;
 use hash_signature_model::PrivateKey;
 use ivy_base::Memory;
 use std::alloc::Global;
 use std::thread;
 use std::thread::Threads;
 
-/// Writes the nodes of some leaves, from leaf number `first` on.
+/// Writes the nodes of some leaves, from leaf number `first` on, four at a time.
 fn fill_leaves(key: &PrivateKey, first: u32, out: &mut [[u8; 32]])
-    requires { first + length out.old ≤ leaves key.now.set.h }
+    requires whole { length out.old % 4 ≡ 0 }
+    requires in_tree { first + length out.old ≤ leaves key.now.set.h }
     ensures { AreLeaves key.now first out.new (length out.old) }
 {
     let count = key.set.h.leaf_count();
-    'leaves: for k in 0..out.len() {
-        let leaf = first + k as u32;
-        let one_time = make_key(key, leaf);
-        out[k] = hash_leaf(&key.id, count + leaf, &one_time);
+    'fours: for four in 0..out.len() / 4 {
+        let leaf = first + 4 * four as u32;
+        let [key0, key1, key2, key3] = make_keys(key, leaf);
+        out[4 * four] = hash_leaf(&key.id, count + leaf, &key0);
+        out[4 * four + 1] = hash_leaf(&key.id, count + leaf + 1, &key1);
+        out[4 * four + 2] = hash_leaf(&key.id, count + leaf + 2, &key2);
+        out[4 * four + 3] = hash_leaf(&key.id, count + leaf + 3, &key3);
     }
 }
 
@@ -76,7 +80,8 @@ fn some_leaves(
     first: u32,
     count: u32,
 ) -> Result<Vec<[u8; 32]>, Memory>
-    requires { first + count ≤ leaves key.now.set.h }
+    requires whole { count % 4 ≡ 0 }
+    requires in_tree { first + count ≤ leaves key.now.set.h }
     ensures { IfOk result (λ v. (length v.items ≡ count) × AreLeaves key.now first v.items count) }
 {
     let mut nodes = vec![in alloc; [0u8; 32]; count as usize]?;

@@ -1,27 +1,49 @@
 //! One-time public keys: the signer's own, and the verifier's candidate.
 
-ghost use Rattle.std.specs.Prelude.{◌≡◌, ◌*◌, length};
-ghost use Rattle.hash_signature_model.specs.Parameters.{chains};
-ghost use Rattle.hash_signature_model.specs.OneTime.{one_time_key, candidate_key};
+ghost use Rattle.std.specs.Prelude.{◌≡◌, ℕ, List, ◌+◌, ◌*◌, ◌<◌, ◌≤◌, length};
+ghost use Rattle.hash_signature_model.specs.Parameters.{chains, leaves};
+ghost use Rattle.hash_signature_model.specs.OneTime.{end_of, one_time_key, candidate_key};
+ghost use Rattle.lms_core.specs.Fours.{AreHeads};
+ghost use Rattle.lms_core.specs.Kept.{at};
 
-use crate::chains::{digit, walk};
-use crate::hashing::{D_PBLC, begin, derive, value};
+use crate::chains::{digit, walk, walk_four};
+use crate::hashing::{begin_key, derive_four, heads_of, value};
 use hash_signature_model::{PrivateKey, Width};
 use sha2::Digest;
+use sha256_lanes::{Heads, Values};
 
-/// The one-time public key of a leaf (RFC 8554, section 4.3).
-pub fn make_key(key: &PrivateKey, leaf: u32) -> [u8; 32]
-    ensures { result ≡ one_time_key key.now.set.w key.now.id key.now.seed leaf }
+/// The ends of the chains i of four leaves (RFC 8554, section 4.3).
+fn end_four(w: Width, heads: &Heads, seeds: &Values, i: u16) -> [[u8; 32]; 4]
+    ensures { (id : List ℕ) (first k : ℕ) → AreHeads id first heads.now → k < 4 → at result k ≡ end_of w id (at seeds.now k) (first + k) i }
 {
-    let steps = key.set.w.step_count();
-    let mut hasher = begin(&key.id, leaf);
-    hasher.update(&D_PBLC);
+    let start = derive_four(heads, seeds, i);
+    walk_four(heads, i, w.step_count(), start).to_bytes()
+}
+
+/// The one-time public keys of four leaves, from leaf number `first` on (RFC 8554, section 4.3).
+pub fn make_keys(key: &PrivateKey, first: u32) -> [[u8; 32]; 4]
+    requires { first + 4 ≤ leaves key.now.set.h }
+    ensures { (k : ℕ) → k < 4 → at result k ≡ one_time_key key.now.set.w key.now.id key.now.seed (first + k) }
+{
+    let heads = heads_of(&key.id, first);
+    let seeds = Values::of(&[key.seed; 4]);
+    let mut hasher0 = begin_key(&key.id, first);
+    let mut hasher1 = begin_key(&key.id, first + 1);
+    let mut hasher2 = begin_key(&key.id, first + 2);
+    let mut hasher3 = begin_key(&key.id, first + 3);
     'chains: for i in 0..key.set.w.chain_count() {
-        let start = derive(&key.id, &key.seed, leaf, i);
-        let end = walk(&key.id, leaf, i, 0, steps, &start);
-        hasher.update(&end[..]);
+        let [end0, end1, end2, end3] = end_four(key.set.w, &heads, &seeds, i);
+        hasher0.update(&end0[..]);
+        hasher1.update(&end1[..]);
+        hasher2.update(&end2[..]);
+        hasher3.update(&end3[..]);
     }
-    hasher.finalize()
+    [
+        hasher0.finalize(),
+        hasher1.finalize(),
+        hasher2.finalize(),
+        hasher3.finalize(),
+    ]
 }
 
 /// The candidate for the one-time public key, from a signature's values and the code of the message (RFC 8554,
@@ -37,8 +59,7 @@ pub fn make_candidate(
     ensures { result ≡ candidate_key w id.now leaf code.now values.now }
 {
     let steps = w.step_count();
-    let mut hasher = begin(id, leaf);
-    hasher.update(&D_PBLC);
+    let mut hasher = begin_key(id, leaf);
     'chains: for i in 0..w.chain_count() {
         let from = digit(w, &code[..], i);
         let end = walk(id, leaf, i, from, steps, &value(values, i as usize));
