@@ -25,7 +25,8 @@ use Rattle.causal_order.proofs.Fronts.{fronts_join}
 use Rattle.log_agent.specs.declared.agent.Turned.{Turned}
 use Rattle.log_agent.specs.Steps.{HasAnswered}
 use Rattle.log_agent.specs.Turns.{stamp_of}
-use Rattle.log_agent.proofs.Known.{one_each, each_spelled}
+use Rattle.set_taking.proofs.Known.{one_each}
+use Rattle.log_agent.proofs.Known.{each_spelled}
 
 module _ (view : View) (own : PubKey) (asked : turn.Asked) (now : Moment) (t written : List Record) (reply : Reply)
     (well : IsView view) (member : Contains view.members own) (closed : IsClosed view t) (begun : log_of own t ≢ [])

@@ -30,7 +30,8 @@ use Rattle.wire_model.specs.Rpc.{IsIdentity}
 use Rattle.log_agent.specs.declared.agent.Turned.{Turned}
 use Rattle.log_agent.specs.Steps.{is_within, HasTaken, HasAnswered}
 use Rattle.log_agent.specs.Turns.{TakesTurn}
-use Rattle.log_agent.proofs.Known.{reached, kept_is_known, each_spelled}
+use Rattle.set_taking.proofs.Known.{reached}
+use Rattle.log_agent.proofs.Known.{kept_is_known, each_spelled}
 use Rattle.log_agent.proofs.Written.{IsOwnBeyond, written_beyond, own_beyond_is}
 
 module _ (blocks : List (List ℕ)) (heads : Heads) (view : View) (own : PubKey) (known t : List Record) (f : Vector)

@@ -6,8 +6,8 @@
 //! candidates of a refresh (`specs/Turns.antt`): afterwards the participant knows and holds the turn's set. What holds at all
 //! times is in `specs/Kept.antt` there: what is known is causally closed under the view. Where memory is short nothing has changed.
 //!
-//! Within: `within` tells by a front which records were known, `taking` takes the new records in, and `answering` serves the
-//! call on the set and appends what it writes (`specs/Steps.antt`).
+//! Within: `taking` takes the new records in, `answering` serves the call on the set and appends what it writes, and `within`
+//! lets go what was taken where memory is wanting then (`specs/Steps.antt`).
 //!
 //! Costs: a turn costs what its new records cost, and a replay of all that is known from nothing. The front is kept, so of
 //! what was known only the newest record of each log is hashed again, for its name.

@@ -3,12 +3,10 @@
 ghost use Rattle.std.specs.Prelude.{◌≡◌, IfOk, OnErr};
 ghost use Rattle.log_model.specs.Closed.{IsClosed};
 ghost use Rattle.log_model.specs.Rank.{front};
-ghost use Rattle.log_model.specs.View.{IsView};
 ghost use Rattle.log_records.specs.Records.{records_of};
 ghost use Rattle.view_refresh.specs.Refreshed.{OthersStand};
 ghost use Rattle.log_agent.specs.Steps.{HasTaken};
 
-use crate::within::keep_beyond;
 use block_map::{Blocks, Heads};
 use ivy_base::{Memory, PubKey};
 use log_records::Record;
@@ -30,7 +28,6 @@ pub fn take_in(
     records: &mut Vec<Record>,
     known_front: &Vector,
 ) -> Result<Vector, Memory>
-    requires view { IsView view.now }
     requires closed { IsClosed view.now (records_of records.old.items) }
     requires front { known_front.now ≡ front (records_of records.old.items) }
     requires stand { OthersStand blocks.now own.now (records_of records.old.items) }
@@ -42,9 +39,7 @@ pub fn take_in(
         records: records.as_slice(),
         front: known_front,
     };
-    let mut new = new_records(alloc, blocks, heads, view, &known)?;
-    // Of no log and number two records may be joined: a front can't tell them apart.
-    keep_beyond(&mut new, known_front);
+    let new = new_records(alloc, blocks, heads, view, &known)?;
     let front = known_front.join(alloc, &front(alloc, new.as_slice())?)?;
     merge(alloc, records, new)?;
     Ok(front)

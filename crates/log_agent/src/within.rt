@@ -1,6 +1,6 @@
 //! Which records are within a front.
 
-ghost use Rattle.std.specs.Prelude.{◌≡◌, not, filter};
+ghost use Rattle.std.specs.Prelude.{◌≡◌, filter};
 ghost use Rattle.log_records.specs.Records.{record_of, records_of};
 ghost use Rattle.log_agent.specs.Steps.{is_within};
 
@@ -20,11 +20,4 @@ pub fn keep_within(records: &mut Vec<Record>, front: &Vector)
     ensures { records_of records.new.items ≡ filter (is_within front.now) (records_of records.old.items) }
 {
     records.retain(|record| is_within(front, record));
-}
-
-/// Leaves the records that are beyond the front. It takes no memory.
-pub fn keep_beyond(records: &mut Vec<Record>, front: &Vector)
-    ensures { records_of records.new.items ≡ filter (λ r. not (is_within front.now r)) (records_of records.old.items) }
-{
-    records.retain(|record| !is_within(front, record));
 }

@@ -16,8 +16,8 @@ use version_vectors::Vector;
 use view_blocks::View;
 use view_refresh::{Known, refresh};
 
-/// The records that a turn of the participant takes beside those that are known, ascending by rank. The error is want of
-/// memory.
+/// The records that a turn of the participant takes beside those that are known, ascending by rank. Each is beyond what is
+/// known of its log. The error is want of memory.
 pub fn new_records(
     alloc: Global,
     blocks: &Blocks,
