@@ -5,8 +5,8 @@
 //! ([`Heads`]), three bytes that all four have in common, and a value of 32 bytes ([`Values`]). Digests are [`Values`]
 //! again, so the values of a chain of hashes stay words until [`Values::to_bytes`].
 //!
-//! Nothing allocates. Each word is a vector with a lane for each message; four messages take about the time of two of the
-//! kit's hashes (docs/ARCHITECTURE.md, "Measured"). Definitions: `specs/Lanes.antt` says which lane is which list;
+//! Nothing allocates. Each word is a vector with a lane for each message; where it was measured, four messages took less
+//! time than two of the kit's hashes (docs/ARCHITECTURE.md, "Measured"). Definitions: `specs/Lanes.antt` says which lane is which list;
 //! `proofs/BlockLemmas.antt` has the block of a message, `proofs/LaneLemmas.antt` the lanes.
 #![tactic(auto)]
 

@@ -1,4 +1,4 @@
-use Rattle.std.proofs.Common.{◌≡◌, ℕ, ◌+◌, [], ◌∷◌, ◌++◌, arith}
+use Rattle.std.proofs.Common.{◌≡◌, ◌+◌, [], ◌∷◌, ◌++◌, arith}
 use Rattle.hash_signature_model.specs.OneTime.{word}
 use Rattle.sha256_lanes.proofs.LaneLemmas.{below_four}
 use Rattle.lms_core.specs.Kept.{at}

@@ -1,5 +1,4 @@
-use Rattle.std.proofs.Common.{List, ℕ, ◌+◌, ap, refl, ◌∙◌}
-use Rattle.hash_signature_model.specs.OneTime.{chain}
+use Rattle.std.proofs.Common.{List, ℕ, ap, refl, ◌∙◌}
 use Rattle.lms_core.specs.Kept.{at}
 use Rattle.lms_core.proofs.one_time.end_four.Goals as goal
 

@@ -8,5 +8,5 @@ invariant-chains l = record {
   hasher0 : Holds256 l.hasher0 (l.key.id ++ word (l.first + 0) ++ 0x80 ∷ 0x80 ∷ [] ++ joined (end_of l.key.set.w l.key.id l.key.seed (l.first + 0)) l.i);
   hasher1 : Holds256 l.hasher1 (l.key.id ++ word (l.first + 1) ++ 0x80 ∷ 0x80 ∷ [] ++ joined (end_of l.key.set.w l.key.id l.key.seed (l.first + 1)) l.i);
   hasher2 : Holds256 l.hasher2 (l.key.id ++ word (l.first + 2) ++ 0x80 ∷ 0x80 ∷ [] ++ joined (end_of l.key.set.w l.key.id l.key.seed (l.first + 2)) l.i);
-  hasher3 : Holds256 l.hasher3 (l.key.id ++ word (l.first + 3) ++ 0x80 ∷ 0x80 ∷ [] ++ joined (end_of l.key.set.w l.key.id l.key.seed (l.first + 3)) l.i)
+  hasher3 : Holds256 l.hasher3 (l.key.id ++ word (l.first + 3) ++ 0x80 ∷ 0x80 ∷ [] ++ joined (end_of l.key.set.w l.key.id l.key.seed (l.first + 3)) l.i);
 }
