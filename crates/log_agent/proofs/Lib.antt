@@ -6,3 +6,4 @@ mod Seen
 mod Taken
 mod Turning
 mod Written
+mod Fronts

@@ -58,13 +58,19 @@ module _ (a : Agent) (s : List Record) (asked : Asked) (now : Moment) where
   in_turn : Appends (turn_on a s asked now)
   in_turn = either (is_changing asked.args) _ _ (in_plan (plan (replay s) a.view asked.caller asked.args now a.own (own_seq a.own s + 1))) same_set
 
-  -- what stands behind the set is the agent's own, and goes on from its log
+  abbrev more : List Op → List Record
+  more ops = linked a.own (without_log (head_key_of a.own) (front s)) now (own_seq a.own s + 1) (own_name a.own s) ops
+
+  -- what stands behind the set is linked to the agent's log
+  pub linked_written : (written : List Record) → (turn_on a s asked now).set ≡ s ++ written → (ops : List Op) × (more ops ≡ written)
+  linked_written written e = (in_turn.0, append_cancel_left s (more in_turn.0) written (sym in_turn.1 ∙ e))
+
+  -- so it is the agent's own, and goes on from its log
   pub written_beyond : (written : List Record) → (turn_on a s asked now).set ≡ s ++ written → AllByRecursion (IsOwnBeyond a.own (own_seq a.own s)) written
   written_beyond written e =
-      let more = linked a.own (without_log (head_key_of a.own) (front s)) now (own_seq a.own s + 1) (own_name a.own s) in_turn.0 in
-      let same : more ≡ written = append_cancel_left s more written (sym in_turn.1 ∙ e) in
-      subst (λ (l : List Record). AllByRecursion (IsOwnBeyond a.own (own_seq a.own s)) l) same
-      (linked_beyond a.own (without_log (head_key_of a.own) (front s)) now (own_seq a.own s) (own_seq a.own s + 1) (own_name a.own s) in_turn.0 (omega arith))
+      let w = linked_written written e in
+      subst (λ (l : List Record). AllByRecursion (IsOwnBeyond a.own (own_seq a.own s)) l) w.1
+      (linked_beyond a.own (without_log (head_key_of a.own) (front s)) now (own_seq a.own s) (own_seq a.own s + 1) (own_name a.own s) w.0 (omega arith))
 
 -- ---- which they are, in the whole set
 

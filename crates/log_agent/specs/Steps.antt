@@ -1,13 +1,14 @@
 -- The steps of a turn: what it takes, and then what it answers and writes.
-use Rattle.std.specs.Prelude.{◌≡◌, ℕ, Bool, List, ◌++◌, map, nat_le, option_map}
+use Rattle.std.specs.Prelude.{◌≡◌, ℕ, Bool, List, ◌++◌, map, nat_le, Option, Some, None, option_map}
+use Rattle.std.specs.FinMap.Entries.{put}
 use Rattle.ivy_base.specs.declared.key.PubKey.{PubKey}
 use Rattle.ivy_base.specs.declared.operation.Moment.{Moment}
-use Rattle.ivy_base.specs.Naming.{head_key_of}
+use Rattle.ivy_base.specs.Naming.{head_key_of, key_cmp}
 use Rattle.log_model.specs.Closed.{IsClosedPart}
 use Rattle.log_model.specs.Rank.{front}
 use Rattle.log_model.specs.Record.{Record}
 use Rattle.log_model.specs.Spelling.{record_block}
-use Rattle.log_model.specs.Vector.{Vector, seq_of}
+use Rattle.log_model.specs.Vector.{Stamp, Vector, seq_of}
 use Rattle.log_model.specs.View.{View}
 use Rattle.turn_model.specs.Candidates.{AreCandidates}
 use Rattle.turn_model.specs.Turn as turn
@@ -21,6 +22,11 @@ use Rattle.log_agent.specs.Turns.{stamp_of}
 -- the vector goes as far as the record in its log
 abbrev pub is_within : Vector → Record → Bool
 is_within v r = nat_le r.seq (seq_of v (head_key_of r.owner))
+
+-- the vector with the stamp in the owner's log, where there is one
+abbrev pub with_newest : PubKey → Option Stamp → Vector → Vector
+with_newest owner None v = v
+with_newest owner (Some s) v = put key_cmp (head_key_of owner) s v
 
 -- from what was known the set was taken, and that is its front
 pub record HasTaken (blocks : List (List ℕ)) (heads : Heads) (view : View) (own : PubKey) (known taken : List Record) (f : Vector) : Type 0 where

@@ -1,28 +1,26 @@
 //! The call's answer on the set that a turn took.
 
-ghost use Rattle.std.specs.Prelude.{◌≡◌, ◌≢◌, [], map, option_map, Contains, IfOk, OnErr};
+ghost use Rattle.std.specs.Prelude.{◌≡◌, ◌≢◌, ◌≤◌, [], map, option_map, IfOk, IfSome, OnErr};
 ghost use Rattle.log_model.specs.Closed.{IsClosed, log_of};
 ghost use Rattle.log_model.specs.Rank.{front};
 ghost use Rattle.log_model.specs.Spelling.{IsMoment, record_block};
-ghost use Rattle.log_model.specs.View.{IsView};
 ghost use Rattle.log_records.specs.Records.{records_of};
 ghost use Rattle.nfs_model.specs.Arguments.{ArgumentsFit};
 ghost use Rattle.play_model.specs.Blocks.{newest_stamp};
 ghost use Rattle.rpc_wire.specs.Callers.{identity_of};
 ghost use Rattle.turn_serving.specs.Serving.{asked_of};
 ghost use Rattle.wire_model.specs.Rpc.{IsIdentity};
-ghost use Rattle.log_agent.specs.Steps.{HasAnswered};
+ghost use Rattle.log_agent.specs.Steps.{HasAnswered, with_newest};
 ghost use Rattle.log_agent.specs.Turns.{stamp_of};
 
 use crate::agent::Turned;
 use block_map::Block;
-use ivy_base::{Memory, Moment, PubKey};
+use ivy_base::{Memory, Moment, PubKey, head_key};
 use log_records::Record;
-use record_sets::front;
 use std::alloc::Global;
 use turn_records::{Before, Written};
 use turn_serving::{Asked, Served, Taken, serve};
-use version_vectors::Vector;
+use version_vectors::{Entry, Vector};
 use view_blocks::View;
 
 /// Serves the call on the set at that moment, appends the records that it writes, and gives their front with that of the set.
@@ -36,8 +34,6 @@ pub fn answer(
     asked: &Asked,
     now: Moment,
 ) -> Result<(Turned, Vector), Memory>
-    requires view { IsView view.now }
-    requires member { Contains view.now.members own.now }
     requires closed { IsClosed view.now (records_of records.old.items) }
     requires begun { log_of own.now (records_of records.old.items) ≢ [] }
     requires front { set_front.now ≡ front (records_of records.old.items) }
@@ -55,7 +51,7 @@ pub fn answer(
     };
     let Served { reply, written } = serve(alloc, &taken, asked, now)?;
     let newest = newest_of(written.records.as_slice(), written.blocks.as_slice());
-    let front = set_front.join(alloc, &front(alloc, written.records.as_slice())?)?;
+    let front = front_with(alloc, set_front, own, newest)?;
     let Written {
         records: mut more,
         blocks,
@@ -80,4 +76,28 @@ fn newest_of(records: &[Record], blocks: &[Block]) -> Option<Before>
         seq: record.seq,
         name: block.name(),
     })
+}
+
+/// The set's front with the newest record that was written in the own log, where there is one: what was written cites
+/// nothing else that the set's front doesn't have. The error is want of memory.
+fn front_with(
+    alloc: Global,
+    set_front: &Vector,
+    own: &PubKey,
+    newest: Option<Before>,
+) -> Result<Vector, Memory>
+    requires { IfSome newest (λ before. 1 ≤ before.seq) }
+    ensures { IfOk result (λ front. front ≡ with_newest own.now (option_map stamp_of newest) set_front.now) }
+{
+    match newest {
+        Some(before) => set_front.with(
+            alloc,
+            Entry {
+                log: head_key(own),
+                seq: before.seq,
+                name: before.name,
+            },
+        ),
+        None => set_front.copy(alloc),
+    }
 }

@@ -10,7 +10,8 @@
 //! lets go what was taken where memory is wanting then (`specs/Steps.antt`).
 //!
 //! Costs: a turn costs what its new records cost, and a replay of all that is known from nothing. The front is kept, so of
-//! what was known only the newest record of each log is hashed again, for its name.
+//! what was known only the newest record of each log is hashed again, for its name. A record that is written is hashed once,
+//! for its block, which has the name that the front gets.
 #![tactic(auto)]
 
 pub mod agent;
