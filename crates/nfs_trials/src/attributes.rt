@@ -66,7 +66,8 @@ const OTHER_GID: SetWhat = SetWhat {
     ..NOTHING
 };
 
-/// A mode with a size and with a server time; a size with another owner, and with the owner itself and a group of its own.
+/// A mode with a size and with a server time; a size with another owner, and with the owner itself and a group of its
+/// own.
 const MODE_AND_SIZE: SetWhat = SetWhat {
     mode: Some(0o600),
     ..ONE_BYTE
@@ -93,9 +94,9 @@ const SECOND_LATER: Option<Moment> = Some(Moment { sec: 2, nsec: 7 });
 
 const NANOSECOND_LATER: Option<Moment> = Some(Moment { sec: 1, nsec: 8 });
 
-/// Two pairs of checks can't meet. What is asked of the owner is given by somebody else, and what an owner may not give is
-/// given by the owner. A size that is too large is looked at where the caller has w or is the owner, and then a server
-/// time is the caller's to give too.
+/// Two pairs of checks can't meet. What is asked of the owner is given by somebody else, and what an owner may not
+/// give is given by the owner. A size that is too large is looked at where the caller has w or is the owner, and then
+/// a server time is the caller's to give too.
 const SETATTR: &'static [Check] = &[
     (
         "a client time with nanoseconds of 10^9",

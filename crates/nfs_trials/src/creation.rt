@@ -24,8 +24,8 @@ const PLAIN: How = Unchecked(NOTHING);
 
 const VERIFIER: How = Exclusive([7; 8]);
 
-/// Three pairs of checks can't meet. A creation under a verifier has no times and no size. The names `.` and `..` are no
-/// entries, so neither is there as another name is. A name that fails the checks on names isn't there either.
+/// Three pairs of checks can't meet. A creation under a verifier has no times and no size. The names `.` and `..` are
+/// no entries, so neither is there as another name is. A name that fails the checks on names isn't there either.
 const CREATE: &'static [Check] = &[
     (
         "not a directory",

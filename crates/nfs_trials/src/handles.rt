@@ -1,4 +1,5 @@
-//! The checks of the first file handle, which each procedure makes before all others (RFC 1813, section 2.5, nfs_fh3).
+//! The checks of the first file handle, which each procedure makes before all others (RFC 1813, section 2.5,
+//! nfs_fh3).
 
 use crate::calls::{Call, NO_MTIME, NOTHING, TOO_LARGE, TOO_LONG};
 use crate::outcome::Outcome;
@@ -12,8 +13,8 @@ use nfs_model::{How, NfsStatus, Node};
 use std::alloc::Global;
 use std::test::Fail;
 
-/// What is wrong with a file handle, and the status that it gives. Another length and another first word have one status,
-/// and so have another view and an inode that isn't live: no call tells the order of these.
+/// What is wrong with a file handle, and the status that it gives. Another length and another first word have one
+/// status, and so have another view and an inode that isn't live: no call tells the order of these.
 const FAULTS: [(&'static str, Handle, NfsStatus); 10] = [
     ("a byte less", Handle::Short, BadHandle),
     ("a byte more", Handle::Long, BadHandle),
@@ -41,11 +42,12 @@ const NONE: [u8; 8] = [0; 8];
 /// A ctime of no inode.
 const GUARD: Moment = Moment { sec: 3, nsec: 0 };
 
-/// Calls of each procedure in the order of their numbers: first one that the superuser makes, with other arguments that
-/// would be taken, and then, where a procedure looks at these, some with arguments that would be refused.
+/// Calls of each procedure in the order of their numbers: first one that the superuser makes, with other arguments
+/// that would be taken, and then, where a procedure looks at these, some with arguments that would be refused.
 ///
-/// Most of the handles would be a file's, so calls on directories and on symbolic links would also be refused for the kind,
-/// and so would calls on files with the handle of a directory. With the others the file handle is all that is refused.
+/// Most of the handles would be a file's, so calls on directories and on symbolic links would also be refused for the
+/// kind, and so would calls on files with the handle of a directory. With the others the file handle is all that is
+/// refused.
 const CALLS: &'static [(&'static str, u32, Call)] = &[
     ("GETATTR", SUPERUSER, Call::GetAttr),
     ("SETATTR", SUPERUSER, Call::SetAttr(NOTHING, None)),

@@ -13,7 +13,8 @@ use std::test::Fail;
 
 // ---- LOOKUP
 
-/// No directory has a name that fails the checks on names, so each of these calls would be refused as a missing name too.
+/// No directory has a name that fails the checks on names, so each of these calls would be refused as a missing name
+/// too.
 const LOOKUP: &'static [Check] = &[
     (
         "not a directory",
@@ -115,8 +116,8 @@ fn lookup(rt: HostRuntime) -> Result<(), Fail> {
 
 // ---- ACCESS
 
-/// ACCESS has the checks of the file handle alone. The rights are to read 1, to look up 2, to modify 4, to extend 8, to
-/// delete 16 and to execute 32.
+/// ACCESS has the checks of the file handle alone. The rights are to read 1, to look up 2, to modify 4, to extend 8,
+/// to delete 16 and to execute 32.
 const ACCESS: &'static [Check] = &[
     (
         "a file is read",

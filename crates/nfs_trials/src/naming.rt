@@ -18,9 +18,9 @@ use std::test::Fail;
 
 /// The checks of the first file handle are in `handles`.
 ///
-/// Some checks can't meet. A source that is missing has no inode. Two names of one inode are of one kind, and a directory
-/// has one name: onto itself it may meet the check on entries. An invalid name and `.` have one status; so have a directory
-/// in place of a file, and a directory that has entries.
+/// Some checks can't meet. A source that is missing has no inode. Two names of one inode are of one kind, and a
+/// directory has one name: onto itself it may meet the check on entries. An invalid name and `.` have one status; so
+/// have a directory in place of a file, and a directory that has entries.
 const RENAME: &'static [Check] = &[
     (
         "a bad handle of the target directory",

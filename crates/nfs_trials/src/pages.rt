@@ -4,7 +4,7 @@ use crate::calls::Call::{ReadDir, ReadDirPlus};
 use crate::outcome::Outcome::{Listed, Refused};
 use crate::table::{Check, first_wrong};
 use crate::world::{
-    DIR, EMPTY, FILE, LINK, LOCKED, MEMBER, OTHER, OWNER, ROOT, SECRET, SUPERUSER, UNREADABLE,
+    DIR, EMPTY, FILE, LINK, LOCKED, MEMBER, OTHER, OWNER, SECRET, SUPERUSER, UNREADABLE,
     UNSEARCHABLE, UNWRITABLE, planted,
 };
 use nfs_model::NfsStatus::{Acces, BadCookie, NotDir, TooSmall};
@@ -16,8 +16,8 @@ const NONE: [u8; 8] = [0; 8];
 /// The first eight bytes of the SHA-1 of no bytes, and so the verifier of a directory without names.
 const OF_NO_NAMES: [u8; 8] = [0xda, 0x39, 0xa3, 0xee, 0x5e, 0x6b, 0x4b, 0x0d];
 
-/// The verifier of the directory `d`: the first eight bytes of the SHA-1 of the bytes 0, 0, 0, 1, `e`, the number of the
-/// inode of `e`, 0, 0, 0, 1, `n` and the number of the inode of `n`, by another implementation.
+/// The verifier of the directory `d`: the first eight bytes of the SHA-1 of the bytes 0, 0, 0, 1, `e`, the number of
+/// the inode of `e`, 0, 0, 0, 1, `n` and the number of the inode of `n`, by another implementation.
 const OF_DIR: [u8; 8] = [0xe0, 0x83, 0x6c, 0x98, 0xb0, 0x8f, 0x21, 0x93];
 
 /// The same with another last bit.
@@ -25,8 +25,8 @@ const ALMOST_OF_DIR: [u8; 8] = [0xe0, 0x83, 0x6c, 0x98, 0xb0, 0x8f, 0x21, 0x92];
 
 // ---- READDIR
 
-/// The directory `d` has four entries of 28 bytes (4 + 8 + 4 + 4 + 8) each, with the cookies 1 to 4, and a page has 104
-/// bytes beside them.
+/// The directory `d` has four entries of 28 bytes (4 + 8 + 4 + 4 + 8) each, with the cookies 1 to 4, and a page has
+/// 104 bytes beside them.
 const READDIR: &'static [Check] = &[
     (
         "not a directory",

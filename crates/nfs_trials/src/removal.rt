@@ -13,8 +13,8 @@ use std::test::Fail;
 
 // ---- REMOVE
 
-/// No directory has an invalid name, `.` or `..`, so each of these calls would be refused as a missing name too; an invalid
-/// name and `.` have one status. What is missing is no directory.
+/// No directory has an invalid name, `.` or `..`, so each of these calls would be refused as a missing name too; an
+/// invalid name and `.` have one status. What is missing is no directory.
 const REMOVE: &'static [Check] = &[
     (
         "not a directory",
@@ -108,8 +108,8 @@ fn remove(rt: HostRuntime) -> Result<(), Fail> {
 
 // ---- RMDIR
 
-/// No directory has an invalid name, `.` or `..`, so each of these calls would be refused as a missing name too; an invalid
-/// name and `.` have one status. What is missing is looked at no further, and only a directory has entries.
+/// No directory has an invalid name, `.` or `..`, so each of these calls would be refused as a missing name too; an
+/// invalid name and `.` have one status. What is missing is looked at no further, and only a directory has entries.
 const RMDIR: &'static [Check] = &[
     (
         "not a directory",

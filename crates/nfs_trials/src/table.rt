@@ -16,9 +16,9 @@ pub type Row = (u32, Handle, Call);
 
 /// What the calls are about, what each is to be answered, and the calls.
 ///
-/// A table has the checks of a procedure in their order, and at last the calls that pass all of them. The calls of a check
-/// pass all checks before it. Some of them meet a later check too, which would give another status: these are for the
-/// order, and a comment above them says what else they meet.
+/// A table has the checks of a procedure in their order, and at last the calls that pass all of them. The calls of a
+/// check pass all checks before it. Some of them meet a later check too, which would give another status: these are
+/// for the order, and a comment above them says what else they meet.
 pub type Check = (&'static str, Outcome, &'static [Row]);
 
 /// A call that isn't answered as wanted: the check, the place among its calls, and what is seen.
@@ -88,8 +88,8 @@ fn done(reply: &Reply) -> Outcome {
     }
 }
 
-/// What is seen of records. Whether the reply to them has the status OK doesn't hang on the tree after them, for which
-/// the tree before them stands here.
+/// What is seen of records. Whether the reply to them has the status OK doesn't hang on the tree after them, for
+/// which the tree before them stands here.
 fn finished(
     alloc: Global,
     world: &World,
