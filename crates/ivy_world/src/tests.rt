@@ -1,20 +1,13 @@
 use crate::World;
-use ivy_base::Memory;
 use script_driver::{Machine, Taken};
-use std::alloc::Global;
 use std::test::Fail;
 
-/// What the last of these lines shows, where it goes on.
-fn shown(alloc: Global, lines: &[&[u8]]) -> Result<Option<Vec<u8>>, Memory> {
-    let mut world = World::new(alloc);
-    let mut last = None;
-    for line in lines {
-        last = match world.take(alloc, line)? {
-            Taken::Went(output) => Some(output),
-            _ => None,
-        };
+/// What a line shows, where the script goes on.
+fn shown(taken: &Taken) -> Option<&[u8]> {
+    match taken {
+        Taken::Went(output) => Some(output.as_slice()),
+        _ => None,
     }
-    Ok(last)
 }
 
 /// A log holds nothing before its first turn in a view; NULL, which is none, is answered by the head of an accepted reply alone
@@ -22,19 +15,20 @@ fn shown(alloc: Global, lines: &[&[u8]]) -> Result<Option<Vec<u8>>, Memory> {
 #[test]
 fn lines_are_obeyed(rt: HostRuntime) -> Result<(), Fail> {
     let alloc = rt.alloc();
-    let lines: [&[u8]; 6] = [
-        b"ring 1 1",
-        b"log a 1 aa w4h5",
-        b"view v a",
-        b"use a v",
-        b"order a",
-        b"as a nfs:0:0:0",
-    ];
-    let order = shown(alloc, &lines[..5])?;
-    assert!(rt; order.is_some_and(|text| text.as_slice() == b"order a 0\n".as_slice()));
-    let reply = shown(alloc, &lines[..])?;
-    let want = b"reply 000000010000000100000000000000000000000000000000\n".as_slice();
-    assert!(rt; reply.is_some_and(|text| text.as_slice() == want));
+    let mut world = World::new(alloc);
+    let ring = world.take(alloc, b"ring 1 1".as_slice())?;
+    assert!(rt; shown(&ring) == Some(b"".as_slice()));
+    let log = world.take(alloc, b"log a 1 aa w4h5".as_slice())?;
+    assert!(rt; shown(&log) == Some(b"".as_slice()));
+    let view = world.take(alloc, b"view v a".as_slice())?;
+    assert!(rt; shown(&view) == Some(b"".as_slice()));
+    let entered = world.take(alloc, b"use a v".as_slice())?;
+    assert!(rt; shown(&entered) == Some(b"".as_slice()));
+    let order = world.take(alloc, b"order a".as_slice())?;
+    assert!(rt; shown(&order) == Some(b"order a 0\n".as_slice()));
+    let reply = world.take(alloc, b"as a nfs:0:0:0".as_slice())?;
+    let null = b"reply 000000010000000100000000000000000000000000000000\n".as_slice();
+    assert!(rt; shown(&reply) == Some(null));
     Ok(())
 }
 
