@@ -154,7 +154,10 @@ fn lines_have_one_of_the_forms(rt: HostRuntime) -> Result<(), Fail> {
         b"end now",
     ];
     for line in lines {
-        assert!(rt; is_refused(rt.alloc(), line, b"refused 5\n")?, "at {line:?}");
+        assert!(rt;
+            is_refused(rt.alloc(), line, b"refused 5\n")?,
+            "at {line:?}"
+        );
     }
     Ok(())
 }
@@ -185,7 +188,10 @@ fn calls_have_one_of_the_forms(rt: HostRuntime) -> Result<(), Fail> {
         b"as a nfs:9:0:0 root s:a sa:4294967296",
     ];
     for line in lines {
-        assert!(rt; is_refused(rt.alloc(), line, b"refused 5\n")?, "at {line:?}");
+        assert!(rt;
+            is_refused(rt.alloc(), line, b"refused 5\n")?,
+            "at {line:?}"
+        );
     }
     Ok(())
 }
@@ -199,7 +205,10 @@ fn a_view_is_entered_by_its_members(rt: HostRuntime) -> Result<(), Fail> {
         b"log b 2 bb w4h5\nas b nfs:0:0:0",
     ];
     for line in lines {
-        assert!(rt; is_refused(rt.alloc(), line, b"refused 6\n")?, "at {line:?}");
+        assert!(rt;
+            is_refused(rt.alloc(), line, b"refused 6\n")?,
+            "at {line:?}"
+        );
     }
     Ok(())
 }
@@ -388,7 +397,10 @@ end
 #[test]
 fn nothing_is_held_before_a_turn(rt: HostRuntime) -> Result<(), Fail> {
     let alloc = rt.alloc();
-    let script = joined(alloc, &[OPENING, b"order a\nas a nfs:0:0:0\norder a\nend\n"])?;
+    let script = joined(
+        alloc,
+        &[OPENING, b"order a\nas a nfs:0:0:0\norder a\nend\n"],
+    )?;
     let end = b"order a 0\nreply 000000010000000100000000000000000000000000000000\norder a 0\n";
     assert!(rt; shown(alloc, script.as_slice(), end)?);
     Ok(())
