@@ -41,14 +41,14 @@ returns-in-Ok-Ended-clause-alike g c = ends_alike Ended _ _ _ _ _ (rw (c.in-Ok-E
 pub returns-in-Ok-Refused-clause-alike : goal.returns-in-Ok-Refused-clause-alike
 returns-in-Ok-Refused-clause-alike g c = ends_alike (RefusedAt _) _ _ _ _ _ (rw (c.in-Ok-Refused.field-0-is, c.new-world.ensures) at c.in-Ok-Refused.ensures.told)
 
-pub returns-in-Ok-Exceeded-clause-limited : goal.returns-in-Ok-Exceeded-clause-limited
-returns-in-Ok-Exceeded-clause-limited g c = λ seven. (_, told_all (LimitAt _) _ _ _ (rw (c.in-Ok-Exceeded.field-0-is, c.new-world.ensures) at c.in-Ok-Exceeded.ensures.told))
+pub returns-clause-limited : goal.returns-clause-limited
+returns-clause-limited g c = λ seven. (_, told_all (LimitAt _) _ _ _ (rw (c.in-Ok-Exceeded.field-0-is, c.new-world.ensures) at c.in-Ok-Exceeded.ensures.told))
 
-pub returns-in-Ok-Exceeded-clause-front : goal.returns-in-Ok-Exceeded-clause-front
-returns-in-Ok-Exceeded-clause-front g c = told_front _ _ _ (rw c.new-world.ensures at c.run_script.ensures.front)
+pub returns-clause-front : goal.returns-clause-front
+returns-clause-front g c = told_front _ _ _ (rw c.new-world.ensures at c.run_script.ensures.front)
 
-pub returns-in-Ok-Exceeded-clause-complete : goal.returns-in-Ok-Exceeded-clause-complete
-returns-in-Ok-Exceeded-clause-complete g c = played (LimitAt _) _ _ _ _ _ (rw (c.in-Ok-Exceeded.field-0-is, c.new-world.ensures) at c.in-Ok-Exceeded.ensures.told)
+pub returns-clause-complete : goal.returns-clause-complete
+returns-clause-complete g c = played (LimitAt _) _ _ _ _ _ (rw (c.in-Ok-Exceeded.field-0-is, c.new-world.ensures) at c.in-Ok-Exceeded.ensures.told)
 
-pub returns-in-Ok-Exceeded-clause-alike : goal.returns-in-Ok-Exceeded-clause-alike
-returns-in-Ok-Exceeded-clause-alike g c = ends_alike (LimitAt _) _ _ _ _ _ (rw (c.in-Ok-Exceeded.field-0-is, c.new-world.ensures) at c.in-Ok-Exceeded.ensures.told)
+pub returns-clause-alike : goal.returns-clause-alike
+returns-clause-alike g c = ends_alike (LimitAt _) _ _ _ _ _ (rw (c.in-Ok-Exceeded.field-0-is, c.new-world.ensures) at c.in-Ok-Exceeded.ensures.told)
