@@ -2,8 +2,8 @@
 use Rattle.std.specs.Prelude.{◌≡◌, ℕ, List, [], map, Some, None, option_map}
 use Rattle.ivy_base.specs.declared.operation.Moment.{Moment}
 use Rattle.log_model.specs.Rank.{front}
-use Rattle.log_model.specs.Spelling.{record_block}
 use Rattle.log_model.specs.View.{View}
+use Rattle.log_model.specs.Standing.{blocks_of}
 use Rattle.nfs_model.specs.Results.{result}
 use Rattle.turn_model.specs.Candidates.{AreCandidates}
 use Rattle.turn_model.specs.Turn.{Asked, Candidate, Turned, IsTurn, own_seq}
@@ -34,7 +34,7 @@ pub record IsAnsweredByTurn (blocks : List (List ℕ)) (heads : Heads) (view : V
   pub after : new ≡ record old { known = turned.set; held = turned.set }
   pub reply_is : given.reply ≡ Some (reply xid (Success (result turned.reply)))
   pub handle : given.handle ≡ handle_given turned.reply
-  pub blocks_are : given.blocks.items ≡ map record_block (own_beyond old.own (own_seq old.own old.known) turned.set)
+  pub blocks_are : given.blocks.items ≡ blocks_of (own_beyond old.own (own_seq old.own old.known) turned.set)
   pub newest : option_map stamp_of given.newest ≡ newest_stamp (own_beyond old.own (own_seq old.own old.known) turned.set)
 
 -- memory was wanting for the call, and the participant is as it was

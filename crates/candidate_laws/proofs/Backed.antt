@@ -10,14 +10,16 @@ use Rattle.ivy_base.specs.Naming.{head_key_of}
 use Rattle.tree_model.proofs.Keys.{same_key_itself}
 use Rattle.log_model.specs.Vector.{Entry, Vector, Stamp, stamp_at, reach, seq_of, Dominates, later_or, without_log}
 use Rattle.log_model.specs.Record.{Record}
-use Rattle.log_model.specs.Spelling.{record_block, record_name}
+use Rattle.log_model.proofs.Standing.{stands_among_more}
 use Rattle.log_model.specs.Rank.{own_entry, full_vector, front}
 use Rattle.log_model.specs.Replay.{replay}
 use Rattle.log_model.proofs.Lists.{each, each_from, each_append}
 use Rattle.log_model.proofs.Vectors.{stamp_at-with_entry, later_or_reaches}
 use Rattle.log_model.proofs.Weights.{joins_reach}
+use Rattle.log_model.specs.Standing.{Stand}
+use Rattle.log_model.specs.Spelling.{new_record}
 use Rattle.nfs_model.specs.Changing.{Plan, Refuse, Nothing, Operations, plan}
-use Rattle.turn_model.specs.Known.{Stand, IsUnderHead, IsBacked}
+use Rattle.turn_model.specs.Known.{IsUnderHead, IsBacked}
 use Rattle.turn_model.specs.Turn.{Agent, Asked, Turned, is_changing, most_records, own_seq, own_name, linked, appended, by_plan, turn_on}
 use Rattle.candidate_laws.specs.Verified.{AreAmong, KnownStaysBacked}
 
@@ -47,7 +49,7 @@ own_within own s r e c = subst (λ (o : PubKey). r.seq ≤ seq_of (front s) (hea
 module _ (blocks more : List (List ℕ)) (received later : List Entry) (in_more : AreAmong blocks more) (in_later : AreAmong received later) where
   more_stand : (log : List Record) → Stand blocks log → Stand more log
   more_stand [] h = tt
-  more_stand (r ∷ log) h = (in_more (record_block r) h.0, more_stand log h.1)
+  more_stand (r ∷ log) h = (stands_among_more blocks more r in_more h.0, more_stand log h.1)
 
   more_under : (r : Record) → IsUnderHead blocks received r → IsUnderHead more later r
   more_under r u = record {
@@ -71,7 +73,7 @@ module _ (own : PubKey) (blocks : List (List ℕ)) (heads : List Entry) where
   linked_sound : (vector : Vector) (now : Moment) (seq : ℕ) (prev : Key) (ops : List Op) → AllByRecursion IsSound (linked own vector now seq prev ops)
   linked_sound vector now seq prev [] = tt
   linked_sound vector now seq prev (op ∷ ops) =
-      (inl refl, linked_sound vector now (seq + 1) (record_name (record { owner = own; seq = seq; prev = prev; vector = vector; moment = now; op = op })) ops)
+      (inl refl, linked_sound vector now (seq + 1) ((new_record own seq prev vector now op).name) ops)
 
   -- the set is backed by its own front
   abbrev IsBackedByFront : List Record → Type 0

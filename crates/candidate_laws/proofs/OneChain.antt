@@ -7,13 +7,13 @@ use Rattle.wire_model.proofs.OneReading.{whole}
 use Rattle.log_model.specs.View.{View}
 use Rattle.log_model.specs.Vector.{Stamp, Vector}
 use Rattle.log_model.specs.Record.{Record}
-use Rattle.log_model.specs.Spelling.{record_block, record_name}
 use Rattle.log_model.specs.Chain.{IsGood, GoesOn, IsChain}
 use Rattle.log_model.proofs.Chains.{last_after}
 use Rattle.log_model.proofs.Lists.{here, each}
 use Rattle.log_model.proofs.Part.{chain_good}
-use Rattle.log_records.proofs.OneRecord.{one_record}
-use Rattle.turn_model.specs.Known.{EndsAt, Stand}
+use Rattle.log_model.specs.Standing.{StandsAmong, Stand}
+use Rattle.log_records.proofs.OneRecord.{one_among}
+use Rattle.turn_model.specs.Known.{EndsAt}
 use Rattle.turn_model.specs.Candidates.{MakeChain}
 
 -- ---- the last record of a list
@@ -33,9 +33,9 @@ last_is p (r ∷ rs) (b ∷ before) last e = last_is r rs before last (cc)
 -- ---- backwards from one last record, by the names
 
 module _ (blocks : List (List ℕ)) (apart : NamesTellApart blocks) (view : View) (owner : PubKey) where
-  one_of_name : (p q : Record) → IsGood view owner p → IsGood view owner q → Contains blocks (record_block p) → Contains blocks (record_block q) → record_name p ≡ record_name q → p ≡ q
+  one_of_name : (p q : Record) → IsGood view owner p → IsGood view owner q → StandsAmong blocks p → StandsAmong blocks q → p.name ≡ q.name → p ≡ q
   one_of_name p q good_p good_q in_p in_q e =
-      whole (one_record owner) p q (good_p.owned, good_p.spelled) (good_q.owned, good_q.spelled) (apart (record_block p) (record_block q) in_p in_q e)
+      one_among owner blocks apart p q good_p.owned good_q.owned good_p.spelled good_q.spelled in_p in_q e
 
   last_seq : (p : Record) (rs : List Record) → GoesOn view owner p rs → p.seq ≤ (last_after p rs).seq
   unfolding last_after
@@ -57,10 +57,10 @@ module _ (blocks : List (List ℕ)) (apart : NamesTellApart blocks) (view : View
       ap (λ (x : Record). x ∷ r ∷ rs) first ∙ ap (λ (l : List Record). q ∷ l) rest
 
   -- what is known of the last record of a chain that stands
-  last_of : (chain before : List Record) (last : Record) → IsChain view owner chain → Stand blocks chain → chain ≡ before ++ last ∷ [] → IsGood view owner last × Contains blocks (record_block last)
+  last_of : (chain before : List Record) (last : Record) → IsChain view owner chain → Stand blocks chain → chain ≡ before ++ last ∷ [] → IsGood view owner last × StandsAmong blocks last
   last_of chain before last c stand e =
       let within : Contains chain last = subst (λ (l : List Record). Contains l last) (sym e) (Contains-append_right before (last ∷ []) last (here last [])) in
-      (each (IsGood view owner) chain last (chain_good view owner chain c) within, each (λ (r : Record). Contains blocks (record_block r)) chain last stand within)
+      (each (IsGood view owner) chain last (chain_good view owner chain c) within, each (λ (r : Record). StandsAmong blocks r) chain last stand within)
 
   one_of_ends : (t : Stamp) (chain other : List Record) → IsChain view owner chain → IsChain view owner other → Stand blocks chain → Stand blocks other → EndsAt (Some t) chain → EndsAt (Some t) other → chain ≡ other
   one_of_ends t [] other cp cq sp sq ep eq = absurd (no_last ep.0 ep.1 ep.2)

@@ -7,15 +7,15 @@ use Rattle.ivy_base.specs.Naming.{head_key_of, owner_cmp}
 use Rattle.log_model.specs.View.{View}
 use Rattle.log_model.specs.Vector.{Stamp, Entry}
 use Rattle.log_model.specs.Record.{Record}
-use Rattle.log_model.specs.Spelling.{no_name, record_name}
+use Rattle.log_model.specs.Spelling.{no_name}
 use Rattle.log_model.specs.Rank.{front}
-use Rattle.log_model.specs.Chain.{IsGood, GoesOn, IsChain}
+use Rattle.log_model.specs.Chain.{IsGood, GoesOn, IsChain, LinkedFrom}
 use Rattle.log_model.specs.Closed.{log_of, IsAscending}
 use Rattle.log_model.proofs.Lists.{each, each_from, in_filter, from_filter}
 use Rattle.log_model.proofs.Opening.{same_owner}
 use Rattle.log_model.proofs.Part.{chain_good}
 use Rattle.log_model.proofs.Sets.{IsBefore, same_list}
-use Rattle.turn_model.specs.Known.{IsBacked, LinkedFrom}
+use Rattle.turn_model.specs.Known.{IsBacked}
 use Rattle.turn_model.specs.Turn.{Candidate, IsAtHand}
 use Rattle.turn_model.specs.Candidates.{IsCandidate, AreCandidates}
 use Rattle.candidate_laws.specs.Verified.{WereReceived, TakenIsVerified, OwnLogIsKnown}
@@ -23,15 +23,15 @@ use Rattle.candidate_laws.proofs.OneCandidate.{IsNewest, IsOne, cases_of}
 
 -- ---- a chain is linked by name
 
-linked_after : (view : View) (owner : PubKey) (p : Record) (rs : List Record) → GoesOn view owner p rs → LinkedFrom owner (p.seq + 1) (record_name p) rs
+linked_after : (view : View) (owner : PubKey) (p : Record) (rs : List Record) → GoesOn view owner p rs → LinkedFrom owner (p.seq + 1) p.name rs
 linked_after view owner p [] g = tt
 linked_after view owner p (r ∷ rs) g =
-    (g.0.owned, g.0.spelled, g.1.seq, g.1.prev, subst (λ (n : ℕ). LinkedFrom owner (n + 1) (record_name r) rs) g.1.seq (linked_after view owner r rs g.2))
+    (g.0.owned, g.0.spelled, g.1.seq, g.1.prev, subst (λ (n : ℕ). LinkedFrom owner (n + 1) r.name rs) g.1.seq (linked_after view owner r rs g.2))
 
 linked_chain : (view : View) (owner : PubKey) (chain : List Record) → IsChain view owner chain → LinkedFrom owner 1 no_name chain
 linked_chain view owner [] c = tt
 linked_chain view owner (r ∷ rs) c =
-    (c.0.owned, c.0.spelled, c.1.seq, c.1.prev, subst (λ (n : ℕ). LinkedFrom owner (n + 1) (record_name r) rs) c.1.seq (linked_after view owner r rs c.2))
+    (c.0.owned, c.0.spelled, c.1.seq, c.1.prev, subst (λ (n : ℕ). LinkedFrom owner (n + 1) r.name rs) c.1.seq (linked_after view owner r rs c.2))
 
 module _ (heads : Key → List Stamp) (blocks : List (List ℕ)) (view : View) (own : PubKey) (known : List Record) where
   -- a candidate's record is known, or of the chain of a head of another member's log

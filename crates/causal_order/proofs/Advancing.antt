@@ -15,7 +15,6 @@ use Rattle.log_model.specs.Vector.{Vector, Stamp, stamp_at, seq_of}
 use Rattle.log_model.specs.Record.{Record}
 use Rattle.log_model.specs.Rank as log
 use Rattle.log_model.specs.Rank.{rank, rank_cmp, record_cmp}
-use Rattle.log_model.specs.Spelling.{record_name}
 use Rattle.log_model.specs.Closed.{log_of, IsAscending}
 use Rattle.log_model.proofs.Lists.{here, there, in_cons, each_from, each}
 use Rattle.log_model.proofs.Opening.{same_owner}
@@ -137,7 +136,7 @@ behind_at [] ys r q = next_at r (q ∷ ys) 0 q (first_at q ys)
 behind_at (x ∷ xs) ys r q = next_at x (xs ++ r ∷ q ∷ ys) (suc (length xs)) q (behind_at xs ys r q)
 
 -- the next one, or else the last one's name, names the record
-named : (view : View) (owner : PubKey) (o : Option Stamp) (xs rest : List Record) (r : Record) (last : Key) → GoesOnFrom view owner o (xs ++ r ∷ rest) → IfSome (newest_name None (r ∷ rest)) (λ name. name ≡ last) → name_before rest last ≡ record_name r
+named : (view : View) (owner : PubKey) (o : Option Stamp) (xs rest : List Record) (r : Record) (last : Key) → GoesOnFrom view owner o (xs ++ r ∷ rest) → IfSome (newest_name None (r ∷ rest)) (λ name. name ≡ last) → name_before rest last ≡ r.name
 named view owner o xs [] r last g h = sym h
 named view owner o xs (q ∷ rest) r last g h = named_by_next view owner o (xs ++ r ∷ q ∷ rest) (length xs) (suc (length xs)) r q refl g (middle_at xs (q ∷ rest) r) (behind_at xs rest r q)
 

@@ -13,7 +13,6 @@ use Rattle.log_model.specs.Vector.{Vector, Stamp, stamp_at, reach, seq_of}
 use Rattle.ivy_base.specs.Naming.{head_key_of}
 use Rattle.causal_order.specs.declared.log.Log.{Log}
 use Rattle.log_model.specs.Record.{Record}
-use Rattle.log_model.specs.Spelling.{record_name}
 use Rattle.log_model.specs.Chain.{GoesOn}
 use Rattle.log_model.proofs.Part.{Numbered}
 use Rattle.causal_order.specs.Over.{GoesOnFrom}
@@ -93,27 +92,27 @@ number_at n [] i r h g = absurd (let w = g.within in omega (arith, w))
 number_at n (x ∷ rs) zero r h g = let e = h.0 in let s : x.seq ≡ r.seq = ap (λ (y : Record). y.seq) g.is in omega (arith, e, s)
 number_at n (x ∷ rs) (suc i) r h g = let e = number_at (n + 1) rs i r h.1 (rest_at x rs i r g) in omega (arith, e)
 
-named_after : (view : View) (owner : PubKey) (p : Record) (rs : List Record) (i : ℕ) (r q : Record) → GoesOn view owner p rs → IsAt (p ∷ rs) i r → IsAt (p ∷ rs) (suc i) q → q.prev ≡ record_name r
+named_after : (view : View) (owner : PubKey) (p : Record) (rs : List Record) (i : ℕ) (r q : Record) → GoesOn view owner p rs → IsAt (p ∷ rs) i r → IsAt (p ∷ rs) (suc i) q → q.prev ≡ r.name
 named_after view owner p [] i r q g h k = absurd (let w = k.within in omega (arith, w))
-named_after view owner p (x ∷ rs) zero r q g h k = sym (ap (λ (y : Record). y.prev) k.is) ∙ g.1.prev ∙ ap record_name h.is
+named_after view owner p (x ∷ rs) zero r q g h k = sym (ap (λ (y : Record). y.prev) k.is) ∙ g.1.prev ∙ ap (λ (x : Record). x.name) h.is
 named_after view owner p (x ∷ rs) (suc i) r q g h k = named_after view owner x rs i r q g.2 (rest_at p (x ∷ rs) i r h) (rest_at p (x ∷ rs) (suc i) q k)
 
-named_by : (view : View) (owner : PubKey) (o : Option Stamp) (rs : List Record) (i : ℕ) (r q : Record) → GoesOnFrom view owner o rs → IsAt rs i r → IsAt rs (suc i) q → q.prev ≡ record_name r
+named_by : (view : View) (owner : PubKey) (o : Option Stamp) (rs : List Record) (i : ℕ) (r q : Record) → GoesOnFrom view owner o rs → IsAt rs i r → IsAt rs (suc i) q → q.prev ≡ r.name
 named_by view owner o [] i r q g h k = absurd (let w = h.within in omega (arith, w))
 named_by view owner None (x ∷ rs) i r q g h k = named_after view owner x rs i r q g.2 h k
 named_by view owner (Some s) (x ∷ rs) i r q g h k = named_after view owner x rs i r q g.1 h k
 
-pub named_by_next : (view : View) (owner : PubKey) (o : Option Stamp) (rs : List Record) (i j : ℕ) (r q : Record) → j ≡ suc i → GoesOnFrom view owner o rs → IsAt rs i r → IsAt rs j q → q.prev ≡ record_name r
+pub named_by_next : (view : View) (owner : PubKey) (o : Option Stamp) (rs : List Record) (i j : ℕ) (r q : Record) → j ≡ suc i → GoesOnFrom view owner o rs → IsAt rs i r → IsAt rs j q → q.prev ≡ r.name
 named_by_next view owner o rs i j r q e g h k = named_by view owner o rs i r q g h (subst (λ (n : ℕ). IsAt rs n q) e k)
 
-pub newest_at : (o : Option Stamp) (rs : List Record) (i : ℕ) (r : Record) → length rs ≡ suc i → IsAt rs i r → newest_name o rs ≡ Some (record_name r)
+pub newest_at : (o : Option Stamp) (rs : List Record) (i : ℕ) (r : Record) → length rs ≡ suc i → IsAt rs i r → newest_name o rs ≡ Some r.name
 newest_at o [] i r e h = absurd (omega (arith, e))
-newest_at o (x ∷ []) zero r e h = ap (λ (y : Record). Some (record_name y)) h.is
+newest_at o (x ∷ []) zero r e h = ap (λ (y : Record). Some y.name) h.is
 newest_at o (x ∷ []) (suc i) r e h = absurd (omega (arith, e))
 newest_at o (x ∷ y ∷ rs) zero r e h = absurd (omega (arith, e))
 newest_at o (x ∷ y ∷ rs) (suc i) r e h = newest_at o (y ∷ rs) i r (omega (arith, e)) (rest_at x (y ∷ rs) i r h)
 
-pub newest_push : (o : Option Stamp) (rs : List Record) (r : Record) → newest_name o (rs ++ r ∷ []) ≡ Some (record_name r)
+pub newest_push : (o : Option Stamp) (rs : List Record) (r : Record) → newest_name o (rs ++ r ∷ []) ≡ Some r.name
 newest_push o rs r = newest_at o (rs ++ r ∷ []) (length rs) r (let e = length-append rs (r ∷ []) in omega (arith, e)) (last_at rs r)
 
 -- a key's test

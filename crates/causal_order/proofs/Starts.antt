@@ -12,7 +12,7 @@ use Rattle.log_model.specs.View.{View}
 use Rattle.log_model.specs.Vector.{Stamp, reach, Dominates}
 use Rattle.log_model.specs.Record.{Record}
 use Rattle.log_model.specs.Rank.{full_vector}
-use Rattle.log_model.specs.Spelling.{record_name, HasSpelling}
+use Rattle.log_model.specs.Spelling.{HasSpelling}
 use Rattle.log_model.specs.Chain.{IsGood, IsFirst, GoesOn}
 use Rattle.log_model.specs.Closed.{log_of}
 use Rattle.log_model.proofs.Lists.{each}
@@ -87,8 +87,8 @@ module _ (view : View) (s : Option Stamp) (owner : PubKey) (held : List kept.Rec
   pub newest_known : (r : Record) (b : Bool) → (IsTrue b ↔ Dominates (full_vector r) (full_vector (record_of (get_or held place d)))) → IsTrue b ↔ KnowsNewest (log_of owner (records_of held)) r
   newest_known r b k = knows_at (log_of owner (records_of held)) p.index p.last r p.count p.at b (subst (λ (x : Record). IsTrue b ↔ Dominates (full_vector r) (full_vector x)) newest_is k)
 
-  pub newest_named : (o : Option Stamp) → newest_name o (log_of owner (records_of held)) ≡ Some (record_name (record_of (get_or held place d)))
-  newest_named o = newest_at o (log_of owner (records_of held)) p.index p.last p.count p.at ∙ ap (λ (x : Record). Some (record_name x)) (sym newest_is)
+  pub newest_named : (o : Option Stamp) → newest_name o (log_of owner (records_of held)) ≡ Some ((record_of (get_or held place d)).name)
+  newest_named o = newest_at o (log_of owner (records_of held)) p.index p.last p.count p.at ∙ ap (λ (x : Record). Some x.name) (sym newest_is)
 
 -- one record more, of the log or not
 pub places_more_held : (held : List kept.Record) (places : List ℕ) (owner : PubKey) (i : ℕ) (d : kept.Record) → i < length held
@@ -125,9 +125,9 @@ places_passed held places owner i d within h other = places_more_held held place
     by true e = absurd (other (same_owner owner (get_or held i d).owner e))
     by false e = e
 
-pub tip_is : (o : Option Stamp) (held : List kept.Record) (rs : List Record) (place : ℕ) (d : kept.Record) → LastAt (records_of held) rs place → newest_name o rs ≡ Some (record_name (record_of (get_or held place d)))
+pub tip_is : (o : Option Stamp) (held : List kept.Record) (rs : List Record) (place : ℕ) (d : kept.Record) → LastAt (records_of held) rs place → newest_name o rs ≡ Some ((record_of (get_or held place d)).name)
 tip_is o held rs place d p = newest_at o rs p.index p.last p.count p.at
-    ∙ ap (λ (x : Record). Some (record_name x)) (one_at (records_of held) place p.last (record_of (get_or held place d)) p.placed (held_at held place d (held_within held place p.last p.placed)))
+    ∙ ap (λ (x : Record). Some x.name) (one_at (records_of held) place p.last (record_of (get_or held place d)) p.placed (held_at held place d (held_within held place p.last p.placed)))
 
 -- ---- the chain's records of greater numbers
 
@@ -190,7 +190,7 @@ none_new n (x ∷ left) h = absurd (omega (arith, h))
 pub names_some : (s : Option Stamp) (rs : List Record) (tip : Key) (r : Record) → Some tip ≡ newest_name s rs → (r.prev ≡ tip) ↔ NamesNewest s rs r
 names_some None [] tip r e = cc
 names_some (Some s) [] tip r e = let same : tip ≡ s.name = cc in (λ p. p ∙ same, λ p. p ∙ sym same)
-names_some s (x ∷ []) tip r e = let same : tip ≡ record_name x = cc in (λ p. p ∙ same, λ p. p ∙ sym same)
+names_some s (x ∷ []) tip r e = let same : tip ≡ x.name = cc in (λ p. p ∙ same, λ p. p ∙ sym same)
 names_some s (x ∷ y ∷ rs) tip r e = names_some s (y ∷ rs) tip r e
 
 pub joins_none : (s : Option Stamp) (rs : List Record) (r : Record) → None ≡ newest_name s rs → Joins s rs r

@@ -9,7 +9,6 @@ use Rattle.log_model.specs.View.{View}
 use Rattle.log_model.specs.Vector.{Stamp, Vector, stamp_at, seq_of}
 use Rattle.log_model.specs.Record.{Record}
 use Rattle.log_model.specs.Rank.{Rank, rank, rank_cmp}
-use Rattle.log_model.specs.Spelling.{record_name}
 use Rattle.log_model.specs.Closed.{log_of}
 use Rattle.version_vectors.specs.declared.rank.Rank as kept_rank
 use Rattle.version_vectors.specs.Ranks.{rank_of}
@@ -40,7 +39,7 @@ AreAt known (i ∷ places) (r ∷ rs) = IsAt known i r × AreAt known places rs
 -- the name of the newest of the records, and where there are none that of the stamp
 abbrev pub newest_name : Option Stamp → List Record → Option Key
 newest_name s [] = option_map (λ t. t.name) s
-newest_name s (r ∷ []) = Some (record_name r)
+newest_name s (r ∷ []) = Some r.name
 newest_name s (r ∷ q ∷ rs) = newest_name s (q ∷ rs)
 
 abbrev pub first_rank : List Record → Option Rank

@@ -6,7 +6,6 @@ use Rattle.log_model.specs.View.{View}
 use Rattle.log_model.specs.Vector.{Stamp, Vector, Dominates}
 use Rattle.log_model.specs.Record.{Record}
 use Rattle.log_model.specs.Rank.{full_vector}
-use Rattle.log_model.specs.Spelling.{record_name}
 use Rattle.log_model.specs.Closed.{log_of}
 use Rattle.log_records.specs.Records.{records_of}
 use Rattle.log_records.specs.Batches.{owner_of}
@@ -23,7 +22,7 @@ Names (Some s) r = r.prev ≡ s.name
 -- the record names the last of these, and where there are none the stamp's
 abbrev pub NamesNewest : Option Stamp → List Record → Record → Type 0
 NamesNewest s [] r = Names s r
-NamesNewest s (p ∷ []) r = r.prev ≡ record_name p
+NamesNewest s (p ∷ []) r = r.prev ≡ p.name
 NamesNewest s (p ∷ q ∷ rs) r = NamesNewest s (q ∷ rs) r
 
 -- the record knows all that the last of these does

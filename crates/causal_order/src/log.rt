@@ -4,7 +4,6 @@ ghost use Rattle.std.specs.Prelude.{◌≡◌, ◌+◌, ◌<◌, ◌≤◌, ◌^
 ghost use Rattle.std.specs.List.{AllByRecursion};
 ghost use Rattle.log_model.specs.Rank.{own_entry};
 ghost use Rattle.log_model.specs.Record.{Record as Seen};
-ghost use Rattle.log_model.specs.Spelling.{record_name};
 ghost use Rattle.log_model.specs.Closed.{log_of};
 ghost use Rattle.version_vectors.specs.Entries.{stamped};
 ghost use Rattle.log_records.specs.Records.{record_of};
@@ -46,7 +45,7 @@ impl Log {
         requires kept { IsKept base.now.front.now (known_of base.now taken.now) self.now }
         requires chain { IsChainOver base.now.view.now base.now.front.now self.now.owner (log_of self.now.owner (known_of base.now taken.now)) }
         requires within { i < length self.now.places.items }
-        ensures { (r : Seen) → IsAt (log_of self.now.owner (known_of base.now taken.now)) i r → result ≡ Some (record_name r) }
+        ensures { (r : Seen) → IsAt (log_of self.now.owner (known_of base.now taken.now)) i r → result ≡ Some r.name }
     {
         if i + 1 < self.places.len() {
             Some(record_at(base.held, taken, self.places[i + 1]).prev)
@@ -112,7 +111,7 @@ impl Log {
         requires kept { IsKept base.now.front.now (known_of base.now taken.now) self.now }
         requires chain { IsChainOver base.now.view.now base.now.front.now self.now.owner (log_of self.now.owner (known_of base.now taken.now)) }
         requires within { i < length self.now.places.items }
-        ensures { (r : Seen) → IsAt (log_of self.now.owner (known_of base.now taken.now)) i r → IsTrue result ↔ (record_name r ≡ name.now) }
+        ensures { (r : Seen) → IsAt (log_of self.now.owner (known_of base.now taken.now)) i r → IsTrue result ↔ (r.name ≡ name.now) }
     {
         match self.name_at(base, taken, i) {
             Some(own) => own == *name,

@@ -4,7 +4,9 @@ use Rattle.std.specs.Prelude.{slice_index_or}
 use Rattle.std.specs.List.{AllByRecursion}
 use Rattle.ivy_base.specs.declared.key.PubKey.{PubKey}
 use Rattle.log_model.specs.Record.{Record}
-use Rattle.log_model.specs.Spelling.{IsMoment, record_block}
+use Rattle.log_model.specs.Spelling.{IsMoment}
+use Rattle.log_model.proofs.Standing.{stands_among_more}
+use Rattle.log_model.specs.Standing.{StandsAmong}
 use Rattle.candidate_laws.specs.Verified.{AreAmong}
 use Rattle.play_model.specs.Blocks.{Met, meets}
 use Rattle.play_model.specs.World.{World, Participant}
@@ -16,8 +18,8 @@ use Rattle.ivy_world.specs.Worlds.{IsWorld}
 
 pub others_go_on : (found more : List (List ℕ)) (own : PubKey) (known : List Record) → AreAmong found more → OthersStand found own known → OthersStand more own known
 others_go_on found more own known grows h =
-    each_weaker (λ r. (r.owner ≡ own → ⊥) → Contains found (record_block r)) (λ r. (r.owner ≡ own → ⊥) → Contains more (record_block r)) known
-    (λ r stands other. grows (record_block r) (stands other)) h
+    each_weaker (λ r. (r.owner ≡ own → ⊥) → StandsAmong found r) (λ r. (r.owner ≡ own → ⊥) → StandsAmong more r) known
+    (λ r stands other. stands_among_more found more r grows (stands other)) h
 
 abbrev pub Stands : List (List ℕ) → Participant → Type 0
 Stands found p = OthersStand found p.own p.known

@@ -6,9 +6,9 @@ use Rattle.ivy_base.specs.declared.key.PubKey.{PubKey}
 use Rattle.ivy_base.specs.declared.operation.Moment.{Moment}
 use Rattle.log_model.specs.Rank.{front}
 use Rattle.log_model.specs.Record.{Record}
-use Rattle.log_model.specs.Spelling.{record_block}
 use Rattle.log_model.specs.Vector.{Stamp, Vector}
 use Rattle.log_model.specs.View.{View}
+use Rattle.log_model.specs.Standing.{blocks_of}
 use Rattle.nfs_model.specs.declared.replies.Reply.{Reply}
 use Rattle.play_model.specs.Blocks.{newest_stamp}
 use Rattle.turn_model.specs.Turn as turn
@@ -46,7 +46,7 @@ module _ (view : View) (own : PubKey) (asked : turn.Asked) (now : Moment) (t wri
       by None h = tt
       by (Some b) h = let past : own_seq own t < b.seq = h in omega (arith, past)
 
-  pub has_answered : (after : List Record) (given : Turned) (sf f : Vector) → given.reply ≡ reply → after ≡ t ++ written → given.blocks.items ≡ map record_block written
+  pub has_answered : (after : List Record) (given : Turned) (sf f : Vector) → given.reply ≡ reply → after ≡ t ++ written → given.blocks.items ≡ blocks_of written
       → option_map stamp_of given.newest ≡ newest_stamp written → sf ≡ front t → f ≡ with_newest own (option_map stamp_of given.newest) sf → HasAnswered view own asked now t after given f
   has_answered after given sf f same behind blocks newest set_front with_it = record {
     written = written;

@@ -17,10 +17,10 @@ use Rattle.tree_model.proofs.Keys.{keys_total, exact_keys, same_key_is, same_key
 use Rattle.tree_model.proofs.Sound.{both_true, from_test}
 use Rattle.log_model.specs.Record.{Record}
 use Rattle.log_model.specs.Rank.{own_entry, full_vector, front}
-use Rattle.log_model.specs.Spelling.{record_name}
 use Rattle.log_model.specs.Vector.{Stamp, Vector, stamp_at, reach, later, later_or, with_entry, join, without_log}
 use Rattle.log_model.proofs.Vectors.{stamp_at-with_entry}
 use Rattle.log_model.proofs.Weights.{Sorted, sorted_with_entry, sorted_front}
+use Rattle.log_model.specs.Spelling.{new_record}
 use Rattle.play_model.specs.Blocks.{newest_stamp}
 use Rattle.turn_laws.proofs.Starts.{stamp_at-without_log, sorted_without_log}
 use Rattle.turn_model.specs.Turn.{appended, linked, own_seq, own_name}
@@ -139,8 +139,8 @@ module _ (own : PubKey) (f : Vector) (sorted : Sorted f) where
       → IsOver (fold join v (map full_vector (linked own cited now n prev ops))) (newest_or o (linked own cited now n prev ops))
   all_more v o now n prev [] after over = over
   all_more v o now n prev (op ∷ ops) after over =
-      let r : Record = record { owner = own; seq = n; prev = prev; vector = cited; moment = now; op = op } in
-      all_more (join v (full_vector r)) (Some (own_entry r).1) now (n + 1) (record_name r) ops (omega arith) (one_more v o (own_entry r).1 after over)
+      let r : Record = new_record own n prev cited now op in
+      all_more (join v (full_vector r)) (Some (own_entry r).1) now (n + 1) r.name ops (omega arith) (one_more v o (own_entry r).1 after over)
 
   over_is : (v : Vector) (s : Stamp) → IsOver v (Some s) → v ≡ put key_cmp log s f
   over_is v s over =
@@ -156,8 +156,8 @@ module _ (own : PubKey) (f : Vector) (sorted : Sorted f) where
       → fold join f (map full_vector (linked own cited now n prev ops)) ≡ with_newest own (newest_stamp (linked own cited now n prev ops)) f
   joined_front now n prev [] after = refl
   joined_front now n prev (op ∷ ops) after =
-      let r : Record = record { owner = own; seq = n; prev = prev; vector = cited; moment = now; op = op } in
-      let rs : List Record = linked own cited now (n + 1) (record_name r) ops in
+      let r : Record = new_record own n prev cited now op in
+      let rs : List Record = linked own cited now (n + 1) r.name ops in
       let newest = some_newest r rs in
       let over = all_more f (stamp_at f log) now n prev (op ∷ ops) after is_over_itself in
       over_is (fold join f (map full_vector (r ∷ rs))) newest.0

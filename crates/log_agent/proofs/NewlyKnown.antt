@@ -7,11 +7,12 @@ use Rattle.log_model.specs.Closed.{IsClosed, IsClosedPart}
 use Rattle.log_model.specs.Rank.{front}
 use Rattle.log_model.specs.Record.{Record}
 use Rattle.log_model.specs.Replay.{in_order}
-use Rattle.log_model.specs.Spelling.{HasSpelling, record_block}
+use Rattle.log_model.specs.Spelling.{HasSpelling}
 use Rattle.log_model.specs.Vector.{Vector, join}
 use Rattle.log_model.specs.View.{View}
 use Rattle.log_model.proofs.Lists.{each, each_from}
 use Rattle.log_model.proofs.Sets.{in_order_in}
+use Rattle.log_model.specs.Standing.{StandsAmong}
 use Rattle.play_model.specs.Blocks.{Heads}
 use Rattle.set_taking.specs.Taking.{AreNewTaken}
 use Rattle.turn_model.specs.Turn.{IsAtHand}
@@ -34,7 +35,7 @@ module _ (blocks : List (List ℕ)) (heads : Heads) (view : View) (own : PubKey)
       ∙ sym (union_front view known n new.largest.closed among new.ascending new.beyond) ∙ sym (ap front merged)
 
   abbrev Stands : Record → Type 0
-  Stands r = (r.owner ≡ own → ⊥) → Contains blocks (record_block r)
+  Stands r = (r.owner ≡ own → ⊥) → StandsAmong blocks r
 
   pub has_taken : HasTaken blocks heads view own known after f
   has_taken = record {

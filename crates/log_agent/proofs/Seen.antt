@@ -7,10 +7,11 @@ use Rattle.ivy_base.specs.declared.key.Key.{Key}
 use Rattle.ivy_base.specs.Naming.{name}
 use Rattle.log_model.specs.Rank.{own_entry}
 use Rattle.log_model.specs.Record as log
-use Rattle.log_model.specs.Spelling.{record_block}
 use Rattle.log_model.specs.Vector.{Stamp}
+use Rattle.log_model.specs.Standing.{blocks_of}
 use Rattle.log_records.specs.declared.record.Record.{Record}
 use Rattle.log_records.specs.Records.{record_of, records_of}
+use Rattle.log_records.proofs.LastBlock.{last_named}
 use Rattle.play_model.specs.Blocks.{newest_stamp}
 
 pub filter_seen : (test : log.Record → Bool) (rs : List Record) → records_of (filter (λ r. test (record_of r)) rs) ≡ filter test (records_of rs)
@@ -42,24 +43,8 @@ newest_is rs o e = sym (newest_last (records_of rs) ∙ ap (λ p. option_map (λ
     twice None = refl
     twice (Some r) = refl
 
--- the last block is the last record's
-last_block : (rs : List Record) (bs : List (List ℕ)) → bs ≡ map record_block (records_of rs) → slice_get bs (length bs - 1) ≡ option_map (λ r. record_block (record_of r)) (slice_get rs (length rs - 1))
-last_block rs bs e =
-    ap (λ (l : List (List ℕ)). slice_get l (length l - 1)) e
-    ∙ ap (λ k. slice_get (map record_block (records_of rs)) (k - 1)) (length-map (records_of rs) record_block)
-    ∙ slice_get-map record_block (records_of rs) (length (records_of rs) - 1)
-    ∙ ap (λ p. option_map record_block p) (seen_last rs) ∙ twice (slice_get rs (length rs - 1))
-  where
-    twice : (p : Option Record) → option_map record_block (option_map record_of p) ≡ option_map (λ r. record_block (record_of r)) p
-    twice None = refl
-    twice (Some r) = refl
-
-same_block : (a b : List ℕ) → Some a ≡ Some b → a ≡ b
-same_block a b e = cc
-
 -- the newest one's stamp, by the last record and its block's name
 pub newest_seen : (rs : List Record) (bs : List (List ℕ)) (r : Record) (b : List ℕ) (k : Key) → Some r ≡ slice_get rs (length rs - 1) → Some b ≡ slice_get bs (length bs - 1)
-    → bs ≡ map record_block (records_of rs) → k ≡ name b → Some (let t : Stamp = record { seq = r.seq; name = k } in t) ≡ newest_stamp (records_of rs)
+    → bs ≡ blocks_of (records_of rs) → k ≡ name b → Some (let t : Stamp = record { seq = r.seq; name = k } in t) ≡ newest_stamp (records_of rs)
 newest_seen rs bs r b k e d blocks named =
-    let is : b ≡ record_block (record_of r) = same_block b (record_block (record_of r)) (d ∙ last_block rs bs blocks ∙ sym (ap (λ p. option_map (λ r. record_block (record_of r)) p) e)) in
-    ap (λ (x : Key). Some (let t : Stamp = record { seq = r.seq; name = x } in t)) (named ∙ ap name is) ∙ newest_is rs (Some r) e
+    ap (λ (x : Key). Some (let t : Stamp = record { seq = r.seq; name = x } in t)) (named ∙ last_named rs bs r b e d blocks) ∙ newest_is rs (Some r) e

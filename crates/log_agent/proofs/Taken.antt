@@ -9,12 +9,13 @@ use Rattle.ivy_base.specs.Naming.{head_key_of, owner_cmp}
 use Rattle.log_model.specs.Closed.{log_of, IsClosed}
 use Rattle.log_model.specs.Rank.{front}
 use Rattle.log_model.specs.Record.{Record}
-use Rattle.log_model.specs.Spelling.{IsMoment, record_block}
+use Rattle.log_model.specs.Spelling.{IsMoment}
 use Rattle.log_model.specs.Vector.{Vector, reach, seq_of}
 use Rattle.log_model.specs.View.{View, IsView}
 use Rattle.log_model.proofs.Later.{EndsWith, last_stands}
 use Rattle.log_model.proofs.Lists.{each, each_from, each_append, in_filter, from_filter, in_nothing}
 use Rattle.log_model.proofs.Owners.{owner_itself}
+use Rattle.log_model.specs.Standing.{StandsAmong, blocks_of}
 use Rattle.nfs_model.specs.Arguments.{ArgumentsFit}
 use Rattle.turn_model.specs.Turn as turn
 use Rattle.turn_model.specs.Turn.{own_seq}
@@ -77,8 +78,8 @@ module _ (blocks : List (List ℕ)) (heads : Heads) (view : View) (own : PubKey)
 
     pub all_stand : OthersStand blocks own after
     all_stand = subst (λ (l : List Record). OthersStand blocks own l) (sym answered.behind)
-        (each_append (λ r. (r.owner ≡ own → ⊥) → Contains blocks (record_block r)) t answered.written taken.stand
-        (each_from (λ r. (r.owner ≡ own → ⊥) → Contains blocks (record_block r)) answered.written (λ r c other. absurd (other (each (IsOwnBeyond own (own_seq own known)) answered.written r own_written c).0))))
+        (each_append (λ r. (r.owner ≡ own → ⊥) → StandsAmong blocks r) t answered.written taken.stand
+        (each_from (λ r. (r.owner ≡ own → ⊥) → StandsAmong blocks r) answered.written (λ r c other. absurd (other (each (IsOwnBeyond own (own_seq own known)) answered.written r own_written c).0))))
 
     begun_after : log_of own after ≢ []
     begun_after none =
@@ -104,6 +105,6 @@ module _ (blocks : List (List ℕ)) (heads : Heads) (view : View) (own : PubKey)
       is_turn = record { taken = t; largest = taken.largest; by_set = sym answered.turn };
       after = refl;
       reply = refl;
-      blocks_are = answered.blocks ∙ ap (λ (l : List Record). map record_block l) beyond_is;
+      blocks_are = answered.blocks ∙ ap (λ (l : List Record). blocks_of l) beyond_is;
       newest = answered.newest ∙ ap newest_stamp beyond_is;
     }

@@ -14,11 +14,11 @@ use Rattle.ivy_base.specs.Naming.{head_key_of, owner_cmp}
 use Rattle.log_model.specs.Record.{Record}
 use Rattle.log_model.specs.Rank.{front}
 use Rattle.log_model.specs.Replay.{replay}
-use Rattle.log_model.specs.Spelling.{record_name}
 use Rattle.log_model.specs.Vector.{Vector, without_log}
 use Rattle.log_model.proofs.Lists.{each, each_from}
 use Rattle.log_model.proofs.Opening.{same_owner}
 use Rattle.log_model.proofs.Owners.{owner_itself}
+use Rattle.log_model.specs.Spelling.{new_record}
 use Rattle.nfs_model.specs.Changing.{Plan, Refuse, Nothing, Operations, plan}
 use Rattle.play_model.specs.Calls.{own_beyond}
 use Rattle.turn_model.specs.Turn.{Agent, Asked, Turned, is_changing, most_records, own_seq, own_name, linked, appended, by_plan, turn_on}
@@ -32,7 +32,7 @@ IsOwnBeyond own n r = (r.owner ≡ own) × (n < r.seq)
 linked_beyond : (own : PubKey) (v : Vector) (now : Moment) (n seq : ℕ) (prev : Key) (ops : List Op) → n < seq → AllByRecursion (IsOwnBeyond own n) (linked own v now seq prev ops)
 linked_beyond own v now n seq prev [] lt = tt
 linked_beyond own v now n seq prev (op ∷ ops) lt =
-    ((refl, lt), linked_beyond own v now n (seq + 1) (record_name (record { owner = own; seq = seq; prev = prev; vector = v; moment = now; op = op })) ops (omega (arith, lt)))
+    ((refl, lt), linked_beyond own v now n (seq + 1) ((new_record own seq prev v now op).name) ops (omega (arith, lt)))
 
 module _ (a : Agent) (s : List Record) (asked : Asked) (now : Moment) where
   abbrev Appends : Turned → Type 0

@@ -7,9 +7,9 @@ use Rattle.ivy_base.specs.Naming.{head_key_of, key_cmp}
 use Rattle.log_model.specs.Closed.{IsClosedPart}
 use Rattle.log_model.specs.Rank.{front}
 use Rattle.log_model.specs.Record.{Record}
-use Rattle.log_model.specs.Spelling.{record_block}
 use Rattle.log_model.specs.Vector.{Stamp, Vector, seq_of}
 use Rattle.log_model.specs.View.{View}
+use Rattle.log_model.specs.Standing.{blocks_of}
 use Rattle.turn_model.specs.Candidates.{AreCandidates}
 use Rattle.turn_model.specs.Turn as turn
 use Rattle.turn_model.specs.Turn.{Candidate, IsAtHand, turn_on}
@@ -41,6 +41,6 @@ pub record HasAnswered (view : View) (own : PubKey) (asked : turn.Asked) (now : 
   pub written : List Record
   pub turn : turn_on (agent_in view own) taken asked now ≡ record { reply = given.reply; set = after }
   pub behind : after ≡ taken ++ written
-  pub blocks : given.blocks.items ≡ map record_block written
+  pub blocks : given.blocks.items ≡ blocks_of written
   pub newest : option_map stamp_of given.newest ≡ newest_stamp written
   pub fronted : f ≡ front after

@@ -2,9 +2,9 @@
 use Rattle.std.specs.Prelude.{◌≡◌, ℕ, List, map, option_map}
 use Rattle.ivy_base.specs.declared.operation.Moment.{Moment}
 use Rattle.log_model.specs.Rank.{front}
-use Rattle.log_model.specs.Spelling.{record_block}
 use Rattle.log_model.specs.Vector.{Stamp}
 use Rattle.log_model.specs.View.{View}
+use Rattle.log_model.specs.Standing.{blocks_of}
 use Rattle.log_records.specs.Heads.{stamp}
 use Rattle.turn_model.specs.Candidates.{AreCandidates}
 use Rattle.turn_model.specs.Turn as turn
@@ -28,5 +28,5 @@ pub record TakesTurn (blocks : List (List ℕ)) (heads : Heads) (view : View) (a
   pub is_turn : IsTurn (agent_of old view) old.known candidates asked now turned
   pub after : new ≡ record old { known = turned.set; held = turned.set }
   pub reply : given.reply ≡ turned.reply
-  pub blocks_are : given.blocks.items ≡ map record_block (own_beyond old.own (own_seq old.own old.known) turned.set)
+  pub blocks_are : given.blocks.items ≡ blocks_of (own_beyond old.own (own_seq old.own old.known) turned.set)
   pub newest : option_map stamp_of given.newest ≡ newest_stamp (own_beyond old.own (own_seq old.own old.known) turned.set)

@@ -2,8 +2,9 @@
 
 ghost use Rattle.std.specs.Prelude.{◌≡◌, ◌∷◌, [], map, Contains, IfOk, IsSomeAnd, IfSome, None, OnErr, OnOk, Option, Some, option_map};
 ghost use Rattle.log_model.specs.Chain.{opening};
-ghost use Rattle.log_model.specs.Spelling.{IsMoment, record_block, record_name};
+ghost use Rattle.log_model.specs.Spelling.{IsMoment};
 ghost use Rattle.log_model.specs.Vector.{Stamp};
+ghost use Rattle.log_model.specs.Standing.{opening_block};
 ghost use Rattle.log_records.specs.Records.{record_of, records_of};
 ghost use Rattle.nfs_model.specs.Arguments.{ArgumentsFit};
 ghost use Rattle.play_model.specs.World.{newcomer};
@@ -79,7 +80,7 @@ impl Agent {
     ) -> Result<(Agent, Block), Memory>
         requires { IsMoment now }
         ensures made { IfOk result (λ made. made.0 ≡ newcomer name own now) }
-        ensures block { IfOk result (λ made. made.1 ≡ record_block (opening own now)) }
+        ensures block { IfOk result (λ made. made.1 ≡ opening_block own now) }
     {
         let first = opening(alloc, own, now);
         let block = Block::of(first.write(alloc)?);

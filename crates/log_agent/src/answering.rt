@@ -3,7 +3,8 @@
 ghost use Rattle.std.specs.Prelude.{◌≡◌, ◌≢◌, ◌≤◌, [], map, option_map, IfOk, IfSome, OnErr};
 ghost use Rattle.log_model.specs.Closed.{IsClosed, log_of};
 ghost use Rattle.log_model.specs.Rank.{front};
-ghost use Rattle.log_model.specs.Spelling.{IsMoment, record_block};
+ghost use Rattle.log_model.specs.Spelling.{IsMoment};
+ghost use Rattle.log_model.specs.Standing.{blocks_of};
 ghost use Rattle.log_records.specs.Records.{records_of};
 ghost use Rattle.nfs_model.specs.Arguments.{ArgumentsFit};
 ghost use Rattle.play_model.specs.Blocks.{newest_stamp};
@@ -67,7 +68,7 @@ pub fn answer(
 
 /// The last of the records, whose blocks these are, by its number and its name.
 fn newest_of(records: &[Record], blocks: &[Block]) -> Option<Before>
-    requires { blocks.now ≡ map record_block (records_of records.now) }
+    requires { blocks.now ≡ blocks_of (records_of records.now) }
     ensures { option_map stamp_of result ≡ newest_stamp (records_of records.now) }
 {
     let record = records.last()?;

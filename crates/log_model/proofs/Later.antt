@@ -17,7 +17,7 @@ use Rattle.tree_model.specs.Tree.{Tree}
 use Rattle.log_model.specs.View.{View, is_member, is_named}
 use Rattle.log_model.specs.Vector.{Stamp, Vector, stamp_at, reach, seq_of, Dominates, later_or, with_entry, weight_of}
 use Rattle.log_model.specs.Record.{Record}
-use Rattle.log_model.specs.Spelling.{record_block, record_name, IsKey, IsMoment}
+use Rattle.log_model.specs.Spelling.{record_block, new_record, HasSpelling, IsKey, IsMoment}
 use Rattle.log_model.specs.Rank.{own_entry, full_vector, weight}
 use Rattle.log_model.specs.Chain.{IsGood, Follows, GoesOn, IsChain, MayBeWritten, AllMayBeWritten}
 use Rattle.log_model.specs.Closed.{log_of, IsAscending, IsCause, HasCauses, IsClosed}
@@ -82,14 +82,14 @@ pub record IsOver (view : View) (s : List Record) (own : PubKey) (v : Vector) (p
   pub covers : AllByRecursion (λ q. Dominates (with_entry v (own_entry p)) (full_vector q)) s
   pub owned : p.owner ≡ own
   pub began : 1 ≤ p.seq
-  pub named_well : IsKey (record_name p)
+  pub named_well : IsKey p.name
 
 abbrev pub next_record : PubKey → Vector → Moment → Record → Op → Record
-next_record own v now p op = record { owner = own; seq = p.seq + 1; prev = record_name p; vector = v; moment = now; op = op }
+next_record own v now p op = new_record own (p.seq + 1) p.name v now op
 
 -- names are well-formed keys: a fact of the digest alone
-pub name_is_key : (r : Record) → IsKey (record_name r)
-name_is_key r = record { size = length-name (record_block r); each = bytes-name (record_block r) }
+pub name_is_key : (r : Record) → HasSpelling r → IsKey r.name
+name_is_key r h = subst IsKey (sym h.named) (record { size = length-name (record_block r); each = bytes-name (record_block r) })
 
 reach_chosen : (b : Bool) (t : Stamp) (o : Option Stamp) → reach (cond b (Some t) o) ≡ cond b t.seq (reach o)
 reach_chosen true t o = refl
@@ -160,7 +160,7 @@ goes view s own v p now op closed member moment ends over may = record {
     covers = each_append (λ q. Dominates (with_entry v (own_entry r)) (full_vector q)) s (r ∷ []) (each_from (λ q. Dominates (with_entry v (own_entry r)) (full_vector q)) s (λ q c. known q c)) (λ log. omega arith, tt);
     owned = refl;
     began = omega arith;
-    named_well = name_is_key r;
+    named_well = name_is_key r good.spelled;
   };
   above = light;
 }
@@ -197,6 +197,7 @@ goes view s own v p now op closed member moment ends over may = record {
         operation = may.fits;
         ends_first = (λ e. let b = over.began in absurd (omega arith), λ e. absurd (may.no_end e));
         first_alone = λ e. let b = over.began in absurd (omega arith);
+        named = refl;
       };
       number = may.number;
       named = over.named;

@@ -9,3 +9,4 @@ pub mod Part
 pub mod Sets
 pub mod Later
 pub mod Numbers
+pub mod Standing

@@ -28,6 +28,7 @@ opening_has_spelling own now fits = record {
   operation = tt;
   ends_first = (λ _. tt, λ _. refl);
   first_alone = λ _. (refl, refl);
+  named = refl;
 }
 
 kept_chain : (view : View) (owner own : PubKey) (now : Moment) → IsMoment now → (b : Bool) → eq_by_cmp owner_cmp owner own ≡ b → IsChain view owner (cond b (opening own now ∷ []) [])

@@ -1,6 +1,7 @@
 -- A log as its reader accepts it under a view: records that are linked by name from the first on.
 use Rattle.std.specs.Prelude.{◌≡◌, ℕ, ◌+◌, ◌≤◌, List, [], ◌∷◌, IsTrue}
 use Rattle.std.specs.List.{AllByRecursion}
+use Rattle.ivy_base.specs.declared.key.Key.{Key}
 use Rattle.ivy_base.specs.declared.key.PubKey.{PubKey}
 use Rattle.ivy_base.specs.declared.operation.Moment.{Moment}
 use Rattle.ivy_base.specs.declared.operation.Op.{Op}
@@ -9,12 +10,12 @@ use Rattle.ivy_base.specs.Naming.{inode_number}
 use Rattle.log_model.specs.View.{View, is_named}
 use Rattle.log_model.specs.Vector.{Dominates}
 use Rattle.log_model.specs.Record.{Record}
-use Rattle.log_model.specs.Spelling.{record_name, no_name, HasSpelling, OperationFits, IsEndOp}
+use Rattle.log_model.specs.Spelling.{new_record, no_name, HasSpelling, OperationFits, IsEndOp}
 use Rattle.log_model.specs.Rank.{full_vector}
 
 -- the first record of a log, which its owner makes with it
 abbrev pub opening : PubKey → Moment → Record
-opening own now = record { owner = own; seq = 1; prev = no_name; vector = []; moment = now; op = op.End }
+opening own now = new_record own 1 no_name [] now op.End
 
 -- an inode's number is the one that its record makes
 abbrev pub HasMadeNumber : PubKey → ℕ → Op → Type 0
@@ -50,7 +51,7 @@ pub record IsFirst (r : Record) : Type 0 where
 -- r is numbered next after p, names it, and knows all that p does
 pub record Follows (p r : Record) : Type 0 where
   pub seq : r.seq ≡ p.seq + 1
-  pub prev : r.prev ≡ record_name p
+  pub prev : r.prev ≡ p.name
   pub grows : Dominates (full_vector r) (full_vector p)
 
 -- after p, each record is good and follows the one before it
@@ -62,3 +63,8 @@ GoesOn view owner p (r ∷ rs) = IsGood view owner r × Follows p r × GoesOn vi
 abbrev pub IsChain : View → PubKey → List Record → Type 0
 IsChain view owner [] = Unit {0}
 IsChain view owner (r ∷ rs) = IsGood view owner r × IsFirst r × GoesOn view owner r rs
+
+-- the owner's records from that number on, the first of which names that one, and each the one before it, whatever logs their vectors name
+abbrev pub LinkedFrom : PubKey → ℕ → Key → List Record → Type 0
+LinkedFrom owner seq prev [] = Unit {0}
+LinkedFrom owner seq prev (r ∷ rs) = (r.owner ≡ owner) × HasSpelling r × (r.seq ≡ seq) × (r.prev ≡ prev) × LinkedFrom owner (seq + 1) r.name rs

@@ -6,7 +6,8 @@ use Rattle.ivy_base.specs.declared.operation.Moment.{Moment}
 use Rattle.ivy_base.specs.declared.operation.Op.{Op}
 use Rattle.log_model.specs.Vector.{Vector}
 
--- whose log it is of, its number there from 1 on, the name of the record before it, what its writer held of the other logs, and what it does at which moment
+-- whose log it is of, its number there from 1 on, the name of the record before it, what its writer held of the other logs, and what it does at which
+-- moment; and its own name, which is that of its block
 pub record Record : Type 0 where
   pub owner : PubKey
   pub seq : ℕ
@@ -14,3 +15,4 @@ pub record Record : Type 0 where
   pub vector : Vector
   pub moment : Moment
   pub op : Op
+  pub name : Key

@@ -12,7 +12,7 @@ use Rattle.ivy_base.specs.declared.operation.Op.{Op}
 use Rattle.ivy_base.specs.declared.operation.Op.TheVariants as op
 use Rattle.ivy_base.specs.Naming.{name, key_cmp, head_key_of, IsFileName}
 use Rattle.wire_model.specs.Xdr.{word, double_word, opaque, optional, array, moment}
-use Rattle.log_model.specs.Vector.{Entry, Stamp, stamp_at}
+use Rattle.log_model.specs.Vector.{Entry, Vector, Stamp, stamp_at}
 use Rattle.log_model.specs.Record.{Record}
 
 -- a kind as an inode's record has it (RFC 1813, section 2.5, ftype3)
@@ -51,13 +51,25 @@ abbrev pub vector_entry : Entry → List ℕ
 vector_entry e = e.0.0 ++ word e.1.seq ++ e.1.name.0
 
 -- "IVR1", the parts that each record has, and the operation's own
-abbrev pub record_block : Record → List ℕ
-record_block r =
-    73 ∷ 86 ∷ 82 ∷ 49 ∷ word (record_kind r.op) ++ (head_key_of r.owner).0 ++ r.prev.0 ++ word r.seq ++ moment r.moment
-    ++ array vector_entry r.vector ++ body r.op
+abbrev pub block_of_parts : PubKey → ℕ → Key → Vector → Moment → Op → List ℕ
+block_of_parts owner seq prev vector moment_made op =
+    73 ∷ 86 ∷ 82 ∷ 49 ∷ word (record_kind op) ++ (head_key_of owner).0 ++ prev.0 ++ word seq ++ moment moment_made
+    ++ array vector_entry vector ++ body op
 
-abbrev pub record_name : Record → Key
-record_name r = name (record_block r)
+abbrev pub record_block : Record → List ℕ
+record_block r = block_of_parts r.owner r.seq r.prev r.vector r.moment r.op
+
+-- the record of these parts, under the name of its block
+abbrev pub new_record : PubKey → ℕ → Key → Vector → Moment → Op → Record
+new_record owner seq prev vector moment_made op = record {
+  owner = owner;
+  seq = seq;
+  prev = prev;
+  vector = vector;
+  moment = moment_made;
+  op = op;
+  name = name (block_of_parts owner seq prev vector moment_made op);
+}
 
 -- ---- which records have a spelling
 
@@ -112,7 +124,7 @@ abbrev pub IsEndOp : Op → Type 0
 IsEndOp op.End = Unit {0}
 IsEndOp _ = ⊥
 
--- The record has a block that a reader takes. A log begins with End, which stands nowhere else, and its first record cites nothing;
+-- The record has a block that a reader takes, and its name. A log begins with End, which stands nowhere else, and its first record cites nothing;
 -- a vector has at most 32 entries, ascending by head key, none of them of the own log
 pub record HasSpelling (r : Record) : Type 0 where
   pub some : 1 ≤ r.seq
@@ -126,6 +138,7 @@ pub record HasSpelling (r : Record) : Type 0 where
   pub operation : OperationFits r.op
   pub ends_first : (r.seq ≡ 1) ↔ IsEndOp r.op
   pub first_alone : r.seq ≡ 1 → (r.prev ≡ no_name) × (r.vector ≡ [])
+  pub named : r.name ≡ name (record_block r)
 
 -- the block is this record of the owner's
 pub record IsRecordOf (owner : PubKey) (block : List ℕ) (r : Record) : Type 0 where

@@ -8,11 +8,10 @@ use Rattle.ivy_base.specs.Naming.{head_key_of}
 use Rattle.log_model.specs.View.{View}
 use Rattle.log_model.specs.Vector.{Stamp, Vector, reach, Dominates, with_entry}
 use Rattle.log_model.specs.Record.{Record}
-use Rattle.log_model.specs.Spelling.{record_name}
 use Rattle.log_model.specs.Rank.{own_entry, full_vector}
-use Rattle.log_model.specs.Chain.{GoesOn, IsChain}
+use Rattle.log_model.specs.Chain.{GoesOn, IsChain, LinkedFrom}
 use Rattle.log_model.proofs.Lists.{here, there, in_nothing, each_append}
-use Rattle.log_records.specs.Batches.{Batch, owner_of, stamp_in, owners_in, KnowsEdge, GoesOnFrom, EndsAt, OldestNames, HasRecord, LinkedFrom, name_or_none, IsSound, IsOnward, Extends, AreApart, IsBatch, AreUnder}
+use Rattle.log_records.specs.Batches.{Batch, owner_of, stamp_in, owners_in, KnowsEdge, GoesOnFrom, EndsAt, OldestNames, HasRecord, name_or_none, IsSound, IsOnward, Extends, AreApart, IsBatch, AreUnder}
 use Rattle.log_records.specs.BatchLaws.{ChainsBegin, ChainsGoOn}
 use Rattle.log_records.specs.declared.batch.Chain.{Chain}
 use Rattle.log_records.specs.Heads.{stamp}
@@ -21,18 +20,18 @@ use Rattle.log_records.specs.Kept.{chain_of, chains_of}
 
 -- ---- links
 
-linked_after : (view : View) (owner : PubKey) (p : Record) (rs : List Record) → GoesOn view owner p rs → LinkedFrom owner (p.seq + 1) (record_name p) rs
+linked_after : (view : View) (owner : PubKey) (p : Record) (rs : List Record) → GoesOn view owner p rs → LinkedFrom owner (p.seq + 1) p.name rs
 linked_after view owner p [] g = tt
 linked_after view owner p (r ∷ rs) g =
-    (g.0.owned, g.0.spelled, g.1.seq, g.1.prev, subst (λ (n : ℕ). LinkedFrom owner (n + 1) (record_name r) rs) g.1.seq (linked_after view owner r rs g.2))
+    (g.0.owned, g.0.spelled, g.1.seq, g.1.prev, subst (λ (n : ℕ). LinkedFrom owner (n + 1) r.name rs) g.1.seq (linked_after view owner r rs g.2))
 
 pub linked : (view : View) (held : Option Stamp) (edge : Option Vector) (chain : List Record) → GoesOnFrom view held edge chain → OldestNames held chain
     → LinkedFrom (owner_of chain) (reach held + 1) (name_or_none held) chain
 linked view held edge [] g names = tt
 linked view None edge (r ∷ rs) g names =
-    (refl, g.0.spelled, g.1.seq, g.1.prev, subst (λ (n : ℕ). LinkedFrom r.owner (n + 1) (record_name r) rs) g.1.seq (linked_after view r.owner r rs g.3))
+    (refl, g.0.spelled, g.1.seq, g.1.prev, subst (λ (n : ℕ). LinkedFrom r.owner (n + 1) r.name rs) g.1.seq (linked_after view r.owner r rs g.3))
 linked view (Some t) edge (r ∷ rs) g names =
-    (refl, g.0.spelled, g.1, names, subst (λ (n : ℕ). LinkedFrom r.owner (n + 1) (record_name r) rs) g.1 (linked_after view r.owner r rs g.3))
+    (refl, g.0.spelled, g.1, names, subst (λ (n : ℕ). LinkedFrom r.owner (n + 1) r.name rs) g.1 (linked_after view r.owner r rs g.3))
 
 pub extends : (view : View) (held floor : Vector) (edge : Option Vector) (head : Stamp) (chain : List Record) → IsSound view held edge head chain → IsOnward held floor chain → Extends held floor head chain
 extends view held floor edge head chain sound onward = record {

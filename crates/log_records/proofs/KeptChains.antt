@@ -7,7 +7,7 @@ use Rattle.ivy_base.specs.declared.key.Key.{Key}
 use Rattle.ivy_base.specs.Naming.{head_key_of}
 use Rattle.log_model.specs.Vector.{Stamp, Vector, stamp_at, Dominates}
 use Rattle.log_model.specs.Record.{Record}
-use Rattle.log_model.specs.Spelling.{HasSpelling, record_name}
+use Rattle.log_model.specs.Spelling.{HasSpelling}
 use Rattle.log_model.specs.Chain.{Follows}
 use Rattle.version_vectors.specs.declared.entry.Entry.{Entry}
 use Rattle.version_vectors.specs.Entries.{entry_of}
@@ -41,7 +41,7 @@ edge_known log (Some t) got e (Some w) v r b spelled is next none made some give
     let by_vector : IsTrue b ↔ Dominates r.vector w = subst (λ (x : Vector). IsTrue b ↔ Dominates r.vector x) (sym same) dom in
     (λ h. k.0 (by_vector.0 h), λ h. by_vector.1 (k.1 h))
 
-pub follows_by : (p r : Record) (b : Bool) → HasSpelling p → HasSpelling r → p.owner ≡ r.owner → (r.seq ≡ p.seq + 1) × (r.prev ≡ record_name p) → IsTrue b ↔ Dominates r.vector p.vector → IsTrue b ↔ Follows p r
+pub follows_by : (p r : Record) (b : Bool) → HasSpelling p → HasSpelling r → p.owner ≡ r.owner → (r.seq ≡ p.seq + 1) × (r.prev ≡ p.name) → IsTrue b ↔ Dominates r.vector p.vector → IsTrue b ↔ Follows p r
 follows_by p r b spelled_p spelled_r same linked dom =
     let k = knows_before p r spelled_p spelled_r same linked.0 in
     (λ t. record { seq = linked.0; prev = linked.1; grows = k.0 (dom.0 t) }, λ f. dom.1 (k.1 f.grows))

@@ -1,15 +1,17 @@
 -- Records: each has one spelling, and when bytes are none.
-use Rattle.std.proofs.Common.{◌≡◌, ℕ, ◌<◌, ◌^◌, ◌≤◌, List, ◌++◌, length, refl, sym, ap, ◌∙◌, arith, subst}
+use Rattle.std.proofs.Common.{◌≡◌, ℕ, ◌<◌, ◌^◌, ◌≤◌, List, ◌++◌, length, Contains, refl, sym, ap, ◌∙◌, arith, subst}
 use Rattle.ivy_base.specs.declared.key.Key.{Key}
 use Rattle.ivy_base.specs.declared.key.PubKey.{PubKey}
 use Rattle.ivy_base.specs.declared.operation.Op.{Op}
 use Rattle.ivy_base.specs.declared.operation.Op.TheVariants as op
-use Rattle.ivy_base.specs.Naming.{head_key_of}
+use Rattle.ivy_base.specs.Naming.{name, head_key_of, NamesTellApart}
 use Rattle.wire_model.specs.OneReading.{ReadsOne, IsFront}
 use Rattle.wire_model.proofs.OneReading.{whole}
 use Rattle.log_model.specs.Vector.{stamp_at}
 use Rattle.log_model.specs.Record.{Record}
-use Rattle.log_model.specs.Spelling.{record_kind, body, record_block, HasSpelling, IsRecordOf}
+use Rattle.log_model.specs.Spelling.{record_kind, body, block_of_parts, record_block, new_record, HasSpelling, IsRecordOf}
+use Rattle.log_model.specs.Standing.{StandsAmong}
+use Rattle.log_model.proofs.Standing.{one_block}
 use Rattle.log_records.specs.declared.frame.Frame.{Frame}
 use Rattle.log_records.specs.declared.part_fault.PartFault.{PartFault}
 use Rattle.log_records.specs.declared.part_fault.PartFault.TheVariants as part
@@ -58,7 +60,7 @@ abbrev pub parts_in : Record → Frame × Op
 parts_in r = (frame_in r, r.op)
 
 abbrev pub record_with : PubKey → Frame × Op → Record
-record_with owner p = record { owner = owner; seq = p.0.seq; prev = p.0.prev; vector = p.0.vector; moment = p.0.moment; op = p.1 }
+record_with owner p = new_record owner p.0.seq p.0.prev p.0.vector p.0.moment p.1
 
 parts_fit : (r : Record) → HasSpelling r → AreParts (head_key_of r.owner) (parts_in r)
 parts_fit r f = (
@@ -83,11 +85,27 @@ one_record owner = record {
   one = λ x y r s f g e.
       let p = (one_of_parts (head_key_of owner)).one (parts_in x) (parts_in y) r s (owned_parts owner x f.0 f.1) (owned_parts owner y g.0 g.1)
       (ap (λ (b : List ℕ). b ++ r) (sym (spelled_by owner x f.0)) ∙ e ∙ ap (λ (b : List ℕ). b ++ s) (spelled_by owner y g.0)) in
-      (same x y (f.0 ∙ sym g.0) p.0, p.1);
+      (same x y f.1 g.1 (f.0 ∙ sym g.0) p.0, p.1);
 }
   where
-    same : (x y : Record) → x.owner ≡ y.owner → parts_in x ≡ parts_in y → x ≡ y
-    same x y o e = ap (λ (w : PubKey). record_with w (parts_in x)) o ∙ ap (record_with y.owner) e
+    -- a record is that of its parts
+    of_parts : (r : Record) → HasSpelling r → r ≡ record_with r.owner (parts_in r)
+    of_parts r f = ap (λ (n : Key). record { owner = r.owner; seq = r.seq; prev = r.prev; vector = r.vector; moment = r.moment; op = r.op; name = n }) f.named
+
+    same : (x y : Record) → HasSpelling x → HasSpelling y → x.owner ≡ y.owner → parts_in x ≡ parts_in y → x ≡ y
+    same x y f g o e = of_parts x f ∙ ap (λ (w : PubKey). record_with w (parts_in x)) o ∙ ap (record_with y.owner) e ∙ sym (of_parts y g)
+
+-- where names tell the blocks apart, of an owner's records one alone stands there under a name
+pub one_among : (owner : PubKey) (blocks : List (List ℕ)) → NamesTellApart blocks → (p q : Record) → p.owner ≡ owner → q.owner ≡ owner → HasSpelling p → HasSpelling q
+    → StandsAmong blocks p → StandsAmong blocks q → p.name ≡ q.name → p ≡ q
+one_among owner blocks apart p q owned_p owned_q of_p of_q stands_p stands_q same =
+    whole (one_record owner) p q (owned_p, of_p) (owned_q, of_q) (one_block blocks apart p q of_p of_q stands_p stands_q same)
+
+-- the block of a name is that of the owner's record of the name
+pub block_among : (owner : PubKey) (blocks : List (List ℕ)) → NamesTellApart blocks → (block : List ℕ) → Contains blocks block → (r : Record) → r.owner ≡ owner → HasSpelling r
+    → StandsAmong blocks r → name block ≡ r.name → IsRecordOf owner block r
+block_among owner blocks apart block within r owned fits stands same =
+    record { owned = owned; fits = fits; spelled = apart block (record_block r) within stands (same ∙ fits.named) }
 
 -- ---- reading
 
@@ -126,6 +144,7 @@ is_record owner bytes log p e f placed = record {
     operation = f.fits.1.1;
     ends_first = placed.ends_first;
     first_alone = placed.first_alone;
+    named = refl;
   };
   spelled = f.spelled ∙ ap (λ (k : Key). parts_block k p) e ∙ ap (λ (k : ℕ). parts_block (head_key_of owner) (record p.0 { kind = k }, p.1)) (sym f.fits.1.0);
 }

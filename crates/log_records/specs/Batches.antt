@@ -7,9 +7,9 @@ use Rattle.ivy_base.specs.Naming.{head_key_of}
 use Rattle.log_model.specs.View.{View}
 use Rattle.log_model.specs.Vector.{Stamp, Vector, stamp_at, reach, Dominates, with_entry}
 use Rattle.log_model.specs.Record.{Record}
-use Rattle.log_model.specs.Spelling.{record_name, no_name, HasSpelling}
+use Rattle.log_model.specs.Spelling.{no_name, HasSpelling}
 use Rattle.log_model.specs.Rank.{own_entry, full_vector}
-use Rattle.log_model.specs.Chain.{IsGood, IsFirst, GoesOn}
+use Rattle.log_model.specs.Chain.{IsGood, IsFirst, GoesOn, LinkedFrom}
 use Rattle.log_records.specs.declared.chain_fault.ChainFault.{ChainFault}
 use Rattle.log_records.specs.declared.chain_fault.ChainFault.TheVariants.{Bad, Fork, Memory}
 
@@ -94,11 +94,6 @@ pub record Batch : Type 0 where
 
 abbrev pub owners_in : List (Stamp × List Record) → List PubKey
 owners_in chains = map (λ c. owner_of c.1) chains
-
--- the owner's records from that number on, the first of which names that one, and each the one before it
-abbrev pub LinkedFrom : PubKey → ℕ → Key → List Record → Type 0
-LinkedFrom owner seq prev [] = Unit {0}
-LinkedFrom owner seq prev (r ∷ rs) = (r.owner ≡ owner) × HasSpelling r × (r.seq ≡ seq) × (r.prev ≡ prev) × LinkedFrom owner (seq + 1) (record_name r) rs
 
 abbrev pub name_or_none : Option Stamp → Key
 name_or_none None = no_name

@@ -3,7 +3,6 @@ use Rattle.std.specs.Prelude.{List, map}
 use Rattle.ivy_base.specs.declared.key.Key.{Key}
 use Rattle.log_model.specs.Vector.{Stamp}
 use Rattle.log_model.specs.Record.{Record}
-use Rattle.log_model.specs.Spelling.{record_name}
 use Rattle.log_records.specs.declared.record.Record as kept
 use Rattle.log_records.specs.declared.batch.Chain.{Chain}
 use Rattle.log_records.specs.Heads.{stamp}
@@ -17,4 +16,4 @@ chains_of cs = map chain_of cs
 
 -- the names of the records' blocks
 abbrev pub names_of : List kept.Record → List Key
-names_of rs = map (λ r. record_name (record_of r)) rs
+names_of rs = map (λ r. (record_of r).name) rs

@@ -2,15 +2,15 @@
 use Rattle.std.specs.Prelude.{ℕ, ◌<◌, ◌≤◌, List, length, map}
 use Rattle.ivy_base.specs.declared.key.PubKey.{PubKey}
 use Rattle.log_model.specs.Record as log
-use Rattle.log_model.specs.Spelling.{IsRecordOf}
+use Rattle.log_model.specs.Spelling.{new_record, IsRecordOf}
 use Rattle.log_model.specs.Chain.{HasMadeNumber}
 use Rattle.log_records.specs.declared.record.Record.{Record}
 use Rattle.log_records.specs.declared.fault.RecordFault.{RecordFault}
 use Rattle.log_records.specs.declared.fault.RecordFault.TheVariants.{Malformed, TooLong, BadNumber, Memory}
 
--- a record as the definitions have it
+-- a record as the definitions have it: of these parts, under the name of its block
 abbrev pub record_of : Record → log.Record
-record_of r = record { owner = r.owner; seq = r.seq; prev = r.prev; vector = r.vector; moment = r.moment; op = r.op }
+record_of r = new_record r.owner r.seq r.prev r.vector r.moment r.op
 
 abbrev pub records_of : List Record → List log.Record
 records_of rs = map record_of rs

@@ -5,7 +5,7 @@ ghost use Rattle.std.specs.List.{AllByRecursion, list_all};
 ghost use Rattle.ivy_base.specs.Naming.{head_key_of};
 ghost use Rattle.log_model.specs.View.{is_named};
 ghost use Rattle.log_model.specs.Vector.{stamp_at, seq_of};
-ghost use Rattle.log_model.specs.Spelling.{record_name, HasSpelling};
+ghost use Rattle.log_model.specs.Spelling.{HasSpelling};
 ghost use Rattle.log_model.specs.Rank.{own_entry};
 ghost use Rattle.log_model.specs.Chain.{IsGood, Follows};
 ghost use Rattle.log_records.specs.Heads.{stamp};
@@ -178,7 +178,7 @@ fn continues(view: &View, log: &Key, before: &Record, name: &Key, record: &Recor
     requires log { log.now ≡ head_key_of «record».now.owner }
     requires owner { before.now.owner ≡ «record».now.owner }
     requires before { HasSpelling (record_of before.now) }
-    requires name { name.now ≡ record_name (record_of before.now) }
+    requires name { name.now ≡ (record_of before.now).name }
     ensures { IsTrue result ↔ IsGood view.now «record».now.owner (record_of «record».now) × Follows (record_of before.now) (record_of «record».now) }
 {
     is_good(view, log, record) && follows(before, name, record)
@@ -189,7 +189,7 @@ fn follows(before: &Record, name: &Key, record: &Record) -> bool
     requires owner { before.now.owner ≡ «record».now.owner }
     requires before { HasSpelling (record_of before.now) }
     requires spelled { HasSpelling (record_of «record».now) }
-    requires name { name.now ≡ record_name (record_of before.now) }
+    requires name { name.now ≡ (record_of before.now).name }
     ensures { IsTrue result ↔ Follows (record_of before.now) (record_of «record».now) }
 {
     is_linked(before, name, record) && record.vector.dominates(&before.vector)
@@ -198,8 +198,8 @@ fn follows(before: &Record, name: &Key, record: &Record) -> bool
 /// Whether the record is numbered next after the other one, and names it.
 fn is_linked(before: &Record, name: &Key, record: &Record) -> bool
     requires before { HasSpelling (record_of before.now) }
-    requires name { name.now ≡ record_name (record_of before.now) }
-    ensures { IsTrue result ↔ («record».now.seq ≡ before.now.seq + 1) × («record».now.prev ≡ record_name (record_of before.now)) }
+    requires name { name.now ≡ (record_of before.now).name }
+    ensures { IsTrue result ↔ («record».now.seq ≡ before.now.seq + 1) × («record».now.prev ≡ (record_of before.now).name) }
 {
     record.seq == before.seq + 1 && is_same(&record.prev, name)
 }
@@ -216,7 +216,7 @@ fn ends_at(head: &Judged, chain: &[Record], names: &[Key]) -> bool
 
 /// Whether the record, of which the name is given, has that number and name.
 fn is_stamped(record: &Record, name: &Key, seq: u32, wanted: &Key) -> bool
-    requires { name.now ≡ record_name (record_of «record».now) }
+    requires { name.now ≡ (record_of «record».now).name }
     ensures { IsTrue result ↔ (own_entry (record_of «record».now)).1 ≡ stamp seq wanted.now }
 {
     record.seq == seq && is_same(name, wanted)

@@ -3,7 +3,7 @@
 ghost use Rattle.std.specs.Prelude.{◌≡◌, ◌^◌, ◌<◌, ◌≤◌, ◌↔◌, IsTrue, length, IfOk, IfErr, OnOk};
 ghost use Rattle.ivy_base.specs.Naming.{head_key_of};
 ghost use Rattle.log_model.specs.Vector.{weight_of};
-ghost use Rattle.log_model.specs.Spelling.{record_block, record_name, no_name, IsEndOp};
+ghost use Rattle.log_model.specs.Spelling.{record_block, no_name, IsEndOp};
 ghost use Rattle.log_model.specs.Rank.{rank};
 ghost use Rattle.log_model.specs.Chain.{HasMadeNumber};
 ghost use Rattle.version_vectors.specs.Ranks.{rank_of};
@@ -104,7 +104,7 @@ impl Record {
 
     /// The record's name, the SHA-1 of its block. The errors are those of [`Record::write`].
     pub fn name(&self, alloc: Global) -> Result<Key, Memory>
-        ensures { IfOk result (λ name. name ≡ record_name (record_of self.now)) }
+        ensures { IfOk result (λ name. name ≡ (record_of self.now).name) }
     {
         let block = self.write(alloc)?;
         Ok(name_of(block.as_slice()))

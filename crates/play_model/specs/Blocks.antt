@@ -9,8 +9,9 @@ use Rattle.ivy_base.specs.Naming.{name, key_cmp, head_key_of}
 use Rattle.tree_model.specs.Tree.{same_key}
 use Rattle.log_model.specs.Record.{Record}
 use Rattle.log_model.specs.Rank.{own_entry}
-use Rattle.log_model.specs.Spelling.{record_block, head_block}
+use Rattle.log_model.specs.Spelling.{head_block}
 use Rattle.log_model.specs.Vector.{Entry, Stamp, reach}
+use Rattle.log_model.specs.Standing.{blocks_of}
 use Rattle.dht_ids.specs.declared.judge.Judged.{Judged}
 use Rattle.log_records.specs.Heads.{stamp, owner_in, plain_judged}
 
@@ -101,7 +102,7 @@ newest_stamp (r ∷ q ∷ rs) = newest_stamp (q ∷ rs)
 
 -- the blocks of the records, and of the head over the last one
 abbrev pub published_blocks : PubKey → List Record → List (List ℕ)
-published_blocks owner records = map record_block records ++ head_blocks (newest_stamp records)
+published_blocks owner records = blocks_of records ++ head_blocks (newest_stamp records)
   where
     head_blocks : Option Stamp → List (List ℕ)
     head_blocks None = []

@@ -8,12 +8,14 @@ use Rattle.wire_model.specs.Rpc.{Auth, Identity, IsIdentity, IsCaller, none, sys
 use Rattle.log_model.specs.Closed.{log_of, IsClosed}
 use Rattle.log_model.specs.Rank.{front}
 use Rattle.log_model.specs.Record.{Record}
-use Rattle.log_model.specs.Spelling.{HasSpelling, record_block}
+use Rattle.log_model.specs.Spelling.{HasSpelling}
+use Rattle.log_model.proofs.Standing.{stands_among_more}
 use Rattle.log_model.specs.Vector.{Entry, Vector}
 use Rattle.log_model.specs.View.{View}
 use Rattle.log_model.proofs.Later.{good_of}
 use Rattle.log_model.proofs.Lists.{here, in_nothing, each, each_from, in_filter, from_filter}
-use Rattle.turn_model.specs.Known.{Stand, IsUnderHead, IsBacked, IsVerified}
+use Rattle.log_model.specs.Standing.{StandsAmong, Stand}
+use Rattle.turn_model.specs.Known.{IsUnderHead, IsBacked, IsVerified}
 use Rattle.turn_model.specs.Turn.{Asked, Candidate, Turned, IsTurn}
 use Rattle.turn_model.proofs.Keeps.{turn_keeps}
 use Rattle.turn_laws.proofs.Turns.{turn_set_is_closed}
@@ -33,7 +35,7 @@ use Rattle.play_replies.proofs.Sendings.{IsSender}
 
 module _ (blocks more : List (List ℕ)) (heads later : List Entry) (in_more : AreAmong blocks more) (in_later : AreAmong heads later) where
   more_stand : (log : List Record) → Stand blocks log → Stand more log
-  more_stand log h = each_weaker (λ r. Contains blocks (record_block r)) (λ r. Contains more (record_block r)) log (λ r c. in_more (record_block r) c) h
+  more_stand log h = each_weaker (λ r. StandsAmong blocks r) (λ r. StandsAmong more r) log (λ r c. stands_among_more blocks more r in_more c) h
 
   still_under : (r : Record) → IsUnderHead blocks heads r → IsUnderHead more later r
   still_under r u = record {

@@ -6,11 +6,11 @@ use Rattle.ivy_base.specs.Naming.{head_key_of}
 use Rattle.log_model.specs.Chain.{IsGood}
 use Rattle.log_model.specs.Rank.{front}
 use Rattle.log_model.specs.Record.{Record}
-use Rattle.log_model.specs.Spelling.{record_block}
 use Rattle.log_model.specs.Vector.{Stamp, Vector}
 use Rattle.log_model.specs.View.{View}
 use Rattle.log_model.proofs.Lists.{here, there, each, each_from, in_cons}
 use Rattle.log_model.proofs.Part.{chain_good}
+use Rattle.log_model.specs.Standing.{StandsAmong}
 use Rattle.script_driver.specs.Run.{Outcome, Goes, Ends, Refuses, Exceeds}
 use Rattle.turn_model.specs.Candidates.{MakeChain, IsPassedOver, IsTried, IsCandidate, own_log, newest, as_known}
 use Rattle.turn_model.specs.Turn.{Candidate, IsTurn}
@@ -31,16 +31,16 @@ module _ (view : View) (w v : World) (agree : AgreeOnMembers view w v) (owner : 
   chain_there : (head : Stamp) (chain : List Record) → MakeChain w.blocks.found view owner floor head chain → MakeChain v.blocks.found view owner floor head chain
   chain_there head chain makes = record {
     chain_of_log = makes.chain_of_log;
-    stand = each_from (λ r. Contains v.blocks.found (record_block r)) chain stands;
+    stand = each_from (λ r. StandsAmong v.blocks.found r) chain stands;
     ends = makes.ends;
     passes = makes.passes;
   }
     where
-      stands : (r : Record) → Contains chain r → Contains v.blocks.found (record_block r)
+      stands : (r : Record) → Contains chain r → StandsAmong v.blocks.found r
       stands r within =
           let good = each (IsGood view owner) chain r (chain_good view owner chain makes.chain_of_log) within in
           (agree.records r (subst (λ (o : PubKey). Contains view.members o) (sym good.owned) member) good.spelled).0
-          (each (λ (x : Record). Contains w.blocks.found (record_block x)) chain r makes.stand within)
+          (each (λ (x : Record). StandsAmong w.blocks.found x) chain r makes.stand within)
 
   -- so is a head that is tried
   tried_there : (head : Stamp) → IsTried (heads_at w.heads) floor (head_key_of owner) head → IsTried (heads_at v.heads) floor (head_key_of owner) head

@@ -3,8 +3,9 @@ use Rattle.std.specs.Prelude.{◌≡◌, ◌↔◌, ℕ, List, Contains}
 use Rattle.ivy_base.specs.declared.key.PubKey.{PubKey}
 use Rattle.ivy_base.specs.Naming.{head_key_of}
 use Rattle.log_model.specs.Record.{Record}
-use Rattle.log_model.specs.Spelling.{HasSpelling, record_block}
+use Rattle.log_model.specs.Spelling.{HasSpelling}
 use Rattle.log_model.specs.View.{View}
+use Rattle.log_model.specs.Standing.{StandsAmong}
 use Rattle.script_driver.specs.Run.{Goes}
 use Rattle.turn_model.specs.Turn.{Candidate}
 use Rattle.play_model.specs.Blocks.{head_at}
@@ -14,7 +15,7 @@ use Rattle.play_model.specs.World.{World, Participant}
 -- of the view's members both worlds have the same newest heads, and the same records' blocks are found
 pub record AgreeOnMembers (view : View) (w v : World) : Type 0 where
   pub heads : (owner : PubKey) → Contains view.members owner → head_at w.heads (head_key_of owner) ≡ head_at v.heads (head_key_of owner)
-  pub records : (r : Record) → Contains view.members r.owner → HasSpelling r → Contains w.blocks.found (record_block r) ↔ Contains v.blocks.found (record_block r)
+  pub records : (r : Record) → Contains view.members r.owner → HasSpelling r → StandsAmong w.blocks.found r ↔ StandsAmong v.blocks.found r
 
 -- In two such worlds a refresh has the same candidates, whatever other logs there are.
 abbrev pub OtherLogsDontCount : Type 0

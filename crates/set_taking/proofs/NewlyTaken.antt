@@ -8,11 +8,12 @@ use Rattle.log_model.specs.Closed.{IsClosed}
 use Rattle.log_model.specs.Rank.{front}
 use Rattle.log_model.specs.Record.{Record}
 use Rattle.log_model.specs.Replay.{in_order}
-use Rattle.log_model.specs.Spelling.{HasSpelling, record_block}
+use Rattle.log_model.specs.Spelling.{HasSpelling}
 use Rattle.log_model.specs.View.{View, IsView}
 use Rattle.log_model.specs.Vector.{Stamp, seq_of}
 use Rattle.log_model.proofs.Later.{good_of}
 use Rattle.log_model.proofs.Lists.{each, each_from}
+use Rattle.log_model.specs.Standing.{StandsAmong}
 use Rattle.turn_model.specs.Turn.{IsAtHand}
 use Rattle.causal_order.specs.AtHand.{IsFetched, IsNewPart}
 use Rattle.causal_order.specs.Over as closed
@@ -35,7 +36,7 @@ fetched_pairs view known (c ∷ chains) h = (h.0, fetched_pairs view known chain
 
 module _ (blocks : List (List ℕ)) (heads : Heads) (view : View) (own : PubKey) (known new : List Record) (chains : List (List Record)) where
   abbrev Stands : Record → Type 0
-  Stands r = (r.owner ≡ own → ⊥) → Contains blocks (record_block r)
+  Stands r = (r.owner ≡ own → ⊥) → StandsAmong blocks r
 
   abbrev IsBeyond : Record → Type 0
   IsBeyond r = seq_of (front known) (head_key_of r.owner) < r.seq
@@ -67,6 +68,6 @@ module _ (blocks : List (List ℕ)) (heads : Heads) (view : View) (own : PubKey)
       spelled_in : (s : List Record) → IsClosed view s → (r : Record) → Contains s r → HasSpelling r
       spelled_in s h r c = (good_of view s r h c).spelled
 
-      stands : (r : Record) → IsAtHand known refreshed.candidates r → (r.owner ≡ own → ⊥) → Contains blocks (record_block r)
-      stands r h other = ⊎_elim (λ k. each Stands known r stand k other) (λ n. each (λ q. Contains blocks (record_block q)) n.0.chain r n.2.2.2.stand n.1)
+      stands : (r : Record) → IsAtHand known refreshed.candidates r → (r.owner ≡ own → ⊥) → StandsAmong blocks r
+      stands r h other = ⊎_elim (λ k. each Stands known r stand k other) (λ n. each (λ q. StandsAmong blocks q) n.0.chain r n.2.2.2.stand n.1)
           (of_hand (heads_at heads) blocks view own known refreshed.candidates refreshed.are r h)

@@ -86,7 +86,7 @@ module _ (view : View) (s : List Record) (closed : IsClosed view s) where
   spelled_in r c =
       let good = good_of view s r closed c in
       let few = good.spelled.few in
-      each_with_entry IsSpelled r.vector (own_entry r) good.spelled.entries (key_is_key r.owner, good.spelled.some, omega (arith, few), name_is_key r)
+      each_with_entry IsSpelled r.vector (own_entry r) good.spelled.entries (key_is_key r.owner, good.spelled.some, omega (arith, few), name_is_key r good.spelled)
 
   named_in : (r : Record) → Contains s r → AllByRecursion (λ e. IsTrue (is_named view e.0)) (full_vector r)
   named_in r c =
@@ -216,5 +216,5 @@ module _ (view : View) (s : List Record) (own : PubKey) (p : Record) (well : IsV
         covers = each_from (λ q. Dominates (with_entry (without_log (head_key_of own) (front s)) (own_entry p)) (full_vector q)) s covers;
         owned = good_last.owned;
         began = good_last.spelled.some;
-        named_well = name_is_key p;
+        named_well = name_is_key p good_last.spelled;
       }

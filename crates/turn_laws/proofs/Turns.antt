@@ -15,7 +15,7 @@ use Rattle.tree_model.proofs.Sound.{both_false}
 use Rattle.log_model.specs.View.{View, IsView}
 use Rattle.log_model.specs.Vector.{Stamp, Vector, reach, without_log}
 use Rattle.log_model.specs.Record.{Record}
-use Rattle.log_model.specs.Spelling.{IsMoment, OperationFits, record_name, no_name}
+use Rattle.log_model.specs.Spelling.{IsMoment, OperationFits, no_name}
 use Rattle.log_model.specs.Rank.{front}
 use Rattle.log_model.specs.Chain.{AllMayBeWritten}
 use Rattle.log_model.specs.Closed.{log_of, IsClosed}
@@ -35,7 +35,7 @@ use Rattle.turn_laws.proofs.Starts.{ends_with, own_stamp, over_front}
 
 -- ---- what is appended is what is written after the own log's last record
 
-linked_is_written : (own : PubKey) (v : Vector) (now : Moment) (p : Record) (ops : List Op) → linked own v now (p.seq + 1) (record_name p) ops ≡ written own v now p ops
+linked_is_written : (own : PubKey) (v : Vector) (now : Moment) (p : Record) (ops : List Op) → linked own v now (p.seq + 1) p.name ops ≡ written own v now p ops
 linked_is_written own v now p [] = refl
 linked_is_written own v now p (op ∷ ops) = ap (λ (l : List Record). next_record own v now p op ∷ l) (linked_is_written own v now (next_record own v now p op) ops)
 
@@ -59,7 +59,7 @@ module _ (a : Agent) (s : List Record) (asked : Asked) (now : Moment) (p : Recor
   own_seq_is : own_seq a.own s ≡ p.seq
   own_seq_is = ap reach (own_stamp a.view s a.own p well closed member ends)
 
-  own_name_is : own_name a.own s ≡ record_name p
+  own_name_is : own_name a.own s ≡ p.name
   own_name_is = ap (λ (o : Option Stamp). option_map_or (λ t. t.name) o no_name) (own_stamp a.view s a.own p well closed member ends)
 
   appended_is : (ops : List Op) → appended a.own now s ops ≡ s ++ written a.own (without_log (head_key_of a.own) (front s)) now p ops

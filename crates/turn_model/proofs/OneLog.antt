@@ -20,7 +20,7 @@ use Rattle.tree_model.proofs.Keys.{keys_total, same_key_itself}
 use Rattle.log_model.specs.View.{View}
 use Rattle.log_model.specs.Vector.{Stamp, Vector, Dominates, join, with_entry, stamp_at, reach, without_log}
 use Rattle.log_model.specs.Record.{Record}
-use Rattle.log_model.specs.Spelling.{record_name, no_name, IsMoment}
+use Rattle.log_model.specs.Spelling.{no_name, IsMoment, IsKey}
 use Rattle.log_model.specs.Rank.{own_entry, full_vector, weight, front}
 use Rattle.log_model.specs.Chain.{opening, IsGood, Follows, GoesOn, IsChain, MayBeWritten, AllMayBeWritten}
 use Rattle.log_model.specs.Closed.{IsAscending, log_of, HasCauses, IsClosed}
@@ -99,7 +99,7 @@ own_seq_is_newest own first entries = ap reach (stamp-log own first entries)
 pub own_seq-log : (own : PubKey) (first : Moment) (entries : List (Moment × Op)) → own_seq own (log_from own first entries) ≡ length entries + 1
 own_seq-log own first entries = own_seq_is_newest own first entries ∙ newest_seq own first entries
 
-pub own_name-log : (own : PubKey) (first : Moment) (entries : List (Moment × Op)) → own_name own (log_from own first entries) ≡ record_name (newest_from own first entries)
+pub own_name-log : (own : PubKey) (first : Moment) (entries : List (Moment × Op)) → own_name own (log_from own first entries) ≡ (newest_from own first entries).name
 own_name-log own first entries = ap (λ (o : Option Stamp). option_map_or (λ t. t.name) o no_name) (stamp-log own first entries)
 
 pub others-log : (own : PubKey) (first : Moment) (entries : List (Moment × Op)) → without_log (head_key_of own) (front (log_from own first entries)) ≡ []
@@ -109,7 +109,7 @@ others-log own first entries =
 
 -- ---- what is appended to it
 
-linked_after : (p : Record) (now : Moment) (ops : List Op) → linked p.owner [] now (p.seq + 1) (record_name p) ops ≡ records_after p (written_at now ops)
+linked_after : (p : Record) (now : Moment) (ops : List Op) → linked p.owner [] now (p.seq + 1) p.name ops ≡ records_after p (written_at now ops)
 linked_after p now [] = refl
 linked_after p now (op ∷ ops) = ap (λ (l : List Record). next_after p (now, op) ∷ l) (linked_after (next_after p (now, op)) now ops)
 
@@ -130,7 +130,7 @@ appended-log own first now entries ops =
     ap (λ (v : Vector). s ++ linked own v now (own_seq own s + 1) (own_name own s) ops) (others-log own first entries)
     ∙ ap (λ (n : ℕ). s ++ linked own [] now (n + 1) (own_name own s) ops) (own_seq_is_newest own first entries)
     ∙ ap (λ (k : Key). s ++ linked own [] now (p.seq + 1) k ops) (own_name-log own first entries)
-    ∙ ap (λ (o : PubKey). s ++ linked o [] now (p.seq + 1) (record_name p) ops) (sym (newest_owner own first entries))
+    ∙ ap (λ (o : PubKey). s ++ linked o [] now (p.seq + 1) p.name ops) (sym (newest_owner own first entries))
     ∙ ap (λ (l : List Record). s ++ l) (linked_after p now ops)
     ∙ log_more own first entries (written_at now ops)
 
@@ -184,13 +184,13 @@ pub MayStand-written_at : (own : PubKey) (seq : ℕ) (now : Moment) (ops : List 
 MayStand-written_at own seq now [] moment may = tt
 MayStand-written_at own seq now (op ∷ ops) moment may = (moment, may.0, MayStand-written_at own (seq + 1) now ops moment may.1)
 
-after_good : (view : View) (own : PubKey) (p : Record) (e : Moment × Op) → p.owner ≡ own → 1 ≤ p.seq → IsMoment e.0 → MayBeWritten own (p.seq + 1) e.1 → IsGood view own (next_after p e)
-after_good view own p e same began moment may = record {
+after_good : (view : View) (own : PubKey) (p : Record) (e : Moment × Op) → p.owner ≡ own → 1 ≤ p.seq → IsKey p.name → IsMoment e.0 → MayBeWritten own (p.seq + 1) e.1 → IsGood view own (next_after p e)
+after_good view own p e same began named moment may = record {
   owned = same;
   spelled = record {
     some = omega arith;
     few = may.few;
-    prev = name_is_key p;
+    prev = named;
     moment = moment;
     entries = tt;
     in_order = refl;
@@ -199,6 +199,7 @@ after_good view own p e same began moment may = record {
     operation = may.fits;
     ends_first = (λ h. absurd (omega arith), λ h. absurd (may.no_end h));
     first_alone = λ h. absurd (omega arith);
+    named = refl;
   };
   number = may.number;
   named = tt;
@@ -211,17 +212,18 @@ after_follows p e none = record {
   grows = subst (λ (v : Vector). Dominates (full_vector (next_after p e)) (with_entry v (own_entry p))) (sym none) (grown [] p (next_after p e) refl refl (omega arith));
 }
 
-after_goes_on : (view : View) (own : PubKey) (p : Record) (entries : List (Moment × Op)) → p.owner ≡ own → 1 ≤ p.seq → p.vector ≡ [] → MayStand own (p.seq + 1) entries → GoesOn view own p (records_after p entries)
-after_goes_on view own p [] same began none may = tt
-after_goes_on view own p (e ∷ entries) same began none may =
-    (after_good view own p e same began may.0 may.1, after_follows p e none, after_goes_on view own (next_after p e) entries same (omega arith) refl may.2)
+after_goes_on : (view : View) (own : PubKey) (p : Record) (entries : List (Moment × Op)) → p.owner ≡ own → 1 ≤ p.seq → IsKey p.name → p.vector ≡ [] → MayStand own (p.seq + 1) entries → GoesOn view own p (records_after p entries)
+after_goes_on view own p [] same began named none may = tt
+after_goes_on view own p (e ∷ entries) same began named none may =
+    let good = after_good view own p e same began named may.0 may.1 in
+    (good, after_follows p e none, after_goes_on view own (next_after p e) entries same (omega arith) (name_is_key (next_after p e) good.spelled) refl may.2)
 
 log_chain : (view : View) (own : PubKey) (first : Moment) (entries : List (Moment × Op)) → IsMoment first → MayStand own 2 entries → IsChain view own (log_from own first entries)
 unfolding log_from
 log_chain view own first entries moment may = (
   record { owned = refl; spelled = opening_has_spelling own first moment; number = tt; named = tt },
   record { seq = refl; ends = refl; prev = refl; vector = refl },
-  after_goes_on view own (opening own first) entries refl (omega arith) refl may,
+  after_goes_on view own (opening own first) entries refl (omega arith) (name_is_key (opening own first) (opening_has_spelling own first moment)) refl may,
 )
 
 -- of an owner the log has all or nothing

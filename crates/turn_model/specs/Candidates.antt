@@ -10,8 +10,9 @@ use Rattle.log_model.specs.Vector.{Stamp, Vector, stamp_at, seq_of}
 use Rattle.log_model.specs.Record.{Record}
 use Rattle.log_model.specs.Chain.{IsChain}
 use Rattle.log_model.specs.Closed.{log_of}
+use Rattle.log_model.specs.Standing.{Stand}
 use Rattle.turn_model.specs.Turn.{Candidate, BringNothing}
-use Rattle.turn_model.specs.Known.{EndsAt, Stand}
+use Rattle.turn_model.specs.Known.{EndsAt}
 
 -- the greater number is tried first, and of equal ones the least name
 abbrev pub IsTriedBefore : Stamp → Stamp → Type 0

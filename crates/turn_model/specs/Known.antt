@@ -7,10 +7,11 @@ use Rattle.ivy_base.specs.Naming.{head_key_of}
 use Rattle.log_model.specs.View.{View}
 use Rattle.log_model.specs.Vector.{Stamp, Entry, Vector, stamp_at, seq_of}
 use Rattle.log_model.specs.Record.{Record}
-use Rattle.log_model.specs.Spelling.{record_block, record_name, no_name, HasSpelling}
+use Rattle.log_model.specs.Spelling.{no_name, HasSpelling}
 use Rattle.log_model.specs.Rank.{own_entry}
-use Rattle.log_model.specs.Chain.{IsChain}
+use Rattle.log_model.specs.Chain.{IsChain, LinkedFrom}
 use Rattle.log_model.specs.Closed.{log_of, IsAscending}
+use Rattle.log_model.specs.Standing.{Stand}
 
 -- the log ends at the record that the stamp names, or is empty where there is none
 abbrev pub EndsAt : Option Stamp → List Record → Type 0
@@ -23,15 +24,6 @@ pub record IsKnown (view : View) (floor : Vector) (known : List Record) : Type 0
   pub members : AllByRecursion (λ r. Contains view.members r.owner) known
   pub chains : (owner : PubKey) → IsChain view owner (log_of owner known)
   pub ends : (owner : PubKey) → Contains view.members owner → EndsAt (stamp_at floor (head_key_of owner)) (log_of owner known)
-
--- each record's block is among the blocks
-abbrev pub Stand : List (List ℕ) → List Record → Type 0
-Stand blocks records = AllByRecursion (λ r. Contains blocks (record_block r)) records
-
--- records of an owner that are linked by name from the first on, whatever logs their vectors name
-abbrev pub LinkedFrom : PubKey → ℕ → Key → List Record → Type 0
-LinkedFrom owner seq prev [] = Unit {0}
-LinkedFrom owner seq prev (r ∷ rs) = (r.owner ≡ owner) × HasSpelling r × (r.seq ≡ seq) × (r.prev ≡ prev) × LinkedFrom owner (seq + 1) (record_name r) rs
 
 -- Among the blocks, the record stands at or below the record that one of the heads names. A head is given as the entry that it says: a log, and its newest record
 pub record IsUnderHead (blocks : List (List ℕ)) (heads : List Entry) (r : Record) : Type 0 where

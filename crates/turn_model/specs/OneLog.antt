@@ -4,7 +4,7 @@ use Rattle.ivy_base.specs.declared.key.PubKey.{PubKey}
 use Rattle.ivy_base.specs.declared.operation.Moment.{Moment}
 use Rattle.ivy_base.specs.declared.operation.Op.{Op}
 use Rattle.log_model.specs.Record.{Record}
-use Rattle.log_model.specs.Spelling.{record_name, IsMoment}
+use Rattle.log_model.specs.Spelling.{new_record, IsMoment}
 use Rattle.log_model.specs.Chain.{opening, MayBeWritten}
 use Rattle.log_model.specs.View.{View}
 use Rattle.log_model.specs.Closed.{IsClosed}
@@ -16,7 +16,7 @@ use Rattle.turn_model.specs.Turn.{Agent, Asked, own_seq, appended, turn_on}
 
 -- the record that p's owner writes next, at that moment, with that operation
 abbrev pub next_after : Record → Moment × Op → Record
-next_after p e = record { owner = p.owner; seq = p.seq + 1; prev = record_name p; vector = []; moment = e.0; op = e.1 }
+next_after p e = new_record p.owner (p.seq + 1) p.name [] e.0 e.1
 
 -- one record for each operation, each after the one before
 abbrev pub records_after : Record → List (Moment × Op) → List Record

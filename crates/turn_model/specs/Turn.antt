@@ -9,7 +9,7 @@ use Rattle.ivy_base.specs.Naming.{head_key_of}
 use Rattle.log_model.specs.View.{View}
 use Rattle.log_model.specs.Vector.{Vector, stamp_at, seq_of, without_log}
 use Rattle.log_model.specs.Record.{Record}
-use Rattle.log_model.specs.Spelling.{record_name, no_name, IsMoment}
+use Rattle.log_model.specs.Spelling.{new_record, no_name, IsMoment}
 use Rattle.log_model.specs.Chain.{AllMayBeWritten}
 use Rattle.log_model.specs.Laws.{NumbersAreKeys}
 use Rattle.tree_model.specs.Tree.{Tree}
@@ -90,8 +90,8 @@ own_name own s = option_map_or (λ t. t.name) (stamp_at (front s) (head_key_of o
 abbrev pub linked : PubKey → Vector → Moment → ℕ → Key → List Op → List Record
 linked own vector now seq prev [] = []
 linked own vector now seq prev (op ∷ ops) =
-    let r : Record = record { owner = own; seq = seq; prev = prev; vector = vector; moment = now; op = op } in
-    r ∷ linked own vector now (seq + 1) (record_name r) ops
+    let r : Record = new_record own seq prev vector now op in
+    r ∷ linked own vector now (seq + 1) r.name ops
 
 -- the set with the operations' records, which cite all of its front but the own log
 abbrev pub appended : PubKey → Moment → List Record → List Op → List Record

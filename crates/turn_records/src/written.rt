@@ -1,7 +1,8 @@
 //! Records, and their blocks.
 
 ghost use Rattle.std.specs.Prelude.{◌≡◌, ◌+◌, ◌<◌, ◌^◌, length, map, IfOk};
-ghost use Rattle.log_model.specs.Spelling.{record_block};
+ghost use Rattle.log_model.specs.Spelling.{new_record};
+ghost use Rattle.log_model.specs.Standing.{blocks_of};
 ghost use Rattle.log_records.specs.Records.{record_of, records_of};
 ghost use Rattle.turn_model.specs.Turn.{linked};
 
@@ -40,7 +41,7 @@ pub fn write_records(
 ) -> Result<Written, Memory>
     requires { before.seq + length ops.items < 2 ^ 32 }
     ensures records { IfOk result (λ w. records_of w.records.items ≡ linked own.now cited.now now (before.seq + 1) before.name ops.items) }
-    ensures blocks { IfOk result (λ w. w.blocks.items ≡ map record_block (records_of w.records.items)) }
+    ensures blocks { IfOk result (λ w. w.blocks.items ≡ blocks_of (records_of w.records.items)) }
 {
     let mut records = Vec::with_capacity(alloc, ops.len())?;
     let mut blocks = Vec::with_capacity(alloc, ops.len())?;
@@ -67,8 +68,8 @@ fn write_one(
     op: Op,
 ) -> Result<(Record, Block), Memory>
     requires { before.seq + 1 < 2 ^ 32 }
-    ensures record { IfOk result (λ w. record_of w.0 ≡ record { owner = own.now; seq = before.seq + 1; prev = before.name; vector = cited.now; moment = now; op = op }) }
-    ensures block { IfOk result (λ w. w.1 ≡ record_block (record_of w.0)) }
+    ensures record { IfOk result (λ w. record_of w.0 ≡ new_record own.now (before.seq + 1) before.name cited.now now op) }
+    ensures block { IfOk result (λ w. w.1 ∷ [] ≡ blocks_of (record_of w.0 ∷ [])) }
 {
     let record = Record {
         owner: *own,

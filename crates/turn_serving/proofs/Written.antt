@@ -17,7 +17,7 @@ use Rattle.log_model.specs.Rank.{front}
 use Rattle.log_model.specs.Chain.{AllMayBeWritten}
 use Rattle.log_model.specs.Closed.{log_of, IsClosed}
 use Rattle.log_model.specs.Replay.{effect, replay}
-use Rattle.log_model.specs.Spelling.{IsMoment, record_name}
+use Rattle.log_model.specs.Spelling.{new_record, IsMoment}
 use Rattle.log_model.proofs.Later.{apply_more, replay_more}
 use Rattle.wire_model.specs.Rpc.{IsIdentity}
 use Rattle.nfs_model.specs.Arguments.{ArgumentsFit}
@@ -61,7 +61,7 @@ all_may_apply own seq (op ∷ ops) may = (may_apply op may.0.fits, all_may_apply
 linked_effects : (own : PubKey) (v : Vector) (now : Moment) (seq : ℕ) (prev : Key) (ops : List Op) → map effect (linked own v now seq prev ops) ≡ at_moment now ops
 linked_effects own v now seq prev [] = refl
 linked_effects own v now seq prev (op ∷ ops) =
-    ap (λ (l : List (Moment × Op)). (now, op) ∷ l) (linked_effects own v now (seq + 1) (record_name (record { owner = own; seq = seq; prev = prev; vector = v; moment = now; op = op })) ops)
+    ap (λ (l : List (Moment × Op)). (now, op) ∷ l) (linked_effects own v now (seq + 1) ((new_record own seq prev v now op).name) ops)
 
 -- ---- a plan on a closed set, for which numbers are left
 

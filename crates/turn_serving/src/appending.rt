@@ -6,7 +6,8 @@ ghost use Rattle.fs_tree.specs.Applicable.{IsApplicable};
 ghost use Rattle.log_model.specs.Closed.{IsClosed, log_of};
 ghost use Rattle.log_model.specs.Rank.{front};
 ghost use Rattle.log_model.specs.Replay.{replay};
-ghost use Rattle.log_model.specs.Spelling.{IsMoment, record_block};
+ghost use Rattle.log_model.specs.Spelling.{IsMoment};
+ghost use Rattle.log_model.specs.Standing.{blocks_of};
 ghost use Rattle.log_records.specs.Records.{records_of};
 ghost use Rattle.nfs_model.specs.Arguments.{ArgumentsFit};
 ghost use Rattle.nfs_model.specs.Changing.{Operations, plan};
@@ -52,7 +53,7 @@ pub fn append(
     requires planned { plan (replay (records_of taken.now.records.now)) taken.now.view.now (identity_of asked.now.caller) asked.now.args now taken.now.own.now (own_seq taken.now.own.now (records_of taken.now.records.now) + 1) ≡ Operations ops.items }
     ensures turn { IfOk result (λ s. by_plan (agent_in taken.now.view.now taken.now.own.now) (records_of taken.now.records.now) (asked_of asked.now) now (Operations ops.items)
         ≡ record { reply = s.reply; set = records_of taken.now.records.now ++ records_of s.written.records.items }) }
-    ensures blocks { IfOk result (λ s. s.written.blocks.items ≡ map record_block (records_of s.written.records.items)) }
+    ensures blocks { IfOk result (λ s. s.written.blocks.items ≡ blocks_of (records_of s.written.records.items)) }
 {
     if before.seq as usize + ops.len() > MOST_RECORDS {
         let refused = Reply::Refused {

@@ -3,7 +3,8 @@
 ghost use Rattle.std.specs.Prelude.{◌≡◌, ◌≢◌, ◌≤◌, ◌++◌, [], map, IfOk};
 ghost use Rattle.log_model.specs.Closed.{IsClosed, log_of};
 ghost use Rattle.log_model.specs.Rank.{front};
-ghost use Rattle.log_model.specs.Spelling.{IsMoment, record_block};
+ghost use Rattle.log_model.specs.Spelling.{IsMoment};
+ghost use Rattle.log_model.specs.Standing.{blocks_of};
 ghost use Rattle.log_records.specs.Records.{records_of};
 ghost use Rattle.nfs_model.specs.Arguments.{ArgumentsFit};
 ghost use Rattle.rpc_wire.specs.Callers.{identity_of};
@@ -60,7 +61,7 @@ pub fn serve(alloc: Global, taken: &Taken<'_>, asked: &Asked, now: Moment) -> Re
     requires moment { IsMoment now }
     ensures turn { IfOk result (λ s. turn_on (agent_in taken.now.view.now taken.now.own.now) (records_of taken.now.records.now) (asked_of asked.now) now
         ≡ record { reply = s.reply; set = records_of taken.now.records.now ++ records_of s.written.records.items }) }
-    ensures blocks { IfOk result (λ s. s.written.blocks.items ≡ map record_block (records_of s.written.records.items)) }
+    ensures blocks { IfOk result (λ s. s.written.blocks.items ≡ blocks_of (records_of s.written.records.items)) }
 {
     let tree = replay(alloc, taken.records)?;
     if !is_changing(&asked.args) {

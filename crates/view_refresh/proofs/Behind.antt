@@ -6,14 +6,13 @@ use Rattle.ivy_base.specs.Naming.{head_key_of, NamesTellApart}
 use Rattle.log_model.specs.View.{View}
 use Rattle.log_model.specs.Vector.{Stamp, Vector, stamp_at, reach, Dominates, with_entry}
 use Rattle.log_model.specs.Record.{Record}
-use Rattle.log_model.specs.Spelling.{record_block, record_name}
 use Rattle.log_model.specs.Rank.{own_entry, full_vector}
 use Rattle.log_model.specs.Chain.{IsGood, GoesOn, IsChain}
 use Rattle.log_model.proofs.Chains.{last_after}
 use Rattle.log_model.proofs.Lists.{each_left, each_right}
 use Rattle.log_model.proofs.Part.{chain_front}
+use Rattle.log_model.specs.Standing.{StandsAmong, Stand}
 use Rattle.log_records.specs.Batches.{GoesOnFrom, EndsAt, OldestNames}
-use Rattle.turn_model.specs.Known.{Stand}
 use Rattle.turn_model.specs.Known as known
 use Rattle.turn_model.specs.Candidates.{PassesThrough, MakeChain}
 use Rattle.candidate_laws.proofs.OneChain.{one_chain}
@@ -58,14 +57,14 @@ module _ (view : View) (owner : PubKey) where
       subst (λ (x : Record). IsGood view owner x) same (last_good p ps [] c.0 g)
 
   module _ (blocks : List (List ℕ)) (head : Stamp) where
-    leads : (p : Record) (rs : List Record) → GoesOn view owner p rs → Stand blocks rs → (own_entry (last_after p rs)).1 ≡ head → LeadsTo blocks owner head p.seq (record_name p) rs
+    leads : (p : Record) (rs : List Record) → GoesOn view owner p rs → Stand blocks rs → (own_entry (last_after p rs)).1 ≡ head → LeadsTo blocks owner head p.seq p.name rs
     unfolding last_after
     leads p [] g stand e = (ap (λ (s : Stamp). s.seq) e, ap (λ (s : Stamp). s.name) e)
     leads p (r ∷ rs) g stand e = (
       record { owned = g.0.owned; spelled = g.0.spelled; made = g.0.number; block = stand.0 },
       g.1.seq,
       g.1.prev,
-      subst (λ (k : ℕ). LeadsTo blocks owner head k (record_name r) rs) g.1.seq (leads r rs g.2 stand.1 e),
+      subst (λ (k : ℕ). LeadsTo blocks owner head k r.name rs) g.1.seq (leads r rs g.2 stand.1 e),
     )
 
     -- what goes on behind a log, up to the head
@@ -87,7 +86,7 @@ module _ (view : View) (owner : PubKey) where
               record { owned = c.0.owned; spelled = c.0.spelled; made = c.0.number; block = stand.0 },
               c.1.seq,
               refl,
-              subst (λ (k : ℕ). LeadsTo blocks owner head k (record_name r) rs) c.1.seq (leads r rs c.2 stand.1 last),
+              subst (λ (k : ℕ). LeadsTo blocks owner head k r.name rs) c.1.seq (leads r rs c.2 stand.1 last),
             ),
           );
           goes_on = (subst (λ (o : PubKey). IsGood view o r) (sym c.0.owned) c.0, c.1, tt, subst (λ (o : PubKey). GoesOn view o r rs) (sym c.0.owned) c.2);
@@ -111,7 +110,7 @@ module _ (view : View) (owner : PubKey) where
         let number : q.seq ≡ length (p ∷ ps) = sym (ap (λ (o : Option Record). reach (stamp_of o)) is_q) ∙ newest_number view owner (p ∷ ps) whole in
         let owned : q.owner ≡ r.owner = good_q.owned ∙ sym g.0.owned in
         record {
-          walk = (record_name q, subst (λ (k : ℕ). LeadsTo blocks owner head k (record_name q) (r ∷ rs)) number (leads q (r ∷ rs) g stand last));
+          walk = (q.name, subst (λ (k : ℕ). LeadsTo blocks owner head k q.name (r ∷ rs)) number (leads q (r ∷ rs) g stand last));
           goes_on = subst (λ (o : Option Record). GoesOnFrom view (stamp_of o) (edge_of o) (r ∷ rs)) (sym is_q) (
             subst (λ (o : PubKey). IsGood view o r) (sym g.0.owned) g.0,
             g.1.seq,
@@ -151,7 +150,7 @@ module _ (blocks : List (List ℕ)) (apart : NamesTellApart blocks) (view : View
           let ends = newest_ends log q e in
           let front : MakeChain blocks view owner [] (own_entry q).1 p.0 = record {
             chain_of_log = chain_front view owner p.0 p.1 whole;
-            stand = each_left (λ (r : Record). Contains blocks (record_block r)) p.0 p.1 all;
+            stand = each_left (λ (r : Record). StandsAmong blocks r) p.0 p.1 all;
             ends = p.3;
             passes = tt;
           } in
@@ -171,7 +170,7 @@ module _ (blocks : List (List ℕ)) (apart : NamesTellApart blocks) (view : View
         is = w.is;
         goes = behind view owner blocks head log w.rest
             (subst (λ (l : List Record). IsChain view owner l) w.is makes.chain_of_log)
-            (each_right (λ (r : Record). Contains blocks (record_block r)) log w.rest (subst (λ (l : List Record). Stand blocks l) w.is makes.stand))
+            (each_right (λ (r : Record). StandsAmong blocks r) log w.rest (subst (λ (l : List Record). Stand blocks l) w.is makes.stand))
             (subst (λ (l : List Record). known.EndsAt (Some head) l) w.is makes.ends)
             more;
       }

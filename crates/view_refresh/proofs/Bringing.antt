@@ -10,16 +10,15 @@ use Rattle.tree_model.proofs.Keys.{keys_total}
 use Rattle.log_model.specs.View.{View, IsView}
 use Rattle.log_model.specs.Vector.{Stamp, Vector, stamp_at, reach, seq_of}
 use Rattle.log_model.specs.Record.{Record}
-use Rattle.log_model.specs.Spelling.{record_block}
 use Rattle.log_model.specs.Rank.{front}
 use Rattle.log_model.specs.Chain.{IsChain}
 use Rattle.log_model.specs.Closed.{log_of, IsClosed}
 use Rattle.log_model.proofs.Lists.{here, in_cons, in_nothing, each, each_from, from_filter}
 use Rattle.log_model.proofs.Opening.{same_owner}
+use Rattle.log_model.specs.Standing.{StandsAmong, Stand}
 use Rattle.log_records.specs.declared.chain_fault.ChainFault.{ChainFault}
 use Rattle.log_records.specs.declared.chain_fault.ChainFault.TheVariants.{Bad, Fork, Memory}
 use Rattle.log_records.specs.Batches.{owner_of, stamp_in, IsSound, IsOnward, ChainFails}
-use Rattle.turn_model.specs.Known.{Stand}
 use Rattle.turn_model.specs.Candidates.{IsTriedBefore, IsTried, IsPassedOver, MakeChain, IsCandidate}
 use Rattle.turn_model.specs.Candidates as candidate
 use Rattle.causal_order.specs.AtHand.{held_to}
@@ -69,10 +68,10 @@ module _ (blocks : List (List ℕ)) (heads : Heads) (view : View) (well : IsView
   chain_of_log = closed.chains owner
 
   log_stands : Stand blocks (log_of owner known)
-  log_stands = each_from (λ (r : Record). Contains blocks (record_block r)) (log_of owner known) (λ r c.
+  log_stands = each_from (λ (r : Record). StandsAmong blocks r) (log_of owner known) (λ r c.
       let w = from_filter (λ (x : Record). eq_by_cmp owner_cmp owner x.owner) known r c in
       let owned : r.owner ≡ owner = same_owner owner r.owner w.1 in
-      each (λ (x : Record). (x.owner ≡ own → ⊥) → Contains blocks (record_block x)) known r stand w.0 (λ e. not_own (sym owned ∙ e)))
+      each (λ (x : Record). (x.owner ≡ own → ⊥) → StandsAmong blocks x) known r stand w.0 (λ e. not_own (sym owned ∙ e)))
 
   at : stamp_at (front known) (head_key_of owner) ≡ stamp_of (newest (log_of owner known))
   at = held_stamp view known well closed owner member

@@ -8,13 +8,14 @@ use Rattle.tree_model.specs.Tree.{same_key}
 use Rattle.tree_model.proofs.Keys.{same_key_itself}
 use Rattle.wire_model.proofs.OneReading.{whole}
 use Rattle.log_model.specs.Record.{Record}
-use Rattle.log_model.specs.Spelling.{record_block, record_name, IsRecordOf}
+use Rattle.log_model.specs.Spelling.{IsRecordOf}
+use Rattle.log_model.proofs.Standing.{met_by_name}
 use Rattle.log_model.specs.Chain.{HasMadeNumber}
 use Rattle.log_model.proofs.Lists.{some_passes}
 use Rattle.log_records.specs.Records.{IsRead, ReadFault}
 use Rattle.log_records.specs.declared.fault.RecordFault.{RecordFault}
 use Rattle.log_records.specs.declared.fault.RecordFault.TheVariants.{Malformed, TooLong, BadNumber, Memory}
-use Rattle.log_records.proofs.OneRecord.{one_record}
+use Rattle.log_records.proofs.OneRecord.{one_record, block_among}
 use Rattle.log_records.proofs.Sizes.{short_records}
 use Rattle.play_model.specs.Blocks.{is_met}
 use Rattle.view_refresh.specs.Walked.{IsNamed}
@@ -23,16 +24,14 @@ module _ (blocks : List (List ℕ)) (owner : PubKey) (seq : ℕ) (key : Key) whe
   -- where no block of the name was met, no record stands
   pub none_met : is_met blocks key ≡ false → (r : Record) → IsNamed blocks owner seq key r → ⊥
   none_met none r is =
-      let met : is_met blocks key ≡ true = some_passes (λ (b : List ℕ). same_key (name_of_bytes b) key) blocks (record_block r) is.stands.block
-      (subst (λ (k : Key). same_key (record_name r) k ≡ true) is.named (same_key_itself (record_name r))) in
+      let w = met_by_name blocks r is.stands.spelled is.stands.block in
+      let met : is_met blocks key ≡ true = some_passes (λ (b : List ℕ). same_key (name_of_bytes b) key) blocks w.0 w.1
+      (subst (λ (k : Key). same_key k key ≡ true) (sym (w.2 ∙ is.named)) (same_key_itself key)) in
       absurd (cc (none, met))
 
   module _ (apart : NamesTellApart blocks) (block : List ℕ) (within : Contains blocks block) (named : name_of_bytes block ≡ key) where
-    is_block : (r : Record) → IsNamed blocks owner seq key r → block ≡ record_block r
-    is_block r is = apart block (record_block r) within is.stands.block (named ∙ sym is.named)
-
     of_block : (r : Record) → IsNamed blocks owner seq key r → IsRecordOf owner block r
-    of_block r is = record { owned = is.stands.owned; fits = is.stands.spelled; spelled = is_block r is }
+    of_block r is = block_among owner blocks apart block within r is.stands.owned is.stands.spelled is.stands.block (named ∙ sym is.named)
 
     one_of_block : (r q : Record) → IsRecordOf owner block r → IsRecordOf owner block q → r ≡ q
     one_of_block r q f g = whole (one_record owner) r q (f.owned, f.fits) (g.owned, g.fits) (sym f.spelled ∙ g.spelled)
@@ -47,7 +46,7 @@ module _ (blocks : List (List ℕ)) (owner : PubKey) (seq : ℕ) (key : Key) whe
         block = subst (λ (b : List ℕ). Contains blocks b) read.spelled.spelled within;
       };
       numbered = number;
-      named = ap name_of_bytes (sym read.spelled.spelled) ∙ named;
+      named = read.spelled.fits.named ∙ ap name_of_bytes (sym read.spelled.spelled) ∙ named;
     }
 
     -- where it has another number, no record stands

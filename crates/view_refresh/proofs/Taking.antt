@@ -8,13 +8,12 @@ use Rattle.ivy_base.specs.Naming.{head_key_of}
 use Rattle.log_model.specs.View.{View}
 use Rattle.log_model.specs.Vector.{Stamp, Vector, stamp_at, reach}
 use Rattle.log_model.specs.Record.{Record}
-use Rattle.log_model.specs.Spelling.{record_block, record_name}
 use Rattle.log_model.specs.Rank.{own_entry}
 use Rattle.log_model.specs.Chain.{IsChain}
 use Rattle.log_model.proofs.Lists.{each_append}
+use Rattle.log_model.specs.Standing.{StandsAmong, Stand}
 use Rattle.log_records.specs.Batches.{owner_of, stamp_in, AreOfOneOwner, GoesOnFrom, PassesFloor, OldestNames, Extends, IsSound, IsOnward}
 use Rattle.log_records.proofs.Batches.{extends, chains_begin, chains_go_on, ends_behind}
-use Rattle.turn_model.specs.Known.{Stand}
 use Rattle.turn_model.specs.Candidates.{PassesThrough, MakeChain}
 use Rattle.view_refresh.specs.Walked.{LeadsTo, IsWalk, newest}
 use Rattle.view_refresh.proofs.Held.{newest_last, newest_ends, stamp_of, edge_of}
@@ -25,11 +24,11 @@ use Rattle.view_refresh.proofs.Behind.{GoesBehind, newest_good}
 module _ (blocks : List (List ℕ)) (owner : PubKey) (head : Stamp) where
   leads_stand : (seq : ℕ) (name : Key) (rs : List Record) → LeadsTo blocks owner head seq name rs → Stand blocks rs
   leads_stand seq name [] h = tt
-  leads_stand seq name (r ∷ rs) h = (h.0.block, leads_stand (seq + 1) (record_name r) rs h.3)
+  leads_stand seq name (r ∷ rs) h = (h.0.block, leads_stand (seq + 1) r.name rs h.3)
 
   leads_owned : (seq : ℕ) (name : Key) (rs : List Record) → LeadsTo blocks owner head seq name rs → AllByRecursion (λ r. r.owner ≡ owner) rs
   leads_owned seq name [] h = tt
-  leads_owned seq name (r ∷ rs) h = (h.0.owned, leads_owned (seq + 1) (record_name r) rs h.3)
+  leads_owned seq name (r ∷ rs) h = (h.0.owned, leads_owned (seq + 1) r.name rs h.3)
 
   pub walk_stands : (held : ℕ) (rs : List Record) → IsWalk blocks owner held head rs → Stand blocks rs
   walk_stands held rs w = leads_stand held w.0 rs w.1
@@ -114,7 +113,7 @@ module _ (view : View) (owner : PubKey) (floor : Vector) (head : Stamp) (log res
       let ends = ends_behind head log rest sound.ends in
       record {
         chain_of_log = makes_chain edge is c sound onward;
-        stand = each_append (λ (r : Record). Contains blocks (record_block r)) log rest stand_log stand_rest;
+        stand = each_append (λ (r : Record). StandsAmong blocks r) log rest stand_log stand_rest;
         ends = (ends.0, ends.1, ends.2, ends.3);
         passes = subst (λ (s : Option Stamp). PassesThrough s (log ++ rest)) (sym at) (by (newest log) refl);
       }

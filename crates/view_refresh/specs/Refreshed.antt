@@ -4,8 +4,8 @@ use Rattle.std.specs.List.{AllByRecursion}
 use Rattle.ivy_base.specs.declared.key.PubKey.{PubKey}
 use Rattle.log_model.specs.Rank.{front}
 use Rattle.log_model.specs.Record.{Record}
-use Rattle.log_model.specs.Spelling.{record_block}
 use Rattle.log_model.specs.View.{View}
+use Rattle.log_model.specs.Standing.{StandsAmong}
 use Rattle.turn_model.specs.Candidates.{AreCandidates}
 use Rattle.turn_model.specs.Turn.{Candidate, IsAtHand}
 use Rattle.causal_order.specs.AtHand as over
@@ -14,7 +14,7 @@ use Rattle.play_model.specs.Blocks.{Heads, heads_at}
 
 -- the records of the other logs stand among the blocks
 abbrev pub OthersStand : List (List ℕ) → PubKey → List Record → Type 0
-OthersStand blocks own known = AllByRecursion (λ r. (r.owner ≡ own → ⊥) → Contains blocks (record_block r)) known
+OthersStand blocks own known = AllByRecursion (λ r. (r.owner ≡ own → ⊥) → StandsAmong blocks r) known
 
 -- There are candidates of which these chains are the news: what is at hand by the chains, over what is known, is what is at
 -- hand by the candidates; and a closed part may be taken of each chain.

@@ -1,7 +1,6 @@
 use Rattle.std.proofs.Common.{◌≡◌, ◌-◌, true, sym, ap, subst, arith, refl, ℕ}
 use Rattle.ivy_base.specs.declared.key.Key.{Key}
 use Rattle.log_model.specs.Vector.{Stamp}
-use Rattle.log_model.specs.Spelling.{record_name}
 use Rattle.log_model.specs.Closed.{log_of}
 use Rattle.causal_order.specs.Kept.{IsAt, known_of}
 use Rattle.causal_order.proofs.Passes.{start}
@@ -34,7 +33,7 @@ returns-then-has_name-clause-some c =
     let number = seq_at view c.args.self.now.owner (start view c.args.base.now.front.now c.args.self.now.owner) log c.args.entry.now.seq c.args.self.now.base (c.args.entry.now.seq - c.args.self.now.base - 1)
     c.requires.chain c.requires.behind (base_is c.args.base.now.front.now known c.args.self.now c.requires.kept) refl w.0 w.1 in
     let named = (c.has_name.ensures w.0 w.1).0 c.if-has_name.true in
-    (w.0, subst (λ (k : ℕ). IsAt known k w.0) (sym c.index.ensures) there, at_stands log (c.args.entry.now.seq - c.args.self.now.base - 1) w.0 w.1, made w.0.seq c.args.entry.now.seq (record_name w.0) c.args.entry.now.name number named)
+    (w.0, subst (λ (k : ℕ). IsAt known k w.0) (sym c.index.ensures) there, at_stands log (c.args.entry.now.seq - c.args.self.now.base - 1) w.0 w.1, made w.0.seq c.args.entry.now.seq w.0.name c.args.entry.now.name number named)
 
 pub returns-else-has_name-clause-none : goal.returns-else-has_name-clause-none
 returns-else-has_name-clause-none c = λ r stands same.
