@@ -7,7 +7,7 @@ use Rattle.tree_model.specs.Apply.{empty_tree, apply_all}
 use Rattle.log_model.specs.Closed.{IsClosed}
 use Rattle.log_model.specs.Record.{Record}
 use Rattle.log_model.specs.Replay.{effect, replay}
-use Rattle.log_model.specs.Spelling.{OperationFits}
+use Rattle.log_model.specs.Spelling.{OperationFits, most_records}
 use Rattle.log_model.specs.View.{View}
 use Rattle.log_model.proofs.Lists.{each_from}
 use Rattle.log_model.proofs.Later.{good_of}
@@ -29,7 +29,7 @@ use Rattle.play_model.specs.Blocks.{Heads}
 use Rattle.play_model.specs.Calls.{agent_of}
 use Rattle.play_model.specs.World.{Participant}
 use Rattle.turn_laws.proofs.Turns.{closed_makes_keys}
-use Rattle.turn_model.specs.Turn.{Agent, Asked, Turned, is_changing, bare_tail, most_records, own_seq, appended, by_plan, turn_on}
+use Rattle.turn_model.specs.Turn.{Agent, Asked, Turned, is_changing, bare_tail, own_seq, appended, by_plan, turn_on}
 use Rattle.wire_model.specs.Xdr.{word, optional}
 use Rattle.log_agent.specs.Turns.{TakesTurn}
 use Rattle.log_agent.specs.declared.agent.Turned.{Turned as Given}

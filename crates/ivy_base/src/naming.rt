@@ -13,11 +13,11 @@ pub fn name_of(bytes: &[u8]) -> Key
     Key(Sha1::digest(bytes))
 }
 
-/// The name of the block that holds the head of the owner's log: the SHA-1 of the owner's public key.
+/// Where the head of the owner's log lies, which stands for the log: the SHA-1 of the owner's public key.
 pub fn head_key(owner: &PubKey) -> Key
     ensures { result ≡ head_key_of owner.now }
 {
-    name_of(&owner.0)
+    Key(Sha1::digest(&owner.0))
 }
 
 /// The number of the inode that the owner's record of that sequence number makes: the SHA-1 of the public key

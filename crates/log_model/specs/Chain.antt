@@ -10,7 +10,7 @@ use Rattle.ivy_base.specs.Naming.{inode_number}
 use Rattle.log_model.specs.View.{View, is_named}
 use Rattle.log_model.specs.Vector.{Dominates}
 use Rattle.log_model.specs.Record.{Record}
-use Rattle.log_model.specs.Spelling.{new_record, no_name, HasSpelling, OperationFits, IsEndOp}
+use Rattle.log_model.specs.Spelling.{new_record, no_name, most_records, HasSpelling, OperationFits, IsEndOp}
 use Rattle.log_model.specs.Rank.{full_vector}
 
 -- the first record of a log, which its owner makes with it
@@ -27,7 +27,7 @@ pub record MayBeWritten (owner : PubKey) (seq : ℕ) (op : Op) : Type 0 where
   pub fits : OperationFits op
   pub no_end : IsEndOp op → ⊥
   pub number : HasMadeNumber owner seq op
-  pub few : seq ≤ 1048576
+  pub few : seq ≤ most_records
 
 -- the operations may stand in the owner's records from that number on
 abbrev pub AllMayBeWritten : PubKey → ℕ → List Op → Type 0

@@ -14,6 +14,7 @@ use Rattle.ivy_base.specs.Naming.{name, key_cmp, head_key_of, IsFileName}
 use Rattle.wire_model.specs.Xdr.{word, double_word, opaque, optional, array, moment}
 use Rattle.log_model.specs.Vector.{Entry, Vector, Stamp, stamp_at}
 use Rattle.log_model.specs.Record.{Record}
+use Rattle.log_model.specs.View.{most_cited}
 
 -- a kind as an inode's record has it (RFC 1813, section 2.5, ftype3)
 abbrev pub kind_number : Kind → ℕ
@@ -73,6 +74,14 @@ new_record owner seq prev vector moment_made op = record {
 
 -- ---- which records have a spelling
 
+-- no block of a record has more bytes
+abbrev pub longest_record : ℕ
+longest_record = 12288
+
+-- the greatest number of a record
+abbrev pub most_records : ℕ
+most_records = 1048576
+
 -- in place of a name, where there is none
 abbrev pub no_name : Key
 no_name = record { 0 = replicate 20 0 }
@@ -128,12 +137,12 @@ IsEndOp _ = ⊥
 -- a vector has at most 32 entries, ascending by head key, none of them of the own log
 pub record HasSpelling (r : Record) : Type 0 where
   pub some : 1 ≤ r.seq
-  pub few : r.seq ≤ 1048576
+  pub few : r.seq ≤ most_records
   pub prev : IsKey r.prev
   pub moment : IsMoment r.moment
   pub entries : AllByRecursion (λ e. IsKey e.0 × (1 ≤ e.1.seq) × (e.1.seq < 2 ^ 32) × IsKey e.1.name) r.vector
   pub in_order : IsTrue (is_sorted key_cmp r.vector)
-  pub short : length r.vector ≤ 32
+  pub short : length r.vector ≤ most_cited
   pub of_others : stamp_at r.vector (head_key_of r.owner) ≡ None
   pub operation : OperationFits r.op
   pub ends_first : (r.seq ≡ 1) ↔ IsEndOp r.op
@@ -159,7 +168,7 @@ head_block owner newest signature = head_message owner newest ++ opaque signatur
 pub record IsHeadOf (owner : PubKey) (block : List ℕ) (newest : Stamp) (signature : List ℕ) : Type 0 where
   pub owner_is_key : IsBlock 60 owner.0
   pub some : 1 ≤ newest.seq
-  pub few : newest.seq ≤ 1048576
+  pub few : newest.seq ≤ most_records
   pub name : IsKey newest.name
   pub short : length signature ≤ 16000
   pub spelled : block ≡ head_block owner newest signature

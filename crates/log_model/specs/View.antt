@@ -1,5 +1,5 @@
 -- A view: the participants whose logs make up the file system, and those whose logs did once.
-use Rattle.std.specs.Prelude.{◌≤◌, ℕ, Bool, true, ◌||◌, ◌&&◌, not, IsTrue, List, [], ◌∷◌, ◌++◌, length}
+use Rattle.std.specs.Prelude.{◌+◌, ◌≤◌, ℕ, Bool, true, ◌||◌, ◌&&◌, not, IsTrue, List, [], ◌∷◌, ◌++◌, length}
 use Rattle.std.specs.List.{list_any, list_all}
 use Rattle.std.specs.Ordering.{is_lt}
 use Rattle.ivy_base.specs.declared.key.Key.{Key}
@@ -11,6 +11,16 @@ use Rattle.wire_model.specs.Xdr.{array}
 pub record View : Type 0 where
   pub members : List PubKey
   pub former : List PubKey
+
+-- a view has so many members and so many former logs at most, so a vector has as many entries as both together
+abbrev pub most_members : ℕ
+most_members = 16
+
+abbrev pub most_former : ℕ
+most_former = 16
+
+abbrev pub most_cited : ℕ
+most_cited = most_members + most_former
 
 -- the head key is that of one of these owners
 abbrev pub is_log_of : List PubKey → Key → Bool
@@ -45,8 +55,8 @@ have_own_head_keys (k ∷ ks) = list_all (λ other. not (same_key (head_key_of k
 -- a view that may be made: 1 to 16 members, 0 to 16 former logs, each list in order, and no two keys of one head key, so that none stands twice
 pub record IsView (view : View) : Type 0 where
   pub some : 1 ≤ length view.members
-  pub few : length view.members ≤ 16
-  pub few_former : length view.former ≤ 16
+  pub few : length view.members ≤ most_members
+  pub few_former : length view.former ≤ most_former
   pub members_ascend : IsTrue (ascend view.members)
   pub former_ascend : IsTrue (ascend view.former)
   pub apart : IsTrue (have_own_head_keys (view.members ++ view.former))

@@ -5,6 +5,7 @@ use Rattle.ivy_base.specs.declared.operation.Op.{Op}
 use Rattle.wire_model.specs.Xdr.{word, array, moment, IsWord}
 use Rattle.log_model.specs.Vector.{Vector, stamp_at}
 use Rattle.log_model.specs.Spelling.{IsKey, IsMoment, vector_entry, body, no_name, IsEndOp}
+use Rattle.log_model.specs.View.{most_cited}
 use Rattle.version_vectors.specs.Vectors.{VectorFits}
 use Rattle.log_records.specs.Parts.{IsOfKind}
 use Rattle.log_records.specs.Heads.{IsNumber}
@@ -12,7 +13,7 @@ use Rattle.log_records.specs.declared.frame.Frame.{Frame}
 
 -- what a record of that log may cite
 abbrev pub IsCited : Key → Vector → Type 0
-IsCited log v = VectorFits 32 v × (stamp_at v log ≡ None)
+IsCited log v = VectorFits most_cited v × (stamp_at v log ≡ None)
 
 pub record IsFrame (log : Key) (f : Frame) : Type 0 where
   pub kind_is : IsWord f.kind

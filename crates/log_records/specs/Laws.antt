@@ -4,7 +4,7 @@ use Rattle.ivy_base.specs.declared.key.Key.{Key}
 use Rattle.ivy_base.specs.declared.key.PubKey.{PubKey}
 use Rattle.wire_model.specs.OneReading.{ReadsOne}
 use Rattle.log_model.specs.Record.{Record}
-use Rattle.log_model.specs.Spelling.{record_block, HasSpelling}
+use Rattle.log_model.specs.Spelling.{record_block, HasSpelling, longest_record}
 use Rattle.dht_ids.specs.declared.judge.Judged.{Judged}
 use Rattle.log_records.specs.Heads.{IsHead, head_bytes, IsPlainHead, plain_judged}
 
@@ -18,7 +18,7 @@ RecordsAreOne = (owner : PubKey) → ReadsOne (IsOwned owner) record_block
 
 -- no record is too long
 abbrev pub RecordsAreShort : Type 0
-RecordsAreShort = (r : Record) → HasSpelling r → length (record_block r) ≤ 12288
+RecordsAreShort = (r : Record) → HasSpelling r → length (record_block r) ≤ longest_record
 
 -- each block is one head, and none begins another's
 abbrev pub HeadsAreOne : Type 0

@@ -2,7 +2,7 @@
 use Rattle.std.specs.Prelude.{ℕ, ◌<◌, ◌≤◌, List, length, map}
 use Rattle.ivy_base.specs.declared.key.PubKey.{PubKey}
 use Rattle.log_model.specs.Record as log
-use Rattle.log_model.specs.Spelling.{new_record, IsRecordOf}
+use Rattle.log_model.specs.Spelling.{new_record, longest_record, IsRecordOf}
 use Rattle.log_model.specs.Chain.{HasMadeNumber}
 use Rattle.log_records.specs.declared.record.Record.{Record}
 use Rattle.log_records.specs.declared.fault.RecordFault.{RecordFault}
@@ -22,7 +22,7 @@ pub record IsRead (owner : PubKey) (bytes : List ℕ) (r : log.Record) : Type 0 
 
 -- why no record of the owner's was read
 abbrev pub ReadFault : PubKey → List ℕ → RecordFault → Type 0
-ReadFault owner bytes TooLong = 12288 < length bytes
-ReadFault owner bytes Malformed = (length bytes ≤ 12288) × ((r : log.Record) → IsRecordOf owner bytes r → ⊥)
-ReadFault owner bytes BadNumber = (length bytes ≤ 12288) × (r : log.Record) × IsRecordOf owner bytes r × (HasMadeNumber owner r.seq r.op → ⊥)
+ReadFault owner bytes TooLong = longest_record < length bytes
+ReadFault owner bytes Malformed = (length bytes ≤ longest_record) × ((r : log.Record) → IsRecordOf owner bytes r → ⊥)
+ReadFault owner bytes BadNumber = (length bytes ≤ longest_record) × (r : log.Record) × IsRecordOf owner bytes r × (HasMadeNumber owner r.seq r.op → ⊥)
 ReadFault owner bytes Memory = Unit {0}

@@ -3,7 +3,7 @@
 ghost use Rattle.std.specs.Prelude.{◌≡◌, ◌^◌, ◌<◌, ◌≤◌, ◌↔◌, IsTrue, length, IfOk, IfErr, OnOk};
 ghost use Rattle.ivy_base.specs.Naming.{head_key_of};
 ghost use Rattle.log_model.specs.Vector.{weight_of};
-ghost use Rattle.log_model.specs.Spelling.{record_block, no_name, IsEndOp};
+ghost use Rattle.log_model.specs.Spelling.{record_block, longest_record, no_name, IsEndOp};
 ghost use Rattle.log_model.specs.Rank.{rank};
 ghost use Rattle.log_model.specs.Chain.{HasMadeNumber};
 ghost use Rattle.version_vectors.specs.Ranks.{rank_of};
@@ -53,7 +53,7 @@ impl Record {
     /// number than [`number_of`] gives. `Memory` is want of memory.
     pub fn read(alloc: Global, bytes: &[u8], owner: &PubKey) -> Result<Record, RecordFault>
         ensures ok { IfOk result (λ r. IsRead owner.now bytes.now (record_of r)) }
-        ensures short { OnOk result (length bytes.now ≤ 12288) }
+        ensures short { OnOk result (length bytes.now ≤ longest_record) }
         ensures err { IfErr result (ReadFault owner.now bytes.now) }
     {
         if bytes.len() > LONGEST_RECORD {

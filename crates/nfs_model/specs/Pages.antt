@@ -2,7 +2,7 @@
 use Rattle.std.specs.Prelude.{ℕ, ◌+◌, ◌-◌, min, nat_lt, Bool, false, ◌&&◌, not, List, [], ◌∷◌, ◌++◌, length, take, drop, map, Some, None, unwrap_or, ◌==◌, if◌then◌else◌}
 use Rattle.std.specs.List.{flat_map}
 use Rattle.ivy_base.specs.declared.key.Key.{Key}
-use Rattle.ivy_base.specs.Naming.{name}
+use Rattle.ivy_base.specs.Naming.{digest}
 use Rattle.tree_model.specs.Tree.{Tree, listing, parent, directory_kind}
 use Rattle.log_model.specs.View.{View}
 use Rattle.wire_model.specs.Xdr.{word, opaque}
@@ -27,7 +27,7 @@ placed n (e ∷ es) = (n + 1, e) ∷ placed (n + 1) es
 
 -- the first eight bytes of the SHA-1 over each name's length, bytes and inode
 abbrev pub cookie_verifier : Tree → Key → List ℕ
-cookie_verifier t dir = take 8 (name (flat_map (λ e. word (length e.0) ++ e.0 ++ e.1.0) (listing t dir))).0
+cookie_verifier t dir = take 8 (digest (flat_map (λ e. word (length e.0) ++ e.0 ++ e.1.0) (listing t dir))).0
 
 -- how many bytes an entry's number, name and cookie take
 abbrev pub entry_length : List ℕ → ℕ

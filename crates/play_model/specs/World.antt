@@ -13,7 +13,7 @@ use Rattle.ivy_base.specs.Naming.{owner_cmp}
 use Rattle.log_model.specs.Record.{Record}
 use Rattle.log_model.specs.Rank.{weight}
 use Rattle.log_model.specs.Chain.{opening}
-use Rattle.log_model.specs.View.{View, have_own_head_keys, is_member, view_block}
+use Rattle.log_model.specs.View.{View, have_own_head_keys, is_member, view_block, most_members, most_former}
 use Rattle.script_driver.specs.Run.{Outcome, Goes, Refuses, Exceeds}
 use Rattle.play_model.specs.Blocks.{Heads, Met, nothing_met, meets, meets_all, newest_stamp, published_blocks, published_heads}
 use Rattle.play_model.specs.Script.{◌>>=◌}
@@ -111,7 +111,7 @@ view_of_keys members former = record { members = in_key_order members; former = 
 abbrev pub view_with : World → List ℕ → List PubKey → List PubKey → Outcome World
 view_with w name members former =
     if not (have_own_head_keys (members ++ former)) then Refuses
-    else if nat_lt 16 (length members) || nat_lt 16 (length former) then Exceeds
+    else if nat_lt most_members (length members) || nat_lt most_former (length former) then Exceeds
     else (let view = view_of_keys members former in
     Goes (record w { views = w.views ++ record { name = name; view = view } ∷ []; blocks = meets w.blocks (view_block view) }) [])
 

@@ -8,6 +8,7 @@ use Rattle.log_model.specs.Rank.{front}
 use Rattle.log_model.specs.Record.{Record}
 use Rattle.log_model.specs.Replay.{replay}
 use Rattle.log_model.specs.View.{View}
+use Rattle.log_model.specs.Spelling.{most_records}
 use Rattle.nfs_model.specs.declared.replies.NfsStatus.TheVariants.{RoFs}
 use Rattle.nfs_model.specs.declared.replies.Reply.{Reply}
 use Rattle.nfs_model.specs.declared.replies.Reply.TheVariants.{Refused}
@@ -15,7 +16,7 @@ use Rattle.nfs_model.specs.Changing.{Refuse, Nothing, Operations, plan, finish}
 use Rattle.nfs_model.specs.Reading.{answer}
 use Rattle.nfs_model.specs.Results.{result}
 use Rattle.turn_model.specs.Known.{IsVerified}
-use Rattle.turn_model.specs.Turn.{Asked, Candidate, IsAtHand, is_changing, bare_tail, most_records, own_seq, appended}
+use Rattle.turn_model.specs.Turn.{Asked, Candidate, IsAtHand, is_changing, bare_tail, own_seq, appended}
 use Rattle.script_driver.specs.Run.{Outcome, Goes}
 use Rattle.play_model.specs.declared.command.Piece.{Piece}
 use Rattle.play_model.specs.declared.command.Command.TheVariants.{As}

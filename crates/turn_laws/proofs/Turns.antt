@@ -15,7 +15,7 @@ use Rattle.tree_model.proofs.Sound.{both_false}
 use Rattle.log_model.specs.View.{View, IsView}
 use Rattle.log_model.specs.Vector.{Stamp, Vector, reach, without_log}
 use Rattle.log_model.specs.Record.{Record}
-use Rattle.log_model.specs.Spelling.{IsMoment, OperationFits, no_name}
+use Rattle.log_model.specs.Spelling.{IsMoment, OperationFits, no_name, most_records}
 use Rattle.log_model.specs.Rank.{front}
 use Rattle.log_model.specs.Chain.{AllMayBeWritten}
 use Rattle.log_model.specs.Closed.{log_of, IsClosed}
@@ -28,7 +28,7 @@ use Rattle.log_model.proofs.Sets.{ascending_in_order}
 use Rattle.wire_model.specs.Rpc.{IsIdentity}
 use Rattle.nfs_model.specs.Arguments.{ArgumentsFit}
 use Rattle.nfs_model.specs.Changing.{Plan, Refuse, Nothing, Operations, plan}
-use Rattle.turn_model.specs.Turn.{Agent, Asked, Turned, is_changing, most_records, own_seq, own_name, linked, appended, by_plan, turn_on}
+use Rattle.turn_model.specs.Turn.{Agent, Asked, Turned, is_changing, own_seq, own_name, linked, appended, by_plan, turn_on}
 use Rattle.turn_model.proofs.Plans.{plan_may_be_written}
 use Rattle.turn_laws.specs.Closed.{TurnSetIsClosed}
 use Rattle.turn_laws.proofs.Starts.{ends_with, own_stamp, over_front}

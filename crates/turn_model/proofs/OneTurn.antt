@@ -9,7 +9,7 @@ use Rattle.ivy_base.specs.declared.operation.Op.{Op}
 use Rattle.tree_model.specs.Tree.{Tree}
 use Rattle.tree_model.proofs.Sound.{both_false}
 use Rattle.log_model.specs.View.{View}
-use Rattle.log_model.specs.Spelling.{IsMoment, OperationFits}
+use Rattle.log_model.specs.Spelling.{IsMoment, OperationFits, most_records}
 use Rattle.log_model.specs.Chain.{AllMayBeWritten}
 use Rattle.log_model.specs.Laws.{NumbersAreKeys}
 use Rattle.log_model.specs.Replay.{replay}
@@ -18,7 +18,7 @@ use Rattle.wire_model.specs.Rpc.{Identity, IsIdentity}
 use Rattle.nfs_model.specs.declared.arguments.Args.{Args}
 use Rattle.nfs_model.specs.Arguments.{ArgumentsFit}
 use Rattle.nfs_model.specs.Changing.{Plan, Refuse, Nothing, Operations, plan}
-use Rattle.turn_model.specs.Turn.{Agent, Asked, Turned, is_changing, most_records, own_seq, by_plan, turn_on}
+use Rattle.turn_model.specs.Turn.{Agent, Asked, Turned, is_changing, own_seq, by_plan, turn_on}
 use Rattle.turn_model.specs.OneLog.{log_from, written_at, MayStand, LoneTurnGoesOn}
 use Rattle.turn_model.proofs.OneLog.{own_seq-log, appended-log, replay-log, MayStand-append, MayStand-written_at}
 use Rattle.turn_model.proofs.Plans.{plan_may_be_written}

@@ -8,12 +8,13 @@ use Rattle.tree_model.specs.Tree.{Tree}
 use Rattle.tree_model.specs.Apply.{apply_all}
 use Rattle.log_model.specs.Record.{Record}
 use Rattle.log_model.specs.Replay.{replay}
+use Rattle.log_model.specs.Spelling.{most_records}
 use Rattle.nfs_model.specs.declared.replies.NfsStatus.TheVariants.{RoFs, ServerFault}
 use Rattle.nfs_model.specs.declared.replies.Reply.{Reply}
 use Rattle.nfs_model.specs.declared.replies.Reply.TheVariants.{Refused}
 use Rattle.nfs_model.specs.Reading.{answer}
 use Rattle.nfs_model.specs.Changing.{Plan, Refuse, Nothing, Operations, plan, finish}
-use Rattle.turn_model.specs.Turn.{Agent, Asked, Turned, is_changing, bare_tail, most_records, own_seq, appended, by_plan, turn_on}
+use Rattle.turn_model.specs.Turn.{Agent, Asked, Turned, is_changing, bare_tail, own_seq, appended, by_plan, turn_on}
 use Rattle.turn_model.specs.OneLog.{log_from, written_at}
 use Rattle.turn_model.proofs.OneLog.{own_seq-log, appended-log, replay_more-log}
 

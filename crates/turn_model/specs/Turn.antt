@@ -9,7 +9,7 @@ use Rattle.ivy_base.specs.Naming.{head_key_of}
 use Rattle.log_model.specs.View.{View}
 use Rattle.log_model.specs.Vector.{Vector, stamp_at, seq_of, without_log}
 use Rattle.log_model.specs.Record.{Record}
-use Rattle.log_model.specs.Spelling.{new_record, no_name, IsMoment}
+use Rattle.log_model.specs.Spelling.{new_record, no_name, IsMoment, most_records}
 use Rattle.log_model.specs.Chain.{AllMayBeWritten}
 use Rattle.log_model.specs.Laws.{NumbersAreKeys}
 use Rattle.tree_model.specs.Tree.{Tree}
@@ -74,10 +74,6 @@ bare_tail (call.Commit file offset count) = tail.Cache no_cache_data
 bare_tail args = if is_changing args then tail.Cache no_cache_data else tail.Attributes None
 
 -- ---- the records that a plan appends
-
--- the greatest number of a record
-abbrev pub most_records : ℕ
-most_records = 1048576
 
 -- how far the own log goes, and the name of its newest record
 abbrev pub own_seq : PubKey → List Record → ℕ

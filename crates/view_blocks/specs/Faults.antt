@@ -5,7 +5,7 @@ use Rattle.ivy_base.specs.declared.key.Key.{Key}
 use Rattle.ivy_base.specs.declared.key.PubKey.{PubKey}
 use Rattle.wire_model.specs.Xdr.{array}
 use Rattle.log_model.specs.Spelling.{IsBlock}
-use Rattle.log_model.specs.View.{View, IsView, view_block, view_name, ascend, have_own_head_keys}
+use Rattle.log_model.specs.View.{View, IsView, view_block, view_name, ascend, have_own_head_keys, most_members, most_former}
 use Rattle.view_blocks.specs.declared.fault.ViewFault.{ViewFault}
 use Rattle.view_blocks.specs.declared.fault.ViewFault.TheVariants.{Malformed, NoMember, TooMany, Order, Overlap, Memory}
 
@@ -42,8 +42,8 @@ HasNoForm bytes = (view : View) → FitsBlock view → bytes ≢ view_block view
 
 pub record HasFewKeys (view : View) : Type 0 where
   pub some : view.members ≢ []
-  pub few : length view.members ≤ 16
-  pub few_former : length view.former ≤ 16
+  pub few : length view.members ≤ most_members
+  pub few_former : length view.former ≤ most_former
 
 pub record IsInOrder (view : View) : Type 0 where
   pub members : IsTrue (ascend view.members)
@@ -52,14 +52,14 @@ pub record IsInOrder (view : View) : Type 0 where
 -- why there are too few or too many keys
 abbrev pub CountsFailAs : ℕ → ℕ → ViewFault → Type 0
 CountsFailAs members former NoMember = members ≡ 0
-CountsFailAs members former TooMany = (members ≢ 0) × ((16 < members) ⊎ (16 < former))
+CountsFailAs members former TooMany = (members ≢ 0) × ((most_members < members) ⊎ (most_former < former))
 CountsFailAs members former fault = ⊥
 
 -- why a view of these keys can't be made: the first test that fails. Want of memory isn't tied to a cause
 abbrev pub FailsAs : View → ViewFault → Type 0
 FailsAs view Malformed = ⊥
 FailsAs view NoMember = view.members ≡ []
-FailsAs view TooMany = (view.members ≢ []) × ((16 < length view.members) ⊎ (16 < length view.former))
+FailsAs view TooMany = (view.members ≢ []) × ((most_members < length view.members) ⊎ (most_former < length view.former))
 FailsAs view Order = HasFewKeys view × (IsInOrder view → ⊥)
 FailsAs view Overlap = HasFewKeys view × IsInOrder view × (have_own_head_keys (view.members ++ view.former) ≡ false)
 FailsAs view Memory = Unit {0}

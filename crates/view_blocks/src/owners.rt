@@ -2,13 +2,12 @@
 
 ghost use Rattle.std.specs.Prelude.{◌≡◌, ◌++◌, length, not, IfOk};
 ghost use Rattle.std.specs.List.{AllByRecursion, list_all};
-ghost use Rattle.ivy_base.specs.Naming.{name};
 ghost use Rattle.log_model.specs.Spelling.{IsBlock};
 ghost use Rattle.log_model.specs.View.{is_log_of, ascend, have_own_head_keys};
 ghost use Rattle.view_blocks.specs.Faults.{IsPubKey, keys_of};
 
 use crate::form::KEY_LEN;
-use ivy_base::{Key, Memory, PubKey, name_of};
+use ivy_base::{Key, Memory, PubKey, head_key};
 use std::alloc::Global;
 use std::marker::Model;
 
@@ -39,7 +38,8 @@ impl Owners {
     {
         let mut heads = Vec::with_capacity(alloc, keys.len())?;
         for key in &keys {
-            heads.push(head_of(&key.0))?;
+            tell_bytes(&key.0);
+            heads.push(head_key(key))?;
         }
         Ok(Owners { keys, heads })
     }
@@ -95,13 +95,12 @@ impl Owners {
     }
 }
 
-/// The head key of the public key of these bytes.
-fn head_of(bytes: &[u8]) -> Key
+/// Does nothing: that the 60 bytes of a public key are bytes is told by its contract.
+fn tell_bytes(bytes: &[u8])
     requires { length bytes.now ≡ KEY_LEN }
-    ensures name { result ≡ name bytes.now }
     ensures key { IsBlock KEY_LEN bytes.now }
 {
-    name_of(bytes)
+    let _ = bytes.len();
 }
 
 /// Whether the keys ascend strictly by their bytes.
