@@ -6,7 +6,7 @@ use Rattle.ivy_base.specs.declared.operation.Moment.{Moment}
 use Rattle.wire_model.specs.Xdr.{word, array, moment, IsAny, IsWord}
 use Rattle.wire_model.specs.OneReading.{ReadsOne, IsFront, HasNoFront}
 use Rattle.wire_model.proofs.OneReading.{◌▷◌, of_fewer, of_parts, one_word}
-use Rattle.wire_model.proofs.Fronts.{both, no_first, no_second, only_misfit}
+use Rattle.wire_model.proofs.Fronts.{both, no_first, no_second, only_misfit, front_of_parts}
 use Rattle.log_model.specs.Vector.{Vector, stamp_at}
 use Rattle.log_model.specs.Spelling.{IsKey, IsMoment, vector_entry}
 use Rattle.version_vectors.specs.Vectors.{VectorFits}
@@ -120,3 +120,11 @@ pub no_frame_cited : (log : Key) {b0 b1 b2 b3 b4 b5 b6 : List ℕ} {u w : Unit {
     → IsFront IsKey key_bytes b3 prev b4 → IsFront IsNumber word b4 seq b5 → IsFront IsMoment moment b5 m b6 → HasNoFront (IsCited log) (array vector_entry) b6 → HasNoFront (IsFrame log) (frame_block log) b0
 no_frame_cited log f kind own prev seq m absent =
     none_of_some (parts_of_frame log) (no_second (one_four log ▷ one_number ▷ one_record_moment) (both (both (both (both (both f kind) own) prev) seq) m) absent)
+
+-- all seven
+pub frame_front : (log : Key) {b0 b1 b2 b3 b4 b5 b6 b7 : List ℕ} {u w : Unit {0}} {kind seq : ℕ} {prev : Key} {m : Moment} {v : Vector}
+    → IsFront IsAny (constant_bytes magic) b0 u b1 → IsFront IsWord word b1 kind b2 → IsFront IsAny (constant_bytes log.0) b2 w b3
+    → IsFront IsKey key_bytes b3 prev b4 → IsFront IsNumber word b4 seq b5 → IsFront IsMoment moment b5 m b6 → IsFront (IsCited log) (array vector_entry) b6 v b7
+    → IsFront (IsFrame log) (frame_block log) b0 (record { kind = kind; prev = prev; seq = seq; moment = m; vector = v }) b7
+frame_front log f kind own prev seq m v = front_of_parts (λ (p : Seven). frame_in p)
+    (record { kind_is = kind.fits; prev_is = prev.fits; seq_is = seq.fits; moment_is = m.fits; cited = v.fits }) refl (both (both (both (both (both (both f kind) own) prev) seq) m) v)

@@ -6,6 +6,7 @@ pub mod Operations
 pub mod Constants
 pub mod OneHead
 pub mod Tested
+pub mod Fitting
 pub mod Frames
 pub mod OneRecord
 pub mod Weights

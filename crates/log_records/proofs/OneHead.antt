@@ -7,7 +7,7 @@ use Rattle.ivy_base.specs.declared.key.PubKey.{PubKey}
 use Rattle.wire_model.specs.Xdr.{word, opaque, IsAny, IsUpTo}
 use Rattle.wire_model.specs.OneReading.{ReadsOne, IsFront, HasNoFront}
 use Rattle.wire_model.proofs.OneReading.{◌▷◌, of_fewer, of_parts, one_word, one_short_opaque}
-use Rattle.wire_model.proofs.Fronts.{both, no_first, no_second}
+use Rattle.wire_model.proofs.Fronts.{both, no_first, no_second, front_of_parts}
 use Rattle.log_model.specs.Vector.{Stamp}
 use Rattle.log_model.specs.Spelling.{IsBlock, IsKey, head_block, IsHeadOf}
 use Rattle.log_records.specs.Parts.{constant_bytes, as_it_stands, key_bytes}
@@ -95,6 +95,11 @@ no_head_name f owner number absent = none_of_some parts_of_head (no_first (IsUpT
 pub no_head_signature : {b0 b1 b2 b3 b4 owner : List ℕ} {u : Unit {0}} {n : ℕ} {name : Key} → IsFront IsAny (constant_bytes magic) b0 u b1 → IsFront (IsBlock 60) as_it_stands b1 owner b2 → IsFront IsNumber word b2 n b3
     → IsFront IsKey key_bytes b3 name b4 → HasNoFront (IsUpTo 16000) opaque b4 → HasNoFront IsHead head_bytes b0
 no_head_signature f owner number name absent = none_of_some parts_of_head (no_second (one_three ▷ one_key) (both (both (both f owner) number) name) absent)
+
+-- all five
+pub head_front : {b0 b1 b2 b3 b4 b5 owner signature : List ℕ} {u : Unit {0}} {n : ℕ} {name : Key} → IsFront IsAny (constant_bytes magic) b0 u b1 → IsFront (IsBlock 60) as_it_stands b1 owner b2
+    → IsFront IsNumber word b2 n b3 → IsFront IsKey key_bytes b3 name b4 → IsFront (IsUpTo 16000) opaque b4 signature b5 → IsFront IsHead head_bytes b0 ((record { 0 = owner }, stamp n name), signature) b5
+head_front f owner number name signature = front_of_parts (λ (p : Five). parts_in p) (owner.fits, number.fits, name.fits, signature.fits) refl (both (both (both (both f owner) number) name) signature)
 
 -- a head, where nothing is behind it
 pub no_whole_head : {bytes : List ℕ} → HasNoFront IsHead head_bytes bytes → (owner : PubKey) (newest : Stamp) (signature : List ℕ) → IsHeadOf owner bytes newest signature → ⊥

@@ -1,5 +1,5 @@
--- Where no operation of a kind stands.
-use Rattle.std.proofs.Common.{ℕ, List, ◌++◌, refl, arith, append_assoc}
+-- Where an operation of a kind stands, and where none does.
+use Rattle.std.proofs.Common.{◌≡◌, ℕ, List, ◌++◌, refl, arith, append_assoc}
 use Rattle.ivy_base.specs.declared.key.Key.{Key}
 use Rattle.ivy_base.specs.declared.operation.Kind.{Kind}
 use Rattle.ivy_base.specs.declared.operation.Change.{Change}
@@ -8,10 +8,10 @@ use Rattle.ivy_base.specs.declared.operation.Op.TheVariants as op
 use Rattle.wire_model.specs.Xdr.{word, double_word, opaque, IsWord, IsAny}
 use Rattle.wire_model.specs.OneReading.{ReadsOne, IsFront, HasNoFront}
 use Rattle.wire_model.proofs.OneReading.{◌▷◌, one_word}
-use Rattle.wire_model.proofs.Fronts.{both, no_first, no_second}
+use Rattle.wire_model.proofs.Fronts.{both, no_first, no_second, front_of_parts}
 use Rattle.log_model.specs.Spelling.{body, IsKey, IsBlock, IsTarget, IsChange}
 use Rattle.log_records.specs.Parts.{as_it_stands, key_bytes, kind_word, IsAtMost, place_block, IsPlace, piece_block, IsPiece, change_block, IsOfKind}
-use Rattle.wire_model.proofs.Dependent.{PartsOf, none_of_some, no_first_by, no_second_by}
+use Rattle.wire_model.proofs.Dependent.{PartsOf, both_by, none_of_some, no_first_by, no_second_by}
 use Rattle.log_records.proofs.OneBody.{one_key, one_kind, one_at_most, one_place}
 
 -- ---- inodes
@@ -85,6 +85,12 @@ pub no_inode_target : {b0 b1 b2 b3 b4 b5 : List ℕ} {number : Key} {kind : Kind
     → HasNoFront (IsTarget kind) opaque b5 → HasNoFront (IsOfKind 1) body b0
 no_inode_target number kind mode uid gid absent = none_of_some inode_parts (no_second_by IsTargetOf one_five (both (both (both (both number kind) mode) uid) gid) absent)
 
+pub inode_front : {b0 b1 b2 b3 b4 b5 b6 target : List ℕ} {number : Key} {kind : Kind} {mode uid gid : ℕ}
+    → IsFront IsKey key_bytes b0 number b1 → IsFront IsAny kind_word b1 kind b2 → IsFront (IsAtMost 4095) word b2 mode b3 → IsFront IsWord word b3 uid b4 → IsFront IsWord word b4 gid b5
+    → IsFront (IsTarget kind) opaque b5 target b6 → IsFront (IsOfKind 1) body b0 (op.Inode number kind mode uid gid target) b6
+inode_front f g h i j k = front_of_parts (λ (p : Five × List ℕ). op.Inode p.0.0.0.0.0 p.0.0.0.0.1 p.0.0.0.1 p.0.0.1 p.0.1 p.1)
+    (refl, (f.fits, h.fits, i.fits, j.fits, k.fits)) refl (both_by IsTargetOf (both (both (both (both f g) h) i) j) k)
+
 -- ---- writes
 
 write_parts : (o : Op) → IsOfKind 2 o → PartsOf {A = Key × (ℕ × List ℕ)} (λ p. IsKey p.0 × IsPiece p.1) (λ p. key_bytes p.0 ++ piece_block p.1) (body o)
@@ -94,6 +100,11 @@ write_parts o f = absurd (omega (arith, f.0))
 
 pub no_write_piece : {b0 b1 : List ℕ} {number : Key} → IsFront IsKey key_bytes b0 number b1 → HasNoFront IsPiece piece_block b1 → HasNoFront (IsOfKind 2) body b0
 no_write_piece number absent = none_of_some write_parts (no_second one_key number absent)
+
+pub write_front : {b0 b1 b2 : List ℕ} {number : Key} {piece : ℕ × List ℕ}
+    → IsFront IsKey key_bytes b0 number b1 → IsFront IsPiece piece_block b1 piece b2 → IsFront (IsOfKind 2) body b0 (op.Write number piece.0 piece.1) b2
+write_front {number} {piece} f g = front_of_parts (λ (p : Key × (ℕ × List ℕ)). op.Write p.0 p.1.0 p.1.1)
+    (refl, (f.fits, g.fits.0, g.fits.1, g.fits.2)) (append_assoc number.0 (double_word piece.0) (opaque piece.1)) (both f g)
 
 -- ---- names
 
@@ -107,12 +118,19 @@ no_link_place absent = none_of_some link_parts (no_first IsKey key_bytes absent)
 pub no_link_number : {b0 b1 : List ℕ} {place : Key × List ℕ} → IsFront IsPlace place_block b0 place b1 → HasNoFront IsKey key_bytes b1 → HasNoFront (IsOfKind 3) body b0
 no_link_number place absent = none_of_some link_parts (no_second one_place place absent)
 
+pub link_front : {b0 b1 b2 : List ℕ} {place : Key × List ℕ} {number : Key}
+    → IsFront IsPlace place_block b0 place b1 → IsFront IsKey key_bytes b1 number b2 → IsFront (IsOfKind 3) body b0 (op.Link place.0 place.1 number) b2
+link_front f g = front_of_parts (λ (p : (Key × List ℕ) × Key). op.Link p.0.0 p.0.1 p.1) (refl, (f.fits.0, f.fits.1, g.fits)) refl (both f g)
+
 unlink_parts : (o : Op) → IsOfKind 4 o → PartsOf IsPlace place_block (body o)
 unlink_parts (op.Unlink dir name) f = record { part = (dir, name); fits = f.1; spelled = refl }
 unlink_parts o f = absurd (omega (arith, f.0))
 
 pub no_unlink_place : {b0 : List ℕ} → HasNoFront IsPlace place_block b0 → HasNoFront (IsOfKind 4) body b0
 no_unlink_place absent = none_of_some unlink_parts absent
+
+pub unlink_front : {b0 b1 : List ℕ} {place : Key × List ℕ} → IsFront IsPlace place_block b0 place b1 → IsFront (IsOfKind 4) body b0 (op.Unlink place.0 place.1) b1
+unlink_front f = front_of_parts (λ (p : Key × List ℕ). op.Unlink p.0 p.1) (refl, f.fits) refl f
 
 rename_parts : (o : Op) → IsOfKind 5 o → PartsOf {A = (Key × List ℕ) × (Key × List ℕ)} (λ p. IsPlace p.0 × IsPlace p.1) (λ p. place_block p.0 ++ place_block p.1) (body o)
 rename_parts (op.Rename dir name to_dir to_name) f =
@@ -125,6 +143,11 @@ no_rename_place absent = none_of_some rename_parts (no_first IsPlace place_block
 pub no_rename_target : {b0 b1 : List ℕ} {place : Key × List ℕ} → IsFront IsPlace place_block b0 place b1 → HasNoFront IsPlace place_block b1 → HasNoFront (IsOfKind 5) body b0
 no_rename_target place absent = none_of_some rename_parts (no_second one_place place absent)
 
+pub rename_front : {b0 b1 b2 : List ℕ} {place target : Key × List ℕ}
+    → IsFront IsPlace place_block b0 place b1 → IsFront IsPlace place_block b1 target b2 → IsFront (IsOfKind 5) body b0 (op.Rename place.0 place.1 target.0 target.1) b2
+rename_front {place} {target} f g = front_of_parts (λ (p : (Key × List ℕ) × (Key × List ℕ)). op.Rename p.0.0 p.0.1 p.1.0 p.1.1)
+    (refl, (f.fits.0, f.fits.1, g.fits.0, g.fits.1)) (append_assoc (place.0.0 ++ opaque place.1) target.0.0 (opaque target.1)) (both f g)
+
 prepare_parts : (o : Op) → IsOfKind 6 o → PartsOf {A = (Key × List ℕ) × List ℕ} (λ p. IsPlace p.0 × IsBlock 8 p.1) (λ p. place_block p.0 ++ as_it_stands p.1) (body o)
 prepare_parts (op.Prepare dir name verifier) f = record { part = ((dir, name), verifier); fits = ((f.1.0, f.1.1), f.1.2); spelled = refl }
 prepare_parts o f = absurd (omega (arith, f.0))
@@ -135,6 +158,10 @@ no_prepare_place absent = none_of_some prepare_parts (no_first (IsBlock 8) as_it
 pub no_prepare_verifier : {b0 b1 : List ℕ} {place : Key × List ℕ} → IsFront IsPlace place_block b0 place b1 → HasNoFront (IsBlock 8) as_it_stands b1 → HasNoFront (IsOfKind 6) body b0
 no_prepare_verifier place absent = none_of_some prepare_parts (no_second one_place place absent)
 
+pub prepare_front : {b0 b1 b2 verifier : List ℕ} {place : Key × List ℕ}
+    → IsFront IsPlace place_block b0 place b1 → IsFront (IsBlock 8) as_it_stands b1 verifier b2 → IsFront (IsOfKind 6) body b0 (op.Prepare place.0 place.1 verifier) b2
+prepare_front f g = front_of_parts (λ (p : (Key × List ℕ) × List ℕ). op.Prepare p.0.0 p.0.1 p.1) (refl, (f.fits.0, f.fits.1, g.fits)) refl (both f g)
+
 -- ---- attributes
 
 set_parts : (o : Op) → IsOfKind 8 o → PartsOf {A = Key × Change} (λ p. IsKey p.0 × IsChange p.1) (λ p. key_bytes p.0 ++ change_block p.1) (body o)
@@ -143,3 +170,10 @@ set_parts o f = absurd (omega (arith, f.0))
 
 pub no_set_change : {b0 b1 : List ℕ} {number : Key} → IsFront IsKey key_bytes b0 number b1 → HasNoFront IsChange change_block b1 → HasNoFront (IsOfKind 8) body b0
 no_set_change number absent = none_of_some set_parts (no_second one_key number absent)
+
+set_spelled : (number : Key) (change : Change) → body (op.SetAttrs number change) ≡ key_bytes number ++ change_block change
+set_spelled number change = simp append_assoc
+
+pub set_front : {b0 b1 b2 : List ℕ} {number : Key} {change : Change}
+    → IsFront IsKey key_bytes b0 number b1 → IsFront IsChange change_block b1 change b2 → IsFront (IsOfKind 8) body b0 (op.SetAttrs number change) b2
+set_front {number} {change} f g = front_of_parts (λ (p : Key × Change). op.SetAttrs p.0 p.1) (refl, (f.fits, g.fits)) (set_spelled number change) (both f g)

@@ -1,5 +1,6 @@
 -- Where a part of a record can't be read.
-use Rattle.std.proofs.Common.{ℕ, ◌<◌, true, false, List, ◌++◌, Option, Some, None, refl, sym, ◌∙◌, arith}
+use Rattle.std.proofs.Common.{◌≡◌, ℕ, ◌<◌, Bool, true, false, List, ◌++◌, Option, Some, None, refl, sym, subst, ◌∙◌, arith}
+use Rattle.std.specs.Prelude.{IsTrue}
 use Rattle.ivy_base.specs.declared.key.Key.{Key}
 use Rattle.ivy_base.specs.declared.operation.Moment.{Moment}
 use Rattle.ivy_base.specs.declared.operation.Change.{Change}
@@ -7,11 +8,20 @@ use Rattle.ivy_base.specs.Naming.{IsFileName}
 use Rattle.wire_model.specs.Xdr.{word, double_word, boolean, opaque, optional, moment, IsAny, IsWord, IsDoubleWord, IsUpTo}
 use Rattle.wire_model.specs.OneReading.{ReadsOne, IsFront, HasNoFront}
 use Rattle.wire_model.proofs.OneReading.{◌▷◌, one_boolean, one_word, one_double_word, one_short_opaque, one_optional}
-use Rattle.wire_model.proofs.Fronts.{both, no_first, no_second, only_misfit}
+use Rattle.wire_model.proofs.Fronts.{both, no_first, no_second, only_misfit, front_of_parts}
 use Rattle.log_model.specs.Spelling.{IsKey, IsMode, IsMoment, IsChange}
 use Rattle.log_records.specs.Parts.{key_bytes, place_block, IsPlace, IsAtMost, IsOptional, piece_block, IsPiece, change_block}
 use Rattle.wire_model.proofs.Dependent.{PartsOf, none_of_some}
 use Rattle.log_records.proofs.OneBody.{one_key, one_at_most, one_size, one_record_moment, ChangeParts, change_parts}
+
+one_name_of_255 : ReadsOne (IsUpTo 255) opaque
+one_name_of_255 = one_short_opaque 255 (omega arith)
+
+pub name_front : {bytes rest name copy : List ℕ} → IsFront (IsUpTo 255) opaque bytes name rest → IsFileName name → copy ≡ name → IsFront IsFileName opaque bytes copy rest
+name_front {bytes} {rest} f fits same = subst (λ (n : List ℕ). IsFront IsFileName opaque bytes n rest) (sym same) (record { fits = fits; spelled = f.spelled })
+
+pub no_such_name : {bytes rest name : List ℕ} {b : Bool} → IsFront (IsUpTo 255) opaque bytes name rest → (IsFileName name → IsTrue b) → b ≡ false → HasNoFront IsFileName opaque bytes
+no_such_name f tested e = only_misfit one_name_of_255 f (λ n h. h.short) (λ h. let t = tested h in absurd (cc (t, e)))
 
 pub no_name_behind : {bytes middle : List ℕ} {k : Key} → IsFront IsKey key_bytes bytes k middle → HasNoFront IsFileName opaque middle → HasNoFront IsPlace place_block bytes
 no_name_behind f absent = no_second one_key f absent
@@ -94,3 +104,11 @@ pub no_mtime : {b0 b1 b2 b3 b4 b5 : List ℕ} {mode uid gid size : Option ℕ} {
     → HasNoFront (IsOptional IsMoment) (optional moment) b5 → HasNoFront IsChange change_block b0
 no_mtime mode uid gid size atime absent =
     none_of_some parts_of_change (no_second (one_four ▷ one_optional one_record_moment) (both (both (both (both mode uid) gid) size) atime) absent)
+
+-- all six
+pub change_front : {b0 b1 b2 b3 b4 b5 b6 : List ℕ} {mode uid gid size : Option ℕ} {atime mtime : Option Moment}
+    → IsFront (IsOptional IsMode) (optional word) b0 mode b1 → IsFront (IsOptional IsWord) (optional word) b1 uid b2 → IsFront (IsOptional IsWord) (optional word) b2 gid b3
+    → IsFront (IsOptional (IsAtMost 16777216)) (optional double_word) b3 size b4 → IsFront (IsOptional IsMoment) (optional moment) b4 atime b5 → IsFront (IsOptional IsMoment) (optional moment) b5 mtime b6
+    → IsFront IsChange change_block b0 (record { mode = mode; uid = uid; gid = gid; size = size; atime = atime; mtime = mtime }) b6
+change_front f g h i j k = front_of_parts (λ (p : (Four × Option Moment) × Option Moment). record { mode = p.0.0.0.0.0; uid = p.0.0.0.0.1; gid = p.0.0.0.1; size = p.0.0.1; atime = p.0.1; mtime = p.1 })
+    (record { mode = f.fits; uid = g.fits; gid = h.fits; size = i.fits; atime = j.fits; mtime = k.fits }) refl (both (both (both (both (both f g) h) i) j) k)

@@ -6,7 +6,7 @@ use version_vectors::VectorFault;
 use xdr_codec::XdrFault;
 
 /// The bytes don't begin with what was to be read.
-#[derive(Clone, Copy, Debug, PartialEq, Eq)]
+#[derive(Clone, Copy)]
 pub struct Malformed;
 
 impl From<XdrFault> for Malformed {
@@ -16,7 +16,7 @@ impl From<XdrFault> for Malformed {
 }
 
 /// Why a part of a block was not read, where it takes memory.
-#[derive(Clone, Copy, Debug, PartialEq, Eq)]
+#[derive(Clone, Copy)]
 pub enum PartFault {
     /// The bytes don't begin with such a part.
     Malformed,

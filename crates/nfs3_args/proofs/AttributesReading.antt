@@ -3,7 +3,7 @@ use Rattle.std.proofs.Common.{◌≡◌, ℕ, ◌<◌, ◌≤◌, ◌^◌, List,
 use Rattle.wire_model.specs.Xdr.{word, double_word, optional, moment, IsWordMoment, IsWord, IsDoubleWord}
 use Rattle.wire_model.specs.OneReading.{ReadsOne, IsFront, HasNoFront}
 use Rattle.wire_model.proofs.OneReading.{◌▷◌, one_word, one_double_word, one_optional}
-use Rattle.wire_model.proofs.Fronts.{both, no_first, no_second}
+use Rattle.wire_model.proofs.Fronts.{both, no_first, no_second, front_of_parts}
 use Rattle.wire_model.proofs.Dependent.{PartsOf, none_of_some}
 use Rattle.nfs_model.specs.declared.arguments.SetTime.{SetTime}
 use Rattle.nfs_model.specs.declared.arguments.SetTime.TheVariants.{Keep, Server, Client}
@@ -109,6 +109,14 @@ pub no_mtime : {b0 b1 b2 b3 b4 b5 : List ℕ} {mode uid gid size : Option ℕ} {
     → IsFront (IsOptional IsWord) (optional word) b0 mode b1 → IsFront (IsOptional IsWord) (optional word) b1 uid b2 → IsFront (IsOptional IsWord) (optional word) b2 gid b3
     → IsFront (IsOptional IsDoubleWord) (optional double_word) b3 size b4 → IsFront IsTime set_time b4 atime b5 → HasNoFront IsTime set_time b5 → HasNoFront IsSetWhat set_what b0
 no_mtime mode uid gid size atime absent = none_of_some what_parts (no_second (one_four ▷ one_set_time) (both (both (both (both mode uid) gid) size) atime) absent)
+
+-- all six
+pub what_front : {b0 b1 b2 b3 b4 b5 b6 : List ℕ} {mode uid gid size : Option ℕ} {atime mtime : SetTime}
+    → IsFront (IsOptional IsWord) (optional word) b0 mode b1 → IsFront (IsOptional IsWord) (optional word) b1 uid b2 → IsFront (IsOptional IsWord) (optional word) b2 gid b3
+    → IsFront (IsOptional IsDoubleWord) (optional double_word) b3 size b4 → IsFront IsTime set_time b4 atime b5 → IsFront IsTime set_time b5 mtime b6
+    → IsFront IsSetWhat set_what b0 (record { mode = mode; uid = uid; gid = gid; size = size; atime = atime; mtime = mtime }) b6
+what_front f g h i j k = front_of_parts (λ (p : (Four × SetTime) × SetTime). record { mode = p.0.0.0.0.0; uid = p.0.0.0.0.1; gid = p.0.0.0.1; size = p.0.0.1; atime = p.0.1; mtime = p.1 })
+    (record { mode = f.fits; uid = g.fits; gid = h.fits; size = i.fits; atime = j.fits; mtime = k.fits }) refl (both (both (both (both (both f g) h) i) j) k)
 
 -- ---- how files are created
 

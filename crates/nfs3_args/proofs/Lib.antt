@@ -4,5 +4,6 @@ pub mod Tags
 pub mod AttributesReading
 pub mod Refusing
 pub mod Procedures
+pub mod Fronts
 pub mod Calls
 pub mod Fitting

@@ -19,7 +19,7 @@ pub enum ArgsFault {
 }
 
 /// The bytes don't begin with the part that was to be read.
-#[derive(Clone, Copy, Debug, PartialEq, Eq)]
+#[derive(Clone, Copy)]
 pub struct Garbage;
 
 impl From<XdrFault> for Garbage {

@@ -62,6 +62,9 @@ one_numbered numbers = one_post_attributes ▷ one_constant numbers
 pub long_text : {b : List ℕ} → HasNoFront (IsUpTo 4294967295) opaque b → HasNoFront IsText opaque b
 long_text absent = record { none = λ x rest f. absent.none x rest (record { fits = omega (arith, f.fits); spelled = f.spelled }) }
 
+pub text_front : {b rest text : List ℕ} → IsFront (IsUpTo 4294967295) opaque b text rest → IsFront IsText opaque b text rest
+text_front f = record { fits = omega (arith, f.fits); spelled = f.spelled }
+
 module _ {b0 : List ℕ} where
   pub no_handle_found : HasNoFront IsHandle opaque b0 → HasNoFront IsFound found b0
   no_handle_found absent = no_first (IsOptional IsFattr) (optional fattr) (no_first (IsOptional IsFattr) (optional fattr) absent)

@@ -17,7 +17,7 @@ pub enum ReplyFault {
 }
 
 /// The bytes don't begin with what was to be read.
-#[derive(Clone, Copy, Debug, PartialEq, Eq)]
+#[derive(Clone, Copy)]
 pub struct Malformed;
 
 impl From<XdrFault> for Malformed {

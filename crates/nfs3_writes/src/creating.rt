@@ -1,9 +1,11 @@
 //! CREATE, MKDIR and SYMLINK: what makes a new object.
 
-ghost use Rattle.std.specs.Prelude.{◌≡◌, IfOk, ℕ, List, None, [], ◌∷◌, if◌then◌else◌};
+ghost use Rattle.std.specs.Prelude.{◌≡◌, ◌&&◌, ◌||◌, not, is_some, IfOk, ℕ, List, None, [], ◌∷◌, if◌then◌else◌};
+ghost use Rattle.tree_model.specs.Tree.{is_file};
 ghost use Rattle.rpc_wire.specs.Callers.{identity_of};
 ghost use Rattle.nfs_model.specs.Checks.{first_failure};
 ghost use Rattle.nfs_model.specs.Changing.{Operations, plan_create, plan_directory, plan_existing, plan_file, plan_new, plan_symbolic_link, make, set_times, inode_under, is_positive, may_cut};
+ghost use Rattle.nfs_model.specs.Objects.{handle_of, attributes_at, cache_data};
 ghost use Rattle.nfs3_objects.specs.Seen.{seen as seen_object};
 ghost use Rattle.nfs3_writes.specs.Checks.{directory_made_checks, directory_made_rest, file_made_checks, file_made_rest, link_made_checks, link_made_rest};
 ghost use Rattle.nfs3_writes.specs.Seen.{seen};
@@ -146,10 +148,17 @@ fn new_object(
 {
     let link = link(alloc, dir.number, name, asked.number)?;
     let change = only_times(asked.moment, &asked.what);
-    if change.atime.is_some() || change.mtime.is_some() {
+    if sets_a_time(&change) {
         return three(alloc, inode, link, asked.number, change);
     }
     two(alloc, inode, link)
+}
+
+/// Whether a time is set.
+fn sets_a_time(change: &Change) -> bool
+    ensures { result ≡ (is_some change.now.atime || is_some change.now.mtime) }
+{
+    change.atime.is_some() || change.mtime.is_some()
 }
 
 /// The plan of the operations that make an inode and name it. The error is want of memory.
@@ -323,18 +332,30 @@ fn file_rest(
 ) -> Option<NfsStatus>
     ensures { result ≡ first_failure (file_made_rest tree.now (identity_of caller.now) name.now existing guarded what.now) }
 {
-    let there = existing.is_some();
-    let cut = there && what.size.is_some();
     first_failure(&[
         (has_invalid_time(what), NfsStatus::Inval),
         (is_too_large(what.size), NfsStatus::FBig),
         (is_dots(name), NfsStatus::Exist),
+        (is_in_the_way(tree, existing, guarded), NfsStatus::Exist),
         (
-            there && (guarded || !is_file_under(tree, existing)),
-            NfsStatus::Exist,
+            is_kept_whole(tree, caller, existing, what),
+            NfsStatus::Acces,
         ),
-        (cut && !may_cut(tree, caller, existing), NfsStatus::Acces),
     ])
+}
+
+/// Whether an inode that is there stands in the way: any where the creation is guarded, and else any but a file.
+fn is_in_the_way(tree: &Tree, existing: Option<Key>, guarded: bool) -> bool
+    ensures { result ≡ (is_some existing && (guarded || not (is_file (inode_under tree.now existing)))) }
+{
+    existing.is_some() && (guarded || !is_file_under(tree, existing))
+}
+
+/// Whether a file that is there would be cut by a caller who may not.
+fn is_kept_whole(tree: &Tree, caller: &Caller, existing: Option<Key>, what: &SetWhat) -> bool
+    ensures { result ≡ (is_some existing && is_some what.now.size && not (may_cut (identity_of caller.now) (inode_under tree.now existing))) }
+{
+    existing.is_some() && what.size.is_some() && !may_cut(tree, caller, existing)
 }
 
 /// Whether the caller may cut the file of that number: whoever may write it or owns it.
@@ -362,27 +383,43 @@ fn plan_existing(
     ensures { IfOk result (λ given. seen given ≡ plan_existing tree.now view.now (seen_object dir.now) number what.now) }
 {
     if what.size.is_some() {
-        let change = Change {
-            mode: None,
-            uid: None,
-            gid: None,
-            size: what.size,
-            atime: None,
-            mtime: None,
-        };
-        return planned(
-            alloc,
-            Op::SetAttrs {
-                ino: number,
-                change,
-            },
-        );
+        return planned(alloc, set_size(number, what.size));
     }
-    Ok(Plan::Nothing(Reply::Made {
-        handle: handle_of(alloc, view, &number)?,
+    let reply = found(alloc, tree, view, dir, number)?;
+    Ok(Plan::Nothing(reply))
+}
+
+/// The operation that sets the size alone.
+fn set_size(ino: Key, size: Option<u64>) -> Op
+    ensures { result ≡ Op.SetAttrs ino (record { mode = None; uid = None; gid = None; size = size; atime = None; mtime = None }) }
+{
+    let change = Change {
+        mode: None,
+        uid: None,
+        gid: None,
+        size,
+        atime: None,
+        mtime: None,
+    };
+    Op::SetAttrs { ino, change }
+}
+
+/// The reply that tells of a file that is there and stays as it is. The error is want of memory.
+fn found(
+    alloc: Global,
+    tree: &Tree,
+    view: &View,
+    dir: &LiveObject<'_>,
+    number: Key,
+) -> Result<Reply, Memory>
+    ensures { IfOk result (λ reply. reply ≡ Reply.Made (handle_of view.now number) (attributes_at tree.now view.now number) (cache_data tree.now tree.now view.now (seen_object dir.now).number)) }
+{
+    let handle = handle_of(alloc, view, &number)?;
+    Ok(Reply::Made {
+        handle,
         object: attributes_at(tree, view, &number),
         cache: told_of(tree, view, dir),
-    }))
+    })
 }
 
 /// The size, where it is above 0.
@@ -411,8 +448,15 @@ fn plan_new(
         size: positive(asked.what.size),
         ..only_times(asked.moment, &asked.what)
     };
-    if change.size.is_some() || change.atime.is_some() || change.mtime.is_some() {
+    if sets_size_or_time(&change) {
         return three(alloc, inode, link, asked.number, change);
     }
     two(alloc, inode, link)
+}
+
+/// Whether the size or a time is set.
+fn sets_size_or_time(change: &Change) -> bool
+    ensures { result ≡ (is_some change.now.size || is_some change.now.atime || is_some change.now.mtime) }
+{
+    change.size.is_some() || change.atime.is_some() || change.mtime.is_some()
 }

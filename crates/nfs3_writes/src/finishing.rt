@@ -2,7 +2,7 @@
 
 ghost use Rattle.std.specs.Prelude.{◌≡◌, IfOk};
 ghost use Rattle.rpc_wire.specs.Callers.{identity_of};
-ghost use Rattle.nfs_model.specs.Objects.{object_of, attributes_at, cache_data};
+ghost use Rattle.nfs_model.specs.Objects.{object_of, handle_of, attributes_at, cache_data};
 ghost use Rattle.nfs_model.specs.Changing.{finish, made, made_number, standing};
 
 use crate::setting::taken_part;
@@ -92,10 +92,25 @@ fn made(
     let Some(number) = made_number(ops) else {
         return Ok(Reply::Nothing);
     };
+    made_in(alloc, before, after, view, &dir.number, &number)
+}
+
+/// The reply that tells of the object of that number, and of the directory. The error is want of memory.
+fn made_in(
+    alloc: Global,
+    before: &Tree,
+    after: &Tree,
+    view: &View,
+    dir: &Key,
+    number: &Key,
+) -> Result<Reply, Memory>
+    ensures { IfOk result (λ reply. reply ≡ Reply.Made (handle_of view.now number.now) (attributes_at after.now view.now number.now) (cache_data before.now after.now view.now dir.now)) }
+{
+    let handle = handle_of(alloc, view, number)?;
     Ok(Reply::Made {
-        handle: handle_of(alloc, view, &number)?,
-        object: attributes_at(after, view, &number),
-        cache: cache_data(before, after, view, &dir.number),
+        handle,
+        object: attributes_at(after, view, number),
+        cache: cache_data(before, after, view, dir),
     })
 }
 

@@ -16,7 +16,7 @@ const MOST: usize = 65_536;
 const LAST: u32 = 0x8000_0000;
 
 /// Where a stream stands.
-#[derive(Clone, Copy, Debug)]
+#[derive(Clone, Copy)]
 pub enum Place {
     /// Between two messages.
     Between,

@@ -1,5 +1,6 @@
 use Rattle.wire_model.proofs.Dependent.{on_err}
 use Rattle.log_records.proofs.ReadParts.{no_atime, no_gid, no_mode, no_mtime, no_size, no_uid}
+use Rattle.log_records.proofs.ReadParts.{change_front}
 use Rattle.log_records.proofs.change.read_change.Goals as goal
 
 pub returns-in_err-mode-clause-err : goal.returns-in_err-mode-clause-err
@@ -19,3 +20,6 @@ returns-in_err-atime-clause-err c = on_err c.from_residual-in_err-atime.result (
 
 pub returns-in_err-mtime-clause-err : goal.returns-in_err-mtime-clause-err
 returns-in_err-mtime-clause-err c = on_err c.from_residual-in_err-mtime.result (no_mtime c.in_ok-mode.ensures.ok c.in_ok-uid.ensures.ok c.in_ok-gid.ensures.ok c.in_ok-size.ensures.ok c.in_ok-atime.ensures.ok c.in_err-mtime.ensures.err)
+
+pub returns-clause-ok : goal.returns-clause-ok
+returns-clause-ok c = change_front c.in_ok-mode.ensures.ok c.in_ok-uid.ensures.ok c.in_ok-gid.ensures.ok c.in_ok-size.ensures.ok c.in_ok-atime.ensures.ok c.in_ok-mtime.ensures.ok

@@ -1,6 +1,6 @@
 use Rattle.std.proofs.lemmas.Result.{err_from_is_err_and}
 use Rattle.log_records.proofs.Chains.{refused}
-use Rattle.log_records.proofs.Frames.{no_frame_cited, no_frame_kind, no_frame_log, no_frame_magic, no_frame_moment, no_frame_prev, no_frame_seq}
+use Rattle.log_records.proofs.Frames.{frame_front, no_frame_cited, no_frame_kind, no_frame_log, no_frame_magic, no_frame_moment, no_frame_prev, no_frame_seq}
 use Rattle.log_records.proofs.frame.read_frame.Goals as goal
 
 pub returns-in_err-read_constant-clause-err : goal.returns-in_err-read_constant-clause-err
@@ -37,3 +37,6 @@ pub returns-in_err-vector-clause-err : goal.returns-in_err-vector-clause-err
 returns-in_err-vector-clause-err c =
     let p = err_from_is_err_and c.from_residual-in_err-vector.result c.from_residual-in_err-vector.ensures.1 in
     rw (p.1, p.2) (refused (no_frame_cited c.args.log.now c.in_ok-read_constant.ensures.ok c.in_ok-kind.ensures.ok c.in_ok-read_constant-2.ensures.ok c.in_ok-prev.ensures.ok c.in_ok-seq.ensures.ok c.in_ok-moment.ensures.ok) _ c.in_err-vector.ensures.err)
+
+pub returns-clause-ok : goal.returns-clause-ok
+returns-clause-ok c = frame_front c.args.log.now c.in_ok-read_constant.ensures.ok c.in_ok-kind.ensures.ok c.in_ok-read_constant-2.ensures.ok c.in_ok-prev.ensures.ok c.in_ok-seq.ensures.ok c.in_ok-moment.ensures.ok c.in_ok-vector.ensures.ok

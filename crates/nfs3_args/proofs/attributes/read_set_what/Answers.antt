@@ -1,5 +1,5 @@
 use Rattle.wire_model.proofs.Dependent.{on_err}
-use Rattle.nfs3_args.proofs.AttributesReading.{no_atime, no_mtime, no_size}
+use Rattle.nfs3_args.proofs.AttributesReading.{no_atime, no_mtime, no_size, what_front}
 use Rattle.nfs3_args.proofs.attributes.read_set_what.Goals as goal
 
 pub returns-in_err-size-clause-err : goal.returns-in_err-size-clause-err
@@ -10,3 +10,6 @@ returns-in_err-atime-clause-err c = on_err c.from_residual-in_err-atime.result (
 
 pub returns-in_err-mtime-clause-err : goal.returns-in_err-mtime-clause-err
 returns-in_err-mtime-clause-err c = on_err c.from_residual-in_err-mtime.result (no_mtime c.in_ok-mode.ensures.ok c.in_ok-uid.ensures.ok c.in_ok-gid.ensures.ok c.in_ok-size.ensures.ok c.in_ok-atime.ensures.ok c.in_err-mtime.ensures.err)
+
+pub returns-clause-ok : goal.returns-clause-ok
+returns-clause-ok c = what_front c.in_ok-mode.ensures.ok c.in_ok-uid.ensures.ok c.in_ok-gid.ensures.ok c.in_ok-size.ensures.ok c.in_ok-atime.ensures.ok c.in_ok-mtime.ensures.ok

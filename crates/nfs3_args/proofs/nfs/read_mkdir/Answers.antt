@@ -1,8 +1,12 @@
 use Rattle.std.proofs.lemmas.Result.{err_from_is_err_and}
 use Rattle.nfs3_args.proofs.Procedures.{no_mkdir_what}
+use Rattle.nfs3_args.proofs.Fronts.{mkdir_front}
 use Rattle.nfs3_args.proofs.nfs.read_mkdir.Goals as goal
 
 pub returns-in_err-what-clause-err : goal.returns-in_err-what-clause-err
 returns-in_err-what-clause-err c =
     let p = err_from_is_err_and c.from_residual-in_err-what.result c.from_residual-in_err-what.ensures.1 in
     rw (p.1, p.2) (no_mkdir_what c.in_ok-dir.ensures.ok c.in_err-what.ensures.err)
+
+pub returns-clause-ok : goal.returns-clause-ok
+returns-clause-ok c = mkdir_front c.in_ok-dir.ensures.ok c.in_ok-what.ensures.ok

@@ -1,5 +1,6 @@
 use Rattle.std.proofs.lemmas.Result.{err_from_is_err_and}
 use Rattle.nfs3_args.proofs.Procedures.{no_readdirplus_dircount, no_readdirplus_maxcount}
+use Rattle.nfs3_args.proofs.Fronts.{readdirplus_front}
 use Rattle.nfs3_args.proofs.nfs.read_readdirplus.Goals as goal
 
 pub returns-in_err-dircount-clause-err : goal.returns-in_err-dircount-clause-err
@@ -11,3 +12,6 @@ pub returns-in_err-maxcount-clause-err : goal.returns-in_err-maxcount-clause-err
 returns-in_err-maxcount-clause-err c =
     let p = err_from_is_err_and c.from_residual-in_err-maxcount.result c.from_residual-in_err-maxcount.ensures.1 in
     rw (p.1, p.2) (no_readdirplus_maxcount c.in_ok-dir.ensures.ok c.in_ok-dircount.ensures.ok c.in_err-maxcount.ensures.none)
+
+pub returns-clause-ok : goal.returns-clause-ok
+returns-clause-ok c = readdirplus_front c.in_ok-dir.ensures.ok c.in_ok-dircount.ensures.ok c.in_ok-maxcount.ensures.ok

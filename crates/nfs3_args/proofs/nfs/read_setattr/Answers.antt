@@ -1,5 +1,6 @@
 use Rattle.std.proofs.lemmas.Result.{err_from_is_err_and}
 use Rattle.nfs3_args.proofs.Procedures.{no_setattr_guard, no_setattr_what}
+use Rattle.nfs3_args.proofs.Fronts.{setattr_front}
 use Rattle.nfs3_args.proofs.nfs.read_setattr.Goals as goal
 
 pub returns-in_err-what-clause-err : goal.returns-in_err-what-clause-err
@@ -11,3 +12,6 @@ pub returns-in_err-guard-clause-err : goal.returns-in_err-guard-clause-err
 returns-in_err-guard-clause-err c =
     let p = err_from_is_err_and c.from_residual-in_err-guard.result c.from_residual-in_err-guard.ensures.1 in
     rw (p.1, p.2) (no_setattr_guard c.in_ok-object.ensures.ok c.in_ok-what.ensures.ok c.in_err-guard.ensures.err)
+
+pub returns-clause-ok : goal.returns-clause-ok
+returns-clause-ok c = setattr_front c.in_ok-object.ensures.ok c.in_ok-what.ensures.ok c.in_ok-guard.ensures.ok

@@ -1,5 +1,6 @@
 use Rattle.wire_model.proofs.Dependent.{on_err}
 use Rattle.nfs3_replies.proofs.ReadForms.{no_committed_cache, no_write_verifier}
+use Rattle.wire_model.proofs.Fronts.{both}
 use Rattle.nfs3_replies.proofs.forms_reading.read_committed_parts.Goals as goal
 
 pub returns-in_err-cache-clause-err : goal.returns-in_err-cache-clause-err
@@ -7,3 +8,6 @@ returns-in_err-cache-clause-err c = on_err c.from_residual.result (no_committed_
 
 pub returns-in_err-read_constant-clause-err : goal.returns-in_err-read_constant-clause-err
 returns-in_err-read_constant-clause-err c = on_err c.from_residual-in_err-read_constant.result (no_write_verifier c.in_ok-cache.ensures.ok c.in_err-read_constant.ensures.err)
+
+pub returns-clause-ok : goal.returns-clause-ok
+returns-clause-ok c = both c.in_ok-cache.ensures.ok c.in_ok-read_constant.ensures.ok

@@ -1,5 +1,7 @@
 use Rattle.wire_model.proofs.Dependent.{on_err}
 use Rattle.nfs3_replies.proofs.ReadForms.{no_content, no_count, no_eof, no_file}
+use Rattle.wire_model.proofs.Fronts.{both}
+use Rattle.nfs3_replies.proofs.ReadForms.{text_front}
 use Rattle.nfs3_replies.proofs.forms_reading.read_content_parts.Goals as goal
 
 pub returns-in_err-file-clause-err : goal.returns-in_err-file-clause-err
@@ -13,3 +15,6 @@ returns-in_err-eof-clause-err c = on_err c.from_residual-in_err-eof.result (no_e
 
 pub returns-in_err-bytes-clause-err : goal.returns-in_err-bytes-clause-err
 returns-in_err-bytes-clause-err c = on_err c.from_residual-in_err-bytes.result (no_content c.in_ok-file.ensures.ok c.in_ok-count.ensures.ok c.in_ok-eof.ensures.ok c.in_err-bytes.ensures.none)
+
+pub returns-clause-ok : goal.returns-clause-ok
+returns-clause-ok c = both (both (both c.in_ok-file.ensures.ok c.in_ok-count.ensures.ok) c.in_ok-eof.ensures.ok) (text_front c.in_ok-bytes.ensures.ok)

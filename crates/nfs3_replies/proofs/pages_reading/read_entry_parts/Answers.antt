@@ -1,5 +1,7 @@
 use Rattle.wire_model.proofs.Dependent.{on_err}
 use Rattle.nfs3_replies.proofs.ReadPages.{no_cookie, no_entry_name, no_file_number}
+use Rattle.wire_model.proofs.Fronts.{both}
+use Rattle.nfs3_replies.proofs.ReadForms.{text_front}
 use Rattle.nfs3_replies.proofs.pages_reading.read_entry_parts.Goals as goal
 
 pub returns-in_err-fileid-clause-err : goal.returns-in_err-fileid-clause-err
@@ -10,3 +12,6 @@ returns-in_err-name-clause-err c = on_err c.from_residual-in_err-name.result (no
 
 pub returns-in_err-cookie-clause-err : goal.returns-in_err-cookie-clause-err
 returns-in_err-cookie-clause-err c = on_err c.from_residual-in_err-cookie.result (no_cookie c.in_ok-fileid.ensures.ok c.in_ok-name.ensures.ok c.in_err-cookie.ensures.none)
+
+pub returns-clause-ok : goal.returns-clause-ok
+returns-clause-ok c = both (both c.in_ok-fileid.ensures.ok (text_front c.in_ok-name.ensures.ok)) c.in_ok-cookie.ensures.ok

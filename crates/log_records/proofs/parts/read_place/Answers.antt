@@ -1,0 +1,5 @@
+use Rattle.wire_model.proofs.Fronts.{both}
+use Rattle.log_records.proofs.parts.read_place.Goals as goal
+
+pub returns-clause-ok : goal.returns-clause-ok
+returns-clause-ok c = both c.in_ok-dir.ensures.ok c.in_ok-name.ensures.ok
