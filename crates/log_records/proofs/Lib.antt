@@ -15,3 +15,4 @@ pub mod Knowing
 pub mod Walks
 pub mod KeptChains
 pub mod Batches
+pub mod PlaceLemmas
