@@ -2,3 +2,4 @@ pub mod Contents
 pub mod View
 pub mod Tied
 pub mod Applicable
+pub mod Bases

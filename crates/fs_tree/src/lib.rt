@@ -15,11 +15,13 @@
 //! top, and a Write takes the time of the bytes that it changes.
 #![tactic(auto)]
 
+pub mod basis;
 mod contents;
 #[cfg(test)]
 mod tests;
 mod tree;
 
+pub use basis::Basis;
 pub use dir_replay::ROOT;
 pub use inode_replay::Attr;
 pub use tree::Tree;

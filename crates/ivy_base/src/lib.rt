@@ -1,9 +1,11 @@
-//! The words that every layer shares: keys and their names, moments, operations of records, owned bytes.
+//! The words that every layer shares: keys and their names, moments, operations of records, owned bytes,
+//! counted steps.
 //!
 //! Layer: the lowest; it stands on the kit's `sha1` alone.
 //! For the layers above: [`name_of`], [`head_key`] and [`number_of`] are exactly the SHA-1 names that the
 //! definitions give, [`name_ok`] is exactly the test of a directory entry's name, and [`Bytes`] is the list of
-//! its bytes. Definitions: `specs/Naming.antt`.
+//! its bytes. [`Steps`] is a number that takes no bytes, and that [`Steps::tick`] alone raises. Definitions:
+//! `specs/Naming.antt`.
 #![tactic(auto)]
 
 pub mod bytes;
@@ -11,6 +13,7 @@ pub mod key;
 pub mod memory;
 pub mod naming;
 pub mod operation;
+pub mod steps;
 #[cfg(test)]
 mod tests;
 
@@ -19,3 +22,4 @@ pub use key::{Key, PubKey};
 pub use memory::Memory;
 pub use naming::{head_key, name_of, name_ok, number_of};
 pub use operation::{Change, Kind, Moment, Op};
+pub use steps::Steps;

@@ -17,3 +17,4 @@ pub mod Walks
 pub mod KeptChains
 pub mod Batches
 pub mod LastBlock
+pub mod PlaceLemmas

@@ -10,3 +10,4 @@ pub mod Batches
 pub mod Kept
 pub mod Walks
 pub mod BatchLaws
+pub mod Places

@@ -15,6 +15,8 @@
 //! that what is held of a log and its chain in the batch are together one chain. Where the held record's vector isn't
 //! handed in, that the chain's oldest record knows what the held one knows is for the layer above to test.
 //!
+//! [`merge_place`] is how many of some records that ascend by rank are of a smaller rank than another.
+//!
 //! Inside, a block is read from left to right by one small function for each part: `parts` for what records and heads
 //! share, `change` and `body` for the nine operations, `frame` for what stands in front of each operation; `writing`,
 //! `change_writing` and `body_writing` are their counterparts. What depends on several parts, as that a log begins with
@@ -24,7 +26,8 @@
 //! Definitions: the spellings are those of `log_model`; `specs/Records.antt` has what a read record is and when each
 //! fault comes, `specs/Heads.antt` what the plain judge takes, `specs/Laws.antt` the laws; `specs/Batches.antt` has when
 //! a chain is sound and onward, what each batch is, and that one's chains were added under a view, `specs/Kept.antt` how
-//! a [`Chain`] is seen, `specs/BatchLaws.antt` the laws of batches. Of the others `specs/Parts`, `specs/Frames`,
+//! a [`Chain`] is seen, `specs/BatchLaws.antt` the laws of batches; `specs/Places.antt` has the place of a record. Of the
+//! others `specs/Parts`, `specs/Frames`,
 //! `specs/Sizes`, `specs/Reading`, `specs/Spelled` and `specs/Walks` only the functions inside speak. For readers of
 //! other formats `proofs/OneRecord.antt` and `proofs/OneHead.antt` have that a block can be read in one way only; for
 //! users of batches `proofs/Batches.antt` has how a batch grows, and how an edge is put in later.
@@ -32,6 +35,7 @@
 //! Costs: a block is read in one pass, and takes memory once for each field that owns some; it is written with one
 //! allocation, and each byte is copied once. [`Batch::add_chain`] hashes each record once; a record doesn't keep its
 //! name, so its block is written for that, one at a time, and the names take 20 bytes each until the call ends.
+//! [`merge_place`] ranks as many records as the logarithm of their number.
 #![tactic(auto)]
 
 pub mod batch;
@@ -51,6 +55,7 @@ pub mod judge;
 mod laws;
 mod part_fault;
 mod parts;
+pub mod places;
 pub mod record;
 pub mod records;
 mod spelled;
@@ -65,5 +70,6 @@ pub use fault::RecordFault;
 pub use head::{Head, plain_head};
 pub use judge::PlainJudge;
 pub use laws::blocks_are_one;
+pub use places::merge_place;
 pub use record::Record;
 pub use records::Records;

@@ -1,0 +1,5 @@
+pub mod Places
+pub mod Replays
+pub mod States
+pub mod Engines
+pub mod Laws

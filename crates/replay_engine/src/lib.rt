@@ -1,0 +1,36 @@
+//! Replay of records that come late: records above a basis in order, the tree that they make of it, and a checkpoint of the
+//! tree at each multiple of 64.
+//!
+//! Layer: over `log_records`, whose records these are, `record_sets`, which merges rows of them, and `fs_tree`; below whoever
+//! takes turns.
+//! For the layer above: contracts see an [`Engine`] as its basis, the records that it holds above that, and what it held
+//! before each call that can be taken back, the newest first (`specs/Engines.antt`). These are none at first, one more with
+//! each [`Engine::absorb`] or [`Engine::append`] that succeeds, but two at most, and one less with each [`Engine::undo`].
+//! Wherever new records go, [`Engine::records`] are all in order, and [`Engine::tree`] is what they make of the basis's tree
+//! (`kept_tree` in `turn_model`). [`Engine::undo`] gives exactly what was held before, and takes no memory;
+//! [`Engine::tree_before`] is the tree that it would give. Where memory is short nothing has changed but the steps.
+//! [`replay_is_incremental`] is the law: over a basis that stands for a closed set of records, and after any calls with
+//! records above its tide, the tree is the replay of that set and of the records of the calls that stand.
+//!
+//! How many records are applied is exact, each with a step: for m new records of which the first goes to place p among n
+//! held ones, m where p = n, and n + m - 64 * (p / 64) otherwise (`applied_for` in `specs/Places.antt`). A step is one turn of
+//! the loop in `replaying`, which ticks and applies one record. That nothing else here applies records is to be read.
+//!
+//! Inside, `replaying` is that loop, `state` the records, the tree and the checkpoints, with what a call replaces of them,
+//! and `copies` copies records. Definitions: `specs/Places.antt` has where new records go and what is asked of them,
+//! `specs/Replays.antt` the trees at the checkpoints, `specs/States.antt` what is kept, and `specs/Laws.antt` the law.
+//!
+//! Costs: beside the records that it applies, each call copies the tree once, and again for each checkpoint that it passes,
+//! which takes the time and the memory of all inodes. A call with late records copies those behind the first one's place too,
+//! of which the originals are kept until the call can't be taken back. A place is found by as many ranks as the logarithm of
+//! the number of records. Taking a call back moves what it replaced into place again.
+#![tactic(auto)]
+
+mod copies;
+pub mod engine;
+mod laws;
+mod replaying;
+mod state;
+
+pub use engine::Engine;
+pub use laws::replay_is_incremental;
