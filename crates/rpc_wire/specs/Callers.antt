@@ -1,5 +1,5 @@
 -- What a call's reader gives of a message (RFC 5531, section 9 and appendix A).
-use Rattle.std.specs.Prelude.{◌≡◌, ◌≢◌, ℕ, List, take, Option, Some, None}
+use Rattle.std.specs.Prelude.{◌≡◌, ◌≢◌, ◌≤◌, ℕ, List, take, Option, Some, None, IfSome}
 use Rattle.wire_model.specs.Rpc.{Auth, CallMessage, IsCall, IsOtherVersion, Identity, IsCaller}
 use Rattle.rpc_wire.specs.Parts.{System, SystemFits, system}
 use Rattle.rpc_wire.specs.declared.call.Caller.{Caller}
@@ -43,3 +43,9 @@ abbrev pub IsHeading : List ℕ → Heading → Type 0
 IsHeading message (Good call) = IsGoodCall message call
 IsHeading message (Mismatch xid) = IsOtherVersion message xid
 IsHeading message NotACall = IsNoCall message
+
+-- a caller counts at most 16 groups (appendix A), so that all that are counted are there
+abbrev pub HasFewGroups : Heading → Type 0
+HasFewGroups (Good call) = IfSome call.caller (λ c. c.count ≤ 16)
+HasFewGroups (Mismatch xid) = Unit {0}
+HasFewGroups NotACall = Unit {0}

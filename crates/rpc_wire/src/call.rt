@@ -1,12 +1,12 @@
 //! Calls: who calls which procedure, and the bytes of its arguments.
 
-ghost use Rattle.std.specs.Prelude.{◌≡◌, ◌≤◌, ℕ, List, length, take, IfOk, OnErr};
+ghost use Rattle.std.specs.Prelude.{◌≡◌, ◌≤◌, ℕ, List, length, take, IfOk, IfSome, OnErr};
 ghost use Rattle.std.specs.List.{AllByRecursion, flat_map};
 ghost use Rattle.wire_model.specs.Xdr.{word, array, IsWord, AreSoMany};
 ghost use Rattle.wire_model.specs.OneReading.{IsFront, HasNoFront};
 ghost use Rattle.wire_model.specs.Rpc.{Auth, auth, AuthFits};
 ghost use Rattle.rpc_wire.specs.Parts.{AreWords, words, BodyFits, body, auth_of, UserFits, user, AreGroups, SystemFits, system};
-ghost use Rattle.rpc_wire.specs.Callers.{IsHeading, IsCallerOf, IsSystemCallerOf};
+ghost use Rattle.rpc_wire.specs.Callers.{IsHeading, HasFewGroups, IsCallerOf, IsSystemCallerOf};
 
 use xdr_codec::{XdrFault, XdrRead};
 
@@ -79,7 +79,8 @@ pub struct Credential<'a> {
 /// AUTH_SYS is that of its user, its group and up to 16 groups where its body is of that form and nothing follows;
 /// any other credential leaves the caller `None`. The verifier's flavour isn't looked at.
 pub fn read_call(message: &[u8]) -> Heading<'_>
-    ensures { IsHeading message.now result }
+    ensures heading { IsHeading message.now result }
+    ensures groups { HasFewGroups result }
 {
     let mut reader = XdrRead::new(message);
     read_heading(&mut reader)
@@ -87,7 +88,8 @@ pub fn read_call(message: &[u8]) -> Heading<'_>
 
 /// What the bytes that are left are.
 fn read_heading<'a>(reader: &mut XdrRead<'a>) -> Heading<'a>
-    ensures { IsHeading reader.old result }
+    ensures heading { IsHeading reader.old result }
+    ensures groups { HasFewGroups result }
 {
     let Ok((xid, kind, version)) = read_words(reader) else {
         return Heading::NotACall;
@@ -145,7 +147,8 @@ fn read_credential<'a>(reader: &mut XdrRead<'a>) -> Result<Credential<'a>, XdrFa
 
 /// Whose call a credential makes it.
 fn caller_of(credential: &Credential<'_>) -> Option<Caller>
-    ensures { IsCallerOf (auth_of credential.now) result }
+    ensures caller { IsCallerOf (auth_of credential.now) result }
+    ensures few { IfSome result (λ c. c.count ≤ 16) }
 {
     match credential.flavour {
         AUTH_NONE => Some(Caller {
@@ -161,7 +164,8 @@ fn caller_of(credential: &Credential<'_>) -> Option<Caller>
 
 /// The caller that a body of AUTH_SYS spells, with nothing behind it.
 fn read_whole_system(reader: &mut XdrRead<'_>) -> Option<Caller>
-    ensures { IsSystemCallerOf reader.old result }
+    ensures caller { IsSystemCallerOf reader.old result }
+    ensures few { IfSome result (λ c. c.count ≤ 16) }
 {
     let Ok(caller) = read_system(reader) else {
         return None;
@@ -175,6 +179,7 @@ fn read_whole_system(reader: &mut XdrRead<'_>) -> Option<Caller>
 /// The caller that a body of AUTH_SYS spells at the front.
 fn read_system(reader: &mut XdrRead<'_>) -> Result<Caller, XdrFault>
     ensures ok { IfOk result (λ c. (stamp : ℕ) × (machine : List ℕ) × IsFront SystemFits system reader.old ((((stamp, machine), c.uid), c.gid), take c.count c.gids) reader.new) }
+    ensures few { IfOk result (λ c. c.count ≤ 16) }
     ensures none { OnErr result (HasNoFront SystemFits system reader.old) }
 {
     let (uid, gid) = read_user(reader)?;
@@ -202,6 +207,7 @@ fn read_user(reader: &mut XdrRead<'_>) -> Result<(u32, u32), XdrFault>
 /// An array of at most 16 groups, and how many there are.
 fn read_groups(reader: &mut XdrRead<'_>) -> Result<([u32; 16], u32), XdrFault>
     ensures ok { IfOk result (λ g. IsFront AreGroups (array word) reader.old (take g.1 g.0) reader.new) }
+    ensures few { IfOk result (λ g. g.1 ≤ 16) }
     ensures none { OnErr result (HasNoFront AreGroups (array word) reader.old) }
 {
     let count = reader.u32()?;
