@@ -34,9 +34,10 @@ told_front left held holds t = record { told = t.told; untold = t.untold; ending
 pub told_less : (left held holds : Option (List ℕ)) → TellsLess (run_of IvyStep empty_world left) held holds → TellsLess (ivy_runs left) held holds
 told_less left held holds t = record { front = told_front left held holds t.front; less = t.less }
 
-pub stops_short : (start left held holds : Option (List ℕ)) → StopsShort IvyStep (run_of IvyStep empty_world start) left held holds → StopsShort IvyStep (ivy_runs start) left held holds
+pub stops_short : (start left held holds : Option (List ℕ)) → StopsShort (λ _. Unit {0}) IvyStep (run_of IvyStep empty_world start) left held holds → StopsShort (λ _. Unit {0}) IvyStep (ivy_runs start) left held holds
 stops_short start left held holds t = record {
   world = t.world;
+  kept = t.kept;
   number = t.number;
   partial = t.partial;
   budget = t.budget;

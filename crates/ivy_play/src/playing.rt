@@ -50,7 +50,7 @@ pub fn play<Q: Source, W: Sink>(alloc: Global, source: &mut Q, sink: &mut W) -> 
     ensures less { result ≡ 5 → TellsLess
         (ivy_runs (Q.left source.old)) (W.contents sink.old) (W.contents sink.new) }
     // After a read fault the run isn't over: all whole lines that were read were obeyed.
-    ensures waits { result ≡ 4 → StopsShort IvyStep
+    ensures waits { result ≡ 4 → StopsShort (λ _. Unit {0}) IvyStep
         (ivy_runs (Q.left source.old)) (Q.left source.new) (W.contents sink.old) (W.contents sink.new) }
 
     // Where neither count rose and each run ends alike, the status is that of the run, unless memory was wanting.

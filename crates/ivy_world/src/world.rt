@@ -136,9 +136,13 @@ impl World {
 impl Machine for World {
     ghost step = { IvyStep };
 
-    ghost some_outcome = { some_step };
+    ghost keeps = { λ _. Unit {0} };
 
-    ghost long_stops = { stops };
+    ghost step_keeps = { λ _ _ _ _ _ _. tt };
+
+    ghost some_outcome = { λ world line _. some_step world line };
+
+    ghost long_stops = { λ world line next output _. stops world line next output };
 
     fn take(&mut self, alloc: Global, line: &[u8]) -> Result<Taken, Memory> {
         let command = read_command(alloc, line)?;

@@ -68,11 +68,10 @@ pub fn plan_directory(
         Ok(dir) => dir,
         Err(fault) => return Ok(refused_handle(fault)),
     };
-    if let Some(fault) = directory_fault(tree, caller, &dir, name, &asked.what) {
-        return Ok(refused_at(tree, view, &dir, fault));
+    match directory_fault(tree, caller, &dir, name, &asked.what) {
+        Some(fault) => Ok(refused_at(tree, view, &dir, fault)),
+        None => new_of_kind(alloc, caller, Kind::Dir, &dir, name, asked, b"".as_slice()),
     }
-    let inode = make(alloc, caller, Kind::Dir, asked, b"".as_slice())?;
-    new_object(alloc, inode, &dir, name, asked)
 }
 
 /// The first check of MKDIR that fails.
@@ -133,6 +132,23 @@ fn link(alloc: Global, dir: Key, name: &[u8], ino: Key) -> Result<Op, Memory>
         name: Bytes::copy_of(alloc, name)?,
         ino,
     })
+}
+
+/// The plan of the operations that make an inode of that kind, name it in the directory, and set its times where any is
+/// given. The error is want of memory.
+fn new_of_kind(
+    alloc: Global,
+    caller: &Caller,
+    kind: Kind,
+    dir: &LiveObject<'_>,
+    name: &[u8],
+    asked: &Asked,
+    target: &[u8],
+) -> Result<Plan, Memory>
+    ensures { IfOk result (λ given. seen given ≡ Operations (make (identity_of caller.now) kind asked.now.what asked.now.number target.now ∷ Op.Link dir.now.number name.now asked.now.number ∷ set_times asked.now.moment asked.now.what asked.now.number)) }
+{
+    let inode = make(alloc, caller, kind, asked, target)?;
+    new_object(alloc, inode, dir, name, asked)
 }
 
 /// The plan of the operation that makes an inode, of one that names it in the directory, and of one that sets its times
@@ -196,11 +212,10 @@ pub fn plan_symbolic_link(
         Ok(dir) => dir,
         Err(fault) => return Ok(refused_handle(fault)),
     };
-    if let Some(fault) = link_fault(tree, caller, &dir, name, &asked.what, text) {
-        return Ok(refused_at(tree, view, &dir, fault));
+    match link_fault(tree, caller, &dir, name, &asked.what, text) {
+        Some(fault) => Ok(refused_at(tree, view, &dir, fault)),
+        None => new_of_kind(alloc, caller, Kind::Lnk, &dir, name, asked, text),
     }
-    let inode = make(alloc, caller, Kind::Lnk, asked, text)?;
-    new_object(alloc, inode, &dir, name, asked)
 }
 
 /// The first check of SYMLINK that fails.

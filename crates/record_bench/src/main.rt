@@ -92,13 +92,27 @@ fn time_of<R: Clock + Print>(rt: &R, alloc: Global, line: &str) -> io::Result<Du
     let mut words = line.split(' ');
     let what = words.next();
     let count = words.next().and_then(|word| word.parse().ok()).unwrap_or(0);
-    let (Ok(record), Ok(first)) = (record(alloc), record(alloc).and_then(|r| r.write(alloc))) else {
+    let Ok(record) = record(alloc) else {
         return Ok(Duration::ZERO);
     };
-    let block = first.as_slice();
+    let Ok(block) = record.write(alloc) else {
+        return Ok(Duration::ZERO);
+    };
+    time_with(rt, alloc, what, count, &record, block.as_slice())
+}
+
+/// The same, of this record and its block. It owns nothing, so that nothing is let go where a line can't be written.
+fn time_with<R: Clock + Print>(
+    rt: &R,
+    alloc: Global,
+    what: Option<&str>,
+    count: u32,
+    record: &Record,
+    block: &[u8],
+) -> io::Result<Duration> {
     let start = Instant::now(rt)?;
     let done = match what {
-        Some("write") => writes(alloc, &record, count),
+        Some("write") => writes(alloc, record, count),
         Some("read") => reads(alloc, block, count),
         _ => copies(alloc, block, count),
     };
