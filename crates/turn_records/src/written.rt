@@ -1,6 +1,6 @@
 //! Records, and their blocks.
 
-ghost use Rattle.std.specs.Prelude.{◌≡◌, ◌+◌, ◌<◌, ◌^◌, length, map, IfOk};
+ghost use Rattle.std.specs.Prelude.{◌≡◌, ◌+◌, ◌<◌, ◌^◌, [], ◌∷◌, length, map, IfOk};
 ghost use Rattle.log_model.specs.Spelling.{new_record};
 ghost use Rattle.log_model.specs.Standing.{blocks_of};
 ghost use Rattle.log_records.specs.Records.{record_of, records_of};
