@@ -16,8 +16,6 @@
 #![tactic(auto)]
 
 mod contents;
-#[cfg(test)]
-mod tests;
 mod tree;
 
 pub use dir_replay::ROOT;
