@@ -17,8 +17,8 @@
 //!   effect
 //!
 //! Each operation is done by `fs_tree`, by `dir_replay` alone and by `plain_tree`, and `they differ` says that these don't
-//! answer alike about all inodes afterwards. Empty lines and those that begin with `#` say what comes; `no answer` stands for a line that
-//! is none of these, and for want of memory.
+//! answer alike about all inodes afterwards; of bytes the first and the last 64 are compared. Empty lines and those that
+//! begin with `#` say what comes; `no answer` stands for a line that is none of these, and for want of memory.
 //!
 //! The answers of the stored run follow from the rules of the operations; those to generated ones are of a model of the
 //! tree in another language.
