@@ -21,8 +21,6 @@ mod keys;
 mod listing;
 mod names;
 mod nodes;
-#[cfg(test)]
-mod tests;
 mod touched;
 
 pub use keys::ROOT;

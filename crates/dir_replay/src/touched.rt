@@ -5,7 +5,7 @@ use crate::keys::same;
 use ivy_base::Key;
 
 /// The directories whose entries an operation changed, at most two.
-#[derive(Clone, Copy, Debug, PartialEq, Eq)]
+#[derive(Clone, Copy)]
 pub struct Touched {
     /// The directory of the operation's first name. It is there where the operation did anything to names.
     pub first: Option<Key>,

@@ -17,8 +17,6 @@
 
 pub mod basis;
 mod contents;
-#[cfg(test)]
-mod tests;
 mod tree;
 
 pub use basis::Basis;

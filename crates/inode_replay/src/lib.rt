@@ -14,8 +14,6 @@
 
 mod attr;
 mod content;
-#[cfg(test)]
-mod tests;
 
 pub use attr::Attr;
 pub use content::Content;

@@ -16,7 +16,5 @@
 
 mod greatest;
 pub mod sets;
-#[cfg(test)]
-mod tests;
 
 pub use sets::{apply_records, front, merge, replay};
