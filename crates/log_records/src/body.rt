@@ -66,7 +66,6 @@ fn read_write(alloc: Global, reader: &mut XdrRead) -> Result<Op, PartFault>
 }
 
 /// A name that is given.
-#[tactic(auto, using(crate::proofs::Operations::no_link_place))]
 fn read_link(alloc: Global, reader: &mut XdrRead) -> Result<Op, PartFault>
     ensures ok { IfOk result (λ op. IsFront (IsOfKind 3) body reader.old op reader.new) }
     ensures err { IfErr result (Refuses (IsOfKind 3) body reader.old) }
@@ -77,7 +76,6 @@ fn read_link(alloc: Global, reader: &mut XdrRead) -> Result<Op, PartFault>
 }
 
 /// A name that is removed.
-#[tactic(auto, using(crate::proofs::Operations::no_unlink_place))]
 fn read_unlink(alloc: Global, reader: &mut XdrRead) -> Result<Op, PartFault>
     ensures ok { IfOk result (λ op. IsFront (IsOfKind 4) body reader.old op reader.new) }
     ensures err { IfErr result (Refuses (IsOfKind 4) body reader.old) }
@@ -87,7 +85,6 @@ fn read_unlink(alloc: Global, reader: &mut XdrRead) -> Result<Op, PartFault>
 }
 
 /// A name that is moved.
-#[tactic(auto, using(crate::proofs::Operations::no_rename_place))]
 fn read_rename(alloc: Global, reader: &mut XdrRead) -> Result<Op, PartFault>
     ensures ok { IfOk result (λ op. IsFront (IsOfKind 5) body reader.old op reader.new) }
     ensures err { IfErr result (Refuses (IsOfKind 5) body reader.old) }
@@ -103,7 +100,6 @@ fn read_rename(alloc: Global, reader: &mut XdrRead) -> Result<Op, PartFault>
 }
 
 /// An exclusive creation that is announced.
-#[tactic(auto, using(crate::proofs::Operations::no_prepare_place))]
 fn read_prepare(alloc: Global, reader: &mut XdrRead) -> Result<Op, PartFault>
     ensures ok { IfOk result (λ op. IsFront (IsOfKind 6) body reader.old op reader.new) }
     ensures err { IfErr result (Refuses (IsOfKind 6) body reader.old) }

@@ -123,7 +123,6 @@ pub fn read_name(alloc: Global, reader: &mut XdrRead) -> Result<Bytes, PartFault
 }
 
 /// A name in a directory, behind the directory's number.
-#[tactic(auto, using(crate::proofs::ReadParts::no_name_behind))]
 pub fn read_place(alloc: Global, reader: &mut XdrRead) -> Result<(Key, Bytes), PartFault>
     ensures ok { IfOk result (λ place. IsFront IsPlace place_block reader.old place reader.new) }
     ensures err { IfErr result (Refuses IsPlace place_block reader.old) }

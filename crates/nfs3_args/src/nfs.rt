@@ -49,7 +49,6 @@ pub fn read_nfs(alloc: Global, reader: &mut XdrRead, procedure: u32) -> Result<A
 }
 
 /// GETATTR (section 3.3.1): an object's handle.
-#[tactic(auto, using(crate::proofs::Procedures::no_getattr))]
 fn read_getattr(alloc: Global, reader: &mut XdrRead) -> Result<Args, ArgsFault>
     ensures ok { IfOk result (λ args. IsFront (AreNfs 1) arguments reader.old args reader.new) }
     ensures err { IfErr result (Refuses (AreNfs 1) arguments reader.old) }
@@ -59,7 +58,6 @@ fn read_getattr(alloc: Global, reader: &mut XdrRead) -> Result<Args, ArgsFault>
 }
 
 /// SETATTR (section 3.3.2): an object, new attributes, and a ctime where it is to be compared.
-#[tactic(auto, using(crate::proofs::Procedures::no_setattr_object))]
 fn read_setattr(alloc: Global, reader: &mut XdrRead) -> Result<Args, ArgsFault>
     ensures ok { IfOk result (λ args. IsFront (AreNfs 2) arguments reader.old args reader.new) }
     ensures err { IfErr result (Refuses (AreNfs 2) arguments reader.old) }
@@ -75,7 +73,6 @@ fn read_setattr(alloc: Global, reader: &mut XdrRead) -> Result<Args, ArgsFault>
 }
 
 /// LOOKUP (section 3.3.3): a name in a directory.
-#[tactic(auto, using(crate::proofs::Procedures::no_lookup))]
 fn read_lookup(alloc: Global, reader: &mut XdrRead) -> Result<Args, ArgsFault>
     ensures ok { IfOk result (λ args. IsFront (AreNfs 3) arguments reader.old args reader.new) }
     ensures err { IfErr result (Refuses (AreNfs 3) arguments reader.old) }
@@ -85,7 +82,6 @@ fn read_lookup(alloc: Global, reader: &mut XdrRead) -> Result<Args, ArgsFault>
 }
 
 /// ACCESS (section 3.3.4): an object and rights.
-#[tactic(auto, using(crate::proofs::Procedures::no_access_object))]
 fn read_access(alloc: Global, reader: &mut XdrRead) -> Result<Args, ArgsFault>
     ensures ok { IfOk result (λ args. IsFront (AreNfs 4) arguments reader.old args reader.new) }
     ensures err { IfErr result (Refuses (AreNfs 4) arguments reader.old) }
@@ -96,7 +92,6 @@ fn read_access(alloc: Global, reader: &mut XdrRead) -> Result<Args, ArgsFault>
 }
 
 /// READLINK (section 3.3.5): a symbolic link.
-#[tactic(auto, using(crate::proofs::Procedures::no_readlink))]
 fn read_readlink(alloc: Global, reader: &mut XdrRead) -> Result<Args, ArgsFault>
     ensures ok { IfOk result (λ args. IsFront (AreNfs 5) arguments reader.old args reader.new) }
     ensures err { IfErr result (Refuses (AreNfs 5) arguments reader.old) }
@@ -106,7 +101,6 @@ fn read_readlink(alloc: Global, reader: &mut XdrRead) -> Result<Args, ArgsFault>
 }
 
 /// READ (section 3.3.6): some bytes of a file.
-#[tactic(auto, using(crate::proofs::Procedures::no_read))]
 fn read_read(alloc: Global, reader: &mut XdrRead) -> Result<Args, ArgsFault>
     ensures ok { IfOk result (λ args. IsFront (AreNfs 6) arguments reader.old args reader.new) }
     ensures err { IfErr result (Refuses (AreNfs 6) arguments reader.old) }
@@ -120,7 +114,6 @@ fn read_read(alloc: Global, reader: &mut XdrRead) -> Result<Args, ArgsFault>
 }
 
 /// WRITE (section 3.3.7): where bytes go, how safely, and the bytes.
-#[tactic(auto, using(crate::proofs::Procedures::no_write_range))]
 fn read_write(alloc: Global, reader: &mut XdrRead) -> Result<Args, ArgsFault>
     ensures ok { IfOk result (λ args. IsFront (AreNfs 7) arguments reader.old args reader.new) }
     ensures err { IfErr result (Refuses (AreNfs 7) arguments reader.old) }
@@ -138,7 +131,6 @@ fn read_write(alloc: Global, reader: &mut XdrRead) -> Result<Args, ArgsFault>
 }
 
 /// CREATE (section 3.3.8): a name in a directory, and how the file is to be made.
-#[tactic(auto, using(crate::proofs::Procedures::no_create_place))]
 fn read_create(alloc: Global, reader: &mut XdrRead) -> Result<Args, ArgsFault>
     ensures ok { IfOk result (λ args. IsFront (AreNfs 8) arguments reader.old args reader.new) }
     ensures err { IfErr result (Refuses (AreNfs 8) arguments reader.old) }
@@ -149,7 +141,6 @@ fn read_create(alloc: Global, reader: &mut XdrRead) -> Result<Args, ArgsFault>
 }
 
 /// MKDIR (section 3.3.9): a name in a directory, and attributes.
-#[tactic(auto, using(crate::proofs::Procedures::no_mkdir_place))]
 fn read_mkdir(alloc: Global, reader: &mut XdrRead) -> Result<Args, ArgsFault>
     ensures ok { IfOk result (λ args. IsFront (AreNfs 9) arguments reader.old args reader.new) }
     ensures err { IfErr result (Refuses (AreNfs 9) arguments reader.old) }
@@ -160,7 +151,6 @@ fn read_mkdir(alloc: Global, reader: &mut XdrRead) -> Result<Args, ArgsFault>
 }
 
 /// SYMLINK (section 3.3.10): a name in a directory, attributes and a text.
-#[tactic(auto, using(crate::proofs::Procedures::no_symlink_place))]
 fn read_symlink(alloc: Global, reader: &mut XdrRead) -> Result<Args, ArgsFault>
     ensures ok { IfOk result (λ args. IsFront (AreNfs 10) arguments reader.old args reader.new) }
     ensures err { IfErr result (Refuses (AreNfs 10) arguments reader.old) }
@@ -177,7 +167,6 @@ fn read_symlink(alloc: Global, reader: &mut XdrRead) -> Result<Args, ArgsFault>
 }
 
 /// MKNOD (section 3.3.11): a name in a directory, and the node.
-#[tactic(auto, using(crate::proofs::Procedures::no_mknod_place))]
 fn read_mknod(alloc: Global, reader: &mut XdrRead) -> Result<Args, ArgsFault>
     ensures ok { IfOk result (λ args. IsFront (AreNfs 11) arguments reader.old args reader.new) }
     ensures err { IfErr result (Refuses (AreNfs 11) arguments reader.old) }
@@ -188,7 +177,6 @@ fn read_mknod(alloc: Global, reader: &mut XdrRead) -> Result<Args, ArgsFault>
 }
 
 /// REMOVE (section 3.3.12): a name in a directory.
-#[tactic(auto, using(crate::proofs::Procedures::no_remove))]
 fn read_remove(alloc: Global, reader: &mut XdrRead) -> Result<Args, ArgsFault>
     ensures ok { IfOk result (λ args. IsFront (AreNfs 12) arguments reader.old args reader.new) }
     ensures err { IfErr result (Refuses (AreNfs 12) arguments reader.old) }
@@ -198,7 +186,6 @@ fn read_remove(alloc: Global, reader: &mut XdrRead) -> Result<Args, ArgsFault>
 }
 
 /// RMDIR (section 3.3.13): a name in a directory.
-#[tactic(auto, using(crate::proofs::Procedures::no_rmdir))]
 fn read_rmdir(alloc: Global, reader: &mut XdrRead) -> Result<Args, ArgsFault>
     ensures ok { IfOk result (λ args. IsFront (AreNfs 13) arguments reader.old args reader.new) }
     ensures err { IfErr result (Refuses (AreNfs 13) arguments reader.old) }
@@ -208,7 +195,6 @@ fn read_rmdir(alloc: Global, reader: &mut XdrRead) -> Result<Args, ArgsFault>
 }
 
 /// RENAME (section 3.3.14): the name that there is, and the one that there is to be.
-#[tactic(auto, using(crate::proofs::Procedures::no_rename_place))]
 fn read_rename(alloc: Global, reader: &mut XdrRead) -> Result<Args, ArgsFault>
     ensures ok { IfOk result (λ args. IsFront (AreNfs 14) arguments reader.old args reader.new) }
     ensures err { IfErr result (Refuses (AreNfs 14) arguments reader.old) }
@@ -224,7 +210,6 @@ fn read_rename(alloc: Global, reader: &mut XdrRead) -> Result<Args, ArgsFault>
 }
 
 /// LINK (section 3.3.15): a file, and a name in a directory.
-#[tactic(auto, using(crate::proofs::Procedures::no_link_file))]
 fn read_link(alloc: Global, reader: &mut XdrRead) -> Result<Args, ArgsFault>
     ensures ok { IfOk result (λ args. IsFront (AreNfs 15) arguments reader.old args reader.new) }
     ensures err { IfErr result (Refuses (AreNfs 15) arguments reader.old) }
@@ -235,7 +220,6 @@ fn read_link(alloc: Global, reader: &mut XdrRead) -> Result<Args, ArgsFault>
 }
 
 /// READDIR (section 3.3.16): a page of at most `count` bytes.
-#[tactic(auto, using(crate::proofs::Procedures::no_readdir_page))]
 fn read_readdir(alloc: Global, reader: &mut XdrRead) -> Result<Args, ArgsFault>
     ensures ok { IfOk result (λ args. IsFront (AreNfs 16) arguments reader.old args reader.new) }
     ensures err { IfErr result (Refuses (AreNfs 16) arguments reader.old) }
@@ -251,7 +235,6 @@ fn read_readdir(alloc: Global, reader: &mut XdrRead) -> Result<Args, ArgsFault>
 }
 
 /// READDIRPLUS (section 3.3.17): a page, its most bytes of names, and its most bytes.
-#[tactic(auto, using(crate::proofs::Procedures::no_readdirplus_page))]
 fn read_readdirplus(alloc: Global, reader: &mut XdrRead) -> Result<Args, ArgsFault>
     ensures ok { IfOk result (λ args. IsFront (AreNfs 17) arguments reader.old args reader.new) }
     ensures err { IfErr result (Refuses (AreNfs 17) arguments reader.old) }
@@ -269,7 +252,6 @@ fn read_readdirplus(alloc: Global, reader: &mut XdrRead) -> Result<Args, ArgsFau
 }
 
 /// FSSTAT (section 3.3.18): an object's handle.
-#[tactic(auto, using(crate::proofs::Procedures::no_fsstat))]
 fn read_fsstat(alloc: Global, reader: &mut XdrRead) -> Result<Args, ArgsFault>
     ensures ok { IfOk result (λ args. IsFront (AreNfs 18) arguments reader.old args reader.new) }
     ensures err { IfErr result (Refuses (AreNfs 18) arguments reader.old) }
@@ -279,7 +261,6 @@ fn read_fsstat(alloc: Global, reader: &mut XdrRead) -> Result<Args, ArgsFault>
 }
 
 /// FSINFO (section 3.3.19): an object's handle.
-#[tactic(auto, using(crate::proofs::Procedures::no_fsinfo))]
 fn read_fsinfo(alloc: Global, reader: &mut XdrRead) -> Result<Args, ArgsFault>
     ensures ok { IfOk result (λ args. IsFront (AreNfs 19) arguments reader.old args reader.new) }
     ensures err { IfErr result (Refuses (AreNfs 19) arguments reader.old) }
@@ -289,7 +270,6 @@ fn read_fsinfo(alloc: Global, reader: &mut XdrRead) -> Result<Args, ArgsFault>
 }
 
 /// PATHCONF (section 3.3.20): an object's handle.
-#[tactic(auto, using(crate::proofs::Procedures::no_pathconf))]
 fn read_pathconf(alloc: Global, reader: &mut XdrRead) -> Result<Args, ArgsFault>
     ensures ok { IfOk result (λ args. IsFront (AreNfs 20) arguments reader.old args reader.new) }
     ensures err { IfErr result (Refuses (AreNfs 20) arguments reader.old) }
@@ -299,7 +279,6 @@ fn read_pathconf(alloc: Global, reader: &mut XdrRead) -> Result<Args, ArgsFault>
 }
 
 /// COMMIT (section 3.3.21): some bytes of a file.
-#[tactic(auto, using(crate::proofs::Procedures::no_commit))]
 fn read_commit(alloc: Global, reader: &mut XdrRead) -> Result<Args, ArgsFault>
     ensures ok { IfOk result (λ args. IsFront (AreNfs 21) arguments reader.old args reader.new) }
     ensures err { IfErr result (Refuses (AreNfs 21) arguments reader.old) }

@@ -149,7 +149,6 @@ pub fn read_optional_moment(reader: &mut XdrRead) -> Result<Option<Moment>, Garb
 }
 
 /// A name in a directory: the directory's handle, and the name.
-#[tactic(auto, using(crate::proofs::PartsReading::no_place_handle, crate::proofs::PartsReading::no_place_name))]
 pub fn read_place(alloc: Global, reader: &mut XdrRead) -> Result<(Bytes, Bytes), ArgsFault>
     ensures ok { IfOk result (λ p. IsFront IsPlace place reader.old p reader.new) }
     ensures err { IfErr result (Refuses IsPlace place reader.old) }
@@ -160,7 +159,6 @@ pub fn read_place(alloc: Global, reader: &mut XdrRead) -> Result<(Bytes, Bytes),
 }
 
 /// Some bytes of a file: its handle, an offset and a count.
-#[tactic(auto, using(crate::proofs::PartsReading::no_range_handle, crate::proofs::PartsReading::no_range_offset, crate::proofs::PartsReading::no_range_count))]
 pub fn read_range(alloc: Global, reader: &mut XdrRead) -> Result<(Bytes, u64, u32), ArgsFault>
     ensures ok { IfOk result (λ r. IsFront IsRange range reader.old ((r.0, r.1), r.2) reader.new) }
     ensures err { IfErr result (Refuses IsRange range reader.old) }
@@ -172,7 +170,6 @@ pub fn read_range(alloc: Global, reader: &mut XdrRead) -> Result<(Bytes, u64, u3
 }
 
 /// A page of a directory: its handle, the cookie behind which the page begins, and the cookie's verifier.
-#[tactic(auto, using(crate::proofs::PartsReading::no_page_handle, crate::proofs::PartsReading::no_page_cookie, crate::proofs::PartsReading::no_page_verifier))]
 pub fn read_page(alloc: Global, reader: &mut XdrRead) -> Result<(Bytes, u64, [u8; 8]), ArgsFault>
     ensures ok { IfOk result (λ r. IsFront IsPage page reader.old ((r.0, r.1), r.2) reader.new) }
     ensures err { IfErr result (Refuses IsPage page reader.old) }

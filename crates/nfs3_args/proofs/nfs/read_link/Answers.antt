@@ -1,8 +1,13 @@
 use Rattle.std.proofs.lemmas.Result.{err_from_is_err_and}
 use Rattle.nfs3_args.proofs.Refusing.{refused}
-use Rattle.nfs3_args.proofs.Procedures.{no_link_place}
+use Rattle.nfs3_args.proofs.Procedures.{no_link_file, no_link_place}
 use Rattle.nfs3_args.proofs.Fronts.{link_front}
 use Rattle.nfs3_args.proofs.nfs.read_link.Goals as goal
+
+pub returns-in_err-file-clause-err : goal.returns-in_err-file-clause-err
+returns-in_err-file-clause-err c =
+    let p = err_from_is_err_and c.from_residual.result c.from_residual.ensures.1 in
+    rw (p.1, p.2) (refused no_link_file _ c.in_err-file.ensures.err)
 
 pub returns-in_err-dir-clause-err : goal.returns-in_err-dir-clause-err
 returns-in_err-dir-clause-err c =

@@ -1,5 +1,13 @@
+use Rattle.std.proofs.lemmas.Result.{err_from_is_err_and}
 use Rattle.nfs3_args.proofs.Fronts.{lookup_front}
+use Rattle.nfs3_args.proofs.Refusing.{refused}
+use Rattle.nfs3_args.proofs.Procedures.{no_lookup}
 use Rattle.nfs3_args.proofs.nfs.read_lookup.Goals as goal
+
+pub returns-in_err-dir-clause-err : goal.returns-in_err-dir-clause-err
+returns-in_err-dir-clause-err c =
+    let p = err_from_is_err_and c.from_residual.result c.from_residual.ensures.1 in
+    rw (p.1, p.2) (refused no_lookup _ c.in_err-dir.ensures.err)
 
 pub returns-clause-ok : goal.returns-clause-ok
 returns-clause-ok c = lookup_front c.in_ok-dir.ensures.ok

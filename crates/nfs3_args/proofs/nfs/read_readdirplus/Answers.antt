@@ -1,7 +1,13 @@
 use Rattle.std.proofs.lemmas.Result.{err_from_is_err_and}
-use Rattle.nfs3_args.proofs.Procedures.{no_readdirplus_dircount, no_readdirplus_maxcount}
+use Rattle.nfs3_args.proofs.Procedures.{no_readdirplus_dircount, no_readdirplus_maxcount, no_readdirplus_page}
 use Rattle.nfs3_args.proofs.Fronts.{readdirplus_front}
+use Rattle.nfs3_args.proofs.Refusing.{refused}
 use Rattle.nfs3_args.proofs.nfs.read_readdirplus.Goals as goal
+
+pub returns-in_err-dir-clause-err : goal.returns-in_err-dir-clause-err
+returns-in_err-dir-clause-err c =
+    let p = err_from_is_err_and c.from_residual.result c.from_residual.ensures.1 in
+    rw (p.1, p.2) (refused no_readdirplus_page _ c.in_err-dir.ensures.err)
 
 pub returns-in_err-dircount-clause-err : goal.returns-in_err-dircount-clause-err
 returns-in_err-dircount-clause-err c =

@@ -1,8 +1,13 @@
 use Rattle.std.proofs.lemmas.Result.{err_from_is_err_and}
 use Rattle.nfs3_args.proofs.Refusing.{refused}
-use Rattle.nfs3_args.proofs.Procedures.{no_write_bytes, no_write_stable}
+use Rattle.nfs3_args.proofs.Procedures.{no_write_bytes, no_write_range, no_write_stable}
 use Rattle.nfs3_args.proofs.Fronts.{write_front}
 use Rattle.nfs3_args.proofs.nfs.read_write.Goals as goal
+
+pub returns-in_err-file-clause-err : goal.returns-in_err-file-clause-err
+returns-in_err-file-clause-err c =
+    let p = err_from_is_err_and c.from_residual.result c.from_residual.ensures.1 in
+    rw (p.1, p.2) (refused no_write_range _ c.in_err-file.ensures.err)
 
 pub returns-in_err-stable-clause-err : goal.returns-in_err-stable-clause-err
 returns-in_err-stable-clause-err c =
