@@ -1,0 +1,117 @@
+//! The largest closed part by a plain slow program: records are taken that may follow what was taken, again
+//! and again, until none is left that may.
+
+use crate::logs::Log;
+use ivy_base::{Key, Memory, PubKey};
+use log_records::Record;
+use std::alloc::Global;
+use version_vectors::{Entry, Vector};
+use view_blocks::View;
+
+/// A record, and whether it was taken.
+#[derive(Drop)]
+pub struct Plain {
+    owner: PubKey,
+    own: Entry,
+    prev: Key,
+    vector: Vector,
+    taken: bool,
+}
+
+impl Plain {
+    /// How far the record knows a log.
+    fn reach(&self, log: &Key) -> u32 {
+        if *log == self.own.log {
+            self.own.seq
+        } else {
+            self.vector.seq_of(log)
+        }
+    }
+
+    /// The sum of its number and those of its vector.
+    fn weight(&self) -> u64 {
+        let mut weight = u64::from(self.own.seq);
+        for entry in self.vector.entries() {
+            weight = weight.saturating_add(u64::from(entry.seq));
+        }
+        weight
+    }
+
+    /// Whether it knows all that the other one does.
+    fn knows(&self, other: &Plain) -> bool {
+        self.reach(&other.own.log) >= other.own.seq
+            && other
+                .vector
+                .entries()
+                .iter()
+                .all(|entry| self.reach(&entry.log) >= entry.seq)
+    }
+
+    /// Whether the other one is the record that it cites by the entry.
+    fn is_caused(&self, entry: &Entry, other: &Plain) -> bool {
+        other.taken && other.own == *entry && other.weight() < self.weight() && self.knows(other)
+    }
+
+    /// Whether it opens its log, or follows the other one.
+    fn follows(&self, other: &Plain) -> bool {
+        other.taken && other.owner == self.owner && other.own.name == self.prev
+    }
+
+    /// Whether it may follow what was taken.
+    fn may_follow(&self, view: &View, all: &[Plain]) -> bool {
+        (self.own.seq == 1 || all.iter().any(|other| self.follows(other)))
+            && self.vector.entries().iter().all(|entry| {
+                !view.is_member(&entry.log) || all.iter().any(|other| self.is_caused(entry, other))
+            })
+    }
+}
+
+/// The records of a log.
+fn plain_log(alloc: Global, all: &mut Vec<Plain>, log: &Log) -> Result<(), Memory> {
+    for record in log.records.iter() {
+        all.push(Plain {
+            owner: record.owner,
+            own: Entry {
+                log: log.key,
+                seq: record.seq,
+                name: record.name(alloc)?,
+            },
+            prev: record.prev,
+            vector: record.vector.copy(alloc)?,
+            taken: false,
+        })?;
+    }
+    Ok(())
+}
+
+/// Takes what may follow, in one pass.
+fn pass(view: &View, all: &mut [Plain]) {
+    for i in 0..all.len() {
+        let known = &all[..];
+        if known[i].may_follow(view, known) {
+            all[i].taken = true;
+        }
+    }
+}
+
+/// All records of the logs, of which those of the largest closed part are taken.
+pub fn plain_part(alloc: Global, view: &View, logs: &[Log]) -> Result<Vec<Plain>, Memory> {
+    let mut all = Vec::new(alloc);
+    for log in logs {
+        plain_log(alloc, &mut all, log)?;
+    }
+    for _pass in 0..all.len() {
+        pass(view, all.as_mut_slice());
+    }
+    Ok(all)
+}
+
+/// Whether the records are those that were taken.
+pub fn agrees(all: &[Plain], part: &[Record]) -> bool {
+    all.iter().filter(|plain| plain.taken).count() == part.len()
+        && part.iter().all(|record| {
+            all.iter().any(|plain| {
+                plain.taken && plain.owner == record.owner && plain.own.seq == record.seq
+            })
+        })
+}
