@@ -11,8 +11,6 @@ pub mod key;
 pub mod memory;
 pub mod naming;
 pub mod operation;
-#[cfg(test)]
-mod tests;
 
 pub use bytes::Bytes;
 pub use key::{Key, PubKey};
