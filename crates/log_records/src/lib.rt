@@ -36,8 +36,6 @@
 
 pub mod batch;
 mod batch_laws;
-#[cfg(test)]
-mod batch_tests;
 mod body;
 mod body_writing;
 mod chain;
@@ -54,8 +52,6 @@ mod parts;
 pub mod record;
 pub mod records;
 mod spelled;
-#[cfg(test)]
-mod tests;
 mod writing;
 
 pub use batch::{Batch, Chain};
