@@ -31,8 +31,6 @@ mod log;
 mod part;
 mod pass;
 mod start;
-#[cfg(test)]
-mod tests;
 
 pub use laws::closed_sets_are_lawful;
 pub use part::closed_part;

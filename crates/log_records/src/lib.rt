@@ -40,8 +40,6 @@
 
 pub mod batch;
 mod batch_laws;
-#[cfg(test)]
-mod batch_tests;
 mod body;
 mod body_writing;
 mod chain;
@@ -59,8 +57,6 @@ pub mod places;
 pub mod record;
 pub mod records;
 mod spelled;
-#[cfg(test)]
-mod tests;
 mod writing;
 
 pub use batch::{Batch, Chain};

@@ -30,8 +30,6 @@ mod part_writing;
 mod parts;
 pub mod read;
 mod room;
-#[cfg(test)]
-mod tests;
 pub mod write;
 
 pub use fault::ArgsFault;

@@ -30,12 +30,8 @@ pub mod mount_reading;
 pub mod pages;
 pub mod pages_reading;
 pub mod reading;
-#[cfg(test)]
-mod reading_tests;
 pub mod reply;
 pub mod room;
-#[cfg(test)]
-mod tests;
 
 pub use fault::ReplyFault;
 pub use nfs_model::{Fattr, Listed, NfsStatus, Page, Reply, Tail, Wcc, WccBefore};

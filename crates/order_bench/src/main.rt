@@ -10,10 +10,6 @@
 
 mod gather;
 mod logs;
-#[cfg(test)]
-mod plain;
-#[cfg(test)]
-mod tests;
 
 use crate::gather::{batch_of, part_of};
 use crate::logs::{logs_of, view_of};

@@ -20,8 +20,6 @@ pub mod call;
 pub mod frames;
 pub mod reply;
 mod stream;
-#[cfg(test)]
-mod tests;
 
 pub use call::{Call, Caller, Heading, read_call};
 pub use frames::{Cut, FrameFault, FrameReader, frames_are_one};

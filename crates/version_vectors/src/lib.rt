@@ -26,8 +26,6 @@ mod fault;
 mod place;
 mod rank;
 mod reading;
-#[cfg(test)]
-mod tests;
 mod vector;
 
 pub use entry::Entry;

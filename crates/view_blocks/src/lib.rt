@@ -18,8 +18,6 @@ pub mod fault;
 mod form;
 pub mod laws;
 mod owners;
-#[cfg(test)]
-mod tests;
 pub mod view;
 
 pub use fault::ViewFault;

@@ -13,8 +13,6 @@
 pub mod fault;
 mod padding;
 pub mod read;
-#[cfg(test)]
-mod tests;
 pub mod write;
 
 pub use fault::XdrFault;

@@ -1,4 +1,4 @@
-//! The largest closed part by a plain slow program, for tests: records are taken that may follow what was taken, again
+//! The largest closed part by a plain slow program: records are taken that may follow what was taken, again
 //! and again, until none is left that may.
 
 use crate::logs::Log;

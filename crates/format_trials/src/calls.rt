@@ -1,0 +1,65 @@
+//! Calls, and the heads of replies.
+
+use crate::words::{number_of, text, word_of};
+use rpc_wire::{Call, Caller, Heading, LONGEST_HEAD, ReplyHead, read_call, write_head};
+use std::alloc::Global;
+use xdr_codec::XdrWrite;
+
+/// What is told of bytes as a call.
+pub fn call(alloc: Global, message: &[u8]) -> Option<String> {
+    match read_call(message) {
+        Heading::Good(call) => told(alloc, &call),
+        Heading::Mismatch { xid } => format!(in alloc; "mismatch {xid}").ok(),
+        Heading::NotACall => text(alloc, "none"),
+    }
+}
+
+fn told(alloc: Global, call: &Call<'_>) -> Option<String> {
+    let caller = told_caller(alloc, &call.caller)?;
+    let args = word_of(alloc, call.args)?;
+    format!(in alloc;
+        "call {} {} {} {} {caller} {args}",
+        call.xid, call.program, call.version, call.procedure
+    )
+    .ok()
+}
+
+/// The caller: the user, the group and the other groups.
+fn told_caller(alloc: Global, caller: &Option<Caller>) -> Option<String> {
+    let Some(caller) = caller else {
+        return text(alloc, "-");
+    };
+    let mut told = format!(in alloc; "{},{}", caller.uid, caller.gid).ok()?;
+    for gid in caller.gids.iter().take(caller.count as usize) {
+        let gid = format!(in alloc; ",{gid}").ok()?;
+        told.push_str(gid.as_str()).ok()?;
+    }
+    Some(told)
+}
+
+/// The head that the words name.
+fn head_of(words: &[&str]) -> Option<ReplyHead> {
+    Some(match words {
+        ["success"] => ReplyHead::Success,
+        ["no", "program"] => ReplyHead::ProgUnavail,
+        ["versions", low, high] => ReplyHead::ProgMismatch {
+            low: number_of(low)?,
+            high: number_of(high)?,
+        },
+        ["no", "procedure"] => ReplyHead::ProcUnavail,
+        ["garbage"] => ReplyHead::GarbageArgs,
+        ["system"] => ReplyHead::SystemErr,
+        ["mismatch"] => ReplyHead::RpcMismatch,
+        ["credential"] => ReplyHead::BadCred,
+        _ => return None,
+    })
+}
+
+/// The head of the reply to a call.
+pub fn front(alloc: Global, xid: u32, words: &[&str]) -> Option<String> {
+    let head = head_of(words)?;
+    let mut out = XdrWrite::new(alloc);
+    out.reserve(LONGEST_HEAD).ok()?;
+    write_head(&mut out, xid, &head);
+    word_of(alloc, out.into_bytes().as_slice())
+}

@@ -1,0 +1,127 @@
+//! Logs as they grow, whose owners are letters.
+
+ghost use Rattle.std.specs.Prelude.{◌≡◌};
+
+use dht_ids::Judged;
+use ivy_base::{Key, Memory, Moment, Op, PubKey, head_key};
+use log_records::Record;
+use std::alloc::Global;
+use version_vectors::{Entry, Vector};
+use view_blocks::View;
+
+/// When each record was made.
+const MOMENT: Moment = Moment { sec: 5, nsec: 0 };
+
+/// The name of no record.
+const UNKNOWN: Key = Key([9; 20]);
+
+/// A log as it grows.
+#[derive(Drop)]
+pub struct Log {
+    /// Whose log it is.
+    pub owner: PubKey,
+    /// The owner's head key.
+    pub key: Key,
+    /// The number and the name of the newest record; zeros where there is none.
+    pub newest: Judged,
+    /// The records, oldest first.
+    pub records: Vec<Record>,
+}
+
+/// The owner of that letter; owners ascend as letters do.
+pub fn owner(letter: u8) -> PubKey {
+    PubKey([letter; 60])
+}
+
+/// The letters' owners.
+fn owners(alloc: Global, letters: &str) -> Option<Vec<PubKey>> {
+    letters.bytes().map(owner).collect(alloc).ok()
+}
+
+/// The view of the members before the dash and the former members behind it, where there is one.
+pub fn view_of(alloc: Global, letters: &str) -> Option<View> {
+    let mut lists = letters.split('-');
+    let members = owners(alloc, lists.next()?)?;
+    let former = owners(alloc, lists.next().unwrap_or(""))?;
+    View::make(alloc, &members, &former).ok()
+}
+
+impl Log {
+    /// A log with no records.
+    pub fn empty(alloc: Global, owner: PubKey) -> Log {
+        Log {
+            owner,
+            key: head_key(&owner),
+            newest: Judged {
+                seq: 0,
+                name: Key([0; 20]),
+            },
+            records: Vec::new(alloc),
+        }
+    }
+
+    /// Writes the next record: the first one opens the log, and each other one cancels it. The error is want of memory.
+    pub fn write(&mut self, alloc: Global, vector: Vector) -> Result<(), Memory> {
+        let seq = self.newest.seq.saturating_add(1);
+        let record = Record {
+            owner: self.owner,
+            seq,
+            prev: self.newest.name,
+            vector,
+            moment: MOMENT,
+            op: if seq == 1 {
+                Op::End
+            } else {
+                Op::Cancel { seq: 1 }
+            },
+        };
+        let name = record.name(alloc)?;
+        self.newest = Judged { seq, name };
+        self.records.push(record)?;
+        Ok(())
+    }
+
+    /// Loses the newest record.
+    pub fn lose(&mut self) {
+        if let Some(last) = self.records.pop() {
+            self.newest = Judged {
+                seq: last.seq.saturating_sub(1),
+                name: last.prev,
+            };
+        }
+    }
+
+    /// The name of the record of that number; there may be none.
+    fn name_at(&self, seq: u32) -> Key {
+        if seq == self.newest.seq {
+            return self.newest.name;
+        }
+        match self.records.get(seq as usize) {
+            Some(next) => next.prev,
+            None => UNKNOWN,
+        }
+    }
+
+    /// What the newest record cites of the other log.
+    pub fn cited(&self, log: &Key) -> u32 {
+        match self.records.last() {
+            Some(newest) => newest.vector.seq_of(log),
+            None => 0,
+        }
+    }
+}
+
+/// The entry of the log of that key up to that number, by the name of its record, or of no record.
+pub fn entry(logs: &[Log], key: Key, seq: u32, is_known: bool) -> Entry
+    ensures { result.seq ≡ seq }
+{
+    let name = match logs.iter().find(|log| log.key == key) {
+        Some(log) if is_known => log.name_at(seq),
+        _ => UNKNOWN,
+    };
+    Entry {
+        log: key,
+        seq,
+        name,
+    }
+}

@@ -1,0 +1,69 @@
+//! The words of lines and of answers.
+
+use ivy_base::{Key, PubKey};
+use std::alloc::Global;
+
+/// A word as an answer.
+pub fn text(alloc: Global, word: &str) -> Option<String> {
+    String::from_str(alloc, word).ok()
+}
+
+/// Appends a part: bytes, or bytes so many times.
+fn put_part(alloc: Global, bytes: &mut Vec<u8>, part: &str) -> Option<()> {
+    let mut words = part.split('*');
+    let piece = hex::decode(alloc, words.next()?).ok()?;
+    let count: u32 = match words.next() {
+        Some(count) => count.parse().ok()?,
+        None => 1,
+    };
+    for _n in 0..count {
+        bytes.extend_from_slice(&piece).ok()?;
+    }
+    Some(())
+}
+
+/// The bytes of a word.
+pub fn bytes_of(alloc: Global, word: &str) -> Option<Vec<u8>> {
+    let mut bytes = Vec::new(alloc);
+    if word != "-" {
+        for part in word.split('.') {
+            put_part(alloc, &mut bytes, part)?;
+        }
+    }
+    Some(bytes)
+}
+
+/// The bytes, where there are so many.
+fn block_of<const N: usize>(bytes: &[u8]) -> Option<[u8; N]> {
+    let (block, rest) = bytes.split_first_chunk::<N>()?;
+    if rest.is_empty() { Some(*block) } else { None }
+}
+
+/// The key of a word.
+pub fn key_of(alloc: Global, word: &str) -> Option<Key> {
+    Some(Key(block_of::<20>(&bytes_of(alloc, word)?)?))
+}
+
+/// The public key of these bytes.
+pub fn public_key(bytes: &[u8]) -> Option<PubKey> {
+    Some(PubKey(block_of::<60>(bytes)?))
+}
+
+/// The public key of a word.
+pub fn owner_of(alloc: Global, word: &str) -> Option<PubKey> {
+    public_key(&bytes_of(alloc, word)?)
+}
+
+/// The number of a word.
+pub fn number_of(word: &str) -> Option<u32> {
+    word.parse().ok()
+}
+
+/// Bytes as a word.
+pub fn word_of(alloc: Global, bytes: &[u8]) -> Option<String> {
+    if bytes.is_empty() {
+        text(alloc, "-")
+    } else {
+        hex::encode(alloc, bytes).ok()
+    }
+}
