@@ -13,12 +13,7 @@ pub mod key;
 pub mod memory;
 pub mod naming;
 pub mod operation;
-<<<<<<< HEAD
 pub mod steps;
-#[cfg(test)]
-mod tests;
-=======
->>>>>>> 6271c173653210dc4b71bc57f9bedd33d604b0be
 
 pub use bytes::Bytes;
 pub use key::{Key, PubKey};
