@@ -25,8 +25,9 @@
 //!   plain slow program has the same; `random SEED MEMBERS COUNT`: how many records it has of logs that a seed makes
 //! - `cuts LINE`: the answer to the line with its bytes cut at each length, where it is the same at all
 //!
-//! Of the stored run the answers to records, views, calls and arguments are those of a model in another language; where the
-//! others are from is said where they stand.
+//! Of the stored run the first answers to records, views, calls and arguments are those of a model in another language, but
+//! for 40 blocks of records that it calls too long, though they have at most 12,288 bytes; where the others are from is said
+//! where they stand.
 #![tactic(auto)]
 
 mod answers;
