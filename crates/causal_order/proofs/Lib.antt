@@ -16,3 +16,4 @@ pub mod Fronts
 pub mod Starts
 pub mod StartChains
 pub mod StartLogs
+pub mod Fetched

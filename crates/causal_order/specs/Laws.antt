@@ -1,15 +1,19 @@
--- Laws of closed sets, and what a closed part over no front is.
-use Rattle.std.specs.Prelude.{◌≡◌, ◌↔◌, IsTrue, List, [], ◌++◌, Contains}
+-- Laws of closed sets, what a closed part over no front is, and which batches one may be taken of.
+use Rattle.std.specs.Prelude.{◌≡◌, ◌↔◌, IsTrue, List, [], ◌++◌, Contains, Option}
+use Rattle.std.specs.List.{AllByRecursion}
 use Rattle.std.specs.Ordering.{is_lt}
 use Rattle.std.specs.declared.cmp.Ordering.TheVariants.{Equal}
 use Rattle.log_model.specs.View.{View}
-use Rattle.log_model.specs.Vector.{Entry, join}
+use Rattle.ivy_base.specs.declared.key.Key.{Key}
+use Rattle.log_model.specs.Vector.{Entry, Vector, join}
 use Rattle.log_model.specs.Record.{Record}
 use Rattle.log_model.specs.Rank.{record_cmp, front}
 use Rattle.log_model.specs.Closed as log
 use Rattle.log_model.specs.Closed.{IsCause}
 use Rattle.log_model.specs.Replay.{in_order}
+use Rattle.log_records.specs.Batches.{Batch, owner_of, IsBatch, AreUnder}
 use Rattle.causal_order.specs.Over.{IsClosed, IsClosedPart}
+use Rattle.causal_order.specs.AtHand.{held_to, BeginsBy, IsFetched}
 
 -- Over the empty front closed sets, and closed parts of records at hand, are those of `log_model`.
 abbrev pub FreshIsPlain : Type 0
@@ -30,3 +34,11 @@ CausesAreBefore = (c : Record) (e : Entry) (r : Record) → IsCause c e r → Is
 abbrev pub FrontsJoin : Type 0
 FrontsJoin = (s t : List Record) → ((r q : Record) → Contains (s ++ t) r → Contains (s ++ t) q → r.owner ≡ q.owner → r.seq ≡ q.seq → r ≡ q)
     → front (in_order (s ++ t)) ≡ join (front s) (front t)
+
+-- The chains of a batch that were added under the view, are of its members, and don't begin above what is held are such as a
+-- closed part may be taken of.
+abbrev pub BatchesAreFetched : Type 0
+BatchesAreFetched = (view : View) (edges : Key → Option Vector) (batch : Batch) (front : Vector) (held : List Record) → IsBatch batch → AreUnder view edges batch
+    → AllByRecursion (λ c. Contains view.members (owner_of c.1)) batch.chains
+    → AllByRecursion (λ c. BeginsBy (held_to front held (owner_of c.1)) c.1) batch.chains
+    → AllByRecursion (λ c. IsFetched view front held c.1) batch.chains

@@ -1,6 +1,6 @@
 //! Laws of closed sets.
 
-ghost use Rattle.causal_order.specs.Laws.{FreshIsPlain, FreshPartIsPlain, RanksDiffer, CausesAreBefore, FrontsJoin};
+ghost use Rattle.causal_order.specs.Laws.{FreshIsPlain, FreshPartIsPlain, RanksDiffer, CausesAreBefore, FrontsJoin, BatchesAreFetched};
 
 /// A law and no code.
 ///
@@ -13,4 +13,12 @@ pub fn closed_sets_are_lawful()
     ensures ranks { RanksDiffer }
     ensures causes { CausesAreBefore }
     ensures fronts { FrontsJoin }
+{}
+
+/// A law and no code.
+///
+/// The chains of a batch that were added under a view, are of its members, and don't begin above what is held, are such as
+/// [`closed_part`](crate::closed_part) is taken of.
+pub fn batches_are_fetched()
+    ensures { BatchesAreFetched }
 {}

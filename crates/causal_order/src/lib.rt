@@ -32,5 +32,5 @@ mod part;
 mod pass;
 mod start;
 
-pub use laws::closed_sets_are_lawful;
+pub use laws::{batches_are_fetched, closed_sets_are_lawful};
 pub use part::closed_part;
