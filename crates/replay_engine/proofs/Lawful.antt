@@ -1,12 +1,12 @@
 -- What an engine holds after any list of calls.
-use Rattle.std.proofs.Common.{◌≡◌, ◌≢◌, ⊎_elim, ◌⊎◌, inl, inr, ℕ, zero, suc, ◌+◌, ◌<◌, ◌≤◌, Bool, true, false, cond, not, List, [], ◌∷◌, ◌++◌, take, map, None, Some, refl, sym, ap, ◌∙◌, subst, arith, Contains}
-use Rattle.std.specs.Prelude.{IsTrue, ◌↔◌, fold}
+use Rattle.std.proofs.Common.{◌≡◌, ◌≢◌, ⊎_elim, ◌<◌, ◌≤◌, Bool, true, false, cond, not, List, [], ◌∷◌, ◌++◌, take, map, None, refl, sym, ap, ◌∙◌, subst, arith, Contains}
+use Rattle.std.specs.Prelude.{IsTrue}
 use Rattle.std.specs.List.{AllByRecursion}
 use Rattle.std.specs.Ordering.{eq_by_cmp, is_eq}
 use Rattle.std.specs.declared.cmp.Ordering.{Ordering}
 use Rattle.std.specs.declared.cmp.Ordering.TheVariants.{Less, Equal, Greater}
 use Rattle.std.specs.Cmp.{eq_by_cmp_equiv}
-use Rattle.std.specs.FinMap.Entries.{by_order, find as value_at, where_key, is_sorted-where_key, find-where_key}
+use Rattle.std.specs.FinMap.Entries.{by_order, is_sorted-where_key, find-where_key}
 use Rattle.std.proofs.lemmas.List.Elements.{Contains-append_left, Contains-append_right, Contains-append_cases}
 use Rattle.ivy_base.specs.declared.key.Key.{Key}
 use Rattle.ivy_base.specs.Naming.{key_cmp, head_key_of}
@@ -15,22 +15,22 @@ use Rattle.tree_model.proofs.Keys.{keys_total, exact_keys}
 use Rattle.tree_model.proofs.Sound.{from_test, to_test}
 use Rattle.tree_model.specs.Apply.{apply_all}
 use Rattle.log_model.specs.View.{View}
-use Rattle.log_model.specs.Vector.{Vector, Dominates, seq_of, reach, stamp_at, weight_of, without_log}
+use Rattle.log_model.specs.Vector.{Vector, seq_of, reach, stamp_at, weight_of, without_log}
 use Rattle.log_model.specs.Record.{Record}
 use Rattle.log_model.specs.Rank.{weight, front, full_vector, record_cmp}
 use Rattle.log_model.specs.Spelling.{HasSpelling}
-use Rattle.log_model.specs.Closed.{IsAscending, IsClosed}
-use Rattle.log_model.specs.Replay.{with_record, in_order, replay, effect}
+use Rattle.log_model.specs.Closed.{IsAscending}
+use Rattle.log_model.specs.Replay.{with_record, in_order, effect}
 use Rattle.log_model.proofs.Lists.{here, there, in_cons, in_nothing, each_from, each, each_append}
-use Rattle.log_model.proofs.Sets.{IsBefore, in_with, in_order_in, in_order_ascends, ascending_in_order, with_old, lighter_is_before}
+use Rattle.log_model.proofs.Sets.{IsBefore, in_order_in, with_old, lighter_is_before}
 use Rattle.log_model.proofs.Later.{replay_more, good_of}
 use Rattle.log_model.proofs.Weights.{Sorted, sorted_front, weight-mono, weight_by_log, full_other, no_heavier_than_front}
 use Rattle.record_sets.specs.Rows.{IsRow, union}
 use Rattle.record_sets.proofs.Unions.{union_in_order}
-use Rattle.turn_model.specs.Basis.{Basis, StandsFor, IsAboveTide, kept_tree}
+use Rattle.turn_model.specs.Basis.{Basis, StandsFor, IsAboveTide}
 use Rattle.replay_engine.specs.Places.{AreNew}
-use Rattle.replay_engine.specs.Engines.{Engine, holding, taken_in, undone}
-use Rattle.replay_engine.specs.Laws.{Call, Absorb, Append, Undo, after, after_all, AllMayBe, without_first, standing, all_of, opened, Holds, ReplayIsIncremental}
+use Rattle.replay_engine.specs.Engines.{Engine, taken_in, undone}
+use Rattle.replay_engine.specs.Laws.{Call, Absorb, Append, Undo, after_all, AllMayBe, without_first, standing, all_of, opened, Holds, ReplayIsIncremental}
 use Rattle.replay_engine.proofs.Placed.{new_with_all, taken_row, behind_new}
 
 -- ---- what a union has

@@ -1,6 +1,6 @@
 -- Where new records go among held ones.
-use Rattle.std.proofs.Common.{◌≡◌, ℕ, zero, suc, ◌+◌, ◌-◌, ◌*◌, ◌/◌, ◌%◌, ◌==◌, ◌<◌, ◌≤◌, Bool, true, false, cond, not, List, [], ◌∷◌, ◌++◌, length, get_or, take, drop, refl, sym, ap, ◌∙◌, subst, arith, Contains}
-use Rattle.std.specs.Prelude.{IsTrue, fold, count_by, if◌then◌else◌}
+use Rattle.std.proofs.Common.{◌≡◌, ℕ, suc, ◌+◌, ◌-◌, ◌*◌, ◌/◌, ◌%◌, ◌==◌, ◌≤◌, Bool, true, false, cond, not, List, [], ◌∷◌, ◌++◌, length, take, drop, refl, sym, ap, ◌∙◌, subst, arith}
+use Rattle.std.specs.Prelude.{IsTrue, fold, if◌then◌else◌}
 use Rattle.std.proofs.lemmas.Bool.{eq-eqb, eqb-true}
 use Rattle.std.specs.List.{AllByRecursion}
 use Rattle.std.specs.Ordering.{is_lt, is_eq, ordering_reverse}
@@ -8,15 +8,14 @@ use Rattle.std.specs.declared.cmp.Ordering.{Ordering}
 use Rattle.std.specs.declared.cmp.Ordering.TheVariants.{Less, Equal, Greater}
 use Rattle.std.specs.FinMap.Entries.{by_order}
 use Rattle.std.proofs.lemmas.List.{take-append-drop}
-use Rattle.std.proofs.lemmas.List.Sums.{sum_by-cons}
 use Rattle.log_model.specs.Record.{Record}
-use Rattle.log_model.specs.Rank.{Rank, rank, rank_cmp, record_cmp}
+use Rattle.log_model.specs.Rank.{rank, record_cmp}
 use Rattle.log_model.specs.Spelling.{HasSpelling}
 use Rattle.log_model.specs.Closed.{IsAscending}
 use Rattle.log_model.specs.Replay.{with_record, in_order}
-use Rattle.log_model.proofs.Lists.{here, each_from, each, each_left, each_right, each_append}
-use Rattle.log_model.proofs.Owners.{records_total, ranks_total}
-use Rattle.log_model.proofs.Sets.{IsBefore, before_trans, ascending_in_order, in_order_ascends}
+use Rattle.log_model.proofs.Lists.{each_from, each, each_left, each_right}
+use Rattle.log_model.proofs.Owners.{records_total}
+use Rattle.log_model.proofs.Sets.{IsBefore, before_trans, in_order_ascends}
 use Rattle.record_sets.specs.Rows.{IsRow, union}
 use Rattle.record_sets.proofs.Unions.{union_in_order, spelled_in_order}
 use Rattle.log_records.specs.Places.{merge_place}

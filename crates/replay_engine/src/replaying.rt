@@ -1,7 +1,8 @@
 //! The replay's loop.
 
 ghost use Rattle.std.specs.Prelude.{◌≡◌, ◌≤◌, ◌<◌, ◌+◌, ◌^◌, ◌++◌, [], length, map, IfOk, OnOk};
-ghost use Rattle.tree_model.specs.Apply.{apply_all};
+ghost use Rattle.tree_model.specs.Apply.{apply, apply_all};
+ghost use Rattle.fs_tree.specs.Applicable.{IsApplicable};
 ghost use Rattle.log_model.specs.Replay.{effect};
 ghost use Rattle.log_model.specs.Spelling.{HasSpelling};
 ghost use Rattle.log_records.specs.Records.{records_of};
@@ -43,12 +44,26 @@ pub fn replay<L: Ledger>(
     let mut place = place;
     let mut passed = Vec::new(alloc);
     'records: for record in records {
-        steps.tick();
-        tree.apply(alloc, record.moment, &record.op)?;
+        apply_record(alloc, &mut tree, record, steps)?;
         place += 1;
         mark(alloc, &mut passed, place, &tree)?;
     }
     Ok(Replayed { tree, passed })
+}
+
+// Applies one record, which is a step. The error is want of memory, and then the tree is as it was.
+fn apply_record<L: Ledger>(
+    alloc: Global,
+    tree: &mut Tree,
+    record: &Record,
+    steps: &mut Steps<L>,
+) -> Result<(), Memory>
+    requires { IsApplicable «record».now.op }
+    ensures ok { OnOk result (tree.new ≡ apply tree.old «record».now.moment «record».now.op) }
+    ensures step { steps.new ≡ steps.old + 1 }
+{
+    steps.tick();
+    tree.apply(alloc, record.moment, &record.op)
 }
 
 // Keeps a copy of the tree, where the place is one of a checkpoint. The error is want of memory.

@@ -1,6 +1,5 @@
 use Rattle.std.proofs.Common.{◌≡◌, ◌++◌, ◌+◌, ◌/◌, ap, ◌∙◌, take, drop, arith}
 use Rattle.log_records.specs.Records.{records_of}
-use Rattle.std.proofs.lemmas.List.{length-map}
 use Rattle.replay_engine.proofs.Kept.{seen_put, seen_drop, whole_again, seen_within}
 use Rattle.replay_engine.proofs.state.State.put_in.Goals as goal
 
