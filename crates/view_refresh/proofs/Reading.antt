@@ -57,7 +57,7 @@ module _ (blocks : List (List ℕ)) (owner : PubKey) (seq : ℕ) (key : Key) whe
     pub unread : (fault : RecordFault) → fault ≢ Memory → ReadFault owner block fault → (q : Record) → IsNamed blocks owner seq key q → ⊥
     unread Malformed other f q is = f.1 q (of_block q is)
     unread TooLong other f q is =
-        let short : length block ≤ 12288 = subst (λ (b : List ℕ). length b ≤ 12288) (sym (is_block q is)) (short_records q is.stands.spelled) in
+        let short : length block ≤ 12288 = subst (λ (b : List ℕ). length b ≤ 12288) (sym ((of_block q is).spelled)) (short_records q is.stands.spelled) in
         absurd (omega (arith, f, short))
     unread BadNumber other f q is =
         let same : q ≡ f.1 = one_of_block q f.1 (of_block q is) f.2 in
