@@ -1,0 +1,5 @@
+pub mod Beginnings
+pub mod Views
+pub mod Steps
+pub mod Ends
+pub mod Meets

@@ -1,0 +1,80 @@
+-- A gate and a pass as contracts see them.
+use Rattle.std.specs.Prelude.{◌≡◌, ◌⊎◌, ℕ, ◌+◌, ◌<◌, false, List, [], ◌∷◌, ◌++◌, length, Option, Some, IfSome, All}
+use mathlib.Core.List.{IsPrefix}
+use Rattle.atomic_table.specs.Seated.{TableId}
+use Rattle.agent_gate.specs.declared.history.Entry.{Entry}
+use Rattle.agent_gate.specs.declared.knows.Knows.{Knows}
+use Rattle.agent_gate.specs.Histories.{entry, calls_by, IsLegal}
+use Rattle.agent_gate.specs.Steps.{Sat, Sees}
+
+-- which gate it is, and the value that it was opened with
+pub record GateView (A : Type 0) : Type 0 where
+  pub gate : TableId
+  pub opening : A
+
+-- a pass: its gate and the value that this was opened with, its number and parts, the history that it has seen, and its own calls
+pub record PassView (A T : Type 0) : Type 0 where
+  pub gate : TableId
+  pub opening : Option A
+  pub number : ℕ
+  pub parts : ℕ
+  pub history : List (Entry T)
+  pub calls : List (Entry T)
+
+module _ {A T : Type 0} where
+  abbrev pub pass_view : TableId → Knows A T → PassView A T
+  pass_view gate v = record { gate = gate; opening = v.opening; number = v.number; parts = v.parts; history = v.seen; calls = v.calls }
+
+  -- the pass is one of this gate
+  abbrev pub IsPassOf : GateView A → PassView A T → Type 0
+  IsPassOf g p = (p.gate ≡ g.gate) × (p.opening ≡ Some g.opening)
+
+  -- the pass with another history and other calls
+  abbrev pub with_history : PassView A T → List (Entry T) → List (Entry T) → PassView A T
+  with_history p history calls = record { gate = p.gate; opening = p.opening; number = p.number; parts = p.parts; history = history; calls = calls }
+
+  abbrev pub with_parts : PassView A T → ℕ → PassView A T
+  with_parts p parts = record { gate = p.gate; opening = p.opening; number = p.number; parts = parts; history = p.history; calls = p.calls }
+
+  -- The history begins with the one that the pass had, and ends with this call, which is the one more that the pass made
+  abbrev pub TookTurn : PassView A T → T → PassView A T → Type 0
+  TookTurn p turn q = let e = entry p.number (length p.calls + 1) turn in
+      (before : List (Entry T)) × IsPrefix p.history before × (q ≡ with_history p (before ++ e ∷ []) (p.calls ++ e ∷ []))
+
+  -- The pass has seen at least what it had seen, and made no call
+  abbrev pub SawOn : PassView A T → PassView A T → Type 0
+  SawOn p q = IsPrefix p.history q.history × (q ≡ with_history p q.history p.calls)
+
+  -- Both passes have the longer of their two histories, which begins with the other, and nothing else changed
+  pub record Met (p q p' q' : PassView A T) : Type 0 where
+    pub longer_one : (p'.history ≡ p.history) ⊎ (p'.history ≡ q.history)
+    pub same : q'.history ≡ p'.history
+    pub begins : IsPrefix p.history p'.history × IsPrefix q.history p'.history
+    pub first : p' ≡ with_history p p'.history p.calls
+    pub second : q' ≡ with_history q q'.history q.calls
+
+  -- the parts of all passes
+  abbrev pub parts_of : List (PassView A T) → ℕ
+  parts_of [] = 0
+  parts_of (p ∷ ps) = p.parts + parts_of ps
+
+-- what a pass has seen is legal, and of its own calls it has all and each once
+abbrev pub IsOwnHistory : {A T : Type 0} → (A → List (Entry T) → A → Type 0) → PassView A T → Type 0
+IsOwnHistory stands p = IfSome p.opening (λ o. IsLegal stands o p.history × (calls_by p.number p.history ≡ p.calls))
+
+-- what is true of a pass between two calls
+pub record IsPass {A T : Type 0} (stands : A → List (Entry T) → A → Type 0) (turns parts : ℕ) (me : Sat A T) : Type 0 where
+  pub outside : me.0.inside ≡ false
+  pub empty : me.1 ≡ []
+  pub turns_are : turns ≡ length me.0.seen
+  pub parts_are : parts ≡ me.0.parts
+  pub part : 0 < me.0.parts
+  pub sees : Sees stands me.0
+
+-- The value stands for the whole history, which is legal. It begins with what each of the passes had seen, and has the calls of each and no others of its number
+pub record IsWhole {A T : Type 0} (stands : A → List (Entry T) → A → Type 0) (opening : A) (passes : List (PassView A T)) (value : A) (turns : ℕ) : Type 0 where
+  pub history : List (Entry T)
+  pub value_stands : stands opening history value
+  pub legal : IsLegal stands opening history
+  pub count : turns ≡ length history
+  pub begins : All (λ p. IsPrefix p.history history × (calls_by p.number history ≡ p.calls)) passes

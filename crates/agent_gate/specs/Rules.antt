@@ -1,0 +1,74 @@
+-- The rule of the gate: one word, one slot, and what each pass knows.
+use Rattle.std.specs.Prelude.{◌≡◌, ◌⊎◌, ℕ, ◌+◌, ◌*◌, ◌<◌, ◌≤◌, true, false, List, [], ◌∷◌, length, Option, Some, None}
+use mathlib.Core.Option.{some, none}
+use mathlib.Core.List.{IsPrefix}
+use lib.ListN.{get_elem?}
+use Rattle.atomic_table.specs.Table.{State}
+use Rattle.agent_gate.specs.declared.history.Entry.{Entry}
+use Rattle.agent_gate.specs.declared.knows.Gone.{Gone}
+use Rattle.agent_gate.specs.declared.knows.Knows.{Knows}
+use Rattle.agent_gate.specs.Histories.{calls_by, IsLegal}
+
+-- all the parts that there are
+abbrev pub all_parts : ℕ
+all_parts = 4294967296
+
+-- the most turns that a gate's history can have
+abbrev pub most_turns : ℕ
+most_turns = 9223372036854775807
+
+module _ {A T : Type 0} where
+  -- the parts of all views
+  abbrev pub total : List (Knows A T) → ℕ
+  total [] = 0
+  total (v ∷ vs) = v.parts + total vs
+
+  -- What the view at a place fits to: what it has seen is a beginning of the history, and so are what it had seen and what it met at the last join, of what it has seen.
+  -- A pass's number is its place; its calls are all that the history has of it, and it has seen them all
+  pub record Fits (opening : A) (history : List (Entry T)) (place : ℕ) (v : Knows A T) : Type 0 where
+    pub seen : IsPrefix v.seen history
+    pub own : IsPrefix v.own v.seen
+    pub met : IsPrefix v.met v.seen
+    pub owner : (o : A) → v.opening ≡ Some o → (o ≡ opening) × (v.number ≡ place)
+    pub calls : (o : A) → v.opening ≡ Some o → (calls_by place v.seen ≡ v.calls) × (calls_by place history ≡ v.calls)
+
+  -- a pass that was joined to another: its place has a note, and its calls are all that the history has of it
+  abbrev pub IsGone : List (Knows A T) → List (Entry T) → Gone T → Type 0
+  IsGone views history g = (calls_by g.number history ≡ g.calls) × (v : Knows A T) × (get_elem? views g.number ≡ some v) × (v.opening ≡ None)
+
+  abbrev pub AreGone : List (Knows A T) → List (Entry T) → List (Gone T) → Type 0
+  AreGone views history [] = Unit {0}
+  AreGone views history (g ∷ gs) = IsGone views history g × AreGone views history gs
+
+module _ {A T : Type 0} (stands : A → List (Entry T) → A → Type 0) (opening : A) (s : State (Option A) (Knows A T)) (history : List (Entry T)) where
+  -- The slot is full: nobody is inside, and the value in the slot stands for the history
+  pub record IsFull : Type 0 where
+    pub value : A
+    pub slot : s.homes ≡ some (Some value) ∷ []
+    pub word : s.words ≡ (2 * length history) ∷ []
+    pub nobody : (place : ℕ) (v : Knows A T) → get_elem? s.views place ≡ some v → v.inside ≡ false
+    pub value_stands : stands opening history value
+
+  -- The slot is empty: exactly one pass is inside, which has seen the whole history and has a part; there is room for one entry more
+  pub record IsEmpty : Type 0 where
+    pub slot : s.homes ≡ none ∷ []
+    pub word : s.words ≡ (2 * length history + 1) ∷ []
+    pub room : length history < most_turns
+    pub place : ℕ
+    pub view : Knows A T
+    pub there : get_elem? s.views place ≡ some view
+    pub is_inside : view.inside ≡ true
+    pub has_seen : view.seen ≡ history
+    pub has_part : 0 < view.parts
+    pub alone : (other : ℕ) (v : Knows A T) → get_elem? s.views other ≡ some v → v.inside ≡ true → other ≡ place
+
+-- There is one history, which is legal, and is the longest that any view has seen; a number that was not yet made has no entry in it; all views have the 2^32 parts
+pub record IsGate {A T : Type 0} (stands : A → List (Entry T) → A → Type 0) (opening : A) (s : State (Option A) (Knows A T)) : Type 0 where
+  pub history : List (Entry T)
+  pub slot : IsFull stands opening s history ⊎ IsEmpty stands opening s history
+  pub legal : IsLegal stands opening history
+  pub each : (place : ℕ) (v : Knows A T) → get_elem? s.views place ≡ some v → Fits opening history place v
+  pub gone : (place : ℕ) (v : Knows A T) → get_elem? s.views place ≡ some v → AreGone s.views history v.gone
+  pub longest : (place : ℕ) × (v : Knows A T) × (get_elem? s.views place ≡ some v) × (v.seen ≡ history)
+  pub unmade : (place : ℕ) → length s.views ≤ place → calls_by place history ≡ []
+  pub whole : total s.views ≡ all_parts

@@ -1,0 +1,227 @@
+//! The gate: one value, which one pass at a time takes out for a turn.
+
+ghost use Rattle.std.specs.Prelude.{◌≡◌, ◌≢◌, ℕ, ◌+◌, ◌-◌, ◌*◌, ◌/◌, ◌%◌, ◌<◌, ◌≤◌, ◌^◌, true, false, List, [], ◌∷◌, ◌++◌, length, min, Some, None, IfOk, IfErr, OnErr, All};
+ghost use mathlib.Core.List.{IsPrefix};
+ghost use Rattle.agent_gate.specs.declared.history.Entry.{Entry};
+ghost use Rattle.agent_gate.specs.Histories.{entry, longer};
+ghost use Rattle.agent_gate.specs.Steps.{Sat, Sees, backed, entered, joined, left, less, newcomer, note};
+ghost use Rattle.agent_gate.specs.Passes.{IsOwnHistory, IsPassOf, Met, SawOn, TookTurn, with_parts};
+
+use crate::knows::Knows;
+use crate::pass::Pass;
+use crate::rule::{Back, Enter, Joining, Law, Leave, Look, Make, NoPart, Noted, OnePart};
+use crate::sequential::Sequential;
+use atomic_table::{Refused, Seat, Table};
+use std::alloc::{AllocError, Global};
+use std::marker::{Brand, Model};
+use std::snapshot::Snapshot;
+use std::sync::Wait;
+use std::thread;
+
+/// How many parts the first pass has.
+pub const ALL_PARTS: u64 = 1 << 32;
+
+/// One value, with which one pass at a time takes a turn. All turns that leave an entry make one legal history.
+#[derive(Drop)]
+pub struct Gate<A: Sequential> {
+    table: Table<Option<A>, Knows<A, (A::Asked, A::Reply)>, Snapshot<A>, Law, Global>,
+}
+
+impl<A: Sequential> Model for Gate<A> {
+    ghost use Rattle.std.specs.Prelude.{◌≡◌};
+    ghost use Rattle.agent_gate.specs.Passes.{GateView};
+
+    ghost Value = { GateView A };
+
+    ghost view = { λ g. record { gate = g.table.shared.table_id; opening = g.table.shared.key.value } };
+
+    ghost invariant = { λ g. (g.table.shared.table_id.words ≡ 1) × (g.table.shared.table_id.slots ≡ 1) };
+}
+
+impl<A: Sequential> Gate<A> {
+    /// A gate over this value, and the first pass, which has all parts. `Err` is want of memory.
+    pub fn make(alloc: Global, value: A) -> Result<(Gate<A>, Pass<A>), AllocError>
+        requires { A.stands value [] value }
+        ensures pass { IfOk result (λ made. IsPassOf made.0 made.1 × (made.0.opening ≡ value)) }
+        ensures new { IfOk result (λ made. (made.1.parts ≡ 2 ^ 32) × (made.1.history ≡ []) × (made.1.calls ≡ [])) }
+    {
+        let mut slots = Vec::with_capacity(alloc, 1)?;
+        let opening = Snapshot::of(&value);
+        slots.push_reserved(Some(value));
+        match Table::new(alloc, &[0], slots, &opening) {
+            Ok((table, seat)) => Ok((
+                Gate { table },
+                Pass {
+                    turns: 0,
+                    parts: ALL_PARTS,
+                    seat,
+                },
+            )),
+            Err(Refused { slots: _ }) => Err(AllocError),
+        }
+    }
+
+    // Waits for the slot, and takes the value out.
+    fn enter<W: Wait>(
+        &self,
+        rt: &W,
+        seat: &mut Seat<Option<A>, Knows<A, (A::Asked, A::Reply)>>,
+    ) -> (u64, A)
+        requires gate { (seat.old.table_id ≡ self.now.gate) × (seat.old.me.0.opening ≡ Some self.now.opening) }
+        requires outside { (seat.old.me.1 ≡ []) × (0 < seat.old.me.0.parts) }
+        ensures gate { (seat.new.table_id ≡ seat.old.table_id) × (result.0 + 2 < 2 ^ 64) × (result.0 ≡ 2 * length seat.new.me.0.seen) }
+        ensures inside { (seat.new.me ≡ (entered seat.old.me.0 seat.new.me.0.seen, (0, None) ∷ [])) × IsPrefix seat.old.me.0.seen seat.new.me.0.seen }
+        ensures legal { Sees A.stands seat.new.me.0 }
+        ensures value { A.stands self.now.opening seat.new.me.0.seen result.1 }
+    {
+        let shared = &self.table.shared;
+        for _ in rt.forever() {
+            let word = shared.peek(0);
+            if word % 2 == 0 && word < u64::MAX - 1 {
+                let found = shared.compare_exchange::<Enter>(seat, 0, word, word + 1);
+                if found == word {
+                    let value = shared.exchange(seat, 0, None).unwrap();
+                    return (word, value);
+                }
+            }
+            thread::yield_now();
+        }
+        unreachable!()
+    }
+
+    // Puts the value back, with an entry for what was asked and replied.
+    fn leave<N: Noted<(A::Asked, A::Reply)>>(
+        &self,
+        seat: &mut Seat<Option<A>, Knows<A, (A::Asked, A::Reply)>>,
+        word: u64,
+        value: A,
+        asked: &Snapshot<A::Asked>,
+        reply: &A::Reply,
+    )
+        requires gate { (seat.old.table_id ≡ self.now.gate) × (seat.old.me.0.opening ≡ Some self.now.opening) }
+        requires inside { (seat.old.me.0.inside ≡ true) × (seat.old.me.1 ≡ (0, None) ∷ []) × (word ≡ 2 * length seat.old.me.0.seen) × (word + 2 < 2 ^ 64) }
+        requires noted { N.entries ≡ entry seat.old.me.0.number (length seat.old.me.0.calls + 1) (asked.now.value, reply.now) ∷ [] }
+        requires value { A.stands self.now.opening (seat.old.me.0.seen ++ N.entries) value }
+        ensures gate { seat.new.table_id ≡ seat.old.table_id }
+        ensures outside { seat.new.me ≡ (left seat.old.me.0 (entry seat.old.me.0.number (length seat.old.me.0.calls + 1) (asked.now.value, reply.now) ∷ []), []) }
+        ensures legal { Sees A.stands seat.new.me.0 }
+    {
+        let shared = &self.table.shared;
+        drop(shared.exchange(seat, 0, Some(value)));
+        shared.store::<Leave<N>>(seat, 0, word + 2);
+    }
+
+    // Puts the value back, without an entry.
+    fn back(&self, seat: &mut Seat<Option<A>, Knows<A, (A::Asked, A::Reply)>>, word: u64, value: A)
+        requires gate { (seat.old.table_id ≡ self.now.gate) × (seat.old.me.0.opening ≡ Some self.now.opening) }
+        requires inside { (seat.old.me.0.inside ≡ true) × (seat.old.me.1 ≡ (0, None) ∷ []) × (word ≡ 2 * length seat.old.me.0.seen) }
+        requires value { A.stands self.now.opening seat.old.me.0.seen value }
+        ensures gate { seat.new.table_id ≡ seat.old.table_id }
+        ensures outside { seat.new.me ≡ (backed seat.old.me.0, []) }
+    {
+        let shared = &self.table.shared;
+        drop(shared.exchange(seat, 0, Some(value)));
+        shared.store::<Back>(seat, 0, word);
+    }
+
+    /// Waits for the value, and takes a turn with it. At `Ok` the turn is the newest entry of the one history; a fault
+    /// leaves no entry.
+    pub fn take_turn<W: Wait>(
+        &self,
+        rt: &W,
+        pass: &mut Pass<A>,
+        asked: A::Asked,
+    ) -> Result<A::Reply, A::Fault>
+        requires { IsPassOf self.now pass.old × A.may_ask self.now.opening asked }
+        ensures taken { IfOk result (λ reply. TookTurn pass.old (asked, reply) pass.new) }
+        ensures fault { OnErr result (SawOn pass.old pass.new) }
+        ensures legal { IsOwnHistory A.stands pass.new }
+    {
+        let Pass { turns, seat, .. } = pass;
+        let (word, mut value) = self.enter(rt, seat);
+        let noted = Snapshot::of(&asked);
+        match value.turn(asked) {
+            Ok(reply) => {
+                self.leave::<Brand>(seat, word, value, &noted, &reply);
+                *turns = word / 2 + 1;
+                Ok(reply)
+            }
+            Err(fault) => {
+                self.back(seat, word, value);
+                *turns = word / 2;
+                Err(fault)
+            }
+        }
+    }
+
+    // Joins a pass or a note, and looks.
+    fn hear(
+        &self,
+        seat: &mut Seat<Option<A>, Knows<A, (A::Asked, A::Reply)>>,
+        other: Seat<Option<A>, Knows<A, (A::Asked, A::Reply)>>,
+    )
+        requires gate { (seat.old.table_id ≡ self.now.gate) × (other.table_id ≡ self.now.gate) }
+        requires outside { (seat.old.me.0.inside ≡ false) × (seat.old.me.1 ≡ []) × (other.me.0.inside ≡ false) × (other.me.1 ≡ []) }
+        ensures gate { seat.new.table_id ≡ seat.old.table_id }
+        ensures outside { seat.new.me ≡ (joined seat.old.me.0 other.me.0, []) }
+        ensures begins { IsPrefix seat.old.me.0.seen seat.new.me.0.seen × IsPrefix other.me.0.seen seat.new.me.0.seen }
+        ensures legal { Sees A.stands seat.new.me.0 }
+    {
+        let shared = &self.table.shared;
+        shared.join_seat::<Joining>(seat, other);
+        shared.load::<Look>(seat, 0);
+    }
+
+    /// A pass for another thread, with one part of this one, which has at least two. It has seen the same.
+    pub fn split(&self, pass: &mut Pass<A>) -> Pass<A>
+        requires { IsPassOf self.now pass.old × (2 ≤ pass.old.parts) }
+        ensures kept { pass.new ≡ with_parts pass.old (pass.old.parts - 1) }
+        ensures new { IsPassOf self.now result × (result.parts ≡ 1) × (result.history ≡ pass.old.history) × (result.calls ≡ []) }
+    {
+        let Pass { turns, parts, seat } = pass;
+        let shared = &self.table.shared;
+        let (_, mut other) = shared.load_new_seat::<Make>(0);
+        let part = shared.split_seat::<OnePart>(seat);
+        self.hear(&mut other, part);
+        *parts -= 1;
+        Pass {
+            turns: *turns,
+            parts: 1,
+            seat: other,
+        }
+    }
+
+    /// Afterwards both passes have seen what either had.
+    pub fn meet(&self, pass: &mut Pass<A>, other: &mut Pass<A>)
+        requires { IsPassOf self.now pass.old × IsPassOf self.now other.old }
+        ensures met { Met pass.old other.old pass.new other.new }
+        ensures legal { IsOwnHistory A.stands pass.new × IsOwnHistory A.stands other.new }
+    {
+        let Pass {
+            turns: ours,
+            seat: our_seat,
+            ..
+        } = pass;
+        let Pass {
+            turns: theirs,
+            seat: their_seat,
+            ..
+        } = other;
+        let shared = &self.table.shared;
+        let our_note = shared.split_seat::<NoPart>(our_seat);
+        let their_note = shared.split_seat::<NoPart>(their_seat);
+        self.hear(our_seat, their_note);
+        self.hear(their_seat, our_note);
+        let most = (*ours).max(*theirs);
+        *ours = most;
+        *theirs = most;
+    }
+
+    /// How many turns the pass has seen.
+    pub fn seen(&self, pass: &Pass<A>) -> u64
+        requires { IsPassOf self.now pass.now }
+        ensures { result ≡ length pass.now.history }
+    {
+        pass.turns
+    }
+}

@@ -1,0 +1,44 @@
+//! What a thread takes its turns with.
+
+ghost use Rattle.std.specs.Prelude.{◌≡◌};
+ghost use Rattle.agent_gate.specs.Passes.{IsOwnHistory};
+
+use crate::knows::Knows;
+use crate::sequential::Sequential;
+use atomic_table::Seat;
+use std::marker::Model;
+
+/// What a thread takes turns with at a gate. Contracts see it as the history that it has seen, its own calls, its number
+/// and its parts.
+#[derive(Drop)]
+pub struct Pass<A: Sequential> {
+    pub(crate) turns: u64,
+    pub(crate) parts: u64,
+    pub(crate) seat: Seat<Option<A>, Knows<A, (A::Asked, A::Reply)>>,
+}
+
+impl<A: Sequential> Model for Pass<A> {
+    ghost use Rattle.agent_gate.specs.Passes.{PassView, pass_view, IsPass};
+
+    ghost Value = { PassView A (A.Asked × A.Reply) };
+
+    ghost view = { λ p. pass_view p.seat.table_id p.seat.me.0 };
+
+    ghost invariant = { λ p. IsPass A.stands p.turns p.parts p.seat.me };
+}
+
+impl<A: Sequential> Pass<A> {
+    /// How many of the 2^32 parts of its gate the pass has.
+    pub fn parts(&self) -> u64
+        ensures { result ≡ self.now.parts }
+    {
+        self.parts
+    }
+
+    /// A pass's history is legal, and has the calls that the pass made and no others of its number.
+    pub fn is_own_history(&self)
+        ensures { IsOwnHistory A.stands self.now }
+    {
+        let _ = &self.turns;
+    }
+}
