@@ -16,8 +16,6 @@ pub mod block;
 pub mod blocks;
 pub mod heads;
 pub mod met;
-#[cfg(test)]
-mod tests;
 
 pub use block::Block;
 pub use blocks::Blocks;

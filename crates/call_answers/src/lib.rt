@@ -14,7 +14,5 @@ pub mod answering;
 mod asking;
 mod heads;
 mod served;
-#[cfg(test)]
-mod tests;
 
 pub use answering::{Answered, answer_message};

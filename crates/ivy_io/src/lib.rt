@@ -15,8 +15,6 @@ mod plan;
 mod sink;
 mod source;
 mod standard;
-#[cfg(test)]
-mod tests;
 
 pub use fault::{Failed, SinkFault};
 pub use memory::{MemSink, MemSource};

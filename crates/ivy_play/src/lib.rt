@@ -8,7 +8,5 @@
 #![tactic(auto)]
 
 mod playing;
-#[cfg(test)]
-mod tests;
 
 pub use playing::{Status, play};

@@ -11,8 +11,6 @@
 #![tactic(auto)]
 
 pub mod named;
-#[cfg(test)]
-mod tests;
 pub mod world;
 
 pub use named::NamedView;

@@ -17,8 +17,6 @@
 pub mod agent;
 mod answering;
 mod taking;
-#[cfg(test)]
-mod tests;
 mod within;
 
 pub use agent::{Agent, Turned};

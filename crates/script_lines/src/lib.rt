@@ -15,8 +15,6 @@ mod names;
 mod numbers;
 mod pieces;
 mod sets;
-#[cfg(test)]
-mod tests;
 mod words;
 
 pub use commands::read_command;

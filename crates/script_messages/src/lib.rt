@@ -10,7 +10,5 @@
 mod forms;
 pub mod messages;
 mod spelling;
-#[cfg(test)]
-mod tests;
 
 pub use messages::message;

@@ -10,7 +10,5 @@
 #![tactic(auto)]
 
 pub mod making;
-#[cfg(test)]
-mod tests;
 
 pub use making::{Made, make_view};

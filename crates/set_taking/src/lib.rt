@@ -9,7 +9,5 @@
 #![tactic(auto)]
 
 pub mod taking;
-#[cfg(test)]
-mod tests;
 
 pub use taking::new_records;

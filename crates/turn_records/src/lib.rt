@@ -7,8 +7,6 @@
 //! Costs: each record is written and hashed once; its block keeps the name.
 #![tactic(auto)]
 
-#[cfg(test)]
-mod tests;
 pub mod written;
 
 pub use written::{Before, Written, write_records};

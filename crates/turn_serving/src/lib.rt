@@ -11,7 +11,5 @@
 mod appending;
 mod kinds;
 pub mod serving;
-#[cfg(test)]
-mod tests;
 
 pub use serving::{Asked, Served, Taken, serve};

@@ -16,8 +16,6 @@
 
 mod log;
 pub mod refreshing;
-#[cfg(test)]
-mod tests;
 mod walk;
 
 pub use refreshing::{Known, refresh};
