@@ -75,7 +75,7 @@ pub fn drive(
     let mut lookup = Lookup::start(alloc, key, 1, entries)?;
     let mut asked = Vec::new(alloc);
     for _ in 0..MOST_STEPS {
-        match lookup.next(alloc)? {
+        match lookup.next()? {
             Want::Ask(node, _) => {
                 asked.push(node)?;
                 lookup.heard(others.route(alloc, node, key)?)?;

@@ -139,7 +139,7 @@ macro_rules! drive {
         let mut machine = $machine;
         let mut asked = Vec::new($alloc);
         for _ in 0..MOST_STEPS {
-            match machine.next($alloc)? {
+            match machine.next()? {
                 Want::Ask(node, ask) => {
                     if !matches!(ask, Ask::Route(_)) {
                         asked.push(node)?;
