@@ -16,7 +16,5 @@ mod near;
 mod node;
 mod route;
 mod settle;
-#[cfg(test)]
-mod tests;
 
 pub use node::Node;

@@ -1,5 +1,5 @@
 -- What the machines of gets and puts share: a look-up, and then asks of the owners that it found, in one trail.
-use Rattle.std.specs.Prelude.{◌≡◌, ℕ, ◌+◌, ◌<◌, ◌≤◌, nat_lt, Bool, if◌then◌else◌, List, [], ◌∷◌, ◌++◌, length, take, map, flat_map, Option, Some, None, Result, Ok, Err, ◌⊎◌}
+use Rattle.std.specs.Prelude.{◌≡◌, ℕ, ◌+◌, ◌-◌, ◌^◌, ◌<◌, ◌≤◌, nat_lt, Bool, if◌then◌else◌, List, [], ◌∷◌, ◌++◌, length, take, map, flat_map, Option, Some, None, Result, Ok, Err, ◌⊎◌}
 use Rattle.std.specs.Option.{option_map}
 use Rattle.ivy_base.specs.declared.key.Key.{Key}
 use Rattle.dht_ids.specs.Asked.{told}
@@ -58,6 +58,15 @@ pub record CourseState : Type 0 where
 -- one that begins
 abbrev pub begun : Key → ℕ → List Peer → CourseState
 begun key r entries = record { look = fresh key entries; replicas = r; asking = None }
+
+-- How many asks a get or a put may still make: while owners are looked for, 2^64 + 512 less the asks of the look-up that
+-- were heard (it makes 512, and finds fewer than 2^64 owners), and then the owners that are still to ask.
+abbrev pub asks_left_at : State → Option Asking → ℕ
+asks_left_at look None = 2 ^ 64 + 512 - length look.asked
+asks_left_at look (Some a) = length a.rest
+
+abbrev pub asks_left : CourseState → ℕ
+asks_left c = asks_left_at c.look c.asking
 
 -- the key and the number of answers are the same
 abbrev pub IsSameCourse : CourseState → CourseState → Type 0

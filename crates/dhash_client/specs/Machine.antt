@@ -1,5 +1,5 @@
 -- The machine of a look-up: what it keeps, what it wants, and which asks may still follow.
-use Rattle.std.specs.Prelude.{◌≡◌, ◌<◌, List, [], ◌∷◌, ◌++◌, length, Option, Some, None, Result, Ok, Err}
+use Rattle.std.specs.Prelude.{◌≡◌, ℕ, ◌-◌, ◌<◌, List, [], ◌∷◌, ◌++◌, length, Option, Some, None, Result, Ok, Err}
 use Rattle.ivy_base.specs.declared.key.Key.{Key}
 use Rattle.dht_ids.specs.declared.ask.Answer.{Answer}
 use Rattle.dht_ids.specs.declared.ask.Answer.TheVariants as answer
@@ -25,6 +25,10 @@ pub record State : Type 0 where
 -- a look-up that begins
 abbrev pub fresh : Key → List Peer → State
 fresh key entries = record { key = key; asked = []; last = None; rest = entries; waiting = None }
+
+-- how many asks the look-up may still make: 512 less those that it made and heard
+abbrev pub looks_left : State → ℕ
+looks_left s = 512 - length s.asked
 
 -- the node to be heard and those still to ask
 abbrev pub to_ask : Option Peer → List Peer → List Peer

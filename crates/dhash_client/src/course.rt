@@ -1,8 +1,8 @@
 //! What gets and puts share: a look-up, and then asks of the owners that it found.
 
-ghost use Rattle.std.specs.Prelude.{◌≡◌, ◌≢◌, ◌<◌, ◌^◌, None, IfOk, MatchBool};
+ghost use Rattle.std.specs.Prelude.{◌≡◌, ◌≢◌, ◌<◌, ◌≤◌, ◌^◌, None, IfOk, MatchBool};
 ghost use Rattle.dht_ids.specs.declared.ask.Ask.TheVariants as ask;
-ghost use Rattle.dhash_client.specs.Course.{begun, awaited, asked_of, miss_of, Goes, Hears, IsThrough, AreHolders};
+ghost use Rattle.dhash_client.specs.Course.{asks_left, begun, awaited, asked_of, miss_of, Goes, Hears, IsThrough, AreHolders};
 
 use crate::lookup::Lookup;
 use crate::miss::Miss;
@@ -64,16 +64,22 @@ impl Course {
         self.lookup.key()
     }
 
+    /// What this course takes memory from.
+    pub(crate) fn allocator(&self) -> Global {
+        self.lookup.allocator()
+    }
+
     /// What comes next. The error is want of memory.
-    pub(crate) fn next(&mut self, alloc: Global) -> Result<Step, Memory>
-        ensures { IfOk result (λ step. Goes self.old self.new step) }
+    pub(crate) fn next(&mut self) -> Result<Step, Memory>
+        ensures goes { IfOk result (λ step. Goes self.old self.new step) }
+        ensures left { IfOk result (λ _. asks_left self.new ≤ asks_left self.old) }
     {
         let round = match self.round.take() {
             Some(round) => round,
-            None => match self.lookup.next(alloc)? {
+            None => match self.lookup.next()? {
                 Want::Ask(node, _) => return Ok(Step::Route(node)),
                 Want::Done(Err(_)) => return Ok(Step::NoRoute),
-                Want::Done(Ok(owners)) => Round::over(alloc, &owners)?,
+                Want::Done(Ok(owners)) => Round::over(self.allocator(), &owners)?,
             },
         };
         let step = match round.next(self.replicas) {
@@ -92,7 +98,8 @@ impl Course {
         counts: bool,
     ) -> Result<Option<(Peer, Answer)>, Memory>
         requires { awaited (ask.Get self.old.look.key) self.old ≢ None }
-        ensures { IfOk result (λ heard. Hears self.old self.new answer counts heard) }
+        ensures hears { IfOk result (λ heard. Hears self.old self.new answer counts heard) }
+        ensures left { IfOk result (λ _. asks_left self.new < asks_left self.old) }
     {
         match &mut self.round {
             Some(round) => Ok(Some((round.heard(counts), answer))),
@@ -104,12 +111,12 @@ impl Course {
     }
 
     /// The owners that were asked, in order, silent ones included. The error is want of memory.
-    fn asked(&self, alloc: Global) -> Result<Peers, Memory>
+    fn asked(&self) -> Result<Peers, Memory>
         ensures { IfOk result (λ asked. asked ≡ asked_of self.now.asking) }
     {
         match &self.round {
-            Some(round) => round.asked(alloc),
-            None => Ok(Peers::of(Vec::new(alloc))),
+            Some(round) => round.asked(self.allocator()),
+            None => Ok(Peers::of(Vec::new(self.allocator()))),
         }
     }
 
@@ -132,7 +139,7 @@ impl Course {
     }
 
     /// Why a get has no result, by the first node that gave something wrong. The error is want of memory.
-    pub(crate) fn miss(&self, alloc: Global, wrong: Option<Peer>) -> Result<Miss, Memory>
+    pub(crate) fn miss(&self, wrong: Option<Peer>) -> Result<Miss, Memory>
         ensures { IfOk result (λ miss. miss ≡ miss_of self.now.look.key (asked_of self.now.asking) wrong) }
     {
         let key = self.key();
@@ -140,7 +147,7 @@ impl Course {
             Some(node) => Miss::Damaged { key, node },
             None => Miss::Missing {
                 key,
-                asked: self.asked(alloc)?,
+                asked: self.asked()?,
             },
         })
     }

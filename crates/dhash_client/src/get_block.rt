@@ -1,6 +1,7 @@
 //! The get of a content block.
 
-ghost use Rattle.std.specs.Prelude.{◌≡◌, ◌≢◌, None, IfOk};
+ghost use Rattle.std.specs.Prelude.{◌≡◌, ◌≢◌, ◌<◌, ◌≤◌, None, IfOk};
+ghost use Rattle.dhash_client.specs.Course.{asks_left};
 ghost use Rattle.dhash_client.specs.GetBlock.{block_begun, block_awaited, BlockIsWanted, BlockHasHeard, BlockTakes, is_of_get, block_in};
 
 use crate::course::{Course, Step};
@@ -55,19 +56,20 @@ impl GetBlock {
     /// What the get wants next: an ask, or nothing more, since it has its result. That is the block, whose bytes are
     /// moved out, and otherwise a miss. An ask that was not yet heard is wanted again. The machine isn't used after
     /// its result. The error is want of memory; the machine isn't used after it.
-    pub fn next(&mut self, alloc: Global) -> Result<Want<Result<Bytes, Miss>>, Memory>
-        ensures { IfOk result (λ want. BlockIsWanted self.old self.new want) }
+    pub fn next(&mut self) -> Result<Want<Result<Bytes, Miss>>, Memory>
+        ensures wanted { IfOk result (λ want. BlockIsWanted self.old self.new want) }
+        ensures left { IfOk result (λ _. asks_left self.new.course ≤ asks_left self.old.course) }
     {
         if let Some(bytes) = self.found.take() {
             return Ok(Want::Done(Ok(bytes)));
         }
-        let step = self.course.next(alloc)?;
+        let step = self.course.next()?;
         let key = self.course.key();
         Ok(match step {
             Step::Route(node) => Want::Ask(node, Ask::Route(key)),
             Step::Owner(node) => Want::Ask(node, Ask::Get(key)),
             Step::NoRoute => Want::Done(Err(Miss::NoRoute(key))),
-            Step::Over => Want::Done(Err(self.course.miss(alloc, self.wrong)?)),
+            Step::Over => Want::Done(Err(self.course.miss(self.wrong)?)),
         })
     }
 
@@ -75,7 +77,8 @@ impl GetBlock {
     /// called once after each ask. The error is want of memory; the machine isn't used after it.
     pub fn heard(&mut self, answer: Answer) -> Result<(), Memory>
         requires { block_awaited self.old ≢ None }
-        ensures { IfOk result (λ _. BlockHasHeard self.old self.new answer) }
+        ensures heard { IfOk result (λ _. BlockHasHeard self.old self.new answer) }
+        ensures left { IfOk result (λ _. asks_left self.new.course < asks_left self.old.course) }
     {
         let counts = answers_get(&answer);
         if let Some((node, answer)) = self.course.heard(answer, counts)? {

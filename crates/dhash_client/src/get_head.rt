@@ -1,7 +1,7 @@
 //! The get of a log's head.
 
-ghost use Rattle.std.specs.Prelude.{◌≡◌, ◌≢◌, None, IfOk};
-ghost use Rattle.dhash_client.specs.Course.{asked_of};
+ghost use Rattle.std.specs.Prelude.{◌≡◌, ◌≢◌, ◌<◌, ◌≤◌, None, IfOk};
+ghost use Rattle.dhash_client.specs.Course.{asked_of, asks_left};
 ghost use Rattle.dhash_client.specs.GetBlock.{block_in};
 ghost use Rattle.dhash_client.specs.GetHead.{head_begun, head_awaited, heads_result, HeadIsWanted, HeadHasHeard, HeadTakes};
 
@@ -57,25 +57,28 @@ impl<J: Judge> GetHead<J> {
     /// order in which they were given, which are moved out, and otherwise a miss. An ask that was not yet heard is
     /// wanted again. The machine isn't used after its result. The error is want of memory; the machine isn't used
     /// after it.
-    pub fn next(&mut self, alloc: Global) -> Result<Want<Result<Heads, Miss>>, Memory>
-        ensures { IfOk result (λ want. HeadIsWanted J.judges self.old self.new want) }
+    pub fn next(&mut self) -> Result<Want<Result<Heads, Miss>>, Memory>
+        ensures wanted { IfOk result (λ want. HeadIsWanted J.judges self.old self.new want) }
+        ensures left { IfOk result (λ _. asks_left self.new.course ≤ asks_left self.old.course) }
     {
-        let step = self.course.next(alloc)?;
+        let step = self.course.next()?;
         let key = self.course.key();
         Ok(match step {
             Step::Route(node) => Want::Ask(node, Ask::Route(key)),
             Step::Owner(node) => Want::Ask(node, Ask::Get(key)),
             Step::NoRoute => Want::Done(Err(Miss::NoRoute(key))),
-            Step::Over => Want::Done(self.result(alloc)?),
+            Step::Over => Want::Done(self.result()?),
         })
     }
 
     /// The result, where nobody else is asked. The error is want of memory.
-    fn result(&mut self, alloc: Global) -> Result<Result<Heads, Miss>, Memory>
-        ensures { IfOk result (λ given. given ≡ heads_result self.old.course.look.key (asked_of self.old.course.asking) self.old.heads self.old.wrong) }
+    fn result(&mut self) -> Result<Result<Heads, Miss>, Memory>
+        ensures course { self.new.course ≡ self.old.course }
+        ensures given { IfOk result (λ given. given ≡ heads_result self.old.course.look.key (asked_of self.old.course.asking) self.old.heads self.old.wrong) }
     {
+        let alloc = self.course.allocator();
         if self.heads.is_empty() {
-            return Ok(Err(self.course.miss(alloc, self.wrong)?));
+            return Ok(Err(self.course.miss(self.wrong)?));
         }
         Ok(Ok(Heads::of(mem::replace(&mut self.heads, Vec::new(alloc)))))
     }
@@ -84,7 +87,8 @@ impl<J: Judge> GetHead<J> {
     /// called once after each ask. The error is want of memory; the machine isn't used after it.
     pub fn heard(&mut self, answer: Answer) -> Result<(), Memory>
         requires { head_awaited self.old ≢ None }
-        ensures { IfOk result (λ _. HeadHasHeard J.judges self.old self.new answer) }
+        ensures heard { IfOk result (λ _. HeadHasHeard J.judges self.old self.new answer) }
+        ensures left { IfOk result (λ _. asks_left self.new.course < asks_left self.old.course) }
     {
         let counts = answers_get(&answer);
         if let Some((node, answer)) = self.course.heard(answer, counts)? {

@@ -17,16 +17,12 @@
 mod course;
 mod get_block;
 mod get_head;
-#[cfg(test)]
-mod get_tests;
 mod lookup;
 mod miss;
 mod put;
 mod put_block;
 mod put_head;
 mod round;
-#[cfg(test)]
-mod tests;
 
 pub use dht_ids::Want;
 pub use get_block::GetBlock;

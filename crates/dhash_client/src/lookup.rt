@@ -1,8 +1,8 @@
 //! The look-up of a key's owners.
 
-ghost use Rattle.std.specs.Prelude.{◌≡◌, ◌≢◌, [], ◌∷◌, reverse, None, IfOk, MatchBool, MatchOption};
+ghost use Rattle.std.specs.Prelude.{◌≡◌, ◌≢◌, ◌<◌, ◌≤◌, [], ◌∷◌, length, reverse, None, IfOk, MatchBool, MatchOption};
 ghost use Rattle.ring_model.specs.Members.{IsAmong};
-ghost use Rattle.dhash_client.specs.Machine.{fresh, to_ask, outcome, IsRest, IsWanted, Follow, FollowsAfter, HasHeard};
+ghost use Rattle.dhash_client.specs.Machine.{fresh, looks_left, to_ask, outcome, IsRest, IsWanted, Follow, FollowsAfter, HasHeard};
 
 use crate::miss::Miss;
 use dht_ids::{Answer, Ask, Peer, Peers, Want};
@@ -27,7 +27,7 @@ pub struct Lookup {
 }
 
 impl Model for Lookup {
-    ghost use Rattle.std.specs.Prelude.{◌<◌, length, reverse, IfSome};
+    ghost use Rattle.std.specs.Prelude.{◌<◌, ◌≤◌, length, reverse, IfSome};
     ghost use Rattle.ring_model.specs.Members.{IsAmong};
     ghost use Rattle.dhash_client.specs.Machine.{State};
 
@@ -35,7 +35,7 @@ impl Model for Lookup {
 
     ghost view = { λ l. record { key = l.key; asked = reverse l.asked.items; last = l.last; rest = l.rest.items; waiting = l.waiting } };
 
-    ghost invariant = { λ l. IfSome l.waiting (λ p. (length l.asked.items < 512) × (IsAmong p (reverse l.asked.items) → ⊥)) };
+    ghost invariant = { λ l. IfSome l.waiting (λ p. (length l.asked.items < 512) × (IsAmong p (reverse l.asked.items) → ⊥)) × (length l.asked.items ≤ 512) };
 }
 
 /// Whether the node was asked.
@@ -90,20 +90,26 @@ impl Lookup {
         self.key
     }
 
+    /// What this look-up takes memory from.
+    pub(crate) fn allocator(&self) -> Global {
+        *self.asked.allocator()
+    }
+
     /// What the look-up wants next: an ask for the route to the key, of a node that it didn't ask before, or nothing
     /// more. Its result is then the owners that the last answer named, or NoRoute of the key where no node answered
     /// or the last answer named no owner. An ask that was not yet heard is wanted again. The error is want of memory;
     /// the machine isn't used after it.
-    pub fn next(&mut self, alloc: Global) -> Result<Want<Result<Peers, Miss>>, Memory>
+    pub fn next(&mut self) -> Result<Want<Result<Peers, Miss>>, Memory>
         ensures key { self.new.key ≡ self.old.key }
         ensures asked { self.new.asked ≡ self.old.asked }
         ensures follows { FollowsAfter [] self.old self.new }
         ensures wanted { IfOk result (λ want. IsWanted self.old self.new want) }
+        ensures most { length self.new.asked ≤ 512 }
     {
         self.choose();
         Ok(match self.waiting {
             Some(node) => Want::Ask(node, Ask::Route(self.key)),
-            None => Want::Done(result_of(alloc, self.key, &self.last)?),
+            None => Want::Done(result_of(self.allocator(), self.key, &self.last)?),
         })
     }
 
@@ -124,7 +130,8 @@ impl Lookup {
     /// each ask. The error is want of memory; the machine isn't used after it.
     pub fn heard(&mut self, answer: Answer) -> Result<(), Memory>
         requires { self.old.waiting ≢ None }
-        ensures { IfOk result (λ _. HasHeard self.old self.new answer) }
+        ensures heard { IfOk result (λ _. HasHeard self.old self.new answer) }
+        ensures left { IfOk result (λ _. looks_left self.new < looks_left self.old) }
     {
         let Some(node) = self.waiting.take() else {
             unreachable!()

@@ -1,7 +1,8 @@
 //! What puts of content blocks and of heads share.
 
-ghost use Rattle.std.specs.Prelude.{◌≡◌, ◌≢◌, IfOk};
+ghost use Rattle.std.specs.Prelude.{◌≡◌, ◌≢◌, ◌<◌, ◌≤◌, IfOk};
 ghost use Rattle.std.specs.declared.option.Option.{Option};
+ghost use Rattle.dhash_client.specs.Course.{asks_left};
 ghost use Rattle.dhash_client.specs.Puts.{is_of_put, holds, question_of, put_begun, put_awaited, one_more, PutIsWanted, PutHasHeard};
 
 use crate::course::{Course, Step};
@@ -75,10 +76,10 @@ impl Put {
     }
 
     /// What an owner is asked. The error is want of memory.
-    fn question(&self, alloc: Global, key: Key) -> Result<Ask, Memory>
+    fn question(&self, key: Key) -> Result<Ask, Memory>
         ensures { IfOk result (λ question. question ≡ question_of self.now.what self.now.bytes key) }
     {
-        let bytes = self.bytes.copy(alloc)?;
+        let bytes = self.bytes.copy(self.course.allocator())?;
         Ok(match self.what {
             PutKind::Block => Ask::PutBlock(key, bytes),
             PutKind::Head => Ask::PutHead(key, bytes),
@@ -86,14 +87,15 @@ impl Put {
     }
 
     /// What the put wants next. The error is want of memory.
-    pub(crate) fn next(&mut self, alloc: Global) -> Result<Want<Result<bool, Miss>>, Memory>
-        ensures { IfOk result (λ want. PutIsWanted self.old self.new want) }
+    pub(crate) fn next(&mut self) -> Result<Want<Result<bool, Miss>>, Memory>
+        ensures wanted { IfOk result (λ want. PutIsWanted self.old self.new want) }
+        ensures left { IfOk result (λ _. asks_left self.new.course ≤ asks_left self.old.course) }
     {
-        let step = self.course.next(alloc)?;
+        let step = self.course.next()?;
         let key = self.course.key();
         Ok(match step {
             Step::Route(node) => Want::Ask(node, Ask::Route(key)),
-            Step::Owner(node) => Want::Ask(node, self.question(alloc, key)?),
+            Step::Owner(node) => Want::Ask(node, self.question(key)?),
             Step::NoRoute => Want::Done(Err(Miss::NoRoute(key))),
             Step::Over => Want::Done(Ok(self.course.are_holders(self.holders))),
         })
@@ -102,7 +104,8 @@ impl Put {
     /// Hears what the node answered that was asked last. The error is want of memory.
     pub(crate) fn heard(&mut self, answer: Answer) -> Result<(), Memory>
         requires { put_awaited self.old ≢ Option.None }
-        ensures { IfOk result (λ _. PutHasHeard self.old self.new answer) }
+        ensures heard { IfOk result (λ _. PutHasHeard self.old self.new answer) }
+        ensures left { IfOk result (λ _. asks_left self.new.course < asks_left self.old.course) }
     {
         let counts = answers_put(&answer);
         if let Some((_, answer)) = self.course.heard(answer, counts)? {

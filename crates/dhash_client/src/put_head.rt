@@ -1,6 +1,7 @@
 //! The put of a log's head.
 
-ghost use Rattle.std.specs.Prelude.{◌≡◌, ◌≢◌, None, IfOk};
+ghost use Rattle.std.specs.Prelude.{◌≡◌, ◌≢◌, ◌<◌, ◌≤◌, None, IfOk};
+ghost use Rattle.dhash_client.specs.Course.{asks_left};
 ghost use Rattle.dhash_client.specs.Puts.{put_begun, put_awaited, PutIsWanted, PutHasHeard};
 ghost use Rattle.dhash_client.specs.declared.put.PutKind.TheVariants as kind;
 
@@ -45,17 +46,19 @@ impl PutHead {
     /// What the put wants next: an ask, to which the bytes are copied, or nothing more, since it has its result:
     /// whether it was acknowledged, or NoRoute. An ask that was not yet heard is wanted again. The error is want of
     /// memory; the machine isn't used after it.
-    pub fn next(&mut self, alloc: Global) -> Result<Want<Result<bool, Miss>>, Memory>
-        ensures { IfOk result (λ want. PutIsWanted self.old self.new want) }
+    pub fn next(&mut self) -> Result<Want<Result<bool, Miss>>, Memory>
+        ensures wanted { IfOk result (λ want. PutIsWanted self.old self.new want) }
+        ensures left { IfOk result (λ _. asks_left self.new.course ≤ asks_left self.old.course) }
     {
-        self.put.next(alloc)
+        self.put.next()
     }
 
     /// Hears what the node answered that was asked last. An owner's answer that is none to a put is silence. It is
     /// called once after each ask. The error is want of memory; the machine isn't used after it.
     pub fn heard(&mut self, answer: Answer) -> Result<(), Memory>
         requires { put_awaited self.old ≢ None }
-        ensures { IfOk result (λ _. PutHasHeard self.old self.new answer) }
+        ensures heard { IfOk result (λ _. PutHasHeard self.old self.new answer) }
+        ensures left { IfOk result (λ _. asks_left self.new.course < asks_left self.old.course) }
     {
         self.put.heard(answer)
     }

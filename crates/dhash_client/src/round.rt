@@ -1,6 +1,6 @@
 //! The owners of a key, asked in their order.
 
-ghost use Rattle.std.specs.Prelude.{◌≡◌, ◌≢◌, ◌+◌, [], ◌∷◌, ◌++◌, if◌then◌else◌, IfOk, MatchBool};
+ghost use Rattle.std.specs.Prelude.{◌≡◌, ◌≢◌, ◌+◌, ◌<◌, ◌^◌, length, [], ◌∷◌, ◌++◌, if◌then◌else◌, IfOk, MatchBool};
 ghost use Rattle.ring_model.specs.Gets.{AreFirsts};
 ghost use Rattle.dhash_client.specs.Course.{next_owner};
 
@@ -48,6 +48,7 @@ impl Round {
         ensures firsts { IfOk result (λ round. AreFirsts [] owners.now round.rest) }
         ensures asked { IfOk result (λ round. round.asked ≡ []) }
         ensures answered { IfOk result (λ round. round.answered ≡ 0) }
+        ensures few { IfOk result (λ round. length round.rest < 2 ^ 64) }
     {
         Ok(Round {
             owners: once(alloc, owners.as_slice())?,

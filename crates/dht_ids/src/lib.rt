@@ -19,8 +19,6 @@ pub mod mesh;
 pub mod peer;
 pub mod post;
 pub mod signature;
-#[cfg(test)]
-mod tests;
 
 pub use ask::{Answer, Ask, AskKind, Heard, StoreFault, Want};
 pub use circle::{between, distance, finger_start, inside, order, same};

@@ -16,8 +16,6 @@ mod fault;
 mod kept;
 mod kind;
 mod store;
-#[cfg(test)]
-mod tests;
 
 pub use fault::PutFault;
 pub use kind::Kind;

@@ -1,8 +1,9 @@
-//! Look-ups over the live nodes of a ring.
+//! Look-ups over the live nodes of a ring, and over others.
 
 use crate::ring::{Nodes, answer_of};
+use crate::strangers::Strangers;
 use dhash_client::{Lookup, Miss, Want};
-use dht_ids::{Ask, Peer, Peers};
+use dht_ids::{Answer, Ask, Peer, Peers};
 use ivy_base::{Key, Memory};
 use std::alloc::Global;
 
@@ -35,7 +36,25 @@ impl Course {
     }
 }
 
-/// Looks a key up from a node; `None` where the look-up doesn't end.
+/// Who answers the asks of a look-up.
+#[derive(Clone, Copy)]
+pub enum Others<'a> {
+    /// The nodes of a ring; those that aren't among them are silent.
+    Ring(&'a Nodes),
+    Strangers(Strangers),
+}
+
+impl Others<'_> {
+    /// What the node answers to Route.
+    fn route(&self, alloc: Global, node: Peer, key: Key) -> Result<Answer, Memory> {
+        match self {
+            Others::Ring(nodes) => answer_of(alloc, nodes, node, &Ask::Route(key)),
+            Others::Strangers(strangers) => strangers.route(alloc, node),
+        }
+    }
+}
+
+/// Looks a key up from a node of a ring; `None` where the look-up doesn't end.
 pub fn look_up(
     alloc: Global,
     nodes: &Nodes,
@@ -43,13 +62,23 @@ pub fn look_up(
     entry: Peer,
 ) -> Result<Option<Course>, Memory> {
     let entries = Peers::of(vec![in alloc; entry]?);
-    let mut lookup = Lookup::start(alloc, key, 1, &entries)?;
+    drive(alloc, key, &entries, &Others::Ring(nodes))
+}
+
+/// Looks a key up; `None` where the look-up doesn't end.
+pub fn drive(
+    alloc: Global,
+    key: Key,
+    entries: &Peers,
+    others: &Others<'_>,
+) -> Result<Option<Course>, Memory> {
+    let mut lookup = Lookup::start(alloc, key, 1, entries)?;
     let mut asked = Vec::new(alloc);
     for _ in 0..MOST_STEPS {
-        match lookup.next(alloc)? {
+        match lookup.next()? {
             Want::Ask(node, _) => {
                 asked.push(node)?;
-                lookup.heard(answer_of(alloc, nodes, node, &Ask::Route(key))?)?;
+                lookup.heard(others.route(alloc, node, key)?)?;
             }
             Want::Done(found) => return Ok(Some(Course { found, asked })),
         }

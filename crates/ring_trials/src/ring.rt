@@ -3,8 +3,9 @@
 ghost use Rattle.std.specs.Prelude.{◌≤◌};
 ghost use Rattle.chord_core.specs.State.{IsOfRing};
 
+use crate::words::peer;
 use chord_core::Node;
-use dht_ids::{Answer, Ask, Peer, Peers, distance, node_id, order};
+use dht_ids::{Answer, Ask, Peer, Peers, distance, order};
 use ivy_base::{Key, Memory};
 use std::alloc::Global;
 use std::collections::BTreeMap;
@@ -19,14 +20,6 @@ pub struct Ring {
     pub live: Peers,
     /// What they know.
     pub nodes: Nodes,
-}
-
-/// The node of that number, as others know it.
-pub fn peer(number: u32) -> Peer {
-    Peer {
-        number,
-        id: node_id(number),
-    }
 }
 
 /// The peers in ascending order of their identifiers.

@@ -4,7 +4,8 @@ ghost use Rattle.std.specs.Prelude.{◌≤◌};
 
 use crate::course::look_up;
 use crate::lookups::key;
-use crate::ring::{Nodes, Ring, peer};
+use crate::ring::{Nodes, Ring};
+use crate::words::peer;
 use chord_core::Node;
 use dht_ids::{Answer, Ask, Peer, finger_start};
 use ivy_base::{Key, Memory};

@@ -1,16 +1,12 @@
-//! The trials, and how each is answered.
+//! Trials of whole rings.
 
 ghost use Rattle.std.specs.Prelude.{◌≤◌};
 
 use crate::lookups::look_up_keys;
 use crate::ring::Ring;
 use crate::round::{is_settled, join, round};
+use crate::words::number_of;
 use std::alloc::Global;
-
-/// The number of a word.
-fn number_of(word: Option<&str>) -> Option<u32> {
-    word?.parse().ok()
-}
 
 /// What look-ups come to in a ring whose nodes 1 to `stopped` have stopped, fewer than R and than all.
 fn lookups(
