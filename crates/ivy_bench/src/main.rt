@@ -1,0 +1,86 @@
+//! Measures the crates below. Each line of the standard input asks for one measurement, and each answer is a time in
+//! microseconds; the first word is the family.
+//!
+//! Signatures, by one tree of a set such as `w4h10`, beside hashes of one block:
+//!
+//! - `signatures hash N`: a chain of N hashes of 55 bytes, one block each
+//! - `signatures grow SET`, `signatures joined SET`: a tree grown in one and in two halves at once
+//! - `signatures sign SET N`, `signatures verify SET N`: N signatures by the leaves in turn, and N checks of one
+//!
+//! Signatures by several levels, by a key of sets such as `w4h10,w4h10`. Growing the key isn't in the time; the growing of
+//! lower trees while it signs is:
+//!
+//! - `levels sign SETS N`, `levels verify SETS N`: N signatures in turn, and N checks of one
+//!
+//! Records, of which each is a Write of 8,192 bytes that cites 16 logs:
+//!
+//! - `records copy N`: N copies of the block of a record, each into memory of its own
+//! - `records write N`, `records read N`: N times the block written of the record, and the record read of the block
+//!
+//! Replaying records on a tree:
+//!
+//! - `trees create N DIRS`: N directories are made and named, in turn in so many directories
+//! - `trees rename N DEPTH`: a directory with an entry is moved N times between two directories at that depth
+//!
+//! The largest causally closed part of logs that were fetched, where nothing is held. Neither the making of the records nor
+//! that of the batch is in the time:
+//!
+//! - `order concurrent LOGS RECORDS`: of that many logs with that many records each, none of which cites another log
+//! - `order chain LOGS RECORDS`: the same, but each record behind a log's first cites the newest one of each other log
+//!
+//! Calls and replies. Each carries 8,192 bytes, and the call is by AUTH_SYS, with two groups:
+//!
+//! - `wire copy N`: N copies of 8,192 bytes, each into memory of its own
+//! - `wire read N`: N times a call of WRITE read, with its caller, and its arguments read
+//! - `wire write N`: N times a reply to READ written into a message of its own, with its head
+//!
+//! `nothing measured` stands for a line that asks for none of these, or for more than there is memory for. The stored run
+//! has such lines alone, since times differ from run to run.
+#![tactic(auto)]
+
+mod gather;
+mod levels;
+mod logs;
+mod order;
+mod records;
+mod sets;
+mod signatures;
+mod trees;
+mod wire;
+
+use std::alloc::Global;
+use std::io;
+use std::rt::Clock;
+use std::thread::Threads;
+use std::time::Duration;
+
+/// Measures what the line asks for. None where nothing is measured.
+fn answer<R: Clock + Print + Threads>(
+    rt: &R,
+    alloc: Global,
+    line: &str,
+) -> io::Result<Option<Duration>> {
+    let Some((family, asked)) = line.split_once(' ') else {
+        return Ok(None);
+    };
+    match family {
+        "signatures" => signatures::answer(rt, alloc, asked),
+        "levels" => levels::answer(rt, alloc, asked),
+        "records" => records::answer(rt, alloc, asked),
+        "trees" => trees::answer(rt, alloc, asked),
+        "order" => order::answer(rt, alloc, asked),
+        "wire" => wire::answer(rt, alloc, asked),
+        _ => Ok(None),
+    }
+}
+
+fn main(rt: HostRuntime) -> io::Result<()> {
+    for line in rt.lines(rt.alloc()) {
+        let line = line?;
+        match answer(&rt, rt.alloc(), line.as_str())? {
+            Some(time) => println!(rt; "{line}: {} us", time.as_micros())?,
+            None => println!(rt; "{line}: nothing measured")?,
+        }
+    }
+    Ok(())
+}
