@@ -1,5 +1,5 @@
 -- A new gate, a new pass, splitting, joining, and the end.
-use Rattle.std.proofs.Common.{◌≡◌, ◌≢◌, ◌⊎◌, ℕ, zero, suc, ◌*◌, ◌≤◌, true, false, List, [], ◌∷◌, ◌++◌, length, set, Option, Some, None, sym, refl, ap, ◌∙◌, subst, inl, inr, ⊎_elim, arith, length-set, length-append}
+use Rattle.std.proofs.Common.{◌≡◌, ◌≢◌, ◌⊎◌, ℕ, zero, suc, ◌-◌, ◌*◌, ◌≤◌, true, false, List, [], ◌∷◌, ◌++◌, length, set, sum_by, Option, Some, None, sym, refl, ap, ◌∙◌, subst, inl, inr, ⊎_elim, arith, length-set, length-append}
 use mathlib.Core.List.{IsPrefix}
 use mathlib.Core.Logic.{dite}
 use mathlib.Core.Option.{some, none, some-injective, some-ne-none}
@@ -15,7 +15,7 @@ use Rattle.agent_gate.specs.Rules.{all_parts, Fits, IsFull, IsEmpty, IsGate, IsG
 use Rattle.agent_gate.specs.Passes.{IsPass}
 use Rattle.agent_gate.specs.Steps.{Sat, Made, ended, first_pass, newcomer, note, less, joined}
 use Rattle.agent_gate.proofs.Beginnings.{prefix_shorter, prefix_whole, calls_between, longer_length, longer_begins}
-use Rattle.agent_gate.proofs.Views.{set_at, same_at, at_end, below_length, total_set, total_end, two_of_total, each_set, all_gone, gone_append, gone_set, gone_each, gone_same, gone_end}
+use Rattle.agent_gate.proofs.Views.{set_at, same_at, at_end, below_length, total_set, total_end, two_of_total, calls_set, calls_end, calls_of_all, told, joined_tells, joined_idle, each_set, all_gone, gone_append, gone_set, gone_each, gone_same, gone_end}
 
 module _ {A T : Type 0} (stands : A → List (Entry T) → A → Type 0) (key : A) where
   -- the slot with other views, where whoever is inside was inside before and still is
@@ -67,10 +67,13 @@ module _ {A T : Type 0} (stands : A → List (Entry T) → A → Type 0) (key : 
     met = (seen, refl);
     owner = λ o is. absurd (cc is);
     calls = λ o is. absurd (cc is);
+    note = λ is. refl;
+    idle = λ none. (refl, refl);
   }
 
-  pub splits : (id : ℕ) (v : Knows A T) (parts : ℕ) → v.inside ≡ false → parts ≤ v.parts → Splits (IsGate stands key) id v (less parts v) (note parts v.seen)
-  splits id v parts out enough s r at =
+  -- a pass that has a part keeps one
+  pub splits : (id : ℕ) (v : Knows A T) (parts : ℕ) → v.inside ≡ false → parts ≤ v.parts → (v.parts - parts ≡ 0 → v.parts ≡ 0) → Splits (IsGate stands key) id v (less parts v) (note parts v.seen)
+  splits id v parts out enough keeps_one s r at =
       let w : Knows A T = less parts v in
       let n : Knows A T = note parts v.seen in
       let vs : List (Knows A T) = set s.views id w in
@@ -86,7 +89,7 @@ module _ {A T : Type 0} (stands : A → List (Entry T) → A → Type 0) (key : 
         legal = r.legal;
         each = λ j u there. ⊎_elim
             (λ (t : get_elem? vs j ≡ some u). each_set key s.views id w r.history r.history r.each (λ k y other f. f)
-            (record { seen = fit.seen; own = fit.own; met = fit.met; owner = fit.owner; calls = fit.calls }) j u t)
+            (record { seen = fit.seen; own = fit.own; met = fit.met; owner = fit.owner; calls = fit.calls; note = fit.note; idle = λ none. fit.idle (keeps_one none) }) j u t)
             (λ (t : (j ≡ length vs) × (n ≡ u)). subst (λ (y : Knows A T). Fits key r.history j y) t.1 (fits_note r.history j parts v.seen fit.seen))
             (at_end vs n u j there);
         gone = gone_end vs r.history n refl (gone_same s.views r.history id v w at refl refl r.gone);
@@ -98,6 +101,7 @@ module _ {A T : Type 0} (stands : A → List (Entry T) → A → Type 0) (key : 
               ap (λ (y : Knows A T). y.seen) (same_at s.views id v l.1 at (subst (λ (k : ℕ). get_elem? s.views k ≡ some l.1) here l.2)) ∙ l.3,
             ))
             (λ away. (l.0, l.1, at_longer vs (n ∷ []) l.0 l.1 (set_else s.views id l.0 w away ∙ l.2), l.3));
+        no_others = λ f. omega (arith, r.no_others f, calls_end f vs n, calls_set f s.views id v w at);
         unmade = λ place far. r.unmade place (omega (arith, far, length-append vs (n ∷ []), length-set s.views id w));
         whole = omega (arith, total_end vs n, total_set s.views id v w at, r.whole, enough);
       }
@@ -113,6 +117,8 @@ module _ {A T : Type 0} (stands : A → List (Entry T) → A → Type 0) (key : 
         met = prefix_shorter w.seen both h g.seen begins len.1;
         owner = f.owner;
         calls = λ o is. let c = f.calls o is in (calls_between id v.seen both h own begins (c.0 ∙ sym c.1) ∙ c.1, c.1);
+        note = f.note;
+        idle = joined_idle v w g.note f.idle g.idle;
       }
 
   -- what ends is gone
@@ -180,6 +186,7 @@ module _ {A T : Type 0} (stands : A → List (Entry T) → A → Type 0) (key : 
             (λ away. dite (ℕ_discrete l.0 other)
             (λ here. all (inr (ap (λ (y : Knows A T). y.seen) (same_at s.views other w l.1 there (subst (λ (k : ℕ). get_elem? s.views k ≡ some l.1) here l.2)) ∙ l.3)))
             (λ away'. (l.0, l.1, set_else vs other l.0 spent away' ∙ (set_else s.views id l.0 both away ∙ l.2), l.3)));
+        no_others = λ f. omega (arith, r.no_others f, calls_set f vs other w spent there', calls_set f s.views id v both at, joined_tells f v w fit'.note);
         unmade = λ place far. r.unmade place (omega (arith, far, length-set vs other spent, length-set s.views id both));
         whole = omega (arith, total_set vs other w spent there', total_set s.views id v both at, r.whole);
       }
@@ -208,10 +215,13 @@ module _ {A T : Type 0} (stands : A → List (Entry T) → A → Type 0) (key : 
                 met = ([], refl);
                 owner = λ o is. (cc is, sym t.0);
                 calls = λ o is. (refl, r.unmade j (omega (arith, t.0)));
+                note = λ is. refl;
+                idle = λ none. (refl, refl);
               }))
               (at_end s.views n u j there);
           gone = gone_end s.views r.history n refl r.gone;
           longest = let l = r.longest in (l.0, l.1, at_longer s.views (n ∷ []) l.0 l.1 l.2, l.3);
+          no_others = λ f. omega (arith, r.no_others f, calls_end f s.views n);
           unmade = λ place far. r.unmade place (omega (arith, far, length-append s.views (n ∷ [])));
           whole = omega (arith, total_end s.views n, r.whole);
         },
@@ -224,7 +234,7 @@ module _ {A T : Type 0} (stands : A → List (Entry T) → A → Type 0) (key : 
 
   pub first_is_pass : (m : Sat A T) → m ≡ (first_pass key, []) → stands key [] key → IsPass stands 0 4294967296 m
   first_is_pass m is now = subst (λ (x : Sat A T). IsPass stands 0 4294967296 x) (sym is)
-      (record { outside = refl; empty = refl; turns_are = refl; parts_are = refl; part = omega arith; sees = (legal_start now, refl) })
+      (record { outside = refl; empty = refl; turns_are = refl; parts_are = refl; part = omega arith; sees = (legal_start now, refl); none_gone = refl })
 
   alone_there : (j : ℕ) (v : Knows A T) → get_elem? (first_pass key ∷ []) j ≡ some v → (j ≡ 0) × (first_pass key ≡ v)
   alone_there zero v at = (refl, some-injective (first_pass key) v at)
@@ -248,9 +258,12 @@ module _ {A T : Type 0} (stands : A → List (Entry T) → A → Type 0) (key : 
       met = ([], refl);
       owner = λ o some_o. (cc some_o, sym t.0);
       calls = λ o some_o. (refl, refl);
+      note = λ is. refl;
+      idle = λ none. (refl, refl);
     });
     gone = λ j v at. subst (λ gs. AreGone (first_pass key ∷ []) [] gs) (ap (λ (k : Knows A T). k.gone) (alone_there j v at).1) tt;
     longest = (0, first_pass key, refl, refl);
+    no_others = λ f. refl;
     unmade = λ place far. refl;
     whole = omega arith;
   })
@@ -270,18 +283,31 @@ module _ {A T : Type 0} (stands : A → List (Entry T) → A → Type 0) (key : 
     found [] all = all.0.0
     found (x ∷ xs) all = found xs all.1
 
-  pub closes : (ws : List ℕ) (xs : List (Option A)) (id : ℕ) (v : Knows A T) → v.inside ≡ false → v.parts ≡ all_parts → Final (Seen (IsGate stands key) id v) ws xs
-      → (h : List (Entry T)) × (value : A) × stands key h value × IsLegal stands key h × IsPrefix v.seen h × ((o : A) → v.opening ≡ Some o → calls_by v.number h ≡ v.calls) × ((before after : List (Gone T)) (g : Gone T) → v.gone ≡ before ++ g ∷ after → calls_by g.number h ≡ g.calls) × (get_elem? xs 0 ≡ some (Some value)) × (get_elem? ws 0 ≡ some (2 * length h))
+  -- what is known at the end of the last words and values by whoever has all parts
+  pub record IsEnd (v : Knows A T) (ws : List ℕ) (xs : List (Option A)) : Type 0 where
+    pub history : List (Entry T)
+    pub value : A
+    pub value_stands : stands key history value
+    pub legal : IsLegal stands key history
+    pub begins : IsPrefix v.seen history
+    pub own : (o : A) → v.opening ≡ Some o → calls_by v.number history ≡ v.calls
+    pub gone : (before after : List (Gone T)) (g : Gone T) → v.gone ≡ before ++ g ∷ after → calls_by g.number history ≡ g.calls
+    pub tells : (f : Entry T → ℕ) → sum_by f history ≡ told f v
+    pub slot : get_elem? xs 0 ≡ some (Some value)
+    pub word : get_elem? ws 0 ≡ some (2 * length history)
+
+  pub closes : (ws : List ℕ) (xs : List (Option A)) (id : ℕ) (v : Knows A T) → v.inside ≡ false → v.parts ≡ all_parts → Final (Seen (IsGate stands key) id v) ws xs → IsEnd v ws xs
   closes ws xs id v out all f =
       let s = f.0 in let r = f.1.0 in let at = f.1.1 in
-      let full = all_full s r id v at out all in (
-        r.history,
-        full.value,
-        full.value_stands,
-        r.legal,
-        (r.each id v at).seen,
-        λ o is. ap (λ (k : ℕ). calls_by k r.history) ((r.each id v at).owner o is).1 ∙ ((r.each id v at).calls o is).1,
-        λ before after g is. gone_calls s.views r.history v.gone before after g is (r.gone id v at),
-        f.4 0 (Some full.value) (ap (λ l. get_elem? l 0) full.slot),
-        ap (λ (l : List ℕ). get_elem? l 0) (sym f.2 ∙ full.word),
-      )
+      let full = all_full s r id v at out all in record {
+        history = r.history;
+        value = full.value;
+        value_stands = full.value_stands;
+        legal = r.legal;
+        begins = (r.each id v at).seen;
+        own = λ o is. ap (λ (k : ℕ). calls_by k r.history) ((r.each id v at).owner o is).1 ∙ ((r.each id v at).calls o is).1;
+        gone = λ before after g is. gone_calls s.views r.history v.gone before after g is (r.gone id v at);
+        tells = λ w. r.no_others w ∙ calls_of_all w s.views id v (λ j u there. (r.each j u there).idle) at (all ∙ sym r.whole);
+        slot = f.4 0 (Some full.value) (ap (λ l. get_elem? l 0) full.slot);
+        word = ap (λ (l : List ℕ). get_elem? l 0) (sym f.2 ∙ full.word);
+      }

@@ -3,3 +3,5 @@ pub mod Views
 pub mod Steps
 pub mod Ends
 pub mod Meets
+pub mod Gathering
+pub mod Same

@@ -1,5 +1,6 @@
 -- Each step on the word keeps the rule.
 use Rattle.std.proofs.Common.{◌≡◌, ◌≢◌, ℕ, ◌+◌, ◌*◌, ◌%◌, ◌<◌, ◌≤◌, eqb, true, false, List, [], ◌∷◌, ◌++◌, length, get_or, set, Option, Some, None, MatchBool, sym, refl, ap, ◌∙◌, subst, inl, inr, ⊎_elim, arith, length-set, length-append, eq-eqb, ne_eqb}
+use Rattle.std.proofs.lemmas.List.Sums.{sum_by_push}
 use mathlib.Core.List.{IsPrefix}
 use mathlib.Core.Logic.{dite}
 use mathlib.Core.Option.{some, none}
@@ -15,7 +16,7 @@ use Rattle.agent_gate.specs.Histories.{calls_by, IsLegal}
 use Rattle.agent_gate.specs.Rules.{most_turns, IsFull, IsEmpty, IsGate}
 use Rattle.agent_gate.specs.Steps.{Sat, Sees, Looked, IsInside, Entered, Left, Backed, entered, left, backed}
 use Rattle.agent_gate.proofs.Beginnings.{prefix_self, prefix_trans, prefix_length, calls_mine, legal_on, legal_beginning}
-use Rattle.agent_gate.proofs.Views.{if_some, not_true, set_at, same_at, below_length, total_set, each_set, fits_on, all_gone, gone_on, gone_same}
+use Rattle.agent_gate.proofs.Views.{if_some, not_true, set_at, same_at, below_length, total_set, calls_set, each_set, fits_on, all_gone, gone_on, gone_same}
 
 set_one : (ws : List ℕ) (a b : ℕ) → ws ≡ a ∷ [] → set ws 0 b ≡ b ∷ []
 set_one ws a b e = ap (λ w. set w 0 b) e
@@ -24,7 +25,7 @@ module _ {A T : Type 0} (stands : A → List (Entry T) → A → Type 0) (key : 
   -- the view of the pass that is inside, and what is known while it is
   abbrev Inside : State (Option A) (Knows A T) → List (Entry T) → ℕ → Knows A T → Type 0
   Inside s h id v = (v.seen ≡ h) × (s.homes ≡ none ∷ []) × (s.words ≡ (2 * length h + 1) ∷ []) × (length h < most_turns)
-      × ((j : ℕ) (u : Knows A T) → get_elem? s.views j ≡ some u → u.inside ≡ true → j ≡ id)
+      × ((j : ℕ) (u : Knows A T) → get_elem? s.views j ≡ some u → u.inside ≡ true → j ≡ id) × (0 < v.parts)
 
   pub inside_is : (s : State (Option A) (Knows A T)) (r : IsGate stands key s) (id : ℕ) (v : Knows A T) → get_elem? s.views id ≡ some v → v.inside ≡ true → Inside s r.history id v
   inside_is s r id v at inside = ⊎_elim
@@ -32,7 +33,7 @@ module _ {A T : Type 0} (stands : A → List (Entry T) → A → Type 0) (key : 
       (λ (e : IsEmpty stands key s r.history).
       let here : id ≡ e.place = e.alone id v at inside in
       let same : v ≡ e.view = same_at s.views id v e.view at (subst (λ (k : ℕ). get_elem? s.views k ≡ some e.view) (sym here) e.there) in
-      (ap (λ (k : Knows A T). k.seen) same ∙ e.has_seen, e.slot, e.word, e.room, λ j u there is. e.alone j u there is ∙ sym here))
+      (ap (λ (k : Knows A T). k.seen) same ∙ e.has_seen, e.slot, e.word, e.room, (λ j u there is. e.alone j u there is ∙ sym here), omega (arith, e.has_part, ap (λ (k : Knows A T). k.parts) same)))
       r.slot
 
   -- the pass that was inside is outside, and nobody else is inside
@@ -83,11 +84,14 @@ module _ {A T : Type 0} (stands : A → List (Entry T) → A → Type 0) (key : 
             met = prefix_trans v.met v.seen (v.seen ++ e ∷ []) fit.met begins;
             owner = fit.owner;
             calls = λ o is. (subst (λ l. calls_by id l ≡ v.calls ++ e ∷ []) (sym grown) calls', calls');
+            note = λ is. absurd (cc (owner, is));
+            idle = λ none. absurd (omega (arith, none, i.5));
           });
           gone = λ place u there. all_gone (set s.views id w) (set s.views id w) r.history (r.history ++ e ∷ [])
               (gone_on (set s.views id w) r.history e w key (subst (λ (k : ℕ). get_elem? (set s.views id w) k ≡ some w) (sym mine) (set_at s.views id v w at)) owner) u.gone
               (gone_same s.views r.history id v w at refl refl r.gone place u there);
           longest = (id, w, set_at s.views id v w at, grown);
+          no_others = λ f. omega (arith, r.no_others f, calls_set f s.views id v w at, sum_by_push f r.history e, sum_by_push f v.calls e);
           unmade = λ place far.
               let past : length s.views ≤ place = omega (arith, far, length-set s.views id w) in
               let here = below_length s.views id v at in
@@ -119,9 +123,10 @@ module _ {A T : Type 0} (stands : A → List (Entry T) → A → Type 0) (key : 
           history = r.history;
           slot = inl (full_again s r.history r.history id v w value n i refl (omega (arith, count, ap length whole)) (subst (λ l. stands key l value) whole now));
           legal = r.legal;
-          each = each_set key s.views id w r.history r.history r.each (λ j u other f. f) (record { seen = fit.seen; own = fit.own; met = fit.met; owner = fit.owner; calls = fit.calls });
+          each = each_set key s.views id w r.history r.history r.each (λ j u other f. f) (record { seen = fit.seen; own = fit.own; met = fit.met; owner = fit.owner; calls = fit.calls; note = fit.note; idle = fit.idle });
           gone = gone_same s.views r.history id v w at refl refl r.gone;
           longest = (id, w, set_at s.views id v w at, whole);
+          no_others = λ f. omega (arith, r.no_others f, calls_set f s.views id v w at);
           unmade = λ place far. r.unmade place (omega (arith, far, length-set s.views id w));
           whole = omega (arith, total_set s.views id v w at, r.whole);
         },
@@ -188,9 +193,12 @@ module _ {A T : Type 0} (stands : A → List (Entry T) → A → Type 0) (key : 
           met = prefix_trans v.met v.seen r.history fit.met fit.seen;
           owner = fit.owner;
           calls = λ o is. ((fit.calls o is).1, (fit.calls o is).1);
+          note = fit.note;
+          idle = fit.idle;
         });
         gone = gone_same s.views r.history id v w at refl refl r.gone;
         longest = (id, w, set_at s.views id v w at, refl);
+        no_others = λ f. omega (arith, r.no_others f, calls_set f s.views id v w at);
         unmade = λ place far. r.unmade place (omega (arith, far, length-set s.views id w));
         whole = omega (arith, total_set s.views id v w at, r.whole);
       }

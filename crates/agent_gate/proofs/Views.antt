@@ -1,5 +1,7 @@
 -- The views of all passes, one of which changes.
-use Rattle.std.proofs.Common.{◌≡◌, ◌≢◌, ◌⊎◌, ℕ, zero, suc, ◌+◌, ◌<◌, ◌≤◌, Bool, true, false, List, [], ◌∷◌, ◌++◌, length, set, Option, Some, None, IfSome, refl, ap, sym, ◌∙◌, subst, inl, inr, ⊎_elim, arith}
+use Rattle.std.proofs.Common.{◌≡◌, ◌≢◌, ◌⊎◌, ℕ, zero, suc, ◌+◌, ◌<◌, ◌≤◌, Bool, true, false, List, [], ◌∷◌, ◌++◌, length, set, sum_by, Option, Some, None, IfSome, refl, ap, sym, ◌∙◌, subst, inl, inr, ⊎_elim, arith, append_assoc}
+use Rattle.std.proofs.lemmas.List.{append-nil}
+use Rattle.std.proofs.lemmas.List.Sums.{sum_by-append}
 use mathlib.Core.Logic.{dite}
 use mathlib.Core.Option.{some, some-injective, some-ne-none}
 use native.Mathlib.Decide.{ℕ_discrete}
@@ -8,7 +10,8 @@ use Rattle.atomic_table.proofs.Lists.{at_set, at_longer, set_else}
 use Rattle.agent_gate.specs.declared.history.Entry.{Entry}
 use Rattle.agent_gate.specs.declared.knows.Gone.{Gone}
 use Rattle.agent_gate.specs.declared.knows.Knows.{Knows}
-use Rattle.agent_gate.specs.Rules.{total, Fits, IsGone, AreGone}
+use Rattle.agent_gate.specs.Rules.{total, all_calls, calls_of_gone, Fits, IsGone, AreGone}
+use Rattle.agent_gate.specs.Steps.{ended, joined}
 use Rattle.agent_gate.proofs.Beginnings.{prefix_more, calls_others}
 
 pub if_some : {X : Type 0} (P : X → Type 0) (x : Option X) → ((o : X) → x ≡ Some o → P o) → IfSome x P
@@ -40,6 +43,10 @@ module _ {A : Type 0} where
   below_length (x ∷ xs) zero a e = omega arith
   below_length (x ∷ xs) (suc i) a e = let h = below_length xs i a e in omega (arith, h)
 
+gone_calls_append : {T : Type 0} (gs gs' : List (Gone T)) → calls_of_gone (gs ++ gs') ≡ calls_of_gone gs ++ calls_of_gone gs'
+gone_calls_append [] gs' = refl
+gone_calls_append (g ∷ gs) gs' = ap (λ l. g.calls ++ l) (gone_calls_append gs gs') ∙ sym (append_assoc g.calls (calls_of_gone gs) (calls_of_gone gs'))
+
 module _ {A T : Type 0} where
   pub total_set : (l : List (Knows A T)) (j : ℕ) (v w : Knows A T) → get_elem? l j ≡ some v → total (set l j w) + v.parts ≡ total l + w.parts
   total_set [] j v w e = absurd (some-ne-none v (sym e))
@@ -62,6 +69,68 @@ module _ {A T : Type 0} where
   two_of_total (x ∷ xs) (suc j) zero v u n e d = omega (arith, ap (λ (y : Knows A T). y.parts) (some-injective x u d), part_of_total xs j v e)
   two_of_total (x ∷ xs) (suc j) (suc k) v u n e d = omega (arith, two_of_total xs j k v u (λ h. n (ap suc h)) e d)
 
+  -- what the calls weigh that a view tells of
+  abbrev pub told : (Entry T → ℕ) → Knows A T → ℕ
+  told f v = sum_by f v.calls + sum_by f (calls_of_gone v.gone)
+
+  told_all : (f : Entry T → ℕ) (v : Knows A T) (vs : List (Knows A T)) → sum_by f (all_calls (v ∷ vs)) ≡ told f v + sum_by f (all_calls vs)
+  told_all f v vs = omega (arith, sum_by-append f v.calls (calls_of_gone v.gone ++ all_calls vs), sum_by-append f (calls_of_gone v.gone) (all_calls vs))
+
+  pub calls_set : (f : Entry T → ℕ) (l : List (Knows A T)) (j : ℕ) (v w : Knows A T) → get_elem? l j ≡ some v → sum_by f (all_calls (set l j w)) + told f v ≡ sum_by f (all_calls l) + told f w
+  calls_set f [] j v w e = absurd (some-ne-none v (sym e))
+  calls_set f (x ∷ xs) zero v w e = omega (arith, ap (λ (k : Knows A T). told f k) (some-injective x v e), told_all f x xs, told_all f w xs)
+  calls_set f (x ∷ xs) (suc j) v w e = omega (arith, calls_set f xs j v w e, told_all f x xs, told_all f x (set xs j w))
+
+  pub calls_end : (f : Entry T → ℕ) (l : List (Knows A T)) (w : Knows A T) → sum_by f (all_calls (l ++ w ∷ [])) ≡ sum_by f (all_calls l) + told f w
+  calls_end f [] w = omega (arith, told_all f w [])
+  calls_end f (x ∷ xs) w = omega (arith, calls_end f xs w, told_all f x xs, told_all f x (xs ++ w ∷ []))
+
+  abbrev pub IdleIn : List (Knows A T) → Type 0
+  IdleIn l = (j : ℕ) (u : Knows A T) → get_elem? l j ≡ some u → u.parts ≡ 0 → (u.calls ≡ []) × (calls_of_gone u.gone ≡ [])
+
+  idle_tells : (f : Entry T → ℕ) (u : Knows A T) → (u.calls ≡ []) × (calls_of_gone u.gone ≡ []) → told f u ≡ 0
+  idle_tells f u none = omega (arith, ap (λ l. sum_by f l) none.0, ap (λ l. sum_by f l) none.1)
+
+  idle_all : (f : Entry T → ℕ) (l : List (Knows A T)) → IdleIn l → total l ≡ 0 → sum_by f (all_calls l) ≡ 0
+  idle_all f [] idle none = refl
+  idle_all f (x ∷ xs) idle none = omega (arith, told_all f x xs, idle_tells f x (idle 0 x refl (omega (arith, none))), idle_all f xs (λ j u e. idle (suc j) u e) (omega (arith, none)))
+
+  -- the view that has all parts tells of all calls
+  pub calls_of_all : (f : Entry T → ℕ) (l : List (Knows A T)) (j : ℕ) (v : Knows A T) → IdleIn l → get_elem? l j ≡ some v → v.parts ≡ total l → sum_by f (all_calls l) ≡ told f v
+  calls_of_all f [] j v idle e all = absurd (some-ne-none v (sym e))
+  calls_of_all f (x ∷ xs) zero v idle e all =
+      let same : x ≡ v = some-injective x v e in
+      omega (arith, told_all f x xs, ap (λ (k : Knows A T). told f k) same, idle_all f xs (λ k u d. idle (suc k) u d) (omega (arith, all, ap (λ (k : Knows A T). k.parts) same)))
+  calls_of_all f (x ∷ xs) (suc j) v idle e all =
+      let less = part_of_total xs j v e in
+      omega (arith, told_all f x xs, idle_tells f x (idle 0 x refl (omega (arith, all, less))), calls_of_all f xs j v (λ k u d. idle (suc k) u d) e (omega (arith, all, less)))
+
+  -- what ends leaves its calls
+  pub ended_calls : (x : Option A) (number : ℕ) (calls : List (Entry T)) → (x ≡ None → calls ≡ []) → calls_of_gone (ended x number calls) ≡ calls
+  ended_calls (Some o) number calls note = append-nil calls
+  ended_calls None number calls note = sym (note refl)
+
+  pub joined_calls : (v w : Knows A T) → (w.opening ≡ None → w.calls ≡ []) → calls_of_gone (joined v w).gone ≡ calls_of_gone v.gone ++ (calls_of_gone w.gone ++ w.calls)
+  joined_calls v w note =
+      let last : List (Gone T) = ended w.opening w.number w.calls in
+      gone_calls_append v.gone (w.gone ++ last) ∙ ap (λ l. calls_of_gone v.gone ++ l) (gone_calls_append w.gone last ∙ ap (λ l. calls_of_gone w.gone ++ l) (ended_calls w.opening w.number w.calls note))
+
+  -- a join keeps what is told
+  pub joined_tells : (f : Entry T → ℕ) (v w : Knows A T) → (w.opening ≡ None → w.calls ≡ []) → told f (joined v w) ≡ told f v + told f w
+  joined_tells f v w note = omega (
+    arith,
+    ap (λ l. sum_by f l) (joined_calls v w note),
+    sum_by-append f (calls_of_gone v.gone) (calls_of_gone w.gone ++ w.calls),
+    sum_by-append f (calls_of_gone w.gone) w.calls,
+  )
+
+  pub joined_idle : (v w : Knows A T) → (w.opening ≡ None → w.calls ≡ []) → (v.parts ≡ 0 → (v.calls ≡ []) × (calls_of_gone v.gone ≡ [])) → (w.parts ≡ 0 → (w.calls ≡ []) × (calls_of_gone w.gone ≡ []))
+      → (joined v w).parts ≡ 0 → ((joined v w).calls ≡ []) × (calls_of_gone (joined v w).gone ≡ [])
+  joined_idle v w note idle idle' none =
+      let a = idle (omega (arith, none)) in
+      let b = idle' (omega (arith, none)) in
+      (a.0, joined_calls v w note ∙ (ap (λ l. l ++ (calls_of_gone w.gone ++ w.calls)) a.1 ∙ (ap (λ l. l ++ w.calls) b.1 ∙ b.0)))
+
   -- each view fits where the changed one does, and the others do as before
   pub each_set : (opening : A) (l : List (Knows A T)) (id : ℕ) (w : Knows A T) (h h' : List (Entry T))
       → ((place : ℕ) (v : Knows A T) → get_elem? l place ≡ some v → Fits opening h place v)
@@ -81,6 +150,8 @@ module _ {A T : Type 0} where
     met = f.met;
     owner = f.owner;
     calls = λ o is. ((f.calls o is).0, calls_others place h e other ∙ (f.calls o is).1);
+    note = f.note;
+    idle = f.idle;
   }
 
   pub all_gone : (l l' : List (Knows A T)) (h h' : List (Entry T)) → ((g : Gone T) → IsGone l h g → IsGone l' h' g)

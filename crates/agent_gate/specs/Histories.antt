@@ -1,5 +1,5 @@
 -- Histories of turns, the oldest entry first.
-use Rattle.std.specs.Prelude.{◌≡◌, ℕ, ◌+◌, List, [], ◌∷◌, ◌++◌, length, if◌then◌else◌, nat_lt, ◌==◌}
+use Rattle.std.specs.Prelude.{◌≡◌, ℕ, ◌+◌, List, [], ◌∷◌, ◌++◌, length, sum_by, if◌then◌else◌, nat_lt, ◌==◌}
 use mathlib.Core.List.{IsPrefix}
 use Rattle.agent_gate.specs.declared.history.Entry.{Entry}
 
@@ -20,6 +20,10 @@ module _ {T : Type 0} where
   -- the longer of two histories
   abbrev pub longer : List (Entry T) → List (Entry T) → List (Entry T)
   longer xs ys = if nat_lt (length xs) (length ys) then ys else xs
+
+  -- the same entries, each as often: however entries are weighed, the one list weighs what the other does
+  abbrev pub HaveTheSame : List (Entry T) → List (Entry T) → Type 0
+  HaveTheSame xs ys = (weight : Entry T → ℕ) → sum_by weight xs ≡ sum_by weight ys
 
 -- A legal history: the calls of each pass are numbered from 1, and some value stands for each beginning of the history
 pub record IsLegal {A T : Type 0} (stands : A → List (Entry T) → A → Type 0) (opening : A) (history : List (Entry T)) : Type 0 where

@@ -3,8 +3,10 @@ use Rattle.std.specs.Prelude.{◌≡◌, ◌⊎◌, ℕ, ◌+◌, ◌<◌, false
 use mathlib.Core.List.{IsPrefix}
 use Rattle.atomic_table.specs.Seated.{TableId}
 use Rattle.agent_gate.specs.declared.history.Entry.{Entry}
+use Rattle.agent_gate.specs.declared.knows.Gone.{Gone}
 use Rattle.agent_gate.specs.declared.knows.Knows.{Knows}
-use Rattle.agent_gate.specs.Histories.{entry, calls_by, IsLegal}
+use Rattle.agent_gate.specs.Histories.{entry, calls_by, HaveTheSame, IsLegal}
+use Rattle.agent_gate.specs.Rules.{calls_of_gone}
 use Rattle.agent_gate.specs.Steps.{Sat, Sees}
 
 -- which gate it is, and the value that it was opened with
@@ -20,6 +22,9 @@ pub record PassView (A T : Type 0) : Type 0 where
   pub parts : ℕ
   pub history : List (Entry T)
   pub calls : List (Entry T)
+
+abbrev pub IsAmong : {T : Type 0} → Gone T → List (Gone T) → Type 0
+IsAmong {T} g gs = (before : List (Gone T)) × (after : List (Gone T)) × (gs ≡ before ++ g ∷ after)
 
 module _ {A T : Type 0} where
   abbrev pub pass_view : TableId → Knows A T → PassView A T
@@ -58,6 +63,20 @@ module _ {A T : Type 0} where
   parts_of [] = 0
   parts_of (p ∷ ps) = p.parts + parts_of ps
 
+  -- the calls of all passes
+  abbrev pub calls_of : List (PassView A T) → List (Entry T)
+  calls_of [] = []
+  calls_of (p ∷ ps) = p.calls ++ calls_of ps
+
+-- what a pass knows once others were joined to the first: all that each had seen, the calls of each, and the parts of all
+pub record HasGathered {A T : Type 0} (opening : A) (first : PassView A T) (others : List (PassView A T)) (v : Knows A T) : Type 0 where
+  pub outside : v.inside ≡ false
+  pub owner : v.opening ≡ Some opening
+  pub itself : (v.number ≡ first.number) × (v.calls ≡ first.calls) × IsPrefix first.history v.seen
+  pub parts : v.parts ≡ first.parts + parts_of others
+  pub gone : HaveTheSame (calls_of_gone v.gone) (calls_of others)
+  pub each : All (λ p. IsPrefix p.history v.seen × IsAmong (record { number = p.number; calls = p.calls }) v.gone) others
+
 -- what a pass has seen is legal, and of its own calls it has all and each once
 abbrev pub IsOwnHistory : {A T : Type 0} → (A → List (Entry T) → A → Type 0) → PassView A T → Type 0
 IsOwnHistory stands p = IfSome p.opening (λ o. IsLegal stands o p.history × (calls_by p.number p.history ≡ p.calls))
@@ -70,11 +89,13 @@ pub record IsPass {A T : Type 0} (stands : A → List (Entry T) → A → Type 0
   pub parts_are : parts ≡ me.0.parts
   pub part : 0 < me.0.parts
   pub sees : Sees stands me.0
+  pub none_gone : me.0.gone ≡ []
 
--- The value stands for the whole history, which is legal. It begins with what each of the passes had seen, and has the calls of each and no others of its number
+-- The value stands for the whole history, which is legal. It begins with what each of the passes had seen, has the calls of each and no others of its number, and has no entries but these calls
 pub record IsWhole {A T : Type 0} (stands : A → List (Entry T) → A → Type 0) (opening : A) (passes : List (PassView A T)) (value : A) (turns : ℕ) : Type 0 where
   pub history : List (Entry T)
   pub value_stands : stands opening history value
   pub legal : IsLegal stands opening history
   pub count : turns ≡ length history
   pub begins : All (λ p. IsPrefix p.history history × (calls_by p.number history ≡ p.calls)) passes
+  pub no_others : HaveTheSame history (calls_of passes)

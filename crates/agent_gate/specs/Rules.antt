@@ -1,5 +1,5 @@
 -- The rule of the gate: one word, one slot, and what each pass knows.
-use Rattle.std.specs.Prelude.{◌≡◌, ◌⊎◌, ℕ, ◌+◌, ◌*◌, ◌<◌, ◌≤◌, true, false, List, [], ◌∷◌, length, Option, Some, None}
+use Rattle.std.specs.Prelude.{◌≡◌, ◌⊎◌, ℕ, ◌+◌, ◌*◌, ◌<◌, ◌≤◌, true, false, List, [], ◌∷◌, ◌++◌, length, Option, Some, None}
 use mathlib.Core.Option.{some, none}
 use mathlib.Core.List.{IsPrefix}
 use lib.ListN.{get_elem?}
@@ -7,7 +7,7 @@ use Rattle.atomic_table.specs.Table.{State}
 use Rattle.agent_gate.specs.declared.history.Entry.{Entry}
 use Rattle.agent_gate.specs.declared.knows.Gone.{Gone}
 use Rattle.agent_gate.specs.declared.knows.Knows.{Knows}
-use Rattle.agent_gate.specs.Histories.{calls_by, IsLegal}
+use Rattle.agent_gate.specs.Histories.{calls_by, HaveTheSame, IsLegal}
 
 -- all the parts that there are
 abbrev pub all_parts : ℕ
@@ -17,20 +17,32 @@ all_parts = 4294967296
 abbrev pub most_turns : ℕ
 most_turns = 9223372036854775807
 
+-- the calls of passes that are gone
+abbrev pub calls_of_gone : {T : Type 0} → List (Gone T) → List (Entry T)
+calls_of_gone [] = []
+calls_of_gone (g ∷ gs) = g.calls ++ calls_of_gone gs
+
 module _ {A T : Type 0} where
   -- the parts of all views
   abbrev pub total : List (Knows A T) → ℕ
   total [] = 0
   total (v ∷ vs) = v.parts + total vs
 
+  -- the calls that all views tell of: each pass's own, and those of the passes that are gone
+  abbrev pub all_calls : List (Knows A T) → List (Entry T)
+  all_calls [] = []
+  all_calls (v ∷ vs) = v.calls ++ (calls_of_gone v.gone ++ all_calls vs)
+
   -- What the view at a place fits to: what it has seen is a beginning of the history, and so are what it had seen and what it met at the last join, of what it has seen.
-  -- A pass's number is its place; its calls are all that the history has of it, and it has seen them all
+  -- A pass's number is its place; its calls are all that the history has of it, and it has seen them all. A note has no calls, and a view with no part tells of none
   pub record Fits (opening : A) (history : List (Entry T)) (place : ℕ) (v : Knows A T) : Type 0 where
     pub seen : IsPrefix v.seen history
     pub own : IsPrefix v.own v.seen
     pub met : IsPrefix v.met v.seen
     pub owner : (o : A) → v.opening ≡ Some o → (o ≡ opening) × (v.number ≡ place)
     pub calls : (o : A) → v.opening ≡ Some o → (calls_by place v.seen ≡ v.calls) × (calls_by place history ≡ v.calls)
+    pub note : v.opening ≡ None → v.calls ≡ []
+    pub idle : v.parts ≡ 0 → (v.calls ≡ []) × (calls_of_gone v.gone ≡ [])
 
   -- a pass that was joined to another: its place has a note, and its calls are all that the history has of it
   abbrev pub IsGone : List (Knows A T) → List (Entry T) → Gone T → Type 0
@@ -62,7 +74,7 @@ module _ {A T : Type 0} (stands : A → List (Entry T) → A → Type 0) (openin
     pub has_part : 0 < view.parts
     pub alone : (other : ℕ) (v : Knows A T) → get_elem? s.views other ≡ some v → v.inside ≡ true → other ≡ place
 
--- There is one history, which is legal, and is the longest that any view has seen; a number that was not yet made has no entry in it; all views have the 2^32 parts
+-- There is one history, which is legal, and is the longest that any view has seen; it has the calls that all views tell of and no others; a number that was not yet made has no entry in it; all views have the 2^32 parts
 pub record IsGate {A T : Type 0} (stands : A → List (Entry T) → A → Type 0) (opening : A) (s : State (Option A) (Knows A T)) : Type 0 where
   pub history : List (Entry T)
   pub slot : IsFull stands opening s history ⊎ IsEmpty stands opening s history
@@ -70,5 +82,6 @@ pub record IsGate {A T : Type 0} (stands : A → List (Entry T) → A → Type 0
   pub each : (place : ℕ) (v : Knows A T) → get_elem? s.views place ≡ some v → Fits opening history place v
   pub gone : (place : ℕ) (v : Knows A T) → get_elem? s.views place ≡ some v → AreGone s.views history v.gone
   pub longest : (place : ℕ) × (v : Knows A T) × (get_elem? s.views place ≡ some v) × (v.seen ≡ history)
+  pub no_others : HaveTheSame history (all_calls s.views)
   pub unmade : (place : ℕ) → length s.views ≤ place → calls_by place history ≡ []
   pub whole : total s.views ≡ all_parts

@@ -5,7 +5,7 @@ ghost use mathlib.Core.List.{IsPrefix};
 ghost use Rattle.agent_gate.specs.declared.history.Entry.{Entry};
 ghost use Rattle.agent_gate.specs.Histories.{entry, longer};
 ghost use Rattle.agent_gate.specs.Steps.{Sat, Sees, backed, entered, joined, left, less, newcomer, note};
-ghost use Rattle.agent_gate.specs.Passes.{IsOwnHistory, IsPassOf, Met, SawOn, TookTurn, with_parts};
+ghost use Rattle.agent_gate.specs.Passes.{HasGathered, IsOwnHistory, IsPassOf, IsWhole, Met, SawOn, TookTurn, parts_of, with_parts};
 
 use crate::knows::Knows;
 use crate::pass::Pass;
@@ -29,13 +29,27 @@ pub struct Gate<A: Sequential> {
 
 impl<A: Sequential> Model for Gate<A> {
     ghost use Rattle.std.specs.Prelude.{◌≡◌};
-    ghost use Rattle.agent_gate.specs.Passes.{GateView};
+    ghost use Rattle.agent_gate.specs.Passes.{HasGathered, GateView};
 
     ghost Value = { GateView A };
 
     ghost view = { λ g. record { gate = g.table.shared.table_id; opening = g.table.shared.key.value } };
 
     ghost invariant = { λ g. (g.table.shared.table_id.words ≡ 1) × (g.table.shared.table_id.slots ≡ 1) };
+}
+
+/// What is left of a gate: the value after the whole history, and the history's length.
+#[derive(Drop)]
+pub struct Closed<A: Drop> {
+    pub value: A,
+    pub turns: u64,
+}
+
+/// A gate that isn't closed, since the passes that were given don't have all parts.
+#[derive(Drop)]
+pub struct Unclosed<A: Sequential> {
+    pub gate: Gate<A>,
+    pub passes: Vec<Pass<A>>,
 }
 
 impl<A: Sequential> Gate<A> {
@@ -217,6 +231,47 @@ impl<A: Sequential> Gate<A> {
         *theirs = most;
     }
 
+    // Joins all passes to the first, which knows then what each knew.
+    fn gather(
+        &self,
+        first: Pass<A>,
+        mut others: Vec<Pass<A>>,
+    ) -> Seat<Option<A>, Knows<A, (A::Asked, A::Reply)>>
+        requires { IsPassOf self.now first × All (λ p. IsPassOf self.now p) others.items }
+        ensures gate { (result.table_id ≡ self.now.gate) × (result.me.1 ≡ []) }
+        ensures gathered { HasGathered self.now.opening first others.items result.me.0 }
+    {
+        let Pass { mut seat, .. } = first;
+        while let Some(pass) = others.pop() {
+            let Pass { seat: other, .. } = pass;
+            self.hear(&mut seat, other);
+        }
+        seat
+    }
+
+    /// Ends the gate with all its passes, and gives the value after the whole history. Exactly where the passes don't have
+    /// all 2^32 parts, so that one is missing, gate and passes come back.
+    pub fn close(self, mut passes: Vec<Pass<A>>) -> Result<Closed<A>, Unclosed<A>>
+        requires { All (λ p. IsPassOf self p) passes.items }
+        ensures closed { IfOk result (λ closed. (parts_of passes.items ≡ 2 ^ 32) × IsWhole A.stands self.opening passes.items closed.value closed.turns) }
+        ensures unclosed { IfErr result (λ unclosed. (parts_of passes.items ≢ 2 ^ 32) × (unclosed.gate ≡ self) × (unclosed.passes.items ≡ passes.items)) }
+    {
+        let is_whole = sum_of_parts(passes.as_slice()) == ALL_PARTS;
+        if !is_whole {
+            return Err(Unclosed { gate: self, passes });
+        }
+        let Some(first) = passes.pop() else {
+            unreachable!()
+        };
+        let seat = self.gather(first, passes);
+        let Gate { table } = self;
+        let mut closed = table.close_with(seat);
+        let turns = closed.word(0) / 2;
+        let value = closed.take(0).unwrap();
+        closed.free();
+        Ok(Closed { value, turns })
+    }
+
     /// How many turns the pass has seen.
     pub fn seen(&self, pass: &Pass<A>) -> u64
         requires { IsPassOf self.now pass.now }
@@ -224,4 +279,15 @@ impl<A: Sequential> Gate<A> {
     {
         pass.turns
     }
+}
+
+// The parts of these passes, or 2^64 - 1 where they have more.
+fn sum_of_parts<A: Sequential>(passes: &[Pass<A>]) -> u64
+    ensures { result ≡ min (parts_of passes.now) (2 ^ 64 - 1) }
+{
+    let mut sum = 0u64;
+    for pass in passes {
+        sum = sum.saturating_add(pass.parts());
+    }
+    sum
 }

@@ -8,7 +8,7 @@ mod pass;
 mod rule;
 mod sequential;
 
-pub use gate::{ALL_PARTS, Gate};
+pub use gate::{ALL_PARTS, Closed, Gate, Unclosed};
 pub use history::Entry;
 pub use knows::{Gone, Knows};
 pub use pass::Pass;

@@ -1,7 +1,3 @@
-mod Pages
-mod Plans
-mod Writable
-mod Turns
 mod Callers
 mod GoodCalls
 mod Told

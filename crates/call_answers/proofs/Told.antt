@@ -1,21 +1,15 @@
 -- What is answered, whatever the view.
 use Rattle.std.proofs.Common.{ℕ, List, Option, Some, None, Result, Ok, Err}
-use Rattle.std.specs.Prelude.{IfOk, IfSome, IsSomeAnd}
+use Rattle.std.specs.Prelude.{IfOk, IfSome}
 use Rattle.ivy_base.specs.declared.memory.Memory.{Memory}
 use Rattle.ivy_base.specs.declared.operation.Moment.{Moment}
 use Rattle.log_model.specs.View.{View}
-use Rattle.nfs3_replies.specs.Writable.{IsWritable}
-use Rattle.nfs_laws.specs.Lengths.{AnswersFit, PlansFit, FinishesFit, RecordsMakeNames, RecordsMakeShortLinks}
 use Rattle.play_model.specs.Blocks.{Heads}
 use Rattle.play_model.specs.World.{Participant}
 use Rattle.turn_serving.specs.declared.serving.Asked.{Asked}
-use Rattle.turn_serving.specs.Serving.{asked_of}
-use Rattle.log_agent.specs.Turns.{TakesTurn}
-use Rattle.log_agent.specs.declared.agent.Turned.{Turned}
 use Rattle.call_answers.specs.Answered.{IsAnswered}
 use Rattle.call_answers.specs.Asking.{IsAskedWell}
 use Rattle.call_answers.specs.declared.answering.Answered.{Answered}
-use Rattle.call_answers.proofs.Turns.{writable_turn}
 
 module _ (blocks : List (List ℕ)) (heads : Heads) (now : Moment) (old new : Participant) where
   served_view : (view : Option View) (message : List ℕ) (xid : ℕ) (asked : Asked) (given : Answered)
@@ -30,10 +24,3 @@ module _ (blocks : List (List ℕ)) (heads : Heads) (now : Moment) (old new : Pa
       → IsAskedWell message xid asked → IfOk r (λ given. IfSome view (λ view. IsAnswered blocks heads view now message old new given))
   served (Ok given) view message xid asked told well = served_view view message xid asked given told well
   served (Err fault) view message xid asked told well = tt
-
-pub writable_in : (answers : AnswersFit) (plans : PlansFit) (finishes : FinishesFit) (names : RecordsMakeNames) (links : RecordsMakeShortLinks)
-    (blocks : List (List ℕ)) (heads : Heads) (now : Moment) (old new : Participant) (view : Option View) (asked : Asked) (turned : Turned)
-    → IsSomeAnd view (λ view. Unit {0}) → IfSome view (λ view. TakesTurn blocks heads view (asked_of asked) now old new turned) → IsWritable turned.reply
-writable_in answers plans finishes names links blocks heads now old new None asked turned some takes = absurd some
-writable_in answers plans finishes names links blocks heads now old new (Some view) asked turned some takes =
-    writable_turn answers plans finishes names links blocks heads view (asked_of asked) now old new turned takes

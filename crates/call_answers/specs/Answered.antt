@@ -9,7 +9,7 @@ use Rattle.turn_model.specs.Candidates.{AreCandidates}
 use Rattle.turn_model.specs.Turn.{Asked, Candidate, Turned, IsTurn, own_seq}
 use Rattle.wire_model.specs.Rpc.{CallMessage, IsCall, Success, SystemError, reply}
 use Rattle.play_model.specs.Blocks.{Heads, heads_at, newest_stamp}
-use Rattle.play_model.specs.Calls.{IsByMessage, Asks, agent_of, own_beyond, handle_given}
+use Rattle.play_model.specs.Calls.{IsByMessage, Asks, agent_of, own_beyond, given_of, nothing_given}
 use Rattle.play_model.specs.World.{Participant}
 use Rattle.log_agent.specs.Turns.{stamp_of}
 use Rattle.call_answers.specs.declared.answering.Answered.{Answered}
@@ -17,12 +17,12 @@ use Rattle.call_answers.specs.declared.answering.Answered.{Answered}
 -- the call is answered by its message alone, and the participant is as it was
 pub record IsAnsweredAlone (message : List ℕ) (old new : Participant) (given : Answered) : Type 0 where
   pub by : IsByMessage message given.reply
-  pub handle : given.handle ≡ None
+  pub left : given.left ≡ nothing_given
   pub none_written : given.blocks.items ≡ []
   pub no_head : given.newest ≡ None
   pub same : new ≡ old
 
--- by a turn: the reply message, the handle that it made or found, and the blocks of what was written
+-- by a turn: the reply message, what it leaves to later lines, and the blocks of what was written
 pub record IsAnsweredByTurn (blocks : List (List ℕ)) (heads : Heads) (view : View) (now : Moment) (message : List ℕ) (old new : Participant) (given : Answered) : Type 0 where
   pub xid : ℕ
   pub asked : Asked
@@ -33,7 +33,7 @@ pub record IsAnsweredByTurn (blocks : List (List ℕ)) (heads : Heads) (view : V
   pub is_turn : IsTurn (agent_of old view) old.known candidates asked now turned
   pub after : new ≡ record old { known = turned.set; held = turned.set }
   pub reply_is : given.reply ≡ Some (reply xid (Success (result turned.reply)))
-  pub handle : given.handle ≡ handle_given turned.reply
+  pub left : given.left ≡ given_of turned.reply
   pub blocks_are : given.blocks.items ≡ blocks_of (own_beyond old.own (own_seq old.own old.known) turned.set)
   pub newest : option_map stamp_of given.newest ≡ newest_stamp (own_beyond old.own (own_seq old.own old.known) turned.set)
 
@@ -42,7 +42,7 @@ pub record LacksMemory (message : List ℕ) (old new : Participant) (given : Ans
   pub call : CallMessage
   pub is_call : IsCall message call
   pub reply_is : given.reply ≡ Some (reply call.xid SystemError)
-  pub handle : given.handle ≡ None
+  pub left : given.left ≡ nothing_given
   pub none_written : given.blocks.items ≡ []
   pub no_head : given.newest ≡ None
   pub same : new ≡ old

@@ -11,6 +11,7 @@ use crate::served::serve_call;
 use block_map::{Block, Blocks, Heads};
 use ivy_base::{Bytes, Memory, Moment};
 use log_agent::Agent;
+use play_model::Given;
 use std::alloc::Global;
 use turn_records::Before;
 
@@ -19,8 +20,8 @@ use turn_records::Before;
 pub struct Answered {
     /// The reply message; none to what is no call.
     pub reply: Option<Bytes>,
-    /// The file handle that the reply made or found.
-    pub handle: Option<Bytes>,
+    /// What the reply leaves to later lines.
+    pub left: Given,
     /// The blocks of the records that were written, in their order.
     pub blocks: Vec<Block>,
     /// The newest record that was written.

@@ -1,10 +1,12 @@
 //! Replies that are a head alone.
 
 ghost use Rattle.std.specs.Prelude.{◌≡◌, ◌≤◌, [], IfOk, None};
+ghost use Rattle.play_model.specs.Calls.{nothing_given};
 ghost use Rattle.rpc_wire.specs.ReplyHead.{head_bytes};
 
 use crate::answering::Answered;
 use ivy_base::{Bytes, Memory};
+use play_model::Given;
 use rpc_wire::{LONGEST_HEAD, ReplyHead, write_head};
 use std::alloc::Global;
 use xdr_codec::XdrWrite;
@@ -32,13 +34,16 @@ pub fn head_alone(mut out: XdrWrite, xid: u32, head: &ReplyHead) -> Bytes
 /// That reply, where no turn was taken.
 pub fn without_turn(alloc: Global, reply: Option<Bytes>) -> Answered
     ensures reply { result.reply ≡ reply }
-    ensures handle { result.handle ≡ None }
+    ensures left { result.left ≡ nothing_given }
     ensures blocks { result.blocks.items ≡ [] }
     ensures newest { result.newest ≡ None }
 {
     Answered {
         reply,
-        handle: None,
+        left: Given {
+            handle: None,
+            verifier: None,
+        },
         blocks: Vec::new(alloc),
         newest: None,
     }

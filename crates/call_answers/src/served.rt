@@ -4,8 +4,7 @@ ghost use Rattle.std.specs.Prelude.{◌≡◌, ◌≤◌, ℕ, [], List, IfOk, I
 ghost use Rattle.log_model.specs.Spelling.{IsMoment};
 ghost use Rattle.nfs_model.specs.Arguments.{ArgumentsFit};
 ghost use Rattle.nfs_model.specs.Results.{result as bytes_of};
-ghost use Rattle.nfs3_replies.specs.Writable.{IsWritable};
-ghost use Rattle.play_model.specs.Calls.{Asks, handle_given};
+ghost use Rattle.play_model.specs.Calls.{Asks, handle_given, verifier_given, given_of};
 ghost use Rattle.rpc_wire.specs.Callers.{identity_of};
 ghost use Rattle.turn_serving.specs.Serving.{asked_of};
 ghost use Rattle.view_refresh.specs.Refreshed.{OthersStand};
@@ -18,9 +17,9 @@ use crate::heads::{head_alone, without_turn};
 use block_map::{Blocks, Heads};
 use ivy_base::{Bytes, Memory, Moment};
 use log_agent::{Agent, Turned};
-use nfs_laws::results_are_short;
 use nfs_model::Reply;
 use nfs3_replies::put_reply;
+use play_model::Given;
 use rpc_wire::{LONGEST_HEAD, ReplyHead, write_head};
 use std::alloc::Global;
 use turn_serving::Asked;
@@ -48,7 +47,6 @@ pub fn serve_call(
     ensures ok { IfOk result (λ given. IfSome agent.old.view (λ view. (message : List ℕ) → IsAskedWell message xid asked.now → IsAnswered blocks.now heads.now view now message agent.old agent.new given)) }
     ensures stand { OnOk result (OthersStand blocks.now agent.new.own agent.new.known) }
 {
-    results_are_short();
     match agent.turn(alloc, blocks, heads, asked, now) {
         Ok(turned) => answered_by(alloc, out, xid, turned),
         Err(_) => {
@@ -60,19 +58,18 @@ pub fn serve_call(
 
 /// What the turn answers to the call `xid`.
 fn answered_by(alloc: Global, out: XdrWrite, xid: u32, turned: Turned) -> Result<Answered, Memory>
-    requires writable { IsWritable turned.reply }
     requires empty { out.written ≡ [] }
     requires room { LONGEST_HEAD ≤ out.spare }
     ensures reply { IfOk result (λ given. given.reply ≡ Some (reply_bytes xid (Success (bytes_of turned.reply)))) }
-    ensures handle { IfOk result (λ given. given.handle ≡ handle_given turned.reply) }
+    ensures left { IfOk result (λ given. given.left ≡ given_of turned.reply) }
     ensures blocks { IfOk result (λ given. given.blocks.items ≡ turned.blocks.items) }
     ensures newest { IfOk result (λ given. given.newest ≡ turned.newest) }
 {
-    let handle = handle_of(alloc, &turned.reply)?;
+    let left = left_by(alloc, &turned.reply)?;
     let reply = reply_of(out, xid, &turned.reply)?;
     Ok(Answered {
         reply: Some(reply),
-        handle,
+        left,
         blocks: turned.blocks,
         newest: turned.newest,
     })
@@ -80,7 +77,6 @@ fn answered_by(alloc: Global, out: XdrWrite, xid: u32, turned: Turned) -> Result
 
 /// The message of success with that result. The error is want of memory.
 fn reply_of(mut out: XdrWrite, xid: u32, reply: &Reply) -> Result<Bytes, Memory>
-    requires writable { IsWritable reply.now }
     requires empty { out.written ≡ [] }
     requires room { LONGEST_HEAD ≤ out.spare }
     ensures { IfOk result (λ bytes. bytes ≡ reply_bytes xid (Success (bytes_of reply.now))) }
@@ -88,6 +84,28 @@ fn reply_of(mut out: XdrWrite, xid: u32, reply: &Reply) -> Result<Bytes, Memory>
     write_head(&mut out, xid, &ReplyHead::Success);
     put_reply(&mut out, reply)?;
     Ok(out.into_bytes())
+}
+
+/// What the reply leaves to later lines: a handle, or a verifier. The error is want of memory.
+fn left_by(alloc: Global, reply: &Reply) -> Result<Given, Memory>
+    ensures { IfOk result (λ given. given ≡ given_of reply.now) }
+{
+    Ok(Given {
+        handle: handle_of(alloc, reply)?,
+        verifier: verifier_of(reply),
+    })
+}
+
+/// The verifier of the page of a directory that the reply is, if it is one.
+fn verifier_of(reply: &Reply) -> Option<[u8; 8]>
+    ensures { result ≡ verifier_given reply.now }
+{
+    match reply {
+        Reply::Directory { verifier, .. } | Reply::DirectoryPlus { verifier, .. } => Some(
+            *verifier,
+        ),
+        _ => None,
+    }
 }
 
 /// A copy of the handle that the reply made or found, if any. The error is want of memory.

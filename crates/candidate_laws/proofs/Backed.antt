@@ -18,9 +18,9 @@ use Rattle.log_model.proofs.Vectors.{stamp_at-with_entry, later_or_reaches}
 use Rattle.log_model.proofs.Weights.{joins_reach}
 use Rattle.log_model.specs.Standing.{Stand}
 use Rattle.log_model.specs.Spelling.{new_record, most_records}
-use Rattle.nfs_model.specs.Changing.{Plan, Refuse, Nothing, Operations, plan}
+use Rattle.nfs_model.specs.Changing.{is_changing, Plan, Refuse, Nothing, Operations, plan}
 use Rattle.turn_model.specs.Known.{IsUnderHead, IsBacked}
-use Rattle.turn_model.specs.Turn.{Agent, Asked, Turned, is_changing, own_seq, own_name, linked, appended, by_plan, turn_on}
+use Rattle.turn_model.specs.Turn.{Agent, Asked, Turned, own_seq, own_name, linked, appended, by_plan, turn_on}
 use Rattle.candidate_laws.specs.Verified.{AreAmong, KnownStaysBacked}
 
 -- ---- a front goes at least as far as each record of the set

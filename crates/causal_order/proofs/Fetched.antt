@@ -11,6 +11,7 @@ use Rattle.log_model.specs.Vector.{Vector, Stamp}
 use Rattle.log_model.specs.Record.{Record}
 use Rattle.log_model.specs.Spelling.{HasSpelling, IsEndOp}
 use Rattle.log_model.specs.Chain.{IsFirst}
+use Rattle.log_records.specs.declared.edge.Edge.{Edge}
 use Rattle.log_records.specs.Batches.{Batch, owner_of, stamp_in, EndsAt, Extends, GoesOnFrom}
 use Rattle.causal_order.specs.AtHand.{held_to, BeginsBy, IsLinked, IsFetched}
 use Rattle.causal_order.specs.Laws.{BatchesAreFetched}
@@ -34,7 +35,7 @@ nothing_ends : (t : Stamp) → EndsAt t [] → ⊥
 nothing_ends t ([], last, is, same) = cc
 nothing_ends t (b ∷ before, last, is, same) = cc
 
-linked : (view : View) (t : Stamp) (held : Option Stamp) (edge : Option Vector) (chain : List Record) → EndsAt t chain → GoesOnFrom view held edge chain → IsLinked view chain
+linked : (view : View) (t : Stamp) (held : Option Stamp) (edge : Option Edge) (chain : List Record) → EndsAt t chain → GoesOnFrom view held edge chain → IsLinked view chain
 linked view t held edge [] ends goes = nothing_ends t ends
 linked view t held edge (r ∷ rs) ends goes = (goes.0, opens r goes.0.spelled, goes.3)
 

@@ -3,10 +3,11 @@ use Rattle.std.proofs.Common.{◌≡◌, ℕ, ◌+◌, ◌≤◌, List, [], ◌�
 use Rattle.log_model.specs.View.{View}
 use Rattle.log_model.specs.Vector.{Vector, Stamp, reach}
 use Rattle.log_model.specs.Record.{Record}
+use Rattle.log_records.specs.declared.edge.Edge.{Edge}
 use Rattle.log_records.specs.Batches.{owner_of, stamp_in, EndsAt, IsSound, GoesOnFrom}
 use Rattle.causal_order.specs.AtHand.{IsLinked, BeginsBy, IsFetched, held_to}
 
-module _ (view : View) (n : ℕ) (edge : Option Vector) where
+module _ (view : View) (n : ℕ) (edge : Option Edge) where
   linked : (o : Option Stamp) (chain : List Record) (head : Stamp) → GoesOnFrom view o edge chain → EndsAt head chain → ((s : Stamp) → o ≡ Some s → 1 ≤ s.seq) → IsLinked view chain
   linked o [] head g e some = absurd (empty e.0 e.1 e.2)
     where
@@ -22,7 +23,7 @@ module _ (view : View) (n : ℕ) (edge : Option Vector) where
   begins (Some s) (r ∷ rs) g le = let next : r.seq ≡ s.seq + 1 = g.1 in omega (arith, next, le)
 
 -- where the batch was made over no more than is held
-pub sound_is_fetched : (view : View) (front : Vector) (held : List Record) (started : Vector) (edge : Option Vector) (head : Stamp) (chain : List Record)
+pub sound_is_fetched : (view : View) (front : Vector) (held : List Record) (started : Vector) (edge : Option Edge) (head : Stamp) (chain : List Record)
     → Contains view.members (owner_of chain) → reach (stamp_in started chain) ≤ held_to front held (owner_of chain)
     → ((s : Stamp) → stamp_in started chain ≡ Some s → 1 ≤ s.seq)
     → IsSound view started edge head chain → IsFetched view front held chain

@@ -11,6 +11,7 @@ use Rattle.log_model.specs.Rank.{record_cmp, front}
 use Rattle.log_model.specs.Closed as log
 use Rattle.log_model.specs.Closed.{IsCause}
 use Rattle.log_model.specs.Replay.{in_order}
+use Rattle.log_records.specs.declared.edge.Edge.{Edge}
 use Rattle.log_records.specs.Batches.{Batch, owner_of, IsBatch, AreUnder}
 use Rattle.causal_order.specs.Over.{IsClosed, IsClosedPart}
 use Rattle.causal_order.specs.AtHand.{held_to, BeginsBy, IsFetched}
@@ -38,7 +39,7 @@ FrontsJoin = (s t : List Record) → ((r q : Record) → Contains (s ++ t) r →
 -- The chains of a batch that were added under the view, are of its members, and don't begin above what is held are such as a
 -- closed part may be taken of.
 abbrev pub BatchesAreFetched : Type 0
-BatchesAreFetched = (view : View) (edges : Key → Option Vector) (batch : Batch) (front : Vector) (held : List Record) → IsBatch batch → AreUnder view edges batch
+BatchesAreFetched = (view : View) (edges : Key → Option Edge) (batch : Batch) (front : Vector) (held : List Record) → IsBatch batch → AreUnder view edges batch
     → AllByRecursion (λ c. Contains view.members (owner_of c.1)) batch.chains
     → AllByRecursion (λ c. BeginsBy (held_to front held (owner_of c.1)) c.1) batch.chains
     → AllByRecursion (λ c. IsFetched view front held c.1) batch.chains

@@ -1,2 +1,3 @@
 pub mod State
 pub mod Settled
+pub mod Laws

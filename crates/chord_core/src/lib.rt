@@ -5,16 +5,19 @@
 //! For the layers above: contracts see a [`Node`] as itself, r and its links, and each method is an equation in the
 //! words of `ring_model`: [`Node::answer`] gives the route of the definitions, [`Node::stabilise`] the renewed list,
 //! [`Node::notify`] what a notice leaves. They hold for any peers in any answer, also for peers that were never made.
-//! [`Node::settled`] makes a node of a settled ring. Where memory is short a node stays as it was. Definitions:
-//! `specs/State.antt`, `specs/Settled.antt`.
+//! [`Node::settled`] makes a node of a settled ring. Where memory is short a node stays as it was. By what nodes answer
+//! that know one peer at a place, look-ups find the owners of a key ([`answer_laws`]). Definitions: `specs/State.antt`,
+//! `specs/Settled.antt`; the laws: `specs/Laws.antt`.
 //!
 //! Costs, counted in comparisons of identifiers: a route takes one for each finger and entry of the list and for each
 //! peer that it is put behind; a settled node takes n log n to sort the members and log n for each finger.
 #![tactic(auto)]
 
+mod laws;
 mod near;
 mod node;
 mod route;
 mod settle;
 
+pub use laws::answer_laws;
 pub use node::Node;

@@ -9,6 +9,7 @@ use Rattle.std.proofs.lemmas.Bool.{and_parts, and_from, eqb-true, eq-eqb, true�
 use Rattle.std.proofs.lemmas.Grind.{reverse_onto}
 use Rattle.std.proofs.lemmas.List.{reverse-reverse, reverse-append, length-reverse}
 use Rattle.ivy_base.specs.declared.key.Key.{Key}
+use Rattle.dht_ids.specs.Asked.{route_in}
 use Rattle.dht_ids.specs.declared.ask.Answer.{Answer}
 use Rattle.dht_ids.specs.declared.ask.Answer.TheVariants as answer
 use Rattle.dht_ids.specs.declared.peer.Peer.{Peer}
@@ -17,7 +18,7 @@ use Rattle.ring_model.specs.Route.{Route}
 use Rattle.ring_model.specs.Lookup.{IsLookup}
 use Rattle.ring_model.specs.Lookup.IsLookup.{over, spent, known, silent, answered}
 use Rattle.ring_model.proofs.Lists.{among-left, among-right}
-use Rattle.dhash_client.specs.Machine.{State, Trail, to_ask, route_in, IsRest, HasHeard}
+use Rattle.dhash_client.specs.Machine.{State, Trail, to_ask, IsRest, HasHeard}
 
 pub among_reverse : {X : Type 0} (x : X) (xs : List X) → IsAmong x xs → IsAmong x (reverse xs)
 among_reverse x [] h = h

@@ -5,7 +5,7 @@ use Rattle.std.proofs.lemmas.List.{append_assoc, append-nil, map-append, length-
 use Rattle.std.proofs.lemmas.Grind.{flat_map-append}
 use Rattle.std.proofs.lemmas.Bool.{ltb-true, ltb-false, cases_lt}
 use Rattle.ivy_base.specs.declared.key.Key.{Key}
-use Rattle.dht_ids.specs.Asked.{told}
+use Rattle.dht_ids.specs.Asked.{told, routes, route_in}
 use Rattle.dht_ids.specs.declared.ask.Answer.{Answer}
 use Rattle.dht_ids.specs.declared.ask.Ask.{Ask}
 use Rattle.dht_ids.specs.declared.ask.Ask.TheVariants as ask
@@ -15,8 +15,8 @@ use Rattle.ring_model.specs.Members.{first}
 use Rattle.ring_model.specs.Gets.{AreFirsts, AreAsks, nodes, answered_in}
 use Rattle.ring_model.proofs.Gets.{answered_more}
 use Rattle.ring_model.proofs.Lists.{some_same, none_some}
-use Rattle.dhash_client.specs.Machine.{State, Follow, FollowsAfter, HasHeard, fresh, outcome, route_in}
-use Rattle.dhash_client.specs.Course.{Told, told_all, routes, Asking, CourseState, next_owner, awaited, awaited_at, HasAsked, IsBehind, IsOnCourse, IsAskingOf, Reaches, Looks, HearsOwner, Hears, Goes, begun, IsCourse}
+use Rattle.dhash_client.specs.Machine.{State, Follow, FollowsAfter, HasHeard, fresh, outcome}
+use Rattle.dhash_client.specs.Course.{Told, told_all, Asking, CourseState, next_owner, awaited, awaited_at, HasAsked, IsBehind, IsOnCourse, IsAskingOf, Reaches, Looks, HearsOwner, Hears, Goes, begun, IsCourse}
 use Rattle.dhash_client.specs.Course.IsCourse.{no_route, of_owners}
 use Rattle.dhash_client.specs.declared.course.Step.TheVariants as step
 use Rattle.dhash_client.specs.declared.miss.Miss.{Miss}

@@ -1,8 +1,8 @@
 -- What the machines of gets and puts share: a look-up, and then asks of the owners that it found, in one trail.
-use Rattle.std.specs.Prelude.{◌≡◌, ℕ, ◌+◌, ◌-◌, ◌^◌, ◌<◌, ◌≤◌, nat_lt, Bool, if◌then◌else◌, List, [], ◌∷◌, ◌++◌, length, take, map, flat_map, Option, Some, None, Result, Ok, Err, ◌⊎◌}
+use Rattle.std.specs.Prelude.{◌≡◌, ℕ, ◌+◌, ◌-◌, ◌^◌, ◌<◌, ◌≤◌, nat_lt, Bool, if◌then◌else◌, List, [], ◌∷◌, ◌++◌, length, take, flat_map, Option, Some, None, Result, Ok, Err, ◌⊎◌}
 use Rattle.std.specs.Option.{option_map}
 use Rattle.ivy_base.specs.declared.key.Key.{Key}
-use Rattle.dht_ids.specs.Asked.{told}
+use Rattle.dht_ids.specs.Asked.{told, routes}
 use Rattle.dht_ids.specs.declared.ask.Answer.{Answer}
 use Rattle.dht_ids.specs.declared.ask.Ask.{Ask}
 use Rattle.dht_ids.specs.declared.ask.Ask.TheVariants as ask
@@ -11,7 +11,7 @@ use Rattle.dht_ids.specs.declared.peer.Peer.{Peer}
 use Rattle.ring_model.specs.Members.{first}
 use Rattle.ring_model.specs.Lookup.{IsLookup}
 use Rattle.ring_model.specs.Gets.{AreFirsts, nodes, answered_in, Got, Right, Damaged, Missing}
-use Rattle.dhash_client.specs.Machine.{State, Trail, Follow, FollowsAfter, HasHeard, fresh, outcome, route_in}
+use Rattle.dhash_client.specs.Machine.{State, Follow, FollowsAfter, HasHeard, fresh, outcome}
 use Rattle.dhash_client.specs.declared.course.Step.{Step}
 use Rattle.dhash_client.specs.declared.course.Step.TheVariants as step
 use Rattle.dhash_client.specs.declared.miss.Miss.{Miss}
@@ -24,10 +24,6 @@ Told = List (Peer × Answer)
 -- the entries that tell of them in a trail
 abbrev pub told_all : Ask → Told → List Heard
 told_all question asks = flat_map (λ s. told s.0 question s.1) asks
-
--- the routes that they answered
-abbrev pub routes : Told → Trail
-routes looks = map (λ s. (s.0, route_in s.1)) looks
 
 -- A trail of a get or a put: the asks of a look-up and then, where it found owners, those asks of them that the last
 -- relation describes.

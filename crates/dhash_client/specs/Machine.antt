@@ -1,8 +1,8 @@
 -- The machine of a look-up: what it keeps, what it wants, and which asks may still follow.
 use Rattle.std.specs.Prelude.{◌≡◌, ℕ, ◌-◌, ◌<◌, List, [], ◌∷◌, ◌++◌, length, Option, Some, None, Result, Ok, Err}
 use Rattle.ivy_base.specs.declared.key.Key.{Key}
+use Rattle.dht_ids.specs.Asked.{route_in}
 use Rattle.dht_ids.specs.declared.ask.Answer.{Answer}
-use Rattle.dht_ids.specs.declared.ask.Answer.TheVariants as answer
 use Rattle.dht_ids.specs.declared.ask.Ask.TheVariants as ask
 use Rattle.dht_ids.specs.declared.ask.Want.{Want}
 use Rattle.dht_ids.specs.declared.ask.Want.TheVariants as want
@@ -62,17 +62,6 @@ outcome key (Some (p ∷ ps)) = Ok (p ∷ ps)
 abbrev pub IsWanted : State → State → Want (Result (List Peer) Miss) → Type 0
 IsWanted old new (want.Ask node question) = (question ≡ ask.Route old.key) × (new.waiting ≡ Some node) × (length old.asked < 512) × (IsAmong node old.asked → ⊥)
 IsWanted old new (want.Done result) = (new.waiting ≡ None) × (found : Option (List Peer)) × Follow old [] found × (result ≡ outcome old.key found)
-
--- the route that was answered: any other answer is silence
-abbrev pub route_in : Answer → Option (Route Peer)
-route_in (answer.Route nearer owners) = Some (record { nearer = nearer; owners = owners })
-route_in (answer.Near before list) = None
-route_in (answer.Found bytes) = None
-route_in answer.Nothing = None
-route_in answer.Stored = None
-route_in (answer.Refused fault) = None
-route_in answer.Noted = None
-route_in answer.Silent = None
 
 -- the node that was to be heard was heard: it counts as asked, and its ask and answer are the next of the look-up
 pub record HasHeard (old new : State) (given : Answer) : Type 0 where

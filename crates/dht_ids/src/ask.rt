@@ -6,6 +6,7 @@ use crate::lists::Peers;
 use crate::peer::Peer;
 use ivy_base::{Bytes, Key, Memory};
 use std::alloc::Global;
+use thiserror::Error;
 
 /// What a node is asked.
 #[derive(Drop)]
@@ -70,15 +71,19 @@ impl Answer {
 }
 
 /// Why a node refuses a block.
-#[derive(Clone, Copy, Debug, PartialEq, Eq)]
+#[derive(Clone, Copy, Debug, PartialEq, Eq, Error)]
 pub enum StoreFault {
     /// The key of a content block isn't the SHA-1 of its bytes.
+    #[error("the key isn't the name of the bytes")]
     WrongName,
     /// The judge takes the bytes for no head of that key.
+    #[error("the bytes are no head of the key")]
     NotJudged,
     /// A head of that number is held, and the number of the new one isn't greater.
+    #[error("a head of number {0} is held")]
     Older(u32),
     /// The node would hold too many bytes.
+    #[error("the node has no room for the bytes")]
     Full,
 }
 

@@ -5,10 +5,11 @@
 //! or asks.
 //! For the layers above: [`node_id`] is the SHA-1 that the definition gives; [`distance`], [`between`] and
 //! [`finger_start`] are arithmetic modulo 2^160 on the identifiers' numbers, and [`order`], [`same`] and [`inside`]
-//! compare these numbers; a [`Judge`] gives the same answer for the same arguments; a [`Mesh`] answers Silent only
-//! where its count of silences rose. Contracts see [`Peers`], [`Posts`], [`Acks`] and [`Heads`] as lists, and a [`Signature`] as
-//! its bytes. Definitions: `specs/Peers.antt` (identifiers and places of nodes), `specs/Asked.antt` (what a mesh may
-//! be asked and what it tells), and `ring_model`'s `specs/Circle.antt` and `specs/Arc.antt`.
+//! compare these numbers; a [`Judge`] gives the same answer for the same arguments; a [`Mesh`] answers in the form
+//! of the ask, and Silent only where its count of silences rose, and names its nodes by ascending numbers. Contracts see
+//! [`Peers`], [`Posts`], [`Acks`] and [`Heads`] as lists, and a [`Signature`] as its bytes. Definitions: `specs/Peers.antt`
+//! (identifiers and places of nodes), `specs/Asked.antt` (what nodes may be asked, what they answer and what a mesh tells),
+//! and `ring_model`'s `specs/Circle.antt` and `specs/Arc.antt`.
 #![tactic(auto)]
 
 pub mod ask;

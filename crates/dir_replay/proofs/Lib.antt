@@ -7,6 +7,7 @@ pub mod Empty
 pub mod Counts
 pub mod Changes
 pub mod Above
+pub mod Inside
 pub mod Shown
 pub mod Bare
 pub mod Effects

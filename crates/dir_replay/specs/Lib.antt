@@ -5,3 +5,4 @@ pub mod Entries
 pub mod Nodes
 pub mod View
 pub mod Tied
+pub mod Inside

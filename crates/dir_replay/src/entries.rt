@@ -1,11 +1,14 @@
 //! The names in one directory. It knows nothing of the inodes but their numbers.
 
 ghost use Rattle.std.specs.Prelude.{◌≡◌, ◌↔◌, OnOk, OnErr, IfOk, IsTrue, [], not, length};
+ghost use Rattle.std.specs.List.{list_any};
 ghost use Rattle.std.specs.Ordering.{eq_by_cmp};
+ghost use Rattle.tree_model.specs.Tree.{same_key};
 ghost use Rattle.ivy_base.specs.declared.key.Key.{Key};
 ghost use Rattle.std.specs.FinMap.Entries.{find as value_at, put, where_key};
 ghost use Rattle.dir_replay.specs.Entries.{name_cmp};
 
+use crate::keys::same;
 use ivy_base::{Bytes, Key, Memory};
 use std::alloc::{AllocError, Global};
 use std::collections::BTreeMap;
@@ -57,6 +60,18 @@ impl Entries {
         ensures { result ≡ value_at name_cmp name.now self.now }
     {
         self.map.get(name).copied()
+    }
+
+    /// Whether one of the names leads to the inode.
+    pub fn lead_to(&self, ino: &Key) -> bool
+        ensures { result ≡ list_any (λ e. same_key ino.now e.1) self.now }
+    {
+        'names: for number in self.map.values() {
+            if same(ino, number) {
+                return true;
+            }
+        }
+        false
     }
 
     /// Lets the name lead to the inode. The error is want of memory, and then nothing has changed.

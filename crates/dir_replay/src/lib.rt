@@ -13,7 +13,8 @@
 //! Definitions: `specs/View.antt` is the tree that the kept maps stand for, `specs/Tied.antt` what holds of them.
 //!
 //! Costs, counted in comparisons: a question or an operation takes the logarithm of the number of inodes and of the
-//! names in its directories. Whether one directory lies inside another takes that for each step of the way up.
+//! names in its directories. Whether one directory lies inside another takes that for each step of the way up, and whether
+//! anything else does, a look at every name.
 #![tactic(auto)]
 
 mod entries;

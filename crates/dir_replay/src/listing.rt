@@ -1,6 +1,7 @@
-ghost use Rattle.std.specs.Prelude.{◌≡◌};
+ghost use Rattle.std.specs.Prelude.{◌≡◌, IfOk};
 
-use ivy_base::{Bytes, Key};
+use ivy_base::{Bytes, Key, Memory};
+use std::alloc::Global;
 use std::marker::Model;
 
 /// The names in a directory, each with the number of the inode that it leads to, ascending by the names' bytes.
@@ -38,5 +39,16 @@ impl Listing {
         ensures { result.now ≡ self.now }
     {
         self.pairs.as_slice()
+    }
+
+    /// A copy of these pairs and of their names. The error is want of memory.
+    pub fn copy(&self, alloc: Global) -> Result<Listing, Memory>
+        ensures { IfOk result (λ copy. copy ≡ self.now) }
+    {
+        let mut pairs = Vec::with_capacity(alloc, self.pairs.len())?;
+        for pair in &self.pairs {
+            pairs.push((pair.0.copy(alloc)?, pair.1))?;
+        }
+        Ok(Listing { pairs })
     }
 }

@@ -1,15 +1,17 @@
 //! The rules of names: what one operation changes, and what is asked.
 
-ghost use Rattle.std.specs.Prelude.{◌≡◌, ℕ, [], Bool, IfOk, OnOk, OnErr, Option, Some, None, option_map, is_some, is_none, true, false, ◌&&◌, length, if◌then◌else◌};
+ghost use Rattle.std.specs.Prelude.{◌≡◌, ◌↔◌, IsTrue, ℕ, [], Bool, IfOk, OnOk, OnErr, Option, Some, None, option_map, is_some, is_none, true, false, ◌&&◌, length, if◌then◌else◌};
+ghost use Rattle.std.specs.List.{list_any};
 ghost use Rattle.std.specs.Option.{option_copied};
 ghost use Rattle.ivy_base.specs.declared.operation.Moment.{Moment};
 ghost use Rattle.ivy_base.specs.declared.operation.Op.TheVariants as op;
 ghost use Rattle.ivy_base.specs.Naming.{root_number};
-ghost use Rattle.tree_model.specs.Tree.{inode_at, entry, parent, has_name, is_directory, is_empty_directory, is_inside, name_count, subdirectory_count, listing, same_key};
+ghost use Rattle.tree_model.specs.Tree.{inode_at, entry, parent, has_name, is_directory, is_empty_directory, is_inside, IsInside, name_count, subdirectory_count, listing, same_key};
 ghost use Rattle.tree_model.specs.Apply.{empty_tree, apply, with_inode, may_link, may_lose_name, may_replace, may_rename};
 ghost use Rattle.tree_model.specs.Sound.{IsSound};
 ghost use Rattle.dir_replay.specs.Bare.{bare, bare_inode, IsBare};
 ghost use Rattle.dir_replay.specs.Counts.{one_more_if};
+ghost use Rattle.dir_replay.specs.Inside.{stands_inside};
 ghost use Rattle.dir_replay.specs.Effect.{names_after, touched_by, none_touched};
 
 use crate::entries::Entries;
@@ -276,11 +278,29 @@ impl Names {
         })
     }
 
-    /// Whether the directory `x` is `dir` or lies inside it. Of what is no directory the answer is no.
+    /// Whether `x` is `dir` or lies inside it: a directory by its name, anything else by one of its names.
     pub fn inside(&self, x: &Key, dir: &Key) -> bool
-        ensures { result ≡ (is_directory (inode_at self.now x.now) && is_inside self.now x.now dir.now) }
+        ensures inside { IsTrue result ↔ IsInside self.now.names dir.now x.now }
+        ensures tested { is_directory (inode_at self.now x.now) ≡ true → result ≡ is_inside self.now x.now dir.now }
     {
-        self.is_directory(x) && self.is_inside(x, dir)
+        self.laws();
+        if self.is_directory(x) {
+            return self.is_inside(x, dir);
+        }
+        same(x, dir) || self.has_name_inside(x, dir)
+    }
+
+    // Whether a name of the inode stands in the directory or inside it.
+    fn has_name_inside(&self, ino: &Key, dir: &Key) -> bool
+        ensures { result ≡ list_any (stands_inside self.now ino.now dir.now) self.now.names }
+    {
+        self.laws();
+        'directories: for (above, node) in self.nodes.iter() {
+            if node.entries.lead_to(ino) && self.is_inside(above, dir) {
+                return true;
+            }
+        }
+        false
     }
 
     // Whether there is a directory of that number.

@@ -10,6 +10,7 @@ use crate::entries::Entries;
 use ivy_base::{Key, Kind, Memory};
 use std::alloc::Global;
 use std::collections::BTreeMap;
+use std::collections::btree_map::Iter;
 use std::marker::Model;
 
 /// An inode's kind, with what the rules of names ask of it.
@@ -60,6 +61,13 @@ impl Nodes {
         ensures { option_copied result ≡ value_at key_cmp ino.now self.now }
     {
         self.map.get(ino)
+    }
+
+    /// All inodes, in the order of their numbers.
+    pub fn iter(&self) -> Iter<'_, Key, Node>
+        ensures { result ≡ self.now }
+    {
+        self.map.iter()
     }
 
     /// Lets the number stand for that inode. The error is want of memory, and then nothing has changed.

@@ -11,7 +11,7 @@ use crate::vectors::vector_of;
 use crate::words::{bytes_of, key_of, number_of, owner_of, text};
 use dht_ids::Judged;
 use ivy_base::{Key, PubKey, head_key};
-use log_records::{Batch, ChainFault, Record};
+use log_records::{Batch, ChainFault, Edge, Record};
 use std::alloc::Global;
 use version_vectors::Vector;
 use view_blocks::View;
@@ -40,11 +40,11 @@ fn records_of_words(alloc: Global, owner: &PubKey, blocks: &[&str]) -> Option<Ve
 }
 
 /// Whether the edge, where it is known, leaves that log out.
-fn leaves_out(edge: &Option<Vector>, log: &Key) -> bool
-    ensures { IsTrue result → IfSome edge.now (λ v. stamp_at v log.now ≡ None) }
+fn leaves_out(edge: &Option<Edge>, log: &Key) -> bool
+    ensures { IsTrue result → IfSome edge.now (λ e. stamp_at e.vector log.now ≡ None) }
 {
     match edge {
-        Some(edge) => edge.get(log).is_none(),
+        Some(edge) => edge.vector.get(log).is_none(),
         None => true,
     }
 }
@@ -56,11 +56,11 @@ fn told(
     head: Judged,
     chain: Vec<Record>,
     owner: PubKey,
-    edge: Option<Vector>,
+    edge: Option<Edge>,
 ) -> Option<String>
     requires owner { AreOfOneOwner (records_of chain.items) }
     requires own { owner_of (records_of chain.items) ≡ owner }
-    requires edge { IfSome edge (λ v. stamp_at v (head_key_of owner) ≡ None) }
+    requires edge { IfSome edge (λ e. stamp_at e.vector (head_key_of owner) ≡ None) }
 {
     let count = chain.len();
     let mut batch = Batch::over(alloc, &base.held, &base.floor).ok()?;
@@ -93,7 +93,9 @@ pub fn chain(alloc: Global, words: &[&str]) -> Option<String> {
     let edge = if *edge == "none" {
         None
     } else {
-        Some(word_vector(alloc, edge)?)
+        Some(Edge {
+            vector: word_vector(alloc, edge)?,
+        })
     };
     let owner = owner_of(alloc, owner)?;
     let head = Judged {

@@ -5,11 +5,10 @@ ghost use Rattle.std.specs.Prelude.{IsTrue};
 
 use crate::words::{text, word_of};
 use nfs3_args::{Args, ArgsFault, MOUNT_PROGRAM, NFS_PROGRAM, read_args, write_args};
-use nfs3_replies::{Listed, Reply, ReplyFault, read_reply, write_reply};
+use nfs3_replies::{Listed, Reply, read_reply, write_reply};
 use std::alloc::Global;
 
 /// What is told of bytes as the arguments of a procedure.
-#[tactic(auto, using(nfs3_args::proofs::Fitting::read_are_writable))]
 pub fn args(alloc: Global, program: u32, procedure: u32, bytes: &[u8]) -> Option<String> {
     match read_args(alloc, program, procedure, bytes) {
         Ok(args) => {
@@ -98,8 +97,8 @@ pub fn reply(alloc: Global, program: u32, procedure: u32, bytes: &[u8]) -> Optio
             let is_same = write_reply(alloc, &reply).ok()?.as_slice() == bytes;
             text(alloc, if is_same { "ok" } else { "differs" })
         }
-        Err(ReplyFault::Garbage) => text(alloc, "garbage"),
-        Err(ReplyFault::Memory) => text(alloc, "out of memory"),
+        Err(ArgsFault::Garbage) => text(alloc, "garbage"),
+        Err(ArgsFault::Memory) => text(alloc, "out of memory"),
     }
 }
 

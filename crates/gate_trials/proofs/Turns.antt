@@ -1,7 +1,8 @@
--- A turn of the tally goes on with its history.
-use Rattle.std.proofs.Common.{◌≡◌, ℕ, ◌+◌, List, [], ◌∷◌, ◌++◌, refl, sym, ap, ◌∙◌, arith}
+-- A turn of the tally goes on with its history; the calls of two passes.
+use Rattle.std.proofs.Common.{◌≡◌, ℕ, ◌+◌, List, [], ◌∷◌, ◌++◌, length, refl, sym, ap, ◌∙◌, arith, length-append}
 use Rattle.agent_gate.specs.declared.history.Entry.{Entry}
 use Rattle.agent_gate.specs.Histories.{entry, GoesOn, Stays}
+use Rattle.agent_gate.specs.Passes.{PassView, calls_of}
 use Rattle.gate_trials.specs.declared.tally.Tally.{Tally}
 use Rattle.gate_trials.specs.Tallies.{sum_after, AreRight, TallyStands}
 
@@ -21,3 +22,6 @@ goes_on old new asked reply sum now opening history pass call stands =
 
 pub stays : (old new : Tally) → new.sum ≡ old.sum → Stays TallyStands old new
 stays old new same opening history stands = (stands.0, same ∙ stands.1)
+
+pub calls_of_two : {A T : Type 0} (passes : List (PassView A T)) (p q : PassView A T) → passes ≡ p ∷ q ∷ [] → length (calls_of passes) ≡ length p.calls + length q.calls
+calls_of_two passes p q are = omega (arith, ap (λ l. length (calls_of l)) are, length-append p.calls (q.calls ++ []), length-append q.calls [])

@@ -1,20 +1,28 @@
 //! Two threads take turns at one gate, with a tally in place of an agent.
 //!
-//! Each line is a trial: how many turns the second thread's pass has seen once both threads have ended and the passes have
-//! met, and what its next turn, which adds four, replies. In the first one thread takes one turn of one and the other
-//! none; in the second both take fifty. The answers are worked out by hand, and are the same whatever the schedule.
+//! Each line is a trial, in which two threads take turns of one each and end. In the first two their passes meet: how many
+//! turns the second thread's pass has then seen, and what its next turn, which adds four, replies. In the first one thread
+//! takes one turn and the other none; in the second both take fifty. In the others the gate is closed, first without the
+//! second pass: how many passes came back, and, closed with these and the second pass, the length of the history and the
+//! sum. The answers are worked out by hand, and are the same whatever the schedule.
 #![tactic(auto)]
 
 mod tally;
 mod trials;
 
 use std::io;
-use trials::two_threads;
+use trials::{close, meet};
 
 fn main(rt: HostRuntime) -> io::Result<()> {
     for (first, second) in [(1, 0), (50, 50)] {
-        let (seen, reply) = two_threads(&rt, rt.alloc(), first, second)?;
+        let (seen, reply) = meet(&rt, rt.alloc(), first, second)?;
         println!(rt; "turns {seen}, reply {reply}")?;
+    }
+    for (first, second) in [(50, 50), (0, 0)] {
+        let (came_back, _, closed) = close(&rt, rt.alloc(), first, second)?;
+        let turns = closed.turns;
+        let sum = closed.value.sum;
+        println!(rt; "passes back {came_back}, turns {turns}, sum {sum}")?;
     }
     Ok(())
 }

@@ -1,50 +1,129 @@
 //! The trials.
 
-ghost use Rattle.std.specs.Prelude.{◌≡◌};
+ghost use Rattle.std.specs.Prelude.{◌≡◌, ◌+◌, ◌-◌, ◌≤◌, ◌^◌, length, IfOk};
 ghost use Rattle.agent_gate.specs.Passes.{IsPassOf};
 
 use crate::tally::Tally;
-use agent_gate::{Gate, Pass};
+use agent_gate::{Closed, Gate, Pass, Unclosed};
 use std::alloc::{AllocError, Global};
 use std::sync::Wait;
 use std::thread::{Threads, join};
 
-/// Takes turns of one each, and gives the pass back.
-pub fn turns<W: Wait>(rt: &W, gate: &Gate<Tally>, mut pass: Pass<Tally>, count: u32) -> Pass<Tally>
+/// Takes turns of one each, and gives the pass back and how many turns it took.
+pub fn turns<W: Wait>(
+    rt: &W,
+    gate: &Gate<Tally>,
+    mut pass: Pass<Tally>,
+    count: u32,
+) -> (Pass<Tally>, u64)
     requires { IsPassOf gate.now pass }
-    ensures { IsPassOf gate.now result }
+    ensures pass { IsPassOf gate.now result.0 × (result.0.parts ≡ pass.parts) }
+    ensures taken { length result.0.calls ≡ length pass.calls + result.1 }
+    ensures bounded { result.1 ≤ count }
 {
+    let mut taken = 0u64;
     for _ in 0..count {
-        let _ = gate.take_turn(rt, &mut pass, 1);
+        if gate.take_turn(rt, &mut pass, 1).is_ok() {
+            taken += 1;
+        }
     }
-    pass
+    (pass, taken)
 }
 
-/// Two threads take so many turns of one each, end, and their passes meet. How many turns the second pass has then seen,
-/// and what its next turn, of four, replies.
+/// A gate, and two passes that have all its parts and took so many turns between them.
+#[derive(Drop)]
+pub struct Ended {
+    pub gate: Gate<Tally>,
+    pub first: Pass<Tally>,
+    pub second: Pass<Tally>,
+    pub taken: u64,
+}
+
+/// Two threads take so many turns of one each, and end.
 pub fn two_threads<R: Threads + Wait + Sync>(
     rt: &R,
     alloc: Global,
     first: u32,
     second: u32,
-) -> Result<(u64, u64), AllocError> {
+) -> Result<Ended, AllocError>
+    ensures passes { IfOk result (λ e. IsPassOf e.gate e.first × IsPassOf e.gate e.second) }
+    ensures parts { IfOk result (λ e. (e.first.parts ≡ 2 ^ 32 - 1) × (e.second.parts ≡ 1)) }
+    ensures taken { IfOk result (λ e. length e.first.calls + length e.second.calls ≡ e.taken) }
+{
     let (gate, mut pass) = Gate::make(alloc, Tally { sum: 0, refused: 0 })?;
     let other = gate.split(&mut pass);
-    let (mut mine, mut theirs) = join(
+    let (mine, theirs) = join(
         rt,
-        || -> Pass<Tally>
+        || -> (Pass<Tally>, u64)
             requires { IsPassOf gate pass }
-            ensures { IsPassOf gate result }
+            ensures pass { IsPassOf gate result.0 × (result.0.parts ≡ pass.parts) }
+            ensures taken { length result.0.calls ≡ length pass.calls + result.1 }
+            ensures bounded { result.1 ≤ first }
         { turns(rt, &gate, pass, first) },
-        || -> Pass<Tally>
+        || -> (Pass<Tally>, u64)
             requires { IsPassOf gate other }
-            ensures { IsPassOf gate result }
+            ensures pass { IsPassOf gate result.0 × (result.0.parts ≡ other.parts) }
+            ensures taken { length result.0.calls ≡ length other.calls + result.1 }
+            ensures bounded { result.1 ≤ second }
         { turns(rt, &gate, other, second) },
     );
+    Ok(Ended {
+        gate,
+        first: mine.0,
+        second: theirs.0,
+        taken: mine.1 + theirs.1,
+    })
+}
+
+/// Two threads take so many turns of one each and end, and their passes meet. How many turns the second pass has then
+/// seen, and what its next turn, of four, replies.
+pub fn meet<R: Threads + Wait + Sync>(
+    rt: &R,
+    alloc: Global,
+    first: u32,
+    second: u32,
+) -> Result<(u64, u64), AllocError> {
+    let Ended {
+        gate,
+        first: mut mine,
+        second: mut theirs,
+        ..
+    } = two_threads(rt, alloc, first, second)?;
     gate.meet(&mut mine, &mut theirs);
     let seen = gate.seen(&theirs);
     match gate.take_turn(rt, &mut theirs, 4) {
         Ok(reply) => Ok((seen, reply)),
         Err(_) => Ok((seen, 0)),
     }
+}
+
+/// Two threads take so many turns of one each and end, and the gate is closed: first without the second pass, which gives
+/// gate and first pass back, and with these and the second pass then. How many passes came back, how many turns were
+/// taken, and what is left.
+pub fn close<R: Threads + Wait + Sync>(
+    rt: &R,
+    alloc: Global,
+    first: u32,
+    second: u32,
+) -> Result<(usize, u64, Closed<Tally>), AllocError>
+    ensures came_back { IfOk result (λ r. r.0 ≡ 1) }
+    ensures turns { IfOk result (λ r. r.2.turns ≡ r.1) }
+{
+    let Ended {
+        gate,
+        first: mine,
+        second: theirs,
+        taken,
+    } = two_threads(rt, alloc, first, second)?;
+    let mut passes = Vec::new(alloc);
+    passes.push(mine)?;
+    let Err(Unclosed { gate, mut passes }) = gate.close(passes) else {
+        unreachable!()
+    };
+    let came_back = passes.len();
+    passes.push(theirs)?;
+    let Ok(closed) = gate.close(passes) else {
+        unreachable!()
+    };
+    Ok((came_back, taken, closed))
 }

@@ -20,7 +20,7 @@ bind_ok : {A B : Type 0} (r : Result A LmsFault) (f : A → Result B LmsFault) (
 bind_ok (Ok x) f y e = (x, refl, e)
 bind_ok (Err d) f y e = absurd cc
 
-bind_again : {A B : Type 0} (r : Result A LmsFault) (f : A → Result B LmsFault) (x : A) (y : Result B LmsFault) → r ≡ Ok x → f x ≡ y → (r >>= f) ≡ y
+pub bind_again : {A B : Type 0} (r : Result A LmsFault) (f : A → Result B LmsFault) (x : A) (y : Result B LmsFault) → r ≡ Ok x → f x ≡ y → (r >>= f) ≡ y
 bind_again {A} {B} r f x y e g = ap (λ (t : Result A LmsFault). t >>= f) e ∙ g
 
 abbrev done : {A : Type 0} → A → Result A LmsFault
@@ -43,7 +43,7 @@ both_true false false e = absurd cc
 true_both : (a b : Bool) → a ≡ true → b ≡ true → (a && b) ≡ true
 true_both a b p q = rw (p, q) refl
 
-abbrev level_of : PublicKey → List ℕ → Signature → Level
+abbrev pub level_of : PublicKey → List ℕ → Signature → Level
 level_of key signed s = record { key = key; signed = signed; signature = s }
 
 root_same : (k : PublicKey) (signed : List ℕ) (s : Signature) → is_right (level_of k signed s) ≡ true → root_from k.set k.id signed s ≡ k.root
@@ -77,7 +77,7 @@ between_is n b e = chosen (eqb n 1) (eqb n 2) (eqb n 3) (eqb-true n 1) (eqb-true
     chosen false false true one two three e = subst (λ (m : ℕ). (m < 3) × (n ≡ m + 1)) (ok_is 2 b e) (omega arith, three refl)
     chosen false false false one two three e = absurd cc
 
-between_again : (b : ℕ) → b < 3 → between_of (b + 1) ≡ Ok b
+pub between_again : (b : ℕ) → b < 3 → between_of (b + 1) ≡ Ok b
 unfolding between_of
 between_again zero lt = refl
 between_again (suc zero) lt = refl

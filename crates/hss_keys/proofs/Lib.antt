@@ -2,3 +2,5 @@ pub mod Levels
 pub mod Acceptance
 pub mod Signing
 pub mod Saving
+pub mod Leaves
+pub mod Uses

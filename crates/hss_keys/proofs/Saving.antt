@@ -5,19 +5,15 @@ use Rattle.std.specs.List.{list_all, AllByRecursion, flat_map}
 use Rattle.std.proofs.lemmas.List.{append-nil}
 use Rattle.std.proofs.lemmas.Bool.{lt-ltb}
 use Rattle.wire_model.specs.Xdr.{word, double_word, array, fixed, IsWord, IsDoubleWord, IsOfLength, IsAny, AreSoMany}
-use Rattle.wire_model.specs.OneReading.{ReadsOne, IsFront, HasNoFront}
-use Rattle.wire_model.proofs.OneReading.{◌▷◌, of_parts, of_length, of_fewer, one_array, one_word, one_double_word}
+use Rattle.wire_model.specs.OneReading.{IsFront, HasNoFront}
+use Rattle.wire_model.proofs.OneReading.{◌▷◌, one_word}
 use Rattle.wire_model.proofs.Fronts.{both, no_first, no_second, none_of_fewer}
 use Rattle.wire_model.proofs.Arrays.{AreFew, no_next, no_count, too_many, no_counted, counted}
-use Rattle.hash_signature_model.specs.declared.set.Width.{Width}
-use Rattle.hash_signature_model.specs.declared.set.Width.TheVariants.{W4, W8}
-use Rattle.hash_signature_model.specs.declared.set.Height.{Height}
-use Rattle.hash_signature_model.specs.declared.set.Height.TheVariants.{H5, H10}
 use Rattle.hash_signature_model.specs.declared.set.Set.{Set}
 use Rattle.hss_keys.specs.Signer.{Signer, capacity}
-use Rattle.hss_keys.specs.Saved.{set_bytes, saved_bytes, AreOctets, AreLevels, IsSigner, SavedOnce}
-use Rattle.hss_keys.proofs.Signing.{at_most_three}
-use Rattle.hss_keys.specs.SavedReading.{as_it_stands, width_bytes, height_bytes, secrets_bytes, AreSecrets, parts_bytes, AreParts}
+use Rattle.hss_keys.specs.Saved.{set_bytes, saved_bytes, AreOctets, AreLevels, IsSigner}
+use Rattle.hss_keys.specs.ToldApart.{one_block, one_set, any_sets, one_secrets, one_levels, one_parts, all_of}
+use Rattle.hss_keys.specs.SavedReading.{as_it_stands, secrets_bytes, AreSecrets, parts_bytes, AreParts}
 
 -- ---- bytes of a known count
 
@@ -51,43 +47,7 @@ no_block count bytes h absent = record {
 pub are_octets : (count : ℕ) (item array : List ℕ) → length item ≡ count → array ≡ item → ((i : ℕ) → get_or item i 0 < 256) → AreOctets count array
 are_octets count item array l e below = rw e (record { size = l; each = all_bytes item below })
 
-one_block : (count : ℕ) → ReadsOne (AreOctets count) as_it_stands
-one_block count = of_length count (λ bytes f. f.size) (λ a b f g e. e)
-
--- ---- w and h
-
-one_width : ReadsOne IsAny width_bytes
-one_width = of_length 4 (λ w f. refl) widths
-  where
-    widths : (x y : Width) → IsAny x → IsAny y → width_bytes x ≡ width_bytes y → x ≡ y
-    widths W4 W4 f g e = refl
-    widths W4 W8 f g e = cc
-    widths W8 W4 f g e = cc
-    widths W8 W8 f g e = refl
-
-one_height : ReadsOne IsAny height_bytes
-one_height = of_length 4 (λ h f. refl) heights
-  where
-    heights : (x y : Height) → IsAny x → IsAny y → height_bytes x ≡ height_bytes y → x ≡ y
-    heights H5 H5 f g e = refl
-    heights H5 H10 f g e = cc
-    heights H10 H5 f g e = cc
-    heights H10 H10 f g e = refl
-
 -- ---- sets
-
-abbrev set_of : Width × Height → Set
-set_of p = record { w = p.0; h = p.1 }
-
-abbrev parts_of_set : Set → Width × Height
-parts_of_set set = (set.w, set.h)
-
-one_set : ReadsOne IsAny set_bytes
-one_set = of_parts parts_of_set (λ s f. (tt, tt)) (λ s. refl) (λ a b e. ap set_of e) (one_width ▷ one_height)
-
-any_sets : (xs : List Set) → AllByRecursion IsAny xs
-any_sets [] = tt
-any_sets (x ∷ xs) = (tt, any_sets xs)
 
 levels_few : (sets : List Set) → AreLevels sets → AreFew one_set 3 sets
 levels_few sets f = (f.few, any_sets sets)
@@ -121,15 +81,6 @@ sets_front f some few g size =
 
 -- ---- all parts
 
-one_secrets : ReadsOne AreSecrets secrets_bytes
-one_secrets = one_block 16 ▷ one_block 32
-
-one_levels : ReadsOne AreLevels (array set_bytes)
-one_levels = of_fewer (λ sets f. (omega (arith, f.few), any_sets sets)) (one_array one_set)
-
-one_parts : ReadsOne AreParts parts_bytes
-one_parts = one_secrets ▷ one_levels ▷ one_double_word
-
 pub secrets_front : {bytes middle rest : List ℕ} {id seed : List ℕ} → IsFront (AreOctets 16) as_it_stands bytes id middle → IsFront (AreOctets 32) as_it_stands middle seed rest
     → IsFront AreSecrets secrets_bytes bytes (id, seed) rest
 secrets_front f g = both f g
@@ -156,16 +107,6 @@ no_made f g absent = no_second (one_secrets ▷ one_levels) (both f g) absent
 
 -- ---- the whole
 
-abbrev signer_of : ((List ℕ × List ℕ) × List Set) × ℕ → Signer
-signer_of p = record { id = p.0.0.0; seed = p.0.0.1; sets = p.0.1; made = p.1 }
-
-fits_parts : (signer : Signer) → IsSigner signer → AreParts (((signer.id, signer.seed), signer.sets), signer.made)
-fits_parts signer f = (((f.id, f.seed), f.sets), omega (arith, f.made, at_most_three signer.sets f.sets.few))
-
--- nothing is behind
-all_of : (bytes : List ℕ) (signer : Signer) → IsSigner signer → bytes ≡ saved_bytes signer → IsFront AreParts parts_bytes bytes (((signer.id, signer.seed), signer.sets), signer.made) []
-all_of bytes signer f e = record { fits = fits_parts signer f; spelled = e ∙ sym (append-nil (saved_bytes signer)) }
-
 pub no_signer_without : (bytes : List ℕ) → HasNoFront AreParts parts_bytes bytes → (signer : Signer) → IsSigner signer → bytes ≡ saved_bytes signer → ⊥
 no_signer_without bytes absent signer f e = absent.none (((signer.id, signer.seed), signer.sets), signer.made) [] (all_of bytes signer f e)
 
@@ -187,9 +128,3 @@ a_signer {id = id} {seed = seed} {sets = sets} {made = made} f few = (
   record { id = f.fits.0.0.0; seed = f.fits.0.0.1; sets = f.fits.0.1; made = few },
   f.spelled ∙ append-nil (saved_bytes (record { id = id; seed = seed; sets = sets; made = made })),
 )
-
-pub saved_once : SavedOnce
-saved_once a b f g e =
-    let h = all_of (saved_bytes a) a f refl in
-    let k = all_of (saved_bytes a) b g e in
-    ap (λ (p : ((List ℕ × List ℕ) × List Set) × ℕ). signer_of p) (one_parts.one (((a.id, a.seed), a.sets), a.made) (((b.id, b.seed), b.sets), b.made) [] [] h.fits k.fits (sym h.spelled ∙ k.spelled)).0

@@ -2,12 +2,9 @@
 use Rattle.std.proofs.Common.{◌≡◌, ℕ, ◌+◌, ◌*◌, ◌/◌, ◌%◌, ◌<◌, ◌≤◌, List, [], ◌∷◌, ◌++◌, length, refl, sym, ap, ◌∙◌, arith}
 use Rattle.std.proofs.Math.Nat.{mod-lt, mod-eq_of_lt, mul-pos}
 use Rattle.std.proofs.Math.Arith.{mod-mul}
-use Rattle.std.proofs.lemmas.Nat.{mul-le}
 use Rattle.std.proofs.lemmas.List.{length-take-le}
 use Rattle.sha2.proofs.Facts256.{length-sha256}
 use Rattle.hash_signature_model.specs.declared.set.Set.{Set}
-use Rattle.hash_signature_model.specs.declared.set.Height.{Height}
-use Rattle.hash_signature_model.specs.declared.set.Height.TheVariants.{H5, H10}
 use Rattle.hash_signature_model.specs.declared.keys.PrivateKey.{PrivateKey}
 use Rattle.hash_signature_model.specs.Parameters.{leaves}
 use Rattle.hash_signature_model.specs.OneTime.{derived}
@@ -17,10 +14,6 @@ use Rattle.hss_keys.specs.Hss.{IsSigned, HssAccepts}
 use Rattle.hss_keys.specs.Signer.{capacity, LowerPlace, leaf_used, lower_key, leaf_signature, tree_public, signed_lower, signed_by, hss_key_of, hss_signature_of, leaves_used, NoLeafTwice, UpperLeafSignsOneKey}
 
 -- ---- how many signatures
-
-few_leaves : (h : Height) → leaves h ≤ 1024
-few_leaves H5 = omega arith
-few_leaves H10 = omega arith
 
 pub capacity_of_none : (sets : List Set) → length sets ≡ 0 → capacity sets ≡ 1
 unfolding capacity
@@ -36,32 +29,12 @@ unfolding capacity
 capacity_some [] = omega arith
 capacity_some (set ∷ lower) = mul-pos (let some : 0 < leaves set.h = omega (arith, leaves_some set.h) in some) (capacity_some lower)
 
-at_most_none : (sets : List Set) → length sets ≤ 0 → capacity sets ≤ 1
-unfolding capacity
-at_most_none [] le = omega arith
-at_most_none (set ∷ lower) le = absurd (omega (arith, le))
-
-at_most_one : (sets : List Set) → length sets ≤ 1 → capacity sets ≤ 1024
-unfolding capacity
-at_most_one [] le = omega arith
-at_most_one (set ∷ lower) le = mul-le (leaves set.h) (capacity lower) 1024 1 (few_leaves set.h) (at_most_none lower (omega (arith, le)))
-
-pub at_most_two : (sets : List Set) → length sets ≤ 2 → capacity sets ≤ 1048576
-unfolding capacity
-at_most_two [] le = omega arith
-at_most_two (set ∷ lower) le = mul-le (leaves set.h) (capacity lower) 1024 1024 (few_leaves set.h) (at_most_one lower (omega (arith, le)))
-
-pub at_most_three : (sets : List Set) → length sets ≤ 3 → capacity sets ≤ 1073741824
-unfolding capacity
-at_most_three [] le = omega arith
-at_most_three (set ∷ lower) le = mul-le (leaves set.h) (capacity lower) 1024 1048576 (few_leaves set.h) (at_most_two lower (omega (arith, le)))
-
 -- ---- what is signed is accepted
 
 pub leaf_used_in_tree : (set : Set) (lower : List Set) (n : ℕ) → leaf_used set lower n < leaves set.h
 leaf_used_in_tree set lower n = (let some : 0 < leaves set.h = omega (arith, leaves_some set.h) in mod-lt (n / capacity lower) some)
 
-lower_id_length : (upper : PrivateKey) (leaf : ℕ) (set : Set) → length (lower_key upper leaf set).id ≡ 16
+pub lower_id_length : (upper : PrivateKey) (leaf : ℕ) (set : Set) → length (lower_key upper leaf set).id ≡ 16
 lower_id_length upper leaf set = let all : length (derived upper.id upper.seed leaf 0xffff) ≡ 32 = length-sha256 _ in length-take-le 16 (derived upper.id upper.seed leaf 0xffff) (omega (arith, all))
 
 pub signed_accepted : (key : PrivateKey) (lower : List Set) (n : ℕ) (message : List ℕ) → length key.id ≡ 16 → IsSigned (length lower) (tree_public key) message (signed_by key lower n message)

@@ -4,3 +4,5 @@ pub mod Checks
 pub mod Signer
 pub mod Saved
 pub mod SavedReading
+pub mod Uses
+pub mod ToldApart

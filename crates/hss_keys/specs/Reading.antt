@@ -1,6 +1,6 @@
 -- Reading a public key and a signature of several levels from left to right, with the first fault that is met (RFC 8554,
 -- section 6.3).
-use Rattle.std.specs.Prelude.{ℕ, zero, suc, Bool, List, [], ◌∷◌, take, Result, Ok, Err, ◌==◌, if◌then◌else◌}
+use Rattle.std.specs.Prelude.{ℕ, zero, suc, Bool, List, [], ◌∷◌, take, map, Result, Ok, Err, ◌==◌, if◌then◌else◌}
 use Rattle.std.specs.List.{list_all}
 use Rattle.std.specs.Str.{bytes_eq}
 use Rattle.hash_signature_model.specs.declared.set.LmsFault.{LmsFault}
@@ -56,3 +56,10 @@ hss_verdict public message bytes = do
   k ← whole_hss_key public
   levels ← whole_hss_signature k.0 k.1 message bytes
   if list_all is_right levels then Ok tt else Err Wrong
+
+-- the leaves that a signature names under a public key, from the top level down: where each is of its tree, and all can be read
+unfoldable pub leaves_named : List ℕ → List ℕ → List ℕ → Result (List ℕ) LmsFault
+leaves_named public message bytes = do
+  k ← whole_hss_key public
+  levels ← whole_hss_signature k.0 k.1 message bytes
+  Ok (map (λ level. level.signature.leaf) levels)

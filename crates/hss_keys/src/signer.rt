@@ -29,12 +29,13 @@ pub struct Hss {
 impl Model for Hss {
     ghost use Rattle.std.specs.Prelude.{◌≡◌, ◌≤◌, ◌∷◌, length};
     ghost use Rattle.hss_keys.specs.Signer.{Signer, capacity};
+    ghost use Rattle.hss_keys.specs.Saved.{AreOctets};
 
     ghost Value = { Signer };
 
     ghost view = { λ h. record { id = h.top.id; seed = h.top.seed; sets = h.top.set ∷ h.sets.items; made = h.made } };
 
-    ghost invariant = { λ h. (length h.top.id ≡ 16) × (length h.sets.items ≤ 2) × (length h.lower.items ≡ length h.sets.items) × (h.made ≤ capacity (h.top.set ∷ h.sets.items)) };
+    ghost invariant = { λ h. AreOctets 16 h.top.id × AreOctets 32 h.top.seed × (length h.sets.items ≤ 2) × (length h.lower.items ≡ length h.sets.items) × (h.made ≤ capacity (h.top.set ∷ h.sets.items)) };
 }
 
 /// The levels below the first leaf of a level, and of each other.

@@ -26,6 +26,12 @@ pub trait Signs: Sized {
     /// Its saved bytes.
     ghost saved: { Self → List ℕ };
 
+    /// Its next signature of a message.
+    ghost signature: { Self → List ℕ → List ℕ };
+
+    /// The key after that signature.
+    ghost next: { Self → Self };
+
     /// The public key.
     fn owner(&self) -> PubKey
         ensures { result.0 ≡ key self.now };
@@ -34,9 +40,11 @@ pub trait Signs: Sized {
     fn left(&self) -> u64
         ensures { result ≡ remaining self.now };
 
-    /// A signature of a message, which is accepted under the public key. `Spent` comes exactly where nothing is left, and
-    /// `Memory` where memory runs out; the key is then what it was.
+    /// The next signature of a message, which is accepted under the public key. `Spent` comes exactly where nothing is
+    /// left, and `Memory` where memory runs out; the key is then what it was.
     fn sign(&mut self, alloc: Global, message: &[u8]) -> Result<Signature, SignFault>
+        ensures signed { IfOk result (λ s. s ≡ signature self.old message.now) }
+        ensures after { OnOk result (self.new ≡ next self.old) }
         ensures accepted { IfOk result (λ s. accepts (key self.old) message.now s) }
         ensures counted { OnOk result (remaining self.new + 1 ≡ remaining self.old) }
         ensures same { key self.new ≡ key self.old }
@@ -49,19 +57,24 @@ pub trait Signs: Sized {
 
     /// The saved bytes of the key, which hold its secrets. The error is want of memory.
     fn save(&self, alloc: Global) -> Result<Bytes, Memory>
-        ensures { IfOk result (λ bytes. bytes ≡ saved self.now) };
+        ensures bytes { IfOk result (λ bytes. bytes ≡ saved self.now) }
+        ensures whole { is_whole self.now };
 
-    /// The key whose saved bytes these are. It may sign only where no equal key signs. `Malformed` comes exactly where
-    /// these are the saved bytes of no key, and `Memory` where memory runs out.
+    /// The key whose saved bytes these are, so an equal key. It may sign only where no other one signs. `Malformed` comes
+    /// exactly where these are the saved bytes of no key, and `Memory` where memory runs out.
     fn load(alloc: Global, bytes: &[u8]) -> Result<Self, LoadFault>
         ensures loaded { IfOk result (λ key. is_whole key × (bytes.now ≡ saved key)) }
         ensures malformed { (result ≡ Err Malformed) ↔ ((key : Self) → is_whole key → bytes.now ≡ saved key → ⊥) };
+
+    /// Their saved bytes tell keys apart.
+    ghost told_apart: { (a b : Self) → is_whole a → is_whole b → saved a ≡ saved b → a ≡ b };
 }
 
 impl Signs for Hss {
     ghost use Rattle.hss_keys.specs.Hss.{HssAccepts};
     ghost use Rattle.hss_keys.specs.Saved.{saved_bytes, IsSigner};
-    ghost use Rattle.hss_keys.specs.Signer.{left_of, owner_of};
+    ghost use Rattle.hss_keys.specs.Signer.{left_of, owner_of, next_signature, one_more_made};
+    ghost use Rattle.hss_keys.specs.ToldApart.{signers_told_apart};
 
     ghost key = { λ h. owner_of h };
 
@@ -72,6 +85,12 @@ impl Signs for Hss {
     ghost is_whole = { λ h. IsSigner h };
 
     ghost saved = { λ h. saved_bytes h };
+
+    ghost signature = { λ h message. next_signature h message };
+
+    ghost next = { λ h. one_more_made h };
+
+    ghost told_apart = { signers_told_apart };
 
     fn owner(&self) -> PubKey {
         self.owner()

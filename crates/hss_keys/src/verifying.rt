@@ -8,6 +8,7 @@ ghost use Rattle.hss_keys.specs.Hss.{HssAccepts};
 ghost use Rattle.hss_keys.specs.Reading.{is_right, between_of, whole_hss_key, hss_verdict};
 ghost use Rattle.hss_keys.specs.Checks.{right_levels};
 
+use crate::Hss;
 use ivy_base::PubKey;
 use lms_core::{LmsFault, PublicKey, SignatureParts, read_key, read_signature, recompute_root};
 
@@ -128,17 +129,20 @@ fn verify_bytes(public: &[u8], message: &[u8], signature: &[u8]) -> Result<(), L
     judge(public, message, signature)
 }
 
-/// Whether the signature of the message is accepted under the public key (RFC 8554, section 6.3). Nothing allocates, and
-/// nothing is hashed before all was read.
-///
-/// # Errors
-///
-/// The first fault in reading order, the public key before the signature: `Unsupported` for a type number of RFC 8554
-/// outside the profile, in a level's key or signature; `Malformed` for bytes that spell no key, or no signature of as many
-/// levels as the key has. `Wrong` where all was read and the signature of some level gives another root than its key's.
-pub fn verify(public: &PubKey, message: &[u8], signature: &[u8]) -> Result<(), LmsFault>
-    ensures accepted { IsOk result ↔ HssAccepts public.now.0 message.now signature.now }
-    ensures exact { result ≡ hss_verdict public.now.0 message.now signature.now }
-{
-    verify_bytes(&public.0[..], message, signature)
+impl Hss {
+    /// Whether the signature of the message is accepted under the public key (RFC 8554, section 6.3). Nothing allocates,
+    /// and nothing is hashed before all was read.
+    ///
+    /// # Errors
+    ///
+    /// The first fault in reading order, the public key before the signature: `Unsupported` for a type number of
+    /// RFC 8554 outside the profile, in a level's key or signature; `Malformed` for bytes that spell no key, or no
+    /// signature of as many levels as the key has. `Wrong` where all was read and the signature of some level gives
+    /// another root than its key's.
+    pub fn verify(public: &PubKey, message: &[u8], signature: &[u8]) -> Result<(), LmsFault>
+        ensures accepted { IsOk result ↔ HssAccepts public.now.0 message.now signature.now }
+        ensures exact { result ≡ hss_verdict public.now.0 message.now signature.now }
+    {
+        verify_bytes(&public.0[..], message, signature)
+    }
 }

@@ -1,5 +1,9 @@
+ghost use Rattle.std.specs.Prelude.{◌≡◌, IfOk};
+
 use crate::bytes::Bytes;
 use crate::key::Key;
+use crate::memory::Memory;
+use std::alloc::Global;
 
 /// A moment: seconds since the epoch, and nanoseconds below 1,000,000,000 (RFC 1813, section 2.5, nfstime3).
 #[derive(Clone, Copy, Debug, PartialEq, Eq, PartialOrd, Ord)]
@@ -84,4 +88,65 @@ pub enum Op {
     },
     /// Opens a log: its first record. It changes nothing.
     End,
+}
+
+impl Op {
+    /// A copy of this operation and of its bytes. The error is want of memory.
+    pub fn copy(&self, alloc: Global) -> Result<Op, Memory>
+        ensures { IfOk result (λ copy. copy ≡ self.now) }
+    {
+        Ok(match self {
+            Op::Inode {
+                ino,
+                kind,
+                mode,
+                uid,
+                gid,
+                target,
+            } => Op::Inode {
+                ino: *ino,
+                kind: *kind,
+                mode: *mode,
+                uid: *uid,
+                gid: *gid,
+                target: target.copy(alloc)?,
+            },
+            Op::Write { ino, offset, bytes } => Op::Write {
+                ino: *ino,
+                offset: *offset,
+                bytes: bytes.copy(alloc)?,
+            },
+            Op::Link { dir, name, ino } => Op::Link {
+                dir: *dir,
+                name: name.copy(alloc)?,
+                ino: *ino,
+            },
+            Op::Unlink { dir, name } => Op::Unlink {
+                dir: *dir,
+                name: name.copy(alloc)?,
+            },
+            Op::Rename {
+                dir,
+                name,
+                to_dir,
+                to_name,
+            } => Op::Rename {
+                dir: *dir,
+                name: name.copy(alloc)?,
+                to_dir: *to_dir,
+                to_name: to_name.copy(alloc)?,
+            },
+            Op::Prepare { dir, name, verf } => Op::Prepare {
+                dir: *dir,
+                name: name.copy(alloc)?,
+                verf: *verf,
+            },
+            Op::Cancel { seq } => Op::Cancel { seq: *seq },
+            Op::SetAttrs { ino, change } => Op::SetAttrs {
+                ino: *ino,
+                change: *change,
+            },
+            Op::End => Op::End,
+        })
+    }
 }

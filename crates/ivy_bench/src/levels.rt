@@ -1,7 +1,7 @@
 //! Times of signing and verifying with signatures of several levels.
 
 use crate::sets::set_of;
-use hss_keys::{Hss, verify};
+use hss_keys::Hss;
 use ivy_base::Memory;
 use lms_core::Set;
 use std::alloc::Global;
@@ -66,7 +66,7 @@ fn time_verify<R: Clock + Print>(
     let mut accepted = 0u64;
     let start = Instant::now(rt)?;
     for _n in 0..count {
-        let answer = verify(&owner, &MESSAGE[..], signature.as_slice());
+        let answer = Hss::verify(&owner, &MESSAGE[..], signature.as_slice());
         accepted = accepted.saturating_add(answer.is_ok() as u64);
     }
     let time = start.elapsed(rt)?;

@@ -1,8 +1,5 @@
 //! Times of reading calls and writing replies, beside the time of copying as many bytes.
 
-ghost use Rattle.std.specs.Prelude.{IfOk};
-ghost use Rattle.nfs3_replies.specs.Writable.{IsWritable};
-
 use ivy_base::{Bytes, Kind, Memory, Moment};
 use nfs3_args::read_args;
 use nfs3_replies::{Fattr, Reply, put_reply, room_for};
@@ -90,9 +87,7 @@ fn call(alloc: Global) -> Result<Vec<u8>, Memory> {
 }
 
 /// A result of READ.
-fn reply(alloc: Global) -> Result<Reply, Memory>
-    ensures { IfOk result IsWritable }
-{
+fn reply(alloc: Global) -> Result<Reply, Memory> {
     let content = CONTENT;
     Ok(Reply::Bytes {
         file: Some(FILE),
@@ -114,9 +109,7 @@ fn is_read(alloc: Global, message: &[u8]) -> bool {
 }
 
 /// The message of a reply.
-fn written(alloc: Global, reply: &Reply) -> Result<Bytes, Memory>
-    requires { IsWritable reply.now }
-{
+fn written(alloc: Global, reply: &Reply) -> Result<Bytes, Memory> {
     let mut out = XdrWrite::new(alloc);
     let room = room_for(reply).ok_or(Memory)?;
     out.reserve(room.checked_add(LONGEST_HEAD).ok_or(Memory)?)?;
@@ -145,9 +138,7 @@ fn reads(alloc: Global, message: &[u8], count: u32) -> u64 {
 }
 
 /// How often the reply was written.
-fn writes(alloc: Global, reply: &Reply, count: u32) -> u64
-    requires { IsWritable reply.now }
-{
+fn writes(alloc: Global, reply: &Reply, count: u32) -> u64 {
     let mut done = 0u64;
     for _n in 0..count {
         let message = written(alloc, reply);

@@ -1,4 +1,4 @@
--- What a source and a sink in memory are.
+-- What the sources and sinks are.
 use Rattle.std.specs.Prelude.{ℕ, List}
 
 pub record SourceState : Type 0 where
@@ -14,4 +14,13 @@ pub record SinkState : Type 0 where
   pub written : List ℕ
   pub failing : List ℕ
   pub calls : ℕ
+  pub faults : ℕ
+
+-- a source over a reader, and a sink over a writer, of any type, and how often each has failed
+pub record ReaderState (R : Type 0) : Type 0 where
+  pub reader : R
+  pub faults : ℕ
+
+pub record WriterState (W : Type 0) : Type 0 where
+  pub writer : W
   pub faults : ℕ

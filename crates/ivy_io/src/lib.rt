@@ -4,11 +4,12 @@
 //! For the layers above: a [`Source`] and a [`Sink`] tell each byte that moves as an equation on what is left and on
 //! what is held, and an `Err` comes only where the count of faults rose; the count never falls. [`write_all`] carries
 //! this to whole pieces. In memory ([`MemSource`], [`MemSink`]) all bytes are known, and exactly the planned calls
-//! fail. Over std's readers and writers ([`StdSource`], [`StdSink`]) no bytes are known, and only the bounds and the
+//! ([`Failing`]) fail. Over std's readers and writers ([`StdSource`], [`StdSink`]) no bytes are known, and only the bounds and the
 //! causes are. Definitions: `specs/Known.antt` (bytes that may be known), `specs/Causes.antt` (faults and their
-//! causes), `specs/States.antt` (what is in memory).
+//! causes), `specs/States.antt` (what each source and sink is seen as).
 #![tactic(auto)]
 
+mod failing;
 mod fault;
 mod memory;
 mod plan;
@@ -16,6 +17,7 @@ mod sink;
 mod source;
 mod standard;
 
+pub use failing::Failing;
 pub use fault::{Failed, SinkFault};
 pub use memory::{MemSink, MemSource};
 pub use sink::{Sink, write_all};

@@ -5,6 +5,7 @@ ghost use Rattle.std.specs.Io.{ReadsAtMost, WritesAtMost};
 ghost use Rattle.ivy_io.specs.Causes.{counted, faults_after, HasCause, HasSinkCause};
 ghost use Rattle.ivy_io.specs.Known.{ReadTakes, WriteAppends};
 
+use crate::failing::Failing;
 use crate::plan::Plan;
 use crate::{Failed, Sink, SinkFault, Source};
 use ivy_base::Bytes;
@@ -26,21 +27,24 @@ impl Model for MemSource {
 
     ghost Value = { SourceState };
 
-    ghost view = { λ s. record { left = drop s.at s.bytes; failing = s.plan.failing.items; calls = s.plan.calls; faults = s.faults } };
+    ghost view = { λ s. record { left = drop s.at s.bytes; failing = s.plan.failing; calls = s.plan.calls; faults = s.faults } };
 }
 
 impl MemSource {
-    /// A source that gives these bytes. `failing` has the numbers, from 1, of the reads that fail.
-    pub fn new(bytes: Bytes, failing: Vec<u64>) -> MemSource
+    /// A source that gives these bytes. `fails` has the numbers, from 1, of the reads that fail.
+    pub fn new(bytes: Bytes, fails: Failing) -> MemSource
         ensures left { result.left ≡ bytes }
-        ensures failing { result.failing ≡ failing.items }
+        ensures failing { result.failing ≡ fails }
         ensures calls { result.calls ≡ 0 }
         ensures faults { result.faults ≡ 0 }
     {
         MemSource {
             bytes,
             at: 0,
-            plan: Plan { failing, calls: 0 },
+            plan: Plan {
+                failing: fails,
+                calls: 0,
+            },
             faults: 0,
         }
     }
@@ -95,20 +99,23 @@ impl Model for MemSink {
 
     ghost Value = { SinkState };
 
-    ghost view = { λ s. record { written = s.bytes.items; failing = s.plan.failing.items; calls = s.plan.calls; faults = s.faults } };
+    ghost view = { λ s. record { written = s.bytes.items; failing = s.plan.failing; calls = s.plan.calls; faults = s.faults } };
 }
 
 impl MemSink {
-    /// A sink that holds nothing yet. `failing` has the numbers, from 1, of the writes that fail.
-    pub fn new(alloc: Global, failing: Vec<u64>) -> MemSink
+    /// A sink that holds nothing yet. `fails` has the numbers, from 1, of the writes that fail.
+    pub fn new(alloc: Global, fails: Failing) -> MemSink
         ensures written { result.written ≡ [] }
-        ensures failing { result.failing ≡ failing.items }
+        ensures failing { result.failing ≡ fails }
         ensures calls { result.calls ≡ 0 }
         ensures faults { result.faults ≡ 0 }
     {
         MemSink {
             bytes: Vec::new(alloc),
-            plan: Plan { failing, calls: 0 },
+            plan: Plan {
+                failing: fails,
+                calls: 0,
+            },
             faults: 0,
         }
     }

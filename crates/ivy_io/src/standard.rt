@@ -9,6 +9,7 @@ ghost use Rattle.ivy_io.specs.Known.{ReadTakes, WriteAppends};
 use crate::{Failed, Sink, SinkFault, Source};
 use std::io;
 use std::io::{ErrorKind, Read, Write};
+use std::marker::Model;
 
 /// How often a call that a signal interrupted is tried again, before it counts as a fault.
 const RETRIES: u32 = 1_000;
@@ -16,10 +17,16 @@ const RETRIES: u32 = 1_000;
 /// A source over any reader. A read that a signal interrupts is tried again; each other error is a fault.
 #[derive(Drop)]
 pub struct StdSource<R> {
-    /// What is read from.
-    pub reader: R,
-    /// How often it has failed.
-    pub faults: u64,
+    reader: R,
+    faults: u64,
+}
+
+impl<R> Model for StdSource<R> {
+    ghost use Rattle.ivy_io.specs.States.{ReaderState};
+
+    ghost Value = { ReaderState R };
+
+    ghost view = { λ s. record { reader = s.reader; faults = s.faults } };
 }
 
 impl<R> StdSource<R> {
@@ -73,10 +80,16 @@ fn read_retrying<R: Read>(reader: &mut R, into: &mut [u8]) -> io::Result<usize>
 /// memory. Bytes count as written once the writer took them: a writer that holds bytes back may lose them later.
 #[derive(Drop)]
 pub struct StdSink<W> {
-    /// What is written to.
-    pub writer: W,
-    /// How often it has failed.
-    pub faults: u64,
+    writer: W,
+    faults: u64,
+}
+
+impl<W> Model for StdSink<W> {
+    ghost use Rattle.ivy_io.specs.States.{WriterState};
+
+    ghost Value = { WriterState W };
+
+    ghost view = { λ s. record { writer = s.writer; faults = s.faults } };
 }
 
 impl<W> StdSink<W> {
@@ -86,6 +99,13 @@ impl<W> StdSink<W> {
         ensures faults { result.faults ≡ 0 }
     {
         StdSink { writer, faults: 0 }
+    }
+
+    /// The writer, with what it took.
+    pub fn into_writer(self) -> W
+        ensures { result ≡ self.writer }
+    {
+        self.writer
     }
 }
 

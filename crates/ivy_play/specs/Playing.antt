@@ -5,7 +5,7 @@ use Rattle.script_driver.specs.Lines.{lines_of}
 use Rattle.script_driver.specs.Run.{Ran, Runs, WithLaw, HasPiece}
 use Rattle.script_driver.specs.Told.{run_of}
 use Rattle.play_model.specs.World.{empty_world}
-use Rattle.play_model.specs.Step.{IvyStep, HasMemory, lacks_memory_line}
+use Rattle.play_model.specs.Step.{IvyStep, HasMemory, LacksShown}
 use Rattle.play_replies.specs.Headline.{Headline}
 use Rattle.ivy_play.specs.Status.{status_of}
 
@@ -22,4 +22,4 @@ abbrev pub IsPlayed : Ran → ℕ → Option (List ℕ) → Option (List ℕ) �
 IsPlayed ran status held holds =
     ((status ≡ status_of ran.ending) × (holds ≡ then held ran.text))
     ⊎ (status ≡ 6)
-    ⊎ ((told : List ℕ) × (holds ≡ then held told) × HasPiece lacks_memory_line told)
+    ⊎ ((told : List ℕ) × (holds ≡ then held told) × HasPiece LacksShown told)

@@ -59,7 +59,7 @@ module _ (w : World) (name : List ℕ) (pieces : List Piece) where
   sends_as p view o = o >>= λ message. Some (record { by = p; view = view; message = message })
 
   abbrev sends_under : Participant → Option View → Option Sending
-  sends_under p o = o >>= λ view. sends_as p view (message_of w.handles view pieces)
+  sends_under p o = o >>= λ view. sends_as p view (message_of w.replies view pieces)
 
   abbrev sends_by : Option Participant → Option Sending
   sends_by o = o >>= λ p. sends_under p p.view
@@ -70,10 +70,10 @@ module _ (w : World) (name : List ℕ) (pieces : List Piece) where
   pub sends_nowhere : (p : Participant) → participant w name ≡ Some p → p.view ≡ None → sending_of w name pieces ≡ None
   sends_nowhere p e none = ap sends_by e ∙ ap (sends_under p) none
 
-  pub sends_nothing : (p : Participant) (view : View) → participant w name ≡ Some p → p.view ≡ Some view → message_of w.handles view pieces ≡ None → sending_of w name pieces ≡ None
+  pub sends_nothing : (p : Participant) (view : View) → participant w name ≡ Some p → p.view ≡ Some view → message_of w.replies view pieces ≡ None → sending_of w name pieces ≡ None
   sends_nothing p view e entered none = ap sends_by e ∙ ap (sends_under p) entered ∙ ap (sends_as p view) none
 
-  pub sends_one : (p : Participant) (view : View) (message : List ℕ) → participant w name ≡ Some p → p.view ≡ Some view → message_of w.handles view pieces ≡ Some message
+  pub sends_one : (p : Participant) (view : View) (message : List ℕ) → participant w name ≡ Some p → p.view ≡ Some view → message_of w.replies view pieces ≡ Some message
       → sending_of w name pieces ≡ Some (record { by = p; view = view; message = message })
   sends_one p view message e entered is = ap sends_by e ∙ ap (sends_under p) entered ∙ ap (sends_as p view) is
 

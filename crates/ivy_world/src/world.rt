@@ -15,9 +15,9 @@ mod views;
 
 use crate::named::NamedView;
 use block_map::{Heads, Met};
-use ivy_base::{Bytes, Memory, Moment};
+use ivy_base::{Memory, Moment};
 use log_agent::Agent;
-use play_model::Command;
+use play_model::{Command, Given};
 use script_driver::{Machine, Taken};
 use script_lines::read_command;
 use std::alloc::Global;
@@ -27,7 +27,7 @@ use std::marker::Model;
 const MOST_BYTES: u64 = 16_777_216;
 
 /// A ring, the participants and the views in the order of their lines, the blocks that were met, the newest heads, the moment,
-/// and the file handle that each reply so far made or found.
+/// and what each reply so far left to later lines.
 #[derive(Drop)]
 pub struct World {
     has_ring: bool,
@@ -36,7 +36,7 @@ pub struct World {
     blocks: Met,
     heads: Heads,
     now: Moment,
-    handles: Vec<Option<Bytes>>,
+    replies: Vec<Given>,
 }
 
 impl Model for World {
@@ -46,9 +46,9 @@ impl Model for World {
 
     ghost Value = { Seen };
 
-    ghost view = { λ w. record { has_ring = w.has_ring; participants = w.agents.items; views = map view_of w.views.items; blocks = w.blocks; heads = w.heads; now = w.now; handles = w.handles.items } };
+    ghost view = { λ w. record { has_ring = w.has_ring; participants = w.agents.items; views = map view_of w.views.items; blocks = w.blocks; heads = w.heads; now = w.now; replies = w.replies.items } };
 
-    ghost invariant = { λ w. IsWorld (record { has_ring = w.has_ring; participants = w.agents.items; views = map view_of w.views.items; blocks = w.blocks; heads = w.heads; now = w.now; handles = w.handles.items }) };
+    ghost invariant = { λ w. IsWorld (record { has_ring = w.has_ring; participants = w.agents.items; views = map view_of w.views.items; blocks = w.blocks; heads = w.heads; now = w.now; replies = w.replies.items }) };
 }
 
 impl World {
@@ -63,7 +63,7 @@ impl World {
             blocks: Met::new(alloc),
             heads: Heads::new(alloc),
             now: Moment { sec: 0, nsec: 0 },
-            handles: Vec::new(alloc),
+            replies: Vec::new(alloc),
         }
     }
 

@@ -29,6 +29,3 @@ pub use hashing::{lower_id, lower_seed};
 pub use reading::{SignatureParts, read_key, read_signature};
 pub use tree::Tree;
 pub use verifying::{recompute_root, verify};
-
-#[cfg(test)]
-mod tests;

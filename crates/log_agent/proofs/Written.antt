@@ -19,9 +19,9 @@ use Rattle.log_model.proofs.Lists.{each, each_from}
 use Rattle.log_model.proofs.Opening.{same_owner}
 use Rattle.log_model.proofs.Owners.{owner_itself}
 use Rattle.log_model.specs.Spelling.{new_record, most_records}
-use Rattle.nfs_model.specs.Changing.{Plan, Refuse, Nothing, Operations, plan}
+use Rattle.nfs_model.specs.Changing.{is_changing, Plan, Refuse, Nothing, Operations, plan}
 use Rattle.play_model.specs.Calls.{own_beyond}
-use Rattle.turn_model.specs.Turn.{Agent, Asked, Turned, is_changing, own_seq, own_name, linked, appended, by_plan, turn_on}
+use Rattle.turn_model.specs.Turn.{Agent, Asked, Turned, own_seq, own_name, linked, appended, by_plan, turn_on}
 
 -- ---- own records, numbered on
 

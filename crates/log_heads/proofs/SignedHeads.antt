@@ -15,7 +15,7 @@ use Rattle.ivy_base.specs.Naming.{head_key_of}
 use Rattle.wire_model.specs.Xdr.{word, padding, opaque}
 use Rattle.wire_model.proofs.OneReading.{whole}
 use Rattle.log_model.specs.Vector.{Stamp}
-use Rattle.log_model.specs.Spelling.{IsBlock, head_message, head_block, IsHeadOf}
+use Rattle.log_model.specs.Spelling.{IsBlock, most_records, head_message, head_block, IsHeadOf}
 use Rattle.dht_ids.specs.declared.judge.Judged.{Judged}
 use Rattle.log_records.specs.Heads.{Parts, stamp, owner_in, seq_in, name_in, is_block}
 use Rattle.log_records.proofs.OneHead.{one_head}
@@ -84,12 +84,12 @@ from_tests bytes owner seq name signature h =
     let five = first _ (are_bytes bytes) six in
     let four = first _ (nat_le (length signature) 16000) five in
     let three = first _ (is_block 20 name.0) four in
-    let two = first _ (nat_le seq 1048576) three in (
+    let two = first _ (nat_le seq most_records) three in (
       second _ (are_bytes bytes) six,
       record {
         owner_is_key = block_from 60 owner.0 (first _ (nat_le 1 seq) two);
         some = leb-true 1 seq (second (is_block 60 owner.0) (nat_le 1 seq) two);
-        few = leb-true seq 1048576 (second _ (nat_le seq 1048576) three);
+        few = leb-true seq most_records (second _ (nat_le seq most_records) three);
         name = block_from 20 name.0 (second _ (is_block 20 name.0) four);
         short = leb-true (length signature) 16000 (second _ (nat_le (length signature) 16000) five);
         spelled = (bytes_eq-Decides bytes (head_block owner (stamp seq name) signature)).0 (second _ (bytes_eq bytes (head_block owner (stamp seq name) signature)) h);
@@ -98,7 +98,7 @@ from_tests bytes owner seq name signature h =
 
 to_tests : (bytes : List ℕ) (owner : PubKey) (seq : ℕ) (name : Key) (signature : List ℕ) → are_bytes bytes ≡ true → IsHeadOf owner bytes (stamp seq name) signature → is_head bytes owner seq name signature ≡ true
 to_tests bytes owner seq name signature octets f =
-    both _ _ (both _ _ (both _ _ (both _ _ (both _ _ (both _ _ (block_tested 60 owner.0 f.owner_is_key) (le-leb 1 seq f.some)) (le-leb seq 1048576 f.few)) (block_tested 20 name.0 f.name))
+    both _ _ (both _ _ (both _ _ (both _ _ (both _ _ (both _ _ (block_tested 60 owner.0 f.owner_is_key) (le-leb 1 seq f.some)) (le-leb seq most_records f.few)) (block_tested 20 name.0 f.name))
     (le-leb (length signature) 16000 f.short)) octets) ((bytes_eq-Decides bytes (head_block owner (stamp seq name) signature)).1 f.spelled)
 
 -- ---- the places

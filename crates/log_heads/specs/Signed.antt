@@ -6,7 +6,7 @@ use Rattle.std.specs.Str.{bytes_eq}
 use Rattle.ivy_base.specs.declared.key.Key.{Key}
 use Rattle.ivy_base.specs.declared.key.PubKey.{PubKey}
 use Rattle.ivy_base.specs.Naming.{head_key_of}
-use Rattle.log_model.specs.Spelling.{head_message, head_block, IsHeadOf}
+use Rattle.log_model.specs.Spelling.{most_records, head_message, head_block, IsHeadOf}
 use Rattle.dht_ids.specs.declared.judge.Judged.{Judged}
 use Rattle.log_records.specs.Heads.{stamp, owner_in, seq_in, name_in, is_block}
 use Rattle.hash_signature_model.specs.declared.set.LmsFault.{LmsFault}
@@ -36,7 +36,7 @@ signature_in bytes = take (from_be_bytes w32 (take 4 (drop 88 bytes))) (drop 92 
 -- the bytes are a head with that owner, number, name and signature
 abbrev pub is_head : List ℕ → PubKey → ℕ → Key → List ℕ → Bool
 is_head bytes owner seq name signature =
-    is_block 60 owner.0 && nat_le 1 seq && nat_le seq 1048576 && is_block 20 name.0 && nat_le (length signature) 16000 && are_bytes bytes
+    is_block 60 owner.0 && nat_le 1 seq && nat_le seq most_records && is_block 20 name.0 && nat_le (length signature) 16000 && are_bytes bytes
     && bytes_eq bytes (head_block owner (stamp seq name) signature)
 
 abbrev pub is_yes : Result (Unit {0}) LmsFault → Bool

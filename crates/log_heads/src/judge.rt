@@ -7,7 +7,7 @@ ghost use Rattle.hss_keys.specs.Hss.{HssAccepts};
 ghost use Rattle.log_heads.specs.Signed.{IsSignedHead};
 
 use dht_ids::{Judge, Judged};
-use hss_keys::verify;
+use hss_keys::Hss;
 use ivy_base::{Key, head_key};
 use log_records::Head;
 
@@ -17,8 +17,8 @@ const SIGNED_LEN: usize = 88;
 /// The judge of signed heads.
 ///
 /// It takes the bytes exactly where they are a head ([`Head::read`]), the key is the SHA-1 of its public key, and its
-/// signature of the block's first 88 bytes is accepted under that public key (RFC 8554, section 6.3; [`verify`]). Nothing
-/// allocates.
+/// signature of the block's first 88 bytes is accepted under that public key (RFC 8554, section 6.3; [`Hss::verify`]).
+/// Nothing allocates.
 #[derive(Clone, Copy, Debug, PartialEq, Eq)]
 pub struct HssJudge;
 
@@ -59,5 +59,5 @@ fn signed_part(block: &[u8]) -> &[u8]
 fn is_signed_under(head: &Head, signed: &[u8], key: &Key) -> bool
     ensures { IsTrue result ↔ (key.now ≡ head_key_of head.now.owner) × HssAccepts head.now.owner.0 signed.now head.now.signature.now }
 {
-    *key == head_key(&head.owner) && verify(&head.owner, signed, head.signature).is_ok()
+    *key == head_key(&head.owner) && Hss::verify(&head.owner, signed, head.signature).is_ok()
 }

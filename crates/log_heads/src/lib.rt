@@ -18,10 +18,6 @@
 pub mod judge;
 mod laws;
 mod sealing;
-#[cfg(test)]
-mod sealing_tests;
-#[cfg(test)]
-mod tests;
 
 pub use judge::HssJudge;
 pub use laws::signed_heads_are_judged;

@@ -3,7 +3,7 @@
 ghost use Rattle.std.specs.Prelude.{◌≡◌, ◌↔◌, ◌+◌, ◌≤◌, ◌∷◌, ◌++◌, Err, IfOk, OnOk, OnErr};
 ghost use Rattle.dht_ids.specs.declared.signature.SignFault.TheVariants.{Spent};
 ghost use Rattle.wire_model.specs.Xdr.{word};
-ghost use Rattle.log_model.specs.Spelling.{head_message, head_block};
+ghost use Rattle.log_model.specs.Spelling.{most_records, head_message, head_block};
 ghost use Rattle.log_records.specs.Heads.{stamp};
 ghost use Rattle.log_heads.specs.Sealed.{SealedHeadsAreJudged};
 
@@ -50,10 +50,12 @@ impl Head {
 /// `Spent` exactly where the key signs nothing more, and `Memory` where memory runs out. The key is then what it was.
 pub fn seal<S: Signs>(alloc: Global, signs: &mut S, seq: u32, name: Key) -> Result<Head, SignFault>
     requires some { 1 ≤ seq }
-    requires few { seq ≤ 1048576 }
+    requires few { seq ≤ most_records }
     ensures owner { IfOk result (λ h. h.owner.0 ≡ S.key signs.old) }
     ensures record { IfOk result (λ h. (h.seq ≡ seq) × (h.name ≡ name)) }
     ensures signed { IfOk result (λ h. S.accepts h.owner.0 (head_message h.owner (stamp seq name)) h.signature) }
+    ensures next { IfOk result (λ h. h.signature ≡ S.signature signs.old (head_message h.owner (stamp seq name))) }
+    ensures after { OnOk result (signs.new ≡ S.next signs.old) }
     ensures counted { OnOk result (S.remaining signs.new + 1 ≡ S.remaining signs.old) }
     ensures same_key { S.key signs.new ≡ S.key signs.old }
     ensures kept { OnErr result (signs.new ≡ signs.old) }

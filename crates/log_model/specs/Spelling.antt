@@ -51,10 +51,14 @@ body op.End = []
 abbrev pub vector_entry : Entry → List ℕ
 vector_entry e = e.0.0 ++ word e.1.seq ++ e.1.name.0
 
--- "IVR1", the parts that each record has, and the operation's own
+-- what each record's block begins with: "IVR1"
+abbrev pub record_tag : List ℕ
+record_tag = 73 ∷ 86 ∷ 82 ∷ 49 ∷ []
+
+-- the tag, the parts that each record has, and the operation's own
 abbrev pub block_of_parts : PubKey → ℕ → Key → Vector → Moment → Op → List ℕ
 block_of_parts owner seq prev vector moment_made op =
-    73 ∷ 86 ∷ 82 ∷ 49 ∷ word (record_kind op) ++ (head_key_of owner).0 ++ prev.0 ++ word seq ++ moment moment_made
+    record_tag ++ word (record_kind op) ++ (head_key_of owner).0 ++ prev.0 ++ word seq ++ moment moment_made
     ++ array vector_entry vector ++ body op
 
 abbrev pub record_block : Record → List ℕ

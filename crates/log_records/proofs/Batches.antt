@@ -11,7 +11,8 @@ use Rattle.log_model.specs.Record.{Record}
 use Rattle.log_model.specs.Rank.{own_entry, full_vector}
 use Rattle.log_model.specs.Chain.{GoesOn, IsChain, LinkedFrom}
 use Rattle.log_model.proofs.Lists.{here, there, in_nothing, each_append}
-use Rattle.log_records.specs.Batches.{Batch, owner_of, stamp_in, owners_in, KnowsEdge, GoesOnFrom, EndsAt, OldestNames, HasRecord, name_or_none, IsSound, IsOnward, Extends, AreApart, IsBatch, AreUnder}
+use Rattle.log_records.specs.declared.edge.Edge.{Edge}
+use Rattle.log_records.specs.Batches.{Batch, owner_of, stamp_in, as_edge, owners_in, KnowsEdge, GoesOnFrom, EndsAt, OldestNames, HasRecord, name_or_none, IsSound, IsOnward, Extends, AreApart, IsBatch, AreUnder}
 use Rattle.log_records.specs.BatchLaws.{ChainsBegin, ChainsGoOn}
 use Rattle.log_records.specs.declared.batch.Chain.{Chain}
 use Rattle.log_records.specs.Heads.{stamp}
@@ -25,7 +26,7 @@ linked_after view owner p [] g = tt
 linked_after view owner p (r ∷ rs) g =
     (g.0.owned, g.0.spelled, g.1.seq, g.1.prev, subst (λ (n : ℕ). LinkedFrom owner (n + 1) r.name rs) g.1.seq (linked_after view owner r rs g.2))
 
-pub linked : (view : View) (held : Option Stamp) (edge : Option Vector) (chain : List Record) → GoesOnFrom view held edge chain → OldestNames held chain
+pub linked : (view : View) (held : Option Stamp) (edge : Option Edge) (chain : List Record) → GoesOnFrom view held edge chain → OldestNames held chain
     → LinkedFrom (owner_of chain) (reach held + 1) (name_or_none held) chain
 linked view held edge [] g names = tt
 linked view None edge (r ∷ rs) g names =
@@ -33,7 +34,7 @@ linked view None edge (r ∷ rs) g names =
 linked view (Some t) edge (r ∷ rs) g names =
     (refl, g.0.spelled, g.1, names, subst (λ (n : ℕ). LinkedFrom r.owner (n + 1) r.name rs) g.1 (linked_after view r.owner r rs g.3))
 
-pub extends : (view : View) (held floor : Vector) (edge : Option Vector) (head : Stamp) (chain : List Record) → IsSound view held edge head chain → IsOnward held floor chain → Extends held floor head chain
+pub extends : (view : View) (held floor : Vector) (edge : Option Edge) (head : Stamp) (chain : List Record) → IsSound view held edge head chain → IsOnward held floor chain → Extends held floor head chain
 extends view held floor edge head chain sound onward = record {
   linked = linked view (stamp_in held chain) edge chain sound.goes_on onward.names;
   ends = sound.ends;
@@ -63,7 +64,7 @@ batch_push b head chain is more new = record {
 }
 
 -- a chain that was added under the view keeps the batch under it
-pub under_push : (view : View) (edges : Key → Option Vector) (b : Batch) (head : Stamp) (chain : List Record) → AreUnder view edges b
+pub under_push : (view : View) (edges : Key → Option Edge) (b : Batch) (head : Stamp) (chain : List Record) → AreUnder view edges b
     → GoesOnFrom view (stamp_in b.held chain) (edges (head_key_of (owner_of chain))) chain → AreUnder view edges (record b { chains = b.chains ++ (head, chain) ∷ [] })
 under_push view edges b head chain under g =
     each_append (λ c. GoesOnFrom view (stamp_in b.held c.1) (edges (head_key_of (owner_of c.1))) c.1) b.chains ((head, chain) ∷ []) under (g, tt)
@@ -71,15 +72,15 @@ under_push view edges b head chain under g =
 -- ---- over what is held
 
 -- the edge may be left out, and put in where the oldest record knows it
-pub without_edge : (view : View) (held : Option Stamp) (edge : Option Vector) (chain : List Record) → GoesOnFrom view held edge chain → GoesOnFrom view held None chain
+pub without_edge : (view : View) (held : Option Stamp) (edge : Option Edge) (chain : List Record) → GoesOnFrom view held edge chain → GoesOnFrom view held None chain
 without_edge view held edge [] g = tt
 without_edge view None edge (r ∷ rs) g = (g.0, g.1, tt, g.3)
 without_edge view (Some t) edge (r ∷ rs) g = (g.0, g.1, tt, g.3)
 
-pub with_edge : (view : View) (held : Option Stamp) (edge more : Option Vector) (r : Record) (rs : List Record) → GoesOnFrom view held edge (r ∷ rs) → KnowsEdge held more r → GoesOnFrom view held more (r ∷ rs)
+pub with_edge : (view : View) (held : Option Stamp) (edge more : Option Edge) (r : Record) (rs : List Record) → GoesOnFrom view held edge (r ∷ rs) → KnowsEdge held more r → GoesOnFrom view held more (r ∷ rs)
 with_edge view held edge more r rs g knows = (g.0, g.1, knows, g.3)
 
-pub begins_log : (view : View) (edge : Option Vector) (chain : List Record) → GoesOnFrom view None edge chain → IsChain view (owner_of chain) chain
+pub begins_log : (view : View) (edge : Option Edge) (chain : List Record) → GoesOnFrom view None edge chain → IsChain view (owner_of chain) chain
 begins_log view edge [] g = tt
 begins_log view edge (r ∷ rs) g = (g.0, g.1, g.3)
 
@@ -103,7 +104,7 @@ chain_owned : (view : View) (owner : PubKey) (before : List Record) (p : Record)
 chain_owned view owner [] p chain = chain.0.owned
 chain_owned view owner (q ∷ before) p chain = last_owned view owner q before p chain.2
 
-after_held : (view : View) (owner : PubKey) (p : Record) (chain : List Record) → p.owner ≡ owner_of chain → GoesOnFrom view (Some (own_entry p).1) (Some p.vector) chain → OldestNames (Some (own_entry p).1) chain
+after_held : (view : View) (owner : PubKey) (p : Record) (chain : List Record) → p.owner ≡ owner_of chain → GoesOnFrom view (Some (own_entry p).1) (Some (as_edge p)) chain → OldestNames (Some (own_entry p).1) chain
     → GoesOn view (owner_of chain) p chain
 after_held view owner p [] owned g names = tt
 after_held view owner p (r ∷ rs) owned g names = (
@@ -118,7 +119,7 @@ ends_behind t xs ys h = (xs ++ h.0, h.1, ap (λ (l : List Record). xs ++ l) h.2 
 pub chains_go_on : ChainsGoOn
 chains_go_on view held floor head before p chain is at ext g =
     let names = subst (λ (s : Option Stamp). OldestNames s chain) at (oldest_names (stamp_in held chain) chain ext.linked) in
-    let on = subst (λ (s : Option Stamp). GoesOnFrom view s (Some p.vector) chain) at g in (
+    let on = subst (λ (s : Option Stamp). GoesOnFrom view s (Some (as_edge p)) chain) at g in (
       chain_on view (owner_of chain) before p chain is (after_held view (owner_of chain) p chain (chain_owned view (owner_of chain) before p is) on names),
       ends_behind head before (p ∷ chain) (ends_behind head (p ∷ []) chain ext.ends),
     )

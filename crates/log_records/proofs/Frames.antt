@@ -8,7 +8,8 @@ use Rattle.wire_model.specs.OneReading.{ReadsOne, IsFront, HasNoFront}
 use Rattle.wire_model.proofs.OneReading.{◌▷◌, of_fewer, of_parts, one_word}
 use Rattle.wire_model.proofs.Fronts.{both, no_first, no_second, only_misfit, front_of_parts}
 use Rattle.log_model.specs.Vector.{Vector, stamp_at}
-use Rattle.log_model.specs.Spelling.{IsKey, IsMoment, vector_entry}
+use Rattle.log_model.specs.Spelling.{IsKey, IsMoment, record_tag, vector_entry}
+use Rattle.log_model.specs.View.{most_cited}
 use Rattle.version_vectors.specs.Vectors.{VectorFits}
 use Rattle.version_vectors.proofs.OneVector.{one_vector}
 use Rattle.log_records.specs.declared.frame.Frame.{Frame}
@@ -23,15 +24,12 @@ use Rattle.log_records.proofs.OneHead.{one_number}
 -- ---- what is cited
 
 one_cited : (log : Key) → ReadsOne (IsCited log) (array vector_entry)
-one_cited log = of_fewer (λ v f. f.0) (one_vector 32 (omega arith))
+one_cited log = of_fewer (λ v f. f.0) (one_vector most_cited (omega arith))
 
-pub cites_itself : {bytes rest : List ℕ} {v : Vector} (log : Key) → IsFront (VectorFits 32) (array vector_entry) bytes v rest → stamp_at v log ≢ None → HasNoFront (IsCited log) (array vector_entry) bytes
-cites_itself log f own = only_misfit (one_vector 32 (omega arith)) f (λ v g. g.0) (λ g. own g.1)
+pub cites_itself : {bytes rest : List ℕ} {v : Vector} (log : Key) → IsFront (VectorFits most_cited) (array vector_entry) bytes v rest → stamp_at v log ≢ None → HasNoFront (IsCited log) (array vector_entry) bytes
+cites_itself log f own = only_misfit (one_vector most_cited (omega arith)) f (λ v g. g.0) (λ g. own g.1)
 
 -- ---- frames
-
-abbrev magic : List ℕ
-magic = 73 ∷ 86 ∷ 82 ∷ 49 ∷ []
 
 abbrev Two : Type 0
 Two = Unit {0} × ℕ
@@ -40,10 +38,10 @@ abbrev IsTwo : Two → Type 0
 IsTwo p = IsAny p.0 × IsWord p.1
 
 abbrev two : Two → List ℕ
-two p = constant_bytes magic p.0 ++ word p.1
+two p = constant_bytes record_tag p.0 ++ word p.1
 
 one_two : ReadsOne IsTwo two
-one_two = one_constant magic ▷ one_word
+one_two = one_constant record_tag ▷ one_word
 
 abbrev Four : Type 0
 Four = (Two × Unit {0}) × Key
@@ -91,39 +89,39 @@ without_four log absent =
 without_two : (log : Key) {bytes : List ℕ} → HasNoFront IsTwo two bytes → HasNoFront (IsFrame log) (frame_block log) bytes
 without_two log absent = without_four log (no_first IsKey key_bytes (no_first IsAny (constant_bytes log.0) absent))
 
-pub no_frame_magic : (log : Key) {b0 : List ℕ} → HasNoFront IsAny (constant_bytes magic) b0 → HasNoFront (IsFrame log) (frame_block log) b0
-no_frame_magic log absent = without_two log (no_first IsWord word absent)
+pub no_frame_tag : (log : Key) {b0 : List ℕ} → HasNoFront IsAny (constant_bytes record_tag) b0 → HasNoFront (IsFrame log) (frame_block log) b0
+no_frame_tag log absent = without_two log (no_first IsWord word absent)
 
-pub no_frame_kind : (log : Key) {b0 b1 : List ℕ} {u : Unit {0}} → IsFront IsAny (constant_bytes magic) b0 u b1 → HasNoFront IsWord word b1 → HasNoFront (IsFrame log) (frame_block log) b0
-no_frame_kind log f absent = without_two log (no_second (one_constant magic) f absent)
+pub no_frame_kind : (log : Key) {b0 b1 : List ℕ} {u : Unit {0}} → IsFront IsAny (constant_bytes record_tag) b0 u b1 → HasNoFront IsWord word b1 → HasNoFront (IsFrame log) (frame_block log) b0
+no_frame_kind log f absent = without_two log (no_second (one_constant record_tag) f absent)
 
-pub no_frame_log : (log : Key) {b0 b1 b2 : List ℕ} {u : Unit {0}} {kind : ℕ} → IsFront IsAny (constant_bytes magic) b0 u b1 → IsFront IsWord word b1 kind b2
+pub no_frame_log : (log : Key) {b0 b1 b2 : List ℕ} {u : Unit {0}} {kind : ℕ} → IsFront IsAny (constant_bytes record_tag) b0 u b1 → IsFront IsWord word b1 kind b2
     → HasNoFront IsAny (constant_bytes log.0) b2 → HasNoFront (IsFrame log) (frame_block log) b0
 no_frame_log log f kind absent = without_four log (no_first IsKey key_bytes (no_second one_two (both f kind) absent))
 
-pub no_frame_prev : (log : Key) {b0 b1 b2 b3 : List ℕ} {u w : Unit {0}} {kind : ℕ} → IsFront IsAny (constant_bytes magic) b0 u b1 → IsFront IsWord word b1 kind b2 → IsFront IsAny (constant_bytes log.0) b2 w b3
+pub no_frame_prev : (log : Key) {b0 b1 b2 b3 : List ℕ} {u w : Unit {0}} {kind : ℕ} → IsFront IsAny (constant_bytes record_tag) b0 u b1 → IsFront IsWord word b1 kind b2 → IsFront IsAny (constant_bytes log.0) b2 w b3
     → HasNoFront IsKey key_bytes b3 → HasNoFront (IsFrame log) (frame_block log) b0
 no_frame_prev log f kind own absent = without_four log (no_second (one_two ▷ one_constant log.0) (both (both f kind) own) absent)
 
-pub no_frame_seq : (log : Key) {b0 b1 b2 b3 b4 : List ℕ} {u w : Unit {0}} {kind : ℕ} {prev : Key} → IsFront IsAny (constant_bytes magic) b0 u b1 → IsFront IsWord word b1 kind b2 → IsFront IsAny (constant_bytes log.0) b2 w b3
+pub no_frame_seq : (log : Key) {b0 b1 b2 b3 b4 : List ℕ} {u w : Unit {0}} {kind : ℕ} {prev : Key} → IsFront IsAny (constant_bytes record_tag) b0 u b1 → IsFront IsWord word b1 kind b2 → IsFront IsAny (constant_bytes log.0) b2 w b3
     → IsFront IsKey key_bytes b3 prev b4 → HasNoFront IsNumber word b4 → HasNoFront (IsFrame log) (frame_block log) b0
 no_frame_seq log f kind own prev absent =
     none_of_some (parts_of_frame log) (no_first (IsCited log) (array vector_entry) (no_first IsMoment moment (no_second (one_four log) (both (both (both f kind) own) prev) absent)))
 
-pub no_frame_moment : (log : Key) {b0 b1 b2 b3 b4 b5 : List ℕ} {u w : Unit {0}} {kind seq : ℕ} {prev : Key} → IsFront IsAny (constant_bytes magic) b0 u b1 → IsFront IsWord word b1 kind b2 → IsFront IsAny (constant_bytes log.0) b2 w b3
+pub no_frame_moment : (log : Key) {b0 b1 b2 b3 b4 b5 : List ℕ} {u w : Unit {0}} {kind seq : ℕ} {prev : Key} → IsFront IsAny (constant_bytes record_tag) b0 u b1 → IsFront IsWord word b1 kind b2 → IsFront IsAny (constant_bytes log.0) b2 w b3
     → IsFront IsKey key_bytes b3 prev b4 → IsFront IsNumber word b4 seq b5 → HasNoFront IsMoment moment b5 → HasNoFront (IsFrame log) (frame_block log) b0
 no_frame_moment log f kind own prev seq absent =
     none_of_some (parts_of_frame log) (no_first (IsCited log) (array vector_entry) (no_second (one_four log ▷ one_number) (both (both (both (both f kind) own) prev) seq) absent))
 
 pub no_frame_cited : (log : Key) {b0 b1 b2 b3 b4 b5 b6 : List ℕ} {u w : Unit {0}} {kind seq : ℕ} {prev : Key} {m : Moment}
-    → IsFront IsAny (constant_bytes magic) b0 u b1 → IsFront IsWord word b1 kind b2 → IsFront IsAny (constant_bytes log.0) b2 w b3
+    → IsFront IsAny (constant_bytes record_tag) b0 u b1 → IsFront IsWord word b1 kind b2 → IsFront IsAny (constant_bytes log.0) b2 w b3
     → IsFront IsKey key_bytes b3 prev b4 → IsFront IsNumber word b4 seq b5 → IsFront IsMoment moment b5 m b6 → HasNoFront (IsCited log) (array vector_entry) b6 → HasNoFront (IsFrame log) (frame_block log) b0
 no_frame_cited log f kind own prev seq m absent =
     none_of_some (parts_of_frame log) (no_second (one_four log ▷ one_number ▷ one_record_moment) (both (both (both (both (both f kind) own) prev) seq) m) absent)
 
 -- all seven
 pub frame_front : (log : Key) {b0 b1 b2 b3 b4 b5 b6 b7 : List ℕ} {u w : Unit {0}} {kind seq : ℕ} {prev : Key} {m : Moment} {v : Vector}
-    → IsFront IsAny (constant_bytes magic) b0 u b1 → IsFront IsWord word b1 kind b2 → IsFront IsAny (constant_bytes log.0) b2 w b3
+    → IsFront IsAny (constant_bytes record_tag) b0 u b1 → IsFront IsWord word b1 kind b2 → IsFront IsAny (constant_bytes log.0) b2 w b3
     → IsFront IsKey key_bytes b3 prev b4 → IsFront IsNumber word b4 seq b5 → IsFront IsMoment moment b5 m b6 → IsFront (IsCited log) (array vector_entry) b6 v b7
     → IsFront (IsFrame log) (frame_block log) b0 (record { kind = kind; prev = prev; seq = seq; moment = m; vector = v }) b7
 frame_front log f kind own prev seq m v = front_of_parts (λ (p : Seven). frame_in p)

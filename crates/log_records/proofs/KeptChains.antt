@@ -13,6 +13,7 @@ use Rattle.version_vectors.specs.declared.entry.Entry.{Entry}
 use Rattle.version_vectors.specs.Entries.{entry_of}
 use Rattle.log_records.specs.declared.record.Record as kept
 use Rattle.log_records.specs.Records.{record_of, records_of}
+use Rattle.log_records.specs.declared.edge.Edge.{Edge}
 use Rattle.log_records.specs.Batches.{owner_of, AreOfOneOwner, MayBeNext, KnowsEdge}
 use Rattle.log_records.proofs.Walks.{HasAt, owned_at}
 use Rattle.log_records.proofs.Knowing.{knows, knows_before}
@@ -30,15 +31,15 @@ pub kept_size : (xs : List kept.Record) → AreOfOneOwner (records_of xs) → le
 kept_size [] one = absurd (one.some refl)
 kept_size (x ∷ xs) one = omega (arith, length-map (x ∷ xs) record_of)
 
-pub edge_known : (log : Key) (held : Option Stamp) (got : Option Entry) (e : Entry) (edge : Option Vector) (v : Vector) (r : Record) (b : Bool)
-    → HasSpelling r → log ≡ head_key_of r.owner → MayBeNext held r → IfSome edge (λ w. stamp_at w log ≡ None) → got ≡ option_map (entry_of log) held → got ≡ Some e → edge ≡ Some v
-    → IsTrue b ↔ Dominates r.vector v → IsTrue b ↔ KnowsEdge held edge r
+pub edge_known : (log : Key) (held : Option Stamp) (got : Option Entry) (e : Entry) (edge : Option Edge) (v : Edge) (r : Record) (b : Bool)
+    → HasSpelling r → log ≡ head_key_of r.owner → MayBeNext held r → IfSome edge (λ w. stamp_at w.vector log ≡ None) → got ≡ option_map (entry_of log) held → got ≡ Some e → edge ≡ Some v
+    → IsTrue b ↔ Dominates r.vector v.vector → IsTrue b ↔ KnowsEdge held edge r
 edge_known log None got e edge v r b spelled is next none made some given dom = absurd (cc (made, some))
 edge_known log (Some t) got e None v r b spelled is next none made some given dom = absurd (cc given)
 edge_known log (Some t) got e (Some w) v r b spelled is next none made some given dom =
     let same : w ≡ v = cc given in
-    let k = knows r w t spelled (subst (λ (k : Key). stamp_at w k ≡ None) is none) (omega arith) in
-    let by_vector : IsTrue b ↔ Dominates r.vector w = subst (λ (x : Vector). IsTrue b ↔ Dominates r.vector x) (sym same) dom in
+    let k = knows r w.vector t spelled (subst (λ (k : Key). stamp_at w.vector k ≡ None) is none) (omega arith) in
+    let by_vector : IsTrue b ↔ Dominates r.vector w.vector = subst (λ (x : Edge). IsTrue b ↔ Dominates r.vector x.vector) (sym same) dom in
     (λ h. k.0 (by_vector.0 h), λ h. by_vector.1 (k.1 h))
 
 pub follows_by : (p r : Record) (b : Bool) → HasSpelling p → HasSpelling r → p.owner ≡ r.owner → (r.seq ≡ p.seq + 1) × (r.prev ≡ p.name) → IsTrue b ↔ Dominates r.vector p.vector → IsTrue b ↔ Follows p r

@@ -8,6 +8,7 @@ use Rattle.std.proofs.lemmas.List.{length-map}
 use Rattle.std.proofs.lemmas.List.Sums.{sum_by-cons}
 use Rattle.log_model.specs.Record as log
 use Rattle.log_model.specs.Rank.{Rank, rank, rank_cmp}
+use Rattle.log_model.specs.View.{most_cited}
 use Rattle.log_model.specs.Spelling.{HasSpelling}
 use Rattle.log_model.specs.Closed.{IsAscending}
 use Rattle.log_model.proofs.Lists.{each_from, each}
@@ -94,7 +95,7 @@ under_place first (q ∷ s) up = subst (λ k. AllByRecursion (λ x. is_under fir
 
 pub held_short : (rs : List Record) (i : ℕ) (x : Record) → i < length rs → x ≡ get_or rs i x → AllByRecursion HasSpelling (records_of rs) → length x.vector ≤ 2 ^ 31
 held_short [] i x lt e all = absurd (omega arith)
-held_short (r ∷ rs) zero x lt e all = let short : length x.vector ≤ 32 = subst (λ (y : Record). length y.vector ≤ 32) (sym e) all.0.short in omega arith
+held_short (r ∷ rs) zero x lt e all = let short : length x.vector ≤ most_cited = subst (λ (y : Record). length y.vector ≤ most_cited) (sym e) all.0.short in omega arith
 held_short (r ∷ rs) (suc i) x lt e all = held_short rs i x (omega arith) e all.1
 
 seen_at : (rs : List Record) (i : ℕ) (x : Record) → x ≡ get_or rs i x → get_or (records_of rs) i (record_of x) ≡ record_of x

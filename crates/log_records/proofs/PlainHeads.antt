@@ -14,7 +14,7 @@ use Rattle.ivy_base.specs.Naming.{head_key_of}
 use Rattle.wire_model.specs.Xdr.{word, opaque}
 use Rattle.wire_model.proofs.OneReading.{whole}
 use Rattle.log_model.specs.Vector.{Stamp}
-use Rattle.log_model.specs.Spelling.{IsBlock, head_block, IsHeadOf}
+use Rattle.log_model.specs.Spelling.{IsBlock, most_records, head_block, IsHeadOf}
 use Rattle.dht_ids.specs.declared.judge.Judged.{Judged}
 use Rattle.log_records.specs.Heads.{Parts, stamp, IsPlainHead, owner_in, seq_in, name_in, is_block, is_plain, is_plain_head, plain_judged}
 use Rattle.log_records.specs.Laws.{PlainHeadsAreJudged}
@@ -52,11 +52,11 @@ from_tests key bytes owner seq name h =
     let five = first _ (bytes_eq key.0 (head_key_of owner).0) h in
     let four = first _ (bytes_eq bytes (head_block owner (stamp seq name) [])) five in
     let three = first _ (is_block 20 name.0) four in
-    let two = first _ (nat_le seq 1048576) three in (
+    let two = first _ (nat_le seq most_records) three in (
       record {
         owner_is_key = block_from 60 owner.0 (first _ (nat_le 1 seq) two);
         some = leb-true 1 seq (second (is_block 60 owner.0) (nat_le 1 seq) two);
-        few = leb-true seq 1048576 (second _ (nat_le seq 1048576) three);
+        few = leb-true seq most_records (second _ (nat_le seq most_records) three);
         name = block_from 20 name.0 (second _ (is_block 20 name.0) four);
         short = omega arith;
         spelled = (bytes_eq-Decides bytes (head_block owner (stamp seq name) [])).0 (second _ (bytes_eq bytes (head_block owner (stamp seq name) [])) five);
@@ -66,7 +66,7 @@ from_tests key bytes owner seq name h =
 
 to_tests : (key : Key) (bytes : List ℕ) (owner : PubKey) (seq : ℕ) (name : Key) → IsHeadOf owner bytes (stamp seq name) [] → key ≡ head_key_of owner → is_plain key bytes owner seq name ≡ true
 to_tests key bytes owner seq name f e =
-    both _ _ (both _ _ (both _ _ (both _ _ (both _ _ (block_tested 60 owner.0 f.owner_is_key) (le-leb 1 seq f.some)) (le-leb seq 1048576 f.few)) (block_tested 20 name.0 f.name))
+    both _ _ (both _ _ (both _ _ (both _ _ (both _ _ (block_tested 60 owner.0 f.owner_is_key) (le-leb 1 seq f.some)) (le-leb seq most_records f.few)) (block_tested 20 name.0 f.name))
     ((bytes_eq-Decides bytes (head_block owner (stamp seq name) [])).1 f.spelled))
     ((bytes_eq-Decides key.0 (head_key_of owner).0).1 (ap (λ (k : Key). k.0) e))
 

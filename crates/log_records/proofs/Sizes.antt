@@ -8,7 +8,7 @@ use Rattle.ivy_base.specs.Naming.{head_key_of}
 use Rattle.ivy_base.proofs.NameLemmas.{length-name}
 use Rattle.wire_model.specs.Xdr.{word, double_word, opaque, optional, moment, array}
 use Rattle.xdr_codec.proofs.Lengths.{length-opaque}
-use Rattle.log_model.specs.Spelling.{kind_number, record_kind, body, vector_entry, OperationFits}
+use Rattle.log_model.specs.Spelling.{kind_number, record_tag, record_kind, body, vector_entry, OperationFits}
 use Rattle.version_vectors.proofs.Lengths.{length-vector}
 use Rattle.log_records.specs.Laws.{RecordsAreShort}
 use Rattle.log_records.proofs.OneBody.{target_fits}
@@ -68,7 +68,7 @@ short_records r f =
     let vector = length-vector r.vector (record { entries = f.entries; in_order = f.in_order }) in
     omega (
       arith,
-      seven (73 ∷ 86 ∷ 82 ∷ 49 ∷ word (record_kind r.op)) (head_key_of r.owner).0 r.prev.0 (word r.seq) (moment r.moment) (array vector_entry r.vector) (body r.op),
+      seven (record_tag ++ word (record_kind r.op)) (head_key_of r.owner).0 r.prev.0 (word r.seq) (moment r.moment) (array vector_entry r.vector) (body r.op),
       length-name r.owner.0,
       f.prev.size,
       vector,

@@ -7,7 +7,7 @@ use Rattle.std.proofs.Math.Seq.{take-length, get_or-append_seam}
 use Rattle.std.proofs.lemmas.List.{length-append}
 use Rattle.log_model.specs.View.{View, is_named}
 use Rattle.ivy_base.specs.declared.key.PubKey.{PubKey}
-use Rattle.log_model.specs.Vector.{Stamp, Vector}
+use Rattle.log_model.specs.Vector.{Stamp}
 use Rattle.log_model.specs.Record.{Record}
 use Rattle.log_model.specs.Spelling.{HasSpelling}
 use Rattle.log_model.specs.Rank.{own_entry}
@@ -15,6 +15,7 @@ use Rattle.log_model.specs.Chain.{IsGood, Follows, GoesOn}
 use Rattle.log_model.proofs.Lists.{each, both}
 use Rattle.version_vectors.specs.declared.entry.Entry.{Entry}
 use Rattle.version_vectors.specs.Entries.{vector_of}
+use Rattle.log_records.specs.declared.edge.Edge.{Edge}
 use Rattle.log_records.specs.Batches.{owner_of, AreOfOneOwner, MayBeNext, KnowsEdge, GoesOnFrom, EndsAt, HasRecord}
 use Rattle.log_records.specs.Walks.{GoesOnInside, BeginsSpelled}
 
@@ -103,19 +104,19 @@ named_by_entries view es b is = let h = all_named view es in (λ t. h.0 (sym is 
 
 -- ---- the oldest record and what follows it
 
-pub assemble : (view : View) (held : Option Stamp) (edge : Option Vector) (xs : List Record) (x : Record) → AreOfOneOwner xs → HasAt xs 0 x
+pub assemble : (view : View) (held : Option Stamp) (edge : Option Edge) (xs : List Record) (x : Record) → AreOfOneOwner xs → HasAt xs 0 x
     → IsGood view x.owner x → MayBeNext held x → KnowsEdge held edge x → GoesOnInside view xs → GoesOnFrom view held edge xs
 assemble view held edge [] x one at good next knows g = absurd (one.some refl)
 assemble view held edge (r ∷ rs) x one at good next knows g =
     (subst (λ (y : Record). IsGood view y.owner y) (sym at) good, subst (MayBeNext held) (sym at) next, subst (KnowsEdge held edge) (sym at) knows, g)
 
-pub record AreFrom (view : View) (held : Option Stamp) (edge : Option Vector) (xs : List Record) (x : Record) : Type 0 where
+pub record AreFrom (view : View) (held : Option Stamp) (edge : Option Edge) (xs : List Record) (x : Record) : Type 0 where
   pub good : IsGood view x.owner x
   pub next : MayBeNext held x
   pub knows : KnowsEdge held edge x
   pub goes : GoesOnInside view xs
 
-pub take_apart : (view : View) (held : Option Stamp) (edge : Option Vector) (xs : List Record) (x : Record) → AreOfOneOwner xs → HasAt xs 0 x
+pub take_apart : (view : View) (held : Option Stamp) (edge : Option Edge) (xs : List Record) (x : Record) → AreOfOneOwner xs → HasAt xs 0 x
     → GoesOnFrom view held edge xs → AreFrom view held edge xs x
 take_apart view held edge [] x one at g = absurd (one.some refl)
 take_apart view held edge (r ∷ rs) x one at g = record {

@@ -10,6 +10,7 @@ use Rattle.log_model.specs.Record.{Record}
 use Rattle.log_model.specs.Spelling.{no_name, HasSpelling}
 use Rattle.log_model.specs.Rank.{own_entry, full_vector}
 use Rattle.log_model.specs.Chain.{IsGood, IsFirst, GoesOn, LinkedFrom}
+use Rattle.log_records.specs.declared.edge.Edge.{Edge}
 use Rattle.log_records.specs.declared.chain_fault.ChainFault.{ChainFault}
 use Rattle.log_records.specs.declared.chain_fault.ChainFault.TheVariants.{Bad, Fork, Memory}
 
@@ -29,18 +30,22 @@ pub record AreOfOneOwner (chain : List Record) : Type 0 where
 
 -- ---- the rules of a chain, from a held record on
 
+-- what the next record of its log has to keep to, beside the record's stamp
+abbrev pub as_edge : Record → Edge
+as_edge r = record { vector = r.vector }
+
 -- the record may be the next after that of the stamp, by its number; where there is none, it opens its log
 abbrev pub MayBeNext : Option Stamp → Record → Type 0
 MayBeNext None r = IsFirst r
 MayBeNext (Some t) r = r.seq ≡ t.seq + 1
 
--- it knows all that the stamp's record does, where that one's vector, the edge, is known. Where there is no such record, an edge says nothing
-abbrev pub KnowsEdge : Option Stamp → Option Vector → Record → Type 0
-KnowsEdge (Some t) (Some edge) r = Dominates (full_vector r) (with_entry edge (head_key_of r.owner, t))
+-- it knows all that the stamp's record does, where that one's edge is known. Where there is no such record, an edge says nothing
+abbrev pub KnowsEdge : Option Stamp → Option Edge → Record → Type 0
+KnowsEdge (Some t) (Some edge) r = Dominates (full_vector r) (with_entry edge.vector (head_key_of r.owner, t))
 KnowsEdge held edge r = Unit {0}
 
 -- under the view, the records go on from the stamp's record, but for naming it
-abbrev pub GoesOnFrom : View → Option Stamp → Option Vector → List Record → Type 0
+abbrev pub GoesOnFrom : View → Option Stamp → Option Edge → List Record → Type 0
 GoesOnFrom view held edge [] = Unit {0}
 GoesOnFrom view held edge (r ∷ rs) = IsGood view r.owner r × MayBeNext held r × KnowsEdge held edge r × GoesOn view r.owner r rs
 
@@ -49,7 +54,7 @@ abbrev pub EndsAt : Stamp → List Record → Type 0
 EndsAt t chain = (before : List Record) × (last : Record) × (chain ≡ before ++ last ∷ []) × ((own_entry last).1 ≡ t)
 
 -- the records keep the rules, up to the head's record
-pub record IsSound (view : View) (held : Vector) (edge : Option Vector) (head : Stamp) (chain : List Record) : Type 0 where
+pub record IsSound (view : View) (held : Vector) (edge : Option Edge) (head : Stamp) (chain : List Record) : Type 0 where
   pub goes_on : GoesOnFrom view (stamp_in held chain) edge chain
   pub ends : EndsAt head chain
 
@@ -79,7 +84,7 @@ pub record IsOnward (held floor : Vector) (chain : List Record) : Type 0 where
   pub passes : PassesFloor (stamp_in floor chain) (reach (stamp_in held chain)) chain
 
 -- why a chain isn't taken. Want of memory isn't tied to a cause
-abbrev pub ChainFails : View → Vector → Vector → Stamp → Option Vector → List Record → ChainFault → Type 0
+abbrev pub ChainFails : View → Vector → Vector → Stamp → Option Edge → List Record → ChainFault → Type 0
 ChainFails view held floor head edge chain Bad = IsSound view held edge head chain → ⊥
 ChainFails view held floor head edge chain Fork = IsSound view held edge head chain × (IsOnward held floor chain → ⊥)
 ChainFails view held floor head edge chain Memory = Unit {0}
@@ -116,5 +121,5 @@ pub record IsBatch (b : Batch) : Type 0 where
   pub apart : AreApart (owners_in b.chains)
 
 -- all its chains were added under that view, with these edges of the logs where they are known
-abbrev pub AreUnder : View → (Key → Option Vector) → Batch → Type 0
+abbrev pub AreUnder : View → (Key → Option Edge) → Batch → Type 0
 AreUnder view edges b = AllByRecursion (λ c. GoesOnFrom view (stamp_in b.held c.1) (edges (head_key_of (owner_of c.1))) c.1) b.chains

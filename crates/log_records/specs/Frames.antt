@@ -4,7 +4,7 @@ use Rattle.ivy_base.specs.declared.key.Key.{Key}
 use Rattle.ivy_base.specs.declared.operation.Op.{Op}
 use Rattle.wire_model.specs.Xdr.{word, array, moment, IsWord}
 use Rattle.log_model.specs.Vector.{Vector, stamp_at}
-use Rattle.log_model.specs.Spelling.{IsKey, IsMoment, vector_entry, body, no_name, IsEndOp}
+use Rattle.log_model.specs.Spelling.{IsKey, IsMoment, record_tag, vector_entry, body, no_name, IsEndOp}
 use Rattle.log_model.specs.View.{most_cited}
 use Rattle.version_vectors.specs.Vectors.{VectorFits}
 use Rattle.log_records.specs.Parts.{IsOfKind}
@@ -23,7 +23,7 @@ pub record IsFrame (log : Key) (f : Frame) : Type 0 where
   pub cited : IsCited log f.vector
 
 abbrev pub frame_block : Key → Frame → List ℕ
-frame_block log f = 73 ∷ 86 ∷ 82 ∷ 49 ∷ word f.kind ++ log.0 ++ f.prev.0 ++ word f.seq ++ moment f.moment ++ array vector_entry f.vector
+frame_block log f = record_tag ++ word f.kind ++ log.0 ++ f.prev.0 ++ word f.seq ++ moment f.moment ++ array vector_entry f.vector
 
 -- a frame, and an operation of its kind
 abbrev pub AreParts : Key → Frame × Op → Type 0

@@ -7,7 +7,7 @@ use Rattle.ivy_base.specs.declared.key.Key.{Key}
 use Rattle.ivy_base.specs.declared.key.PubKey.{PubKey}
 use Rattle.ivy_base.specs.Naming.{head_key_of}
 use Rattle.log_model.specs.Vector.{Stamp}
-use Rattle.log_model.specs.Spelling.{IsBlock, IsKey, head_block, IsHeadOf}
+use Rattle.log_model.specs.Spelling.{IsBlock, IsKey, most_records, head_block, IsHeadOf}
 use Rattle.dht_ids.specs.declared.judge.Judged.{Judged}
 
 -- a record by its number and its name
@@ -16,7 +16,7 @@ stamp seq name = record { seq = seq; name = name }
 
 -- a record's number in its log
 abbrev pub IsNumber : ℕ → Type 0
-IsNumber n = (1 ≤ n) × (n ≤ 1048576)
+IsNumber n = (1 ≤ n) × (n ≤ most_records)
 
 -- an owner, the newest record, and the signature
 abbrev pub Parts : Type 0
@@ -50,7 +50,7 @@ is_block count bytes = nat_eq (length bytes) count && list_all (λ b. nat_lt b 2
 -- they are a head under the key with that owner, number and name, and with an empty signature
 abbrev pub is_plain : Key → List ℕ → PubKey → ℕ → Key → Bool
 is_plain key bytes owner seq name =
-    is_block 60 owner.0 && nat_le 1 seq && nat_le seq 1048576 && is_block 20 name.0 && bytes_eq bytes (head_block owner (stamp seq name) []) && bytes_eq key.0 (head_key_of owner).0
+    is_block 60 owner.0 && nat_le 1 seq && nat_le seq most_records && is_block 20 name.0 && bytes_eq bytes (head_block owner (stamp seq name) []) && bytes_eq key.0 (head_key_of owner).0
 
 abbrev pub is_plain_head : Key → List ℕ → Bool
 is_plain_head key bytes = is_plain key bytes (owner_in bytes) (seq_in bytes) (name_in bytes)

@@ -9,6 +9,7 @@ ghost use Rattle.log_records.specs.Batches.{owner_of, stamp_in, owners_in, AreOf
 
 use crate::chain::test_chain;
 use crate::chain_fault::ChainFault;
+use crate::edge::Edge;
 use crate::record::Record;
 use crate::records::Records;
 use dht_ids::Judged;
@@ -66,7 +67,7 @@ impl Batch {
     }
 
     /// Adds a chain behind the others: the records of one log, oldest first, that were fetched for a judged head.
-    /// `edge` is the vector of the held record, where that is known.
+    /// `edge` is what is known of the held record, where it is at hand.
     ///
     /// `Bad` comes exactly where the records don't keep the rules of a chain under the view, from the held record on,
     /// or the newest one hasn't the head's number and name. Each has to be good under the view, numbered next after the
@@ -82,11 +83,11 @@ impl Batch {
         view: &View,
         head: Judged,
         chain: Vec<Record>,
-        edge: Option<Vector>,
+        edge: Option<Edge>,
     ) -> Result<(), ChainFault>
         requires owner { AreOfOneOwner (records_of chain.items) }
         requires new_log { Contains (owners_in self.old.chains) (owner_of (records_of chain.items)) → ⊥ }
-        requires edge { IfSome edge (λ v. stamp_in v (records_of chain.items) ≡ None) }
+        requires edge { IfSome edge (λ e. stamp_in e.vector (records_of chain.items) ≡ None) }
 
         ensures added { OnOk result (self.new ≡ record self.old { chains = self.old.chains ++ (stamp head.seq head.name, records_of chain.items) ∷ [] }) }
         ensures sound { OnOk result (IsSound view.now self.old.held edge (stamp head.seq head.name) (records_of chain.items)) }

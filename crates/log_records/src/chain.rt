@@ -15,6 +15,7 @@ ghost use Rattle.log_records.specs.Walks.{GoesOnInside, BeginsSpelled};
 ghost use Rattle.log_records.specs.Batches.{owner_of, stamp_in, AreOfOneOwner, MayBeNext, KnowsEdge, GoesOnFrom, EndsAt, Names, HasRecord, PassesFloor, IsSound, IsOnward, ChainFails};
 
 use crate::chain_fault::ChainFault;
+use crate::edge::Edge;
 use crate::record::{Record, has_made_number};
 use crate::spelled::is_spelled;
 use dht_ids::Judged;
@@ -31,10 +32,10 @@ pub fn test_chain(
     floor: &Vector,
     head: &Judged,
     chain: &[Record],
-    edge: &Option<Vector>,
+    edge: &Option<Edge>,
 ) -> Result<(), ChainFault>
     requires owner { AreOfOneOwner (records_of chain.now) }
-    requires edge { IfSome edge.now (λ v. stamp_in v (records_of chain.now) ≡ None) }
+    requires edge { IfSome edge.now (λ e. stamp_in e.vector (records_of chain.now) ≡ None) }
     ensures sound { OnOk result (IsSound view.now held.now edge.now (stamp head.now.seq head.now.name) (records_of chain.now)) }
     ensures onward { OnOk result (IsOnward held.now floor.now (records_of chain.now)) }
     ensures fault { IfErr result (ChainFails view.now held.now floor.now (stamp head.now.seq head.now.name) edge.now (records_of chain.now)) }
@@ -66,7 +67,7 @@ fn is_sound(
     view: &View,
     log: &Key,
     held: &Vector,
-    edge: &Option<Vector>,
+    edge: &Option<Edge>,
     head: &Judged,
     chain: &[Record],
     names: &[Key],
@@ -74,7 +75,7 @@ fn is_sound(
     requires owner { AreOfOneOwner (records_of chain.now) }
     requires log { log.now ≡ head_key_of (owner_of (records_of chain.now)) }
     requires names { names.now ≡ names_of chain.now }
-    requires edge { IfSome edge.now (λ v. stamp_in v (records_of chain.now) ≡ None) }
+    requires edge { IfSome edge.now (λ e. stamp_in e.vector (records_of chain.now) ≡ None) }
     ensures { IsTrue result ↔ IsSound view.now held.now edge.now (stamp head.now.seq head.now.name) (records_of chain.now) }
 {
     goes_on_from(view, log, held, edge, chain, names) && ends_at(head, chain, names)
@@ -85,23 +86,23 @@ fn goes_on_from(
     view: &View,
     log: &Key,
     held: &Vector,
-    edge: &Option<Vector>,
+    edge: &Option<Edge>,
     chain: &[Record],
     names: &[Key],
 ) -> bool
     requires owner { AreOfOneOwner (records_of chain.now) }
     requires log { log.now ≡ head_key_of (owner_of (records_of chain.now)) }
     requires names { names.now ≡ names_of chain.now }
-    requires edge { IfSome edge.now (λ v. stamp_at v log.now ≡ None) }
+    requires edge { IfSome edge.now (λ e. stamp_at e.vector log.now ≡ None) }
     ensures { IsTrue result ↔ GoesOnFrom view.now (stamp_at held.now log.now) edge.now (records_of chain.now) }
 {
     may_begin(view, log, held, edge, &chain[0]) && goes_on(view, log, chain, names)
 }
 
 /// Whether the record may be the oldest of a chain, but for naming the held record.
-fn may_begin(view: &View, log: &Key, held: &Vector, edge: &Option<Vector>, first: &Record) -> bool
+fn may_begin(view: &View, log: &Key, held: &Vector, edge: &Option<Edge>, first: &Record) -> bool
     requires log { log.now ≡ head_key_of first.now.owner }
-    requires edge { IfSome edge.now (λ v. stamp_at v log.now ≡ None) }
+    requires edge { IfSome edge.now (λ e. stamp_at e.vector log.now ≡ None) }
     ensures good { IsTrue result → IsGood view.now first.now.owner (record_of first.now) }
     ensures next { IsTrue result → MayBeNext (stamp_at held.now log.now) (record_of first.now) }
     ensures knows { IsTrue result → KnowsEdge (stamp_at held.now log.now) edge.now (record_of first.now) }
@@ -142,17 +143,17 @@ fn is_next(log: &Key, held: &Vector, first: &Record) -> bool
     first.seq - 1 == held.seq_of(log)
 }
 
-/// Whether the record, which is numbered next after the held one, knows what that one does, where its vector is
+/// Whether the record, which is numbered next after the held one, knows what that one does, where its edge is
 /// known.
-fn knows_edge(log: &Key, held: &Vector, edge: &Option<Vector>, first: &Record) -> bool
+fn knows_edge(log: &Key, held: &Vector, edge: &Option<Edge>, first: &Record) -> bool
     requires spelled { HasSpelling (record_of first.now) }
     requires log { log.now ≡ head_key_of first.now.owner }
     requires next { MayBeNext (stamp_at held.now log.now) (record_of first.now) }
-    requires edge { IfSome edge.now (λ v. stamp_at v log.now ≡ None) }
+    requires edge { IfSome edge.now (λ e. stamp_at e.vector log.now ≡ None) }
     ensures { IsTrue result ↔ KnowsEdge (stamp_at held.now log.now) edge.now (record_of first.now) }
 {
     match (held.get(log), edge) {
-        (Some(_), Some(edge)) => first.vector.dominates(edge),
+        (Some(_), Some(edge)) => first.vector.dominates(&edge.vector),
         _ => true,
     }
 }

@@ -12,7 +12,7 @@
 //! A [`Batch`] has chains that were fetched over what is held, one of each log at most. [`Batch::add_chain`] takes a
 //! chain exactly where its records keep the rules of logs under a view, from the held record up to a judged head's, and
 //! are of the history that is held and that the floor is of; it says which of the two fails. [`chains_go_on`] is the law
-//! that what is held of a log and its chain in the batch are together one chain. Where the held record's vector isn't
+//! that what is held of a log and its chain in the batch are together one chain. Where the held record's [`Edge`] isn't
 //! handed in, that the chain's oldest record knows what the held one knows is for the layer above to test.
 //!
 //! [`merge_place`] is how many of some records that ascend by rank are of a smaller rank than another.
@@ -46,6 +46,7 @@ mod chain;
 pub mod chain_fault;
 mod change;
 mod change_writing;
+pub mod edge;
 pub mod fault;
 mod frame;
 pub mod head;
@@ -62,6 +63,7 @@ mod writing;
 pub use batch::{Batch, Chain};
 pub use batch_laws::chains_go_on;
 pub use chain_fault::ChainFault;
+pub use edge::Edge;
 pub use fault::RecordFault;
 pub use head::{Head, plain_head};
 pub use judge::PlainJudge;

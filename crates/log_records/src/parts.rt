@@ -14,6 +14,9 @@ use ivy_base::{Bytes, Key, Kind, Moment, name_ok};
 use std::alloc::Global;
 use xdr_codec::XdrRead;
 
+/// The greatest number of a record.
+pub const MOST_RECORDS: u32 = 1_048_576;
+
 /// The most bytes of a file.
 pub const LONGEST_FILE: u64 = 16_777_216;
 
@@ -80,7 +83,7 @@ pub fn read_number(reader: &mut XdrRead) -> Result<u32, Malformed>
     ensures ok { IfOk result (λ n. IsFront IsNumber word reader.old n reader.new) }
     ensures err { OnErr result (HasNoFront IsNumber word reader.old) }
 {
-    let n = read_at_most(reader, 1_048_576)?;
+    let n = read_at_most(reader, MOST_RECORDS)?;
     if n == 0 {
         return Err(Malformed);
     }

@@ -76,6 +76,20 @@ impl Record {
         })
     }
 
+    /// A copy of this record and of what it has. The error is want of memory.
+    pub fn copy(&self, alloc: Global) -> Result<Record, Memory>
+        ensures { IfOk result (λ copy. copy ≡ self.now) }
+    {
+        Ok(Record {
+            owner: self.owner,
+            seq: self.seq,
+            prev: self.prev,
+            vector: self.vector.copy(alloc)?,
+            moment: self.moment,
+            op: self.op.copy(alloc)?,
+        })
+    }
+
     /// The record's block.
     ///
     /// The error is want of memory; it also comes where a text has 2^32 bytes or more or the vector as many

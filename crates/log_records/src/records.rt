@@ -1,8 +1,10 @@
 //! Records in a row, which contracts see as their list.
 
-ghost use Rattle.std.specs.Prelude.{◌≡◌};
+ghost use Rattle.std.specs.Prelude.{◌≡◌, IfOk};
 
 use crate::record::Record;
+use ivy_base::Memory;
+use std::alloc::Global;
 use std::marker::Model;
 
 /// Records in a row.
@@ -40,5 +42,16 @@ impl Records {
         ensures { result.now ≡ self.now }
     {
         self.records.as_slice()
+    }
+
+    /// A copy of these records and of what they have. The error is want of memory.
+    pub fn copy(&self, alloc: Global) -> Result<Records, Memory>
+        ensures { IfOk result (λ copy. copy ≡ self.now) }
+    {
+        let mut records = Vec::with_capacity(alloc, self.records.len())?;
+        for held in &self.records {
+            records.push(held.copy(alloc)?)?;
+        }
+        Ok(Records { records })
     }
 }

@@ -10,7 +10,7 @@ ghost use Rattle.log_records.specs.Spelled.{IsInPlace};
 
 use crate::chain::is_same;
 use crate::frame::MOST_CITED;
-use crate::parts::{LONGEST_FILE, is_piece};
+use crate::parts::{LONGEST_FILE, MOST_RECORDS, is_piece};
 use crate::record::{NO_NAME, Record, is_end};
 use ivy_base::{Change, Key, Kind, Moment, Op, name_ok};
 use version_vectors::Vector;
@@ -46,7 +46,7 @@ fn check_verifier(bytes: &[u8; 8])
 fn is_number(seq: u32) -> bool
     ensures { IsTrue result ↔ IsNumber seq }
 {
-    1 <= seq && seq <= 1_048_576
+    1 <= seq && seq <= MOST_RECORDS
 }
 
 /// Whether the moment has less than 1,000,000,000 nanoseconds.

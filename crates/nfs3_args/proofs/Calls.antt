@@ -12,8 +12,8 @@ use Rattle.nfs_model.specs.declared.arguments.Args.{Args}
 use Rattle.nfs_model.specs.declared.arguments.Args.TheVariants as call
 use Rattle.nfs_model.specs.Arguments.{nfs_program, mount_program, program_of, procedure_of, arguments, AreArguments}
 use Rattle.nfs_model.proofs.OneArguments.{one_handle, one_text, one_path, one_set_what, one_how, one_node}
-use Rattle.nfs3_args.specs.declared.fault.ArgsFault.{ArgsFault}
-use Rattle.nfs3_args.specs.declared.fault.ArgsFault.TheVariants.{Garbage, Memory}
+use Rattle.nfs_model.specs.declared.fault.ArgsFault.{ArgsFault}
+use Rattle.nfs_model.specs.declared.fault.ArgsFault.TheVariants.{Garbage, Memory}
 use Rattle.nfs3_args.specs.Reading.{AreOf, AreNfs, AreMount, Refuses, AreNoArguments, RefusesArguments}
 use Rattle.nfs3_args.proofs.PartsReading.{one_stable, one_place, one_range, one_page}
 use Rattle.nfs3_args.proofs.Procedures.{one_guard, one_data, getattr_parts, setattr_parts, lookup_parts, access_parts, readlink_parts, read_parts, write_parts, create_parts, mkdir_parts, symlink_parts, mknod_parts, remove_parts, rmdir_parts, rename_parts, link_parts, readdir_parts, readdirplus_parts, fsstat_parts, fsinfo_parts, pathconf_parts, commit_parts, mnt_parts, umnt_parts, null_parts, mount_null_parts, dump_parts, umntall_parts, export_parts}

@@ -6,4 +6,3 @@ pub mod Refusing
 pub mod Procedures
 pub mod Fronts
 pub mod Calls
-pub mod Fitting

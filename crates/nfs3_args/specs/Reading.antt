@@ -3,8 +3,8 @@ use Rattle.std.specs.Prelude.{◌≡◌, ℕ, List}
 use Rattle.wire_model.specs.OneReading.{HasNoFront}
 use Rattle.nfs_model.specs.declared.arguments.Args.{Args}
 use Rattle.nfs_model.specs.Arguments.{nfs_program, mount_program, program_of, procedure_of, ArgumentsFit, AreArguments}
-use Rattle.nfs3_args.specs.declared.fault.ArgsFault.{ArgsFault}
-use Rattle.nfs3_args.specs.declared.fault.ArgsFault.TheVariants.{Garbage, Memory}
+use Rattle.nfs_model.specs.declared.fault.ArgsFault.{ArgsFault}
+use Rattle.nfs_model.specs.declared.fault.ArgsFault.TheVariants.{Garbage, Memory}
 
 -- the bytes are no arguments of the procedure
 pub record AreNoArguments (program procedure : ℕ) (bytes : List ℕ) : Type 0 where

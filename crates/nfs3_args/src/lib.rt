@@ -3,9 +3,9 @@
 //! Layer: above `xdr_codec`, whose reader and writer carry the items, and `nfs_model`, whose types it gives on; below
 //! the service that answers calls, and the programs that make them.
 //! For the layers above: [`read_args`] takes exactly the bytes that are a procedure's arguments, whole and with
-//! nothing behind them, and calls all others garbage; [`write_args`] gives exactly the bytes of arguments whose strings
-//! are shorter than 2^32 bytes. What was written is read back as it was where the arguments are within the bounds of
-//! `ArgumentsFit`, since the bytes are of one value alone (`nfs_model`'s law `arguments_are_one`).
+//! nothing behind them, and calls all others garbage; [`write_args`] gives exactly the bytes of arguments, and want of
+//! memory where a string has 2^32 bytes or more. What was written is read back as it was where the arguments are within
+//! the bounds of `ArgumentsFit`, since the bytes are of one value alone (`nfs_model`'s law `arguments_are_one`).
 //!
 //! Inside, bytes are read from left to right by one small function for each part: `parts` for what several procedures
 //! share, `attributes` for what is asked of attributes and for the unions, `nfs` and `mount` for each procedure;
@@ -13,8 +13,7 @@
 //!
 //! Definitions: the bytes are `arguments`, and what is read `AreArguments`, of `nfs_model`'s `specs/Arguments.antt`;
 //! `specs/Reading.antt` has when a reader refuses, `specs/Writable.antt` which arguments have bytes, `specs/Room.antt`
-//! the room. Of `specs/Parts.antt` only the functions inside speak. `proofs/Fitting.antt` has that arguments within
-//! their bounds have bytes.
+//! the room. Of `specs/Parts.antt` only the functions inside speak.
 //!
 //! Costs: arguments are read in one pass, and each handle, name, text, path and WRITE's data is copied once, into the
 //! memory that it owns; none is taken for a length that no bytes stand behind. They are written with one allocation,
@@ -23,7 +22,7 @@
 
 mod attribute_writing;
 mod attributes;
-pub mod fault;
+mod fault;
 mod mount;
 mod nfs;
 mod part_writing;
@@ -32,7 +31,6 @@ pub mod read;
 mod room;
 pub mod write;
 
-pub use fault::ArgsFault;
-pub use nfs_model::{Args, How, Node, SetTime, SetWhat};
+pub use nfs_model::{Args, ArgsFault, How, Node, SetTime, SetWhat};
 pub use read::{MOUNT_PROGRAM, NFS_PROGRAM, read_args};
 pub use write::write_args;

@@ -5,9 +5,8 @@ ghost use Rattle.wire_model.specs.OneReading.{IsFront};
 ghost use Rattle.nfs_model.specs.Arguments.{arguments};
 ghost use Rattle.nfs3_args.specs.Reading.{AreMount, Refuses};
 
-use crate::fault::ArgsFault;
 use crate::parts::read_path;
-use nfs_model::Args;
+use nfs_model::{Args, ArgsFault};
 use std::alloc::Global;
 use xdr_codec::XdrRead;
 

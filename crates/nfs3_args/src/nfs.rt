@@ -6,12 +6,11 @@ ghost use Rattle.nfs_model.specs.Arguments.{arguments};
 ghost use Rattle.nfs3_args.specs.Reading.{AreNfs, Refuses};
 
 use crate::attributes::{read_how, read_node, read_set_what};
-use crate::fault::ArgsFault;
 use crate::parts::{
     read_data, read_handle, read_name, read_optional_moment, read_page, read_place, read_range,
     read_stable,
 };
-use nfs_model::Args;
+use nfs_model::{Args, ArgsFault};
 use std::alloc::Global;
 use xdr_codec::XdrRead;
 

@@ -7,8 +7,9 @@ ghost use Rattle.nfs_model.specs.Arguments.{IsHandle, IsShortText, IsVerifier};
 ghost use Rattle.nfs3_args.specs.Parts.{as_it_stands, IsData, IsPath, IsStable, IsOptional, IsPlace, place, IsRange, range, IsPage, page};
 ghost use Rattle.nfs3_args.specs.Reading.{Refuses};
 
-use crate::fault::{ArgsFault, Garbage};
+use crate::fault::Garbage;
 use ivy_base::{Bytes, Moment};
+use nfs_model::ArgsFault;
 use std::alloc::Global;
 use xdr_codec::XdrRead;
 

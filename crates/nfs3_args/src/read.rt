@@ -5,10 +5,9 @@ ghost use Rattle.wire_model.specs.OneReading.{IsFront};
 ghost use Rattle.nfs_model.specs.Arguments.{arguments, AreArguments};
 ghost use Rattle.nfs3_args.specs.Reading.{AreOf, Refuses, RefusesArguments};
 
-use crate::fault::ArgsFault;
 use crate::mount::read_mount;
 use crate::nfs::read_nfs;
-use nfs_model::Args;
+use nfs_model::{Args, ArgsFault};
 use std::alloc::Global;
 use xdr_codec::XdrRead;
 

@@ -1,6 +1,6 @@
 //! Writing whole arguments.
 
-ghost use Rattle.std.specs.Prelude.{◌≡◌, ◌+◌, ◌≤◌, ◌++◌, length, IfOk};
+ghost use Rattle.std.specs.Prelude.{◌≡◌, ◌+◌, ◌≤◌, ◌++◌, length, IfOk, OnOk};
 ghost use Rattle.xdr_codec.specs.Writing.{padded};
 ghost use Rattle.nfs_model.specs.Arguments.{arguments};
 ghost use Rattle.nfs_model.specs.declared.arguments.Args.TheVariants.{SetAttr, Access, Write, Create, MkDir, SymLink, MkNod, Rename, Link, ReadDir, ReadDirPlus};
@@ -18,13 +18,17 @@ use xdr_codec::XdrWrite;
 /// The bytes of arguments (RFC 1813, sections 3.3 and 5.2). They are read back as these arguments where they are
 /// within the bounds of [`crate::read_args`].
 ///
-/// The error is want of memory, which is taken once.
+/// The error is want of memory, which is taken once; it also comes where a handle, a name, a text, a path or data has
+/// 2^32 bytes or more, which no word counts.
 pub fn write_args(alloc: Global, args: &Args) -> Result<Bytes, Memory>
-    requires { IsWritable args.now }
-    ensures { IfOk result (λ bytes. bytes ≡ arguments args.now) }
+    ensures written { IfOk result (λ bytes. bytes ≡ arguments args.now) }
+    ensures counted { OnOk result (IsWritable args.now) }
 {
+    let Some(room) = room_for(args) else {
+        return Err(Memory);
+    };
     let mut out = XdrWrite::new(alloc);
-    out.reserve(room_for(args))?;
+    out.reserve(room)?;
     put_args(&mut out, args);
     Ok(out.into_bytes())
 }

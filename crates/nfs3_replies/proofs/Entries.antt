@@ -1,7 +1,8 @@
--- The step of a loop that writes a piece for each item of a list.
+-- The step of a loop that goes through a list: a piece that is written, or a number that is added, for each item.
 use Rattle.std.proofs.Common.{◌≡◌, ℕ, ◌+◌, ◌<◌, ◌≤◌, List, [], ◌∷◌, ◌++◌, length, get_or, take, sym, ap, ◌∙◌, arith}
-use Rattle.std.specs.List.{flat_map, sum_by}
+use Rattle.std.specs.List.{All, flat_map, sum_by}
 use Rattle.std.proofs.lemmas.List.{take_more, flat_map_more}
+use Rattle.std.proofs.lemmas.List.Elements.{All-push, All-same}
 use Rattle.std.proofs.lemmas.List.Sums.{sum_by_more}
 
 module _ {X : Type 0} (xs : List X) (i : ℕ) (x : X) (inside : i < length xs) (is : x ≡ get_or xs i x) where
@@ -21,3 +22,13 @@ module _ {X : Type 0} (xs : List X) (i : ℕ) (x : X) (inside : i < length xs) (
   room_more room now after so_far step =
       let total = sum_by_more room xs i x inside ∙ ap (λ y. sum_by room (take i xs) + room y) (sym is) in
       omega arith
+
+  -- the sum so far, and the item's number
+  pub sum_more : (room : X → ℕ) (base now after : ℕ) → now ≡ base + sum_by room (take i xs) → after ≡ now + room x → after ≡ base + sum_by room (take (i + 1) xs)
+  sum_more room base now after so_far step =
+      let total = sum_by_more room xs i x inside ∙ ap (λ y. sum_by room (take i xs) + room y) (sym is) in
+      omega arith
+
+  -- each so far, and the item
+  pub all_more : (P : X → Type 0) → All P (take i xs) → P x → All P (take (i + 1) xs)
+  all_more P so_far here = All-same P (take (i + 1) xs) (take i xs ++ x ∷ []) (sym take-more) (All-push P (take i xs) x so_far here)

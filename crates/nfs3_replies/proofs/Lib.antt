@@ -6,5 +6,4 @@ mod ReadForms
 mod ReadPages
 mod ReadMounts
 mod ReadAnswers
-mod ReadWritable
 mod Sizes

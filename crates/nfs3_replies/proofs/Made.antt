@@ -5,8 +5,8 @@ use Rattle.wire_model.specs.Xdr.{boolean, optional, IsAny}
 use Rattle.wire_model.specs.OneReading.{ReadsOne, IsFront, HasNoFront}
 use Rattle.wire_model.proofs.OneReading.{one_boolean}
 use Rattle.nfs3_replies.specs.ReadParts.{IsOptional, Refuses}
-use Rattle.nfs3_replies.specs.declared.fault.ReplyFault.{ReplyFault}
-use Rattle.nfs3_replies.specs.declared.fault.ReplyFault.TheVariants.{Garbage, Memory}
+use Rattle.nfs_model.specs.declared.fault.ArgsFault.{ArgsFault}
+use Rattle.nfs_model.specs.declared.fault.ArgsFault.TheVariants.{Garbage, Memory}
 
 -- the parts of a value
 pub record MadeOf {A B : Type 0} (Fits : A → Type 0) (make : A → B) (x : B) : Type 0 where
@@ -44,7 +44,7 @@ module _ {A B : Type 0} {Fits : A → Type 0} {spell : A → List ℕ} {Whole : 
 
 -- one part is refused as another one is
 pub refused : {A B : Type 0} {Fits : A → Type 0} {spell : A → List ℕ} {Whole : B → Type 0} {written : B → List ℕ} {bytes middle : List ℕ}
-    → (HasNoFront Fits spell middle → HasNoFront Whole written bytes) → (fault : ReplyFault) → Refuses Fits spell middle fault → Refuses Whole written bytes fault
+    → (HasNoFront Fits spell middle → HasNoFront Whole written bytes) → (fault : ArgsFault) → Refuses Fits spell middle fault → Refuses Whole written bytes fault
 refused absent Garbage f = absent f
 refused absent Memory f = tt
 

@@ -24,8 +24,8 @@ use Rattle.std.proofs.lemmas.Bool.{eqb-true, leb-true}
 use Rattle.xdr_codec.specs.Reading.{EndFault}
 use Rattle.xdr_codec.specs.declared.fault.XdrFault.{XdrFault}
 use Rattle.xdr_codec.specs.declared.fault.XdrFault.TheVariants as xdr
-use Rattle.nfs3_replies.specs.declared.fault.ReplyFault.{ReplyFault}
-use Rattle.nfs3_replies.specs.declared.fault.ReplyFault.TheVariants.{Garbage, Memory}
+use Rattle.nfs_model.specs.declared.fault.ArgsFault.{ArgsFault}
+use Rattle.nfs_model.specs.declared.fault.ArgsFault.TheVariants.{Garbage, Memory}
 use Rattle.nfs3_replies.specs.Reading.{IsProcedure, IsReply, NoReply}
 use Rattle.nfs3_replies.specs.ReadParts.{Refuses, AreTwoCaches, two_caches, AreAttributesAndCache, attributes_and_cache, status_or_ok, IsDone, after_status, IsTailOf, IsOfForms, IsAnswer, tail_form_at, result_form_at, tail_form_for, result_form_for}
 use Rattle.nfs3_replies.proofs.Made.{MadeOf, Made, one_made}
@@ -383,7 +383,7 @@ module _ (program procedure : ℕ) {bytes : List ℕ} where
       let g = front_of i in
       more ((one_for program procedure exists).one r other rest [] f.fits g.fits (sym f.spelled ∙ g.spelled)).1
 
-pub no_reply_refused : (program procedure : ℕ) (bytes : List ℕ) (fault : ReplyFault) → Refuses (Answers program procedure) result bytes fault → NoReply program procedure bytes fault
+pub no_reply_refused : (program procedure : ℕ) (bytes : List ℕ) (fault : ArgsFault) → Refuses (Answers program procedure) result bytes fault → NoReply program procedure bytes fault
 no_reply_refused program procedure bytes Garbage absent = no_reply program procedure absent
 no_reply_refused program procedure bytes Memory absent = tt
 

@@ -16,11 +16,11 @@ use Rattle.nfs_model.specs.declared.replies.Reply.TheVariants as reply
 use Rattle.nfs_model.specs.Arguments.{IsHandle, IsVerifier, mount_program}
 use Rattle.nfs_model.specs.Results.{status_number, fattr, wcc, result, many}
 use Rattle.nfs_model.specs.Replies.{IsFattr, IsWcc, IsTail, IsText, IsPlainEntry, IsPlusEntry, ReplyFits, tail_form, result_form}
-use Rattle.nfs3_replies.specs.declared.fault.ReplyFault.{ReplyFault}
-use Rattle.nfs3_replies.specs.declared.fault.ReplyFault.TheVariants.{Garbage, Memory}
+use Rattle.nfs_model.specs.declared.fault.ArgsFault.{ArgsFault}
+use Rattle.nfs_model.specs.declared.fault.ArgsFault.TheVariants.{Garbage, Memory}
 
 -- a part is refused where the bytes begin with none, and given up for want of memory
-abbrev pub Refuses : {A : Type 0} → (A → Type 0) → (A → List ℕ) → List ℕ → ReplyFault → Type 0
+abbrev pub Refuses : {A : Type 0} → (A → Type 0) → (A → List ℕ) → List ℕ → ArgsFault → Type 0
 Refuses Fits spell bytes Garbage = HasNoFront Fits spell bytes
 Refuses Fits spell bytes Memory = ⊤
 

@@ -5,8 +5,8 @@ use Rattle.nfs_model.specs.declared.replies.Reply.{Reply}
 use Rattle.nfs_model.specs.Arguments.{nfs_program, mount_program, program_of, procedure_of}
 use Rattle.nfs_model.specs.Results.{result}
 use Rattle.nfs_model.specs.Replies.{ReplyFits, IsReplyTo}
-use Rattle.nfs3_replies.specs.declared.fault.ReplyFault.{ReplyFault}
-use Rattle.nfs3_replies.specs.declared.fault.ReplyFault.TheVariants.{Garbage, Memory}
+use Rattle.nfs_model.specs.declared.fault.ArgsFault.{ArgsFault}
+use Rattle.nfs_model.specs.declared.fault.ArgsFault.TheVariants.{Garbage, Memory}
 
 -- there is such a procedure: 22 of NFS version 3 and 6 of MOUNT
 abbrev pub IsProcedure : ℕ → ℕ → Type 0
@@ -22,6 +22,6 @@ pub record IsReply (program procedure : ℕ) (bytes : List ℕ) (reply : Reply) 
   pub spelled : bytes ≡ result reply
 
 -- the bytes are no reply to it; want of memory tells nothing of them
-abbrev pub NoReply : ℕ → ℕ → List ℕ → ReplyFault → Type 0
+abbrev pub NoReply : ℕ → ℕ → List ℕ → ArgsFault → Type 0
 NoReply program procedure bytes Garbage = (reply : Reply) → IsReply program procedure bytes reply → ⊥
 NoReply program procedure bytes Memory = ⊤

@@ -1,5 +1,5 @@
 -- How many bytes a result takes at most, by its parts (RFC 1813, sections 2.5 and 3.3): attributes that may be missing take 88.
-use Rattle.std.specs.Prelude.{ℕ, ◌+◌, ◌≤◌, List, length, IfSome, ⊤}
+use Rattle.std.specs.Prelude.{ℕ, ◌+◌, ◌≤◌, length, IfSome, ⊤}
 use Rattle.std.specs.List.{AllByRecursion, sum_by}
 use Rattle.xdr_codec.specs.Writing.{padded}
 use Rattle.nfs_model.specs.declared.replies.Listed.{Listed}

@@ -12,16 +12,21 @@ IsShort bytes = length bytes < 2 ^ 32
 abbrev pub IsShortHandle : Option (List ℕ) → Type 0
 IsShortHandle handle = IfSome handle IsShort
 
+-- an entry of READDIR shows its name
+abbrev pub HasShortName : Listed → Type 0
+HasShortName e = IsShort e.name
+
+-- an entry of READDIRPLUS shows its handle too
 abbrev pub IsWritableEntry : Listed → Type 0
 IsWritableEntry e = IsShort e.name × IsShortHandle e.handle
 
--- each string in the result has a length that is a word
+-- each string that the result shows has a length that is a word
 abbrev pub IsWritable : Reply → Type 0
 IsWritable (reply.Found handle object dir) = IsShort handle
 IsWritable (reply.Text link text) = IsShort text
 IsWritable (reply.Bytes file count eof bytes) = IsShort bytes
 IsWritable (reply.Made handle object cache) = IsShort handle
-IsWritable (reply.Directory dir verifier page eof) = All IsWritableEntry page
+IsWritable (reply.Directory dir verifier page eof) = All HasShortName page
 IsWritable (reply.DirectoryPlus dir verifier page eof) = All IsWritableEntry page
 IsWritable (reply.Mounted handle) = IsShort handle
 IsWritable _ = Unit {0}

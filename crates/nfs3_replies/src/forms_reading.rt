@@ -9,9 +9,9 @@ ghost use Rattle.nfs_model.specs.Replies.{IsFattr, IsWcc, IsText};
 ghost use Rattle.nfs3_replies.specs.ReadParts.{Refuses, constant, IsOptional, AreAttributesAndCache, attributes_and_cache, AreTwoCaches, two_caches, given_handle, IsAllowedParts, allowed_parts, IsWrittenParts, written_parts, IsCommittedParts, committed_parts, IsFound, found, IsLinkText, link_text, IsContent, content, IsMade, made, IsNumbered, numbered, IsDone, after_status};
 
 use crate::attributes_reading::{read_constant, read_fattr, read_optional_fattr, read_wcc};
-use crate::fault::{Malformed, ReplyFault};
+use crate::fault::Malformed;
 use ivy_base::Bytes;
-use nfs_model::{Fattr, Reply, Wcc};
+use nfs_model::{ArgsFault, Fattr, Reply, Wcc};
 use std::alloc::Global;
 use xdr_codec::XdrRead;
 
@@ -39,7 +39,7 @@ const LIMITS: [u32; 12] = [
 const PATHS: [u32; 6] = [1000, 255, 1, 1, 0, 1];
 
 /// GETATTR (section 3.3.1).
-pub fn read_attributes(reader: &mut XdrRead) -> Result<Reply, ReplyFault>
+pub fn read_attributes(reader: &mut XdrRead) -> Result<Reply, ArgsFault>
     ensures ok { IfOk result (λ r. IsFront (IsDone 1) after_status reader.old r reader.new) }
     ensures err { IfErr result (Refuses (IsDone 1) after_status reader.old) }
 {
@@ -48,7 +48,7 @@ pub fn read_attributes(reader: &mut XdrRead) -> Result<Reply, ReplyFault>
 }
 
 /// SETATTR, REMOVE and RMDIR (sections 3.3.2, 3.3.12 and 3.3.13).
-pub fn read_changed(reader: &mut XdrRead) -> Result<Reply, ReplyFault>
+pub fn read_changed(reader: &mut XdrRead) -> Result<Reply, ArgsFault>
     ensures ok { IfOk result (λ r. IsFront (IsDone 2) after_status reader.old r reader.new) }
     ensures err { IfErr result (Refuses (IsDone 2) after_status reader.old) }
 {
@@ -57,7 +57,7 @@ pub fn read_changed(reader: &mut XdrRead) -> Result<Reply, ReplyFault>
 }
 
 /// LOOKUP (section 3.3.3).
-pub fn read_found(alloc: Global, reader: &mut XdrRead) -> Result<Reply, ReplyFault>
+pub fn read_found(alloc: Global, reader: &mut XdrRead) -> Result<Reply, ArgsFault>
     ensures ok { IfOk result (λ r. IsFront (IsDone 3) after_status reader.old r reader.new) }
     ensures err { IfErr result (Refuses (IsDone 3) after_status reader.old) }
 {
@@ -84,7 +84,7 @@ fn read_found_parts<'a>(
 }
 
 /// ACCESS (section 3.3.4).
-pub fn read_allowed(reader: &mut XdrRead) -> Result<Reply, ReplyFault>
+pub fn read_allowed(reader: &mut XdrRead) -> Result<Reply, ArgsFault>
     ensures ok { IfOk result (λ r. IsFront (IsDone 4) after_status reader.old r reader.new) }
     ensures err { IfErr result (Refuses (IsDone 4) after_status reader.old) }
 {
@@ -103,7 +103,7 @@ fn read_allowed_parts(reader: &mut XdrRead) -> Result<(Option<Fattr>, u32), Malf
 }
 
 /// READLINK (section 3.3.5).
-pub fn read_text(alloc: Global, reader: &mut XdrRead) -> Result<Reply, ReplyFault>
+pub fn read_text(alloc: Global, reader: &mut XdrRead) -> Result<Reply, ArgsFault>
     ensures ok { IfOk result (λ r. IsFront (IsDone 5) after_status reader.old r reader.new) }
     ensures err { IfErr result (Refuses (IsDone 5) after_status reader.old) }
 {
@@ -123,7 +123,7 @@ fn read_link_text<'a>(reader: &mut XdrRead<'a>) -> Result<(Option<Fattr>, &'a [u
 }
 
 /// READ (section 3.3.6).
-pub fn read_content(alloc: Global, reader: &mut XdrRead) -> Result<Reply, ReplyFault>
+pub fn read_content(alloc: Global, reader: &mut XdrRead) -> Result<Reply, ArgsFault>
     ensures ok { IfOk result (λ r. IsFront (IsDone 6) after_status reader.old r reader.new) }
     ensures err { IfErr result (Refuses (IsDone 6) after_status reader.old) }
 {
@@ -152,7 +152,7 @@ fn read_content_parts<'a>(
 }
 
 /// WRITE (section 3.3.7).
-pub fn read_written(reader: &mut XdrRead) -> Result<Reply, ReplyFault>
+pub fn read_written(reader: &mut XdrRead) -> Result<Reply, ArgsFault>
     ensures ok { IfOk result (λ r. IsFront (IsDone 7) after_status reader.old r reader.new) }
     ensures err { IfErr result (Refuses (IsDone 7) after_status reader.old) }
 {
@@ -172,7 +172,7 @@ fn read_written_parts(reader: &mut XdrRead) -> Result<(Wcc, u32), Malformed>
 }
 
 /// CREATE, MKDIR and SYMLINK (sections 3.3.8 to 3.3.10).
-pub fn read_made(alloc: Global, reader: &mut XdrRead) -> Result<Reply, ReplyFault>
+pub fn read_made(alloc: Global, reader: &mut XdrRead) -> Result<Reply, ArgsFault>
     ensures ok { IfOk result (λ r. IsFront (IsDone 8) after_status reader.old r reader.new) }
     ensures err { IfErr result (Refuses (IsDone 8) after_status reader.old) }
 {
@@ -230,7 +230,7 @@ pub fn read_two_caches(reader: &mut XdrRead) -> Result<(Wcc, Wcc), Malformed>
 }
 
 /// RENAME (section 3.3.14).
-pub fn read_renamed(reader: &mut XdrRead) -> Result<Reply, ReplyFault>
+pub fn read_renamed(reader: &mut XdrRead) -> Result<Reply, ArgsFault>
     ensures ok { IfOk result (λ r. IsFront (IsDone 14) after_status reader.old r reader.new) }
     ensures err { IfErr result (Refuses (IsDone 14) after_status reader.old) }
 {
@@ -239,7 +239,7 @@ pub fn read_renamed(reader: &mut XdrRead) -> Result<Reply, ReplyFault>
 }
 
 /// LINK (section 3.3.15).
-pub fn read_linked(reader: &mut XdrRead) -> Result<Reply, ReplyFault>
+pub fn read_linked(reader: &mut XdrRead) -> Result<Reply, ArgsFault>
     ensures ok { IfOk result (λ r. IsFront (IsDone 15) after_status reader.old r reader.new) }
     ensures err { IfErr result (Refuses (IsDone 15) after_status reader.old) }
 {
@@ -248,7 +248,7 @@ pub fn read_linked(reader: &mut XdrRead) -> Result<Reply, ReplyFault>
 }
 
 /// FSSTAT (section 3.3.18).
-pub fn read_space(reader: &mut XdrRead) -> Result<Reply, ReplyFault>
+pub fn read_space(reader: &mut XdrRead) -> Result<Reply, ArgsFault>
     ensures ok { IfOk result (λ r. IsFront (IsDone 18) after_status reader.old r reader.new) }
     ensures err { IfErr result (Refuses (IsDone 18) after_status reader.old) }
 {
@@ -257,7 +257,7 @@ pub fn read_space(reader: &mut XdrRead) -> Result<Reply, ReplyFault>
 }
 
 /// FSINFO (section 3.3.19).
-pub fn read_limits(reader: &mut XdrRead) -> Result<Reply, ReplyFault>
+pub fn read_limits(reader: &mut XdrRead) -> Result<Reply, ArgsFault>
     ensures ok { IfOk result (λ r. IsFront (IsDone 19) after_status reader.old r reader.new) }
     ensures err { IfErr result (Refuses (IsDone 19) after_status reader.old) }
 {
@@ -266,7 +266,7 @@ pub fn read_limits(reader: &mut XdrRead) -> Result<Reply, ReplyFault>
 }
 
 /// PATHCONF (section 3.3.20).
-pub fn read_paths(reader: &mut XdrRead) -> Result<Reply, ReplyFault>
+pub fn read_paths(reader: &mut XdrRead) -> Result<Reply, ArgsFault>
     ensures ok { IfOk result (λ r. IsFront (IsDone 20) after_status reader.old r reader.new) }
     ensures err { IfErr result (Refuses (IsDone 20) after_status reader.old) }
 {
@@ -285,7 +285,7 @@ fn read_numbered(reader: &mut XdrRead, words: &[u32]) -> Result<Option<Fattr>, M
 }
 
 /// COMMIT (section 3.3.21).
-pub fn read_committed(reader: &mut XdrRead) -> Result<Reply, ReplyFault>
+pub fn read_committed(reader: &mut XdrRead) -> Result<Reply, ArgsFault>
     ensures ok { IfOk result (λ r. IsFront (IsDone 21) after_status reader.old r reader.new) }
     ensures err { IfErr result (Refuses (IsDone 21) after_status reader.old) }
 {

@@ -6,10 +6,10 @@ ghost use Rattle.nfs_model.specs.Results.{result as bytes_of};
 ghost use Rattle.nfs3_replies.specs.ReadParts.{Refuses, IsMountedParts, mounted_parts, IsAnswer, mount_form_at};
 
 use crate::attributes_reading::read_constant;
-use crate::fault::{Malformed, ReplyFault};
+use crate::fault::Malformed;
 use crate::forms_reading::MOST_HANDLE;
 use ivy_base::Bytes;
-use nfs_model::Reply;
+use nfs_model::{ArgsFault, Reply};
 use std::alloc::Global;
 use xdr_codec::XdrRead;
 
@@ -27,7 +27,7 @@ pub fn read_mount_result(
     alloc: Global,
     reader: &mut XdrRead,
     procedure: u32,
-) -> Result<Reply, ReplyFault>
+) -> Result<Reply, ArgsFault>
     requires { procedure < 6 }
     ensures ok { IfOk result (λ r. IsFront (IsAnswer 5 (mount_form_at procedure)) bytes_of reader.old r reader.new) }
     ensures err { IfErr result (Refuses (IsAnswer 5 (mount_form_at procedure)) bytes_of reader.old) }
@@ -41,7 +41,7 @@ pub fn read_mount_result(
 }
 
 /// MNT: a file handle, or that the path isn't there (MNT3ERR_NOENT, 2).
-fn read_mount(alloc: Global, reader: &mut XdrRead) -> Result<Reply, ReplyFault>
+fn read_mount(alloc: Global, reader: &mut XdrRead) -> Result<Reply, ArgsFault>
     ensures ok { IfOk result (λ r. IsFront (IsAnswer 5 101) bytes_of reader.old r reader.new) }
     ensures err { IfErr result (Refuses (IsAnswer 5 101) bytes_of reader.old) }
 {
@@ -53,7 +53,7 @@ fn read_mount(alloc: Global, reader: &mut XdrRead) -> Result<Reply, ReplyFault>
             Ok(Reply::Mounted { handle })
         }
         2 => Ok(Reply::NoSuchPath),
-        _ => Err(ReplyFault::Garbage),
+        _ => Err(ArgsFault::Garbage),
     }
 }
 
@@ -68,7 +68,7 @@ fn read_mounted<'a>(reader: &mut XdrRead<'a>) -> Result<&'a [u8], Malformed>
 }
 
 /// DUMP.
-fn read_no_mounts(reader: &mut XdrRead) -> Result<Reply, ReplyFault>
+fn read_no_mounts(reader: &mut XdrRead) -> Result<Reply, ArgsFault>
     ensures ok { IfOk result (λ r. IsFront (IsAnswer 5 102) bytes_of reader.old r reader.new) }
     ensures err { IfErr result (Refuses (IsAnswer 5 102) bytes_of reader.old) }
 {
@@ -77,7 +77,7 @@ fn read_no_mounts(reader: &mut XdrRead) -> Result<Reply, ReplyFault>
 }
 
 /// EXPORT.
-fn read_exports(reader: &mut XdrRead) -> Result<Reply, ReplyFault>
+fn read_exports(reader: &mut XdrRead) -> Result<Reply, ArgsFault>
     ensures ok { IfOk result (λ r. IsFront (IsAnswer 5 105) bytes_of reader.old r reader.new) }
     ensures err { IfErr result (Refuses (IsAnswer 5 105) bytes_of reader.old) }
 {

@@ -6,7 +6,7 @@ ghost use Rattle.wire_model.specs.Xdr.{word, boolean, opaque, optional};
 ghost use Rattle.nfs_model.specs.Arguments.{IsVerifier};
 ghost use Rattle.nfs_model.specs.Results.{result as bytes_of, listed_entry, listed_entry_plus};
 ghost use Rattle.nfs_model.specs.declared.replies.Reply.TheVariants.{Directory, DirectoryPlus};
-ghost use Rattle.nfs3_replies.specs.Writable.{IsShort, IsShortHandle, IsWritableEntry};
+ghost use Rattle.nfs3_replies.specs.Writable.{IsShortHandle, HasShortName, IsWritableEntry};
 ghost use Rattle.nfs3_replies.specs.Room.{entry_room, entry_plus_room, handle_room};
 
 use crate::attributes::put_optional_fattr;
@@ -23,7 +23,7 @@ pub fn put_directory(
     page: &Page,
     eof: bool,
 )
-    requires short { All IsWritableEntry page.now }
+    requires short { All HasShortName page.now }
     requires room { 240 + sum_by entry_room page.now ≤ out.old.spare }
     ensures written { out.new.written ≡ out.old.written ++ bytes_of (Directory dir.now verifier.now page.now eof) }
     ensures whole { IsVerifier verifier.now }
@@ -66,7 +66,7 @@ fn put_page_end(out: &mut XdrWrite, eof: bool)
 
 /// Appends the entries of a page (entry3).
 fn put_entries(out: &mut XdrWrite, entries: &[Listed])
-    requires short { All IsWritableEntry entries.now }
+    requires short { All HasShortName entries.now }
     requires room { sum_by entry_room entries.now ≤ out.old.spare }
     ensures written { out.new.written ≡ out.old.written ++ flat_map listed_entry entries.now }
     ensures spare { out.old.spare ≤ out.new.spare + sum_by entry_room entries.now }
@@ -90,7 +90,7 @@ fn put_entries_plus(out: &mut XdrWrite, entries: &[Listed])
 
 /// Appends an entry: that there is one, its file number, its name and its cookie.
 fn put_entry(out: &mut XdrWrite, entry: &Listed)
-    requires short { IsShort entry.now.name }
+    requires short { HasShortName entry.now }
     requires room { entry_room entry.now ≤ out.old.spare }
     ensures written { out.new.written ≡ out.old.written ++ listed_entry entry.now }
     ensures spare { out.old.spare ≤ out.new.spare + entry_room entry.now }

@@ -6,15 +6,15 @@ ghost use Rattle.nfs_model.specs.Arguments.{IsVerifier};
 ghost use Rattle.nfs3_replies.specs.ReadParts.{Refuses, as_it_stands, AreEntryParts, entry_parts, ArePlusParts, plus_parts, IsEntry, entry_body, ArePage, page_bytes, IsPageHead, page_head, IsDone, after_status};
 
 use crate::attributes_reading::read_optional_fattr;
-use crate::fault::{Malformed, ReplyFault};
+use crate::fault::Malformed;
 use crate::forms_reading::read_given_handle;
 use ivy_base::Bytes;
-use nfs_model::{Fattr, Listed, Page, Reply};
+use nfs_model::{ArgsFault, Fattr, Listed, Page, Reply};
 use std::alloc::Global;
 use xdr_codec::XdrRead;
 
 /// READDIR (section 3.3.16).
-pub fn read_directory(alloc: Global, reader: &mut XdrRead) -> Result<Reply, ReplyFault>
+pub fn read_directory(alloc: Global, reader: &mut XdrRead) -> Result<Reply, ArgsFault>
     ensures ok { IfOk result (λ r. IsFront (IsDone 16) after_status reader.old r reader.new) }
     ensures err { IfErr result (Refuses (IsDone 16) after_status reader.old) }
 {
@@ -30,7 +30,7 @@ pub fn read_directory(alloc: Global, reader: &mut XdrRead) -> Result<Reply, Repl
 }
 
 /// READDIRPLUS (section 3.3.17).
-pub fn read_directory_plus(alloc: Global, reader: &mut XdrRead) -> Result<Reply, ReplyFault>
+pub fn read_directory_plus(alloc: Global, reader: &mut XdrRead) -> Result<Reply, ArgsFault>
     ensures ok { IfOk result (λ r. IsFront (IsDone 17) after_status reader.old r reader.new) }
     ensures err { IfErr result (Refuses (IsDone 17) after_status reader.old) }
 {
@@ -78,7 +78,7 @@ fn verifier_of(item: &[u8]) -> [u8; 8]
 /// Entries up to the mark that there is no more: those of READDIRPLUS, or else of READDIR.
 ///
 /// Room is made for an entry only where its bytes were read.
-fn read_page(alloc: Global, reader: &mut XdrRead, plus: bool) -> Result<Page, ReplyFault>
+fn read_page(alloc: Global, reader: &mut XdrRead, plus: bool) -> Result<Page, ArgsFault>
     ensures ok { IfOk result (λ page. IsFront (ArePage plus) (page_bytes plus) reader.old page reader.new) }
     ensures err { IfErr result (Refuses (ArePage plus) (page_bytes plus) reader.old) }
 {
@@ -93,7 +93,7 @@ fn read_page(alloc: Global, reader: &mut XdrRead, plus: bool) -> Result<Page, Re
 }
 
 /// An entry behind its flag.
-fn read_entry(alloc: Global, reader: &mut XdrRead, plus: bool) -> Result<Listed, ReplyFault>
+fn read_entry(alloc: Global, reader: &mut XdrRead, plus: bool) -> Result<Listed, ArgsFault>
     ensures ok { IfOk result (λ entry. IsFront (IsEntry plus) (entry_body plus) reader.old entry reader.new) }
     ensures err { IfErr result (Refuses (IsEntry plus) (entry_body plus) reader.old) }
 {
@@ -105,7 +105,7 @@ fn read_entry(alloc: Global, reader: &mut XdrRead, plus: bool) -> Result<Listed,
 }
 
 /// An entry without attributes and file handle (entry3).
-fn read_plain_entry(alloc: Global, reader: &mut XdrRead) -> Result<Listed, ReplyFault>
+fn read_plain_entry(alloc: Global, reader: &mut XdrRead) -> Result<Listed, ArgsFault>
     ensures ok { IfOk result (λ entry. IsFront (IsEntry false) (entry_body false) reader.old entry reader.new) }
     ensures err { IfErr result (Refuses (IsEntry false) (entry_body false) reader.old) }
 {
@@ -121,7 +121,7 @@ fn read_plain_entry(alloc: Global, reader: &mut XdrRead) -> Result<Listed, Reply
 }
 
 /// An entry with its file handle, and with attributes where they are given (entryplus3).
-fn read_plus_entry(alloc: Global, reader: &mut XdrRead) -> Result<Listed, ReplyFault>
+fn read_plus_entry(alloc: Global, reader: &mut XdrRead) -> Result<Listed, ArgsFault>
     ensures ok { IfOk result (λ entry. IsFront (IsEntry true) (entry_body true) reader.old entry reader.new) }
     ensures err { IfErr result (Refuses (IsEntry true) (entry_body true) reader.old) }
 {

@@ -6,11 +6,10 @@ ghost use Rattle.wire_model.specs.OneReading.{IsFront, HasNoFront};
 ghost use Rattle.nfs_model.specs.declared.replies.NfsStatus.{NfsStatus as AnyStatus};
 ghost use Rattle.nfs_model.specs.Results.{result as bytes_of, tail as tail_bytes, status_number};
 ghost use Rattle.nfs3_replies.specs.Reading.{IsProcedure, IsReply, NoReply};
-ghost use Rattle.nfs3_replies.specs.Writable.{IsWritable};
 ghost use Rattle.nfs3_replies.specs.ReadParts.{Refuses, status_or_ok, IsDone, after_status, IsTailOf, IsAnswer, tail_form_at, result_form_at, tail_form_for, result_form_for};
 
 use crate::attributes_reading::{read_optional_fattr, read_wcc};
-use crate::fault::{Malformed, ReplyFault};
+use crate::fault::Malformed;
 use crate::forms_reading::{
     read_allowed, read_attributes, read_attributes_and_cache, read_changed, read_committed,
     read_content, read_found, read_limits, read_linked, read_made, read_paths, read_renamed,
@@ -18,7 +17,7 @@ use crate::forms_reading::{
 };
 use crate::mount_reading::read_mount_result;
 use crate::pages_reading::{read_directory, read_directory_plus};
-use nfs_model::{NfsStatus, Reply, Tail};
+use nfs_model::{ArgsFault, NfsStatus, Reply, Tail};
 use std::alloc::Global;
 use xdr_codec::XdrRead;
 
@@ -31,16 +30,15 @@ const MOUNT_PROGRAM: u32 = 100_005;
 /// `Garbage` comes exactly where the bytes are no reply to the procedure: cut, followed by other bytes, with
 /// another status or another boolean, with padding that isn't zero, or with another number where this server's
 /// results always have the same one. `Memory` is want of memory; the memory that is taken is bounded by the bytes
-/// that are there, whatever lengths they tell. A reply that was read can be written again.
+/// that are there, whatever lengths they tell.
 pub fn read_reply(
     alloc: Global,
     program: u32,
     procedure: u32,
     bytes: &[u8],
-) -> Result<Reply, ReplyFault>
+) -> Result<Reply, ArgsFault>
     requires { IsProcedure program procedure }
     ensures ok { IfOk result (λ reply. IsReply program procedure bytes.now reply) }
-    ensures writable { IfOk result IsWritable }
     ensures err { IfErr result (NoReply program procedure bytes.now) }
 {
     let mut reader = XdrRead::new(bytes);
@@ -55,7 +53,7 @@ fn read_any(
     reader: &mut XdrRead,
     program: u32,
     procedure: u32,
-) -> Result<Reply, ReplyFault>
+) -> Result<Reply, ArgsFault>
     requires { IsProcedure program procedure }
     ensures ok { IfOk result (λ r. IsFront (IsAnswer (tail_form_for program procedure) (result_form_for program procedure)) bytes_of reader.old r reader.new) }
     ensures err { IfErr result (Refuses (IsAnswer (tail_form_for program procedure) (result_form_for program procedure)) bytes_of reader.old) }
@@ -70,7 +68,7 @@ fn read_any(
 }
 
 /// A result of NFS's, of another procedure than NULL.
-fn read_result(alloc: Global, reader: &mut XdrRead, procedure: u32) -> Result<Reply, ReplyFault>
+fn read_result(alloc: Global, reader: &mut XdrRead, procedure: u32) -> Result<Reply, ArgsFault>
     requires first { 1 ≤ procedure }
     requires last { procedure < 22 }
     ensures ok { IfOk result (λ r. IsFront (IsAnswer (tail_form_at procedure) (result_form_at procedure)) bytes_of reader.old r reader.new) }
@@ -132,7 +130,7 @@ fn status_of(number: u32) -> Option<NfsStatus>
 }
 
 /// What stands after status 0. MKNOD never gives it.
-fn read_done(alloc: Global, reader: &mut XdrRead, procedure: u32) -> Result<Reply, ReplyFault>
+fn read_done(alloc: Global, reader: &mut XdrRead, procedure: u32) -> Result<Reply, ArgsFault>
     requires first { 1 ≤ procedure }
     requires last { procedure < 22 }
     ensures ok { IfOk result (λ r. IsFront (IsDone (result_form_at procedure)) after_status reader.old r reader.new) }
@@ -155,7 +153,7 @@ fn read_done(alloc: Global, reader: &mut XdrRead, procedure: u32) -> Result<Repl
         19 => read_limits(reader),
         20 => read_paths(reader),
         21 => read_committed(reader),
-        _ => Err(ReplyFault::Garbage),
+        _ => Err(ArgsFault::Garbage),
     }
 }
 

@@ -24,10 +24,11 @@ const NO_SUCH_PATH: u32 = 2;
 /// The bytes of a result, from its status on (RFC 1813, sections 3.3 and 5.2).
 ///
 /// They are at most as many as its parts take, where the handles of a page of READDIRPLUS have at most 44 bytes each.
-/// The error is want of memory; a result of 2^64 bytes or more counts as such.
+/// The error is want of memory; it also comes where a string that the result shows has 2^32 bytes or more, which no word
+/// counts, and where the result has 2^64 bytes or more.
 pub fn write_reply(alloc: Global, reply: &Reply) -> Result<Bytes, Memory>
-    requires { IsWritable reply.now }
     ensures written { IfOk result (λ bytes. bytes ≡ bytes_of reply.now) }
+    ensures counted { OnOk result (IsWritable reply.now) }
     ensures short { IfOk result (λ bytes. HasShortHandles reply.now → length bytes ≤ result_bound reply.now) }
 {
     let mut out = XdrWrite::new(alloc);
@@ -37,12 +38,12 @@ pub fn write_reply(alloc: Global, reply: &Reply) -> Result<Bytes, Memory>
 
 /// Appends the bytes of a result, as [`write_reply`] gives them.
 ///
-/// It makes room for all of it first, for [`room_for`] bytes. The error is want of memory, and nothing is written
-/// then; a result of 2^64 bytes or more counts as such.
+/// It makes room for all of it first, for [`room_for`] bytes. The errors are those of [`write_reply`], and nothing is
+/// written then.
 #[tactic(auto, using(crate::proofs::Sizes::most_result))]
 pub fn put_reply(out: &mut XdrWrite, reply: &Reply) -> Result<(), Memory>
-    requires { IsWritable reply.now }
     ensures ok { OnOk result (out.new.written ≡ out.old.written ++ bytes_of reply.now) }
+    ensures counted { OnOk result (IsWritable reply.now) }
     ensures short { OnOk result (HasShortHandles reply.now → length (bytes_of reply.now) ≤ result_bound reply.now) }
     ensures err { OnErr result (out.new.written ≡ out.old.written) }
 {

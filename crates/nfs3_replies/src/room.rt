@@ -1,9 +1,10 @@
 //! How much room a result asks for, so that it is written with one allocation at most.
 
 ghost use Rattle.std.specs.Prelude.{◌≡◌, ◌+◌, ◌^◌, ◌≤◌, IfSome, IsNone, length};
-ghost use Rattle.std.specs.List.{sum_by};
+ghost use Rattle.std.specs.List.{All, sum_by};
 ghost use Rattle.xdr_codec.specs.Writing.{padded};
 ghost use Rattle.nfs3_replies.specs.Room.{room, entry_room, entry_plus_room, handle_room};
+ghost use Rattle.nfs3_replies.specs.Writable.{IsShort, IsShortHandle, HasShortName, IsWritableEntry, IsWritable};
 
 use ivy_base::Bytes;
 use nfs_model::{Listed, Reply};
@@ -17,81 +18,99 @@ const ENTRY_FRAME: usize = 24;
 /// The most bytes of an entry's attributes.
 const ENTRY_ATTRIBUTES: usize = 88;
 
-/// The room that [`crate::put_reply`] asks for, in bytes. There is none where it is no number of 64 bits.
+/// The room that [`crate::put_reply`] asks for, in bytes. There is none where a string has 2^32 bytes or more, and where
+/// the room is no number of 64 bits.
 pub fn room_for(reply: &Reply) -> Option<usize>
     ensures some { IfSome result (λ bytes. bytes ≡ room reply.now) }
-    ensures none { IsNone result → 2 ^ 64 ≤ room reply.now }
+    ensures counted { IfSome result (λ bytes. IsWritable reply.now) }
+    ensures none { IsNone result → IsWritable reply.now → 2 ^ 64 ≤ room reply.now }
 {
     match reply {
-        Reply::Found { handle, .. } => FRAME.checked_add(padded_len(handle)?),
-        Reply::Text { text, .. } => FRAME.checked_add(padded_len(text)?),
-        Reply::Bytes { bytes, .. } => FRAME.checked_add(padded_len(bytes)?),
-        Reply::Made { handle, .. } => FRAME.checked_add(padded_len(handle)?),
-        Reply::Mounted { handle } => FRAME.checked_add(padded_len(handle)?),
-        Reply::Directory { page, .. } => FRAME.checked_add(entries_room(page.as_slice())?),
-        Reply::DirectoryPlus { page, .. } => {
-            FRAME.checked_add(entries_plus_room(page.as_slice())?)
-        }
+        Reply::Found { handle, .. } => with_string(handle),
+        Reply::Text { text, .. } => with_string(text),
+        Reply::Bytes { bytes, .. } => with_string(bytes),
+        Reply::Made { handle, .. } => with_string(handle),
+        Reply::Mounted { handle } => with_string(handle),
+        Reply::Directory { page, .. } => with_entries(page.as_slice()),
+        Reply::DirectoryPlus { page, .. } => with_entries_plus(page.as_slice()),
         _ => Some(FRAME),
     }
 }
 
-/// The bytes of a string with the zeros that fill it up.
-fn padded_len(bytes: &Bytes) -> Option<usize>
-    ensures some { IfSome result (λ count. count ≡ padded (length bytes.now)) }
-    ensures none { IsNone result → 2 ^ 64 ≤ padded (length bytes.now) }
+/// The room for one string and what stands beside it.
+fn with_string(bytes: &Bytes) -> Option<usize>
+    ensures some { IfSome result (λ count. count ≡ 240 + padded (length bytes.now)) }
+    ensures counted { IfSome result (λ count. IsShort bytes.now) }
+    ensures none { IsNone result → IsShort bytes.now → ⊥ }
 {
-    let count = bytes.as_slice().len();
-    count.checked_add((4 - count % 4) % 4)
+    Some(FRAME + padded_len(bytes)?)
 }
 
-/// The bytes of a page's entries.
-fn entries_room(entries: &[Listed]) -> Option<usize>
-    ensures some { IfSome result (λ bytes. bytes ≡ sum_by entry_room entries.now) }
-    ensures none { IsNone result → 2 ^ 64 ≤ sum_by entry_room entries.now }
+/// The room for a page's entries and what stands beside them.
+fn with_entries(entries: &[Listed]) -> Option<usize>
+    ensures some { IfSome result (λ bytes. bytes ≡ 240 + sum_by entry_room entries.now) }
+    ensures counted { IfSome result (λ bytes. All HasShortName entries.now) }
+    ensures none { IsNone result → All HasShortName entries.now → 2 ^ 64 ≤ 240 + sum_by entry_room entries.now }
 {
-    let mut sum: usize = 0;
+    let mut sum: usize = FRAME;
     for entry in entries {
         sum = sum.checked_add(room_of_entry(entry)?)?;
     }
     Some(sum)
 }
 
-/// The most bytes of a page's entries with their attributes and handles.
-fn entries_plus_room(entries: &[Listed]) -> Option<usize>
-    ensures some { IfSome result (λ bytes. bytes ≡ sum_by entry_plus_room entries.now) }
-    ensures none { IsNone result → 2 ^ 64 ≤ sum_by entry_plus_room entries.now }
+/// The most room for a page's entries with their attributes and handles, and what stands beside them.
+fn with_entries_plus(entries: &[Listed]) -> Option<usize>
+    ensures some { IfSome result (λ bytes. bytes ≡ 240 + sum_by entry_plus_room entries.now) }
+    ensures counted { IfSome result (λ bytes. All IsWritableEntry entries.now) }
+    ensures none { IsNone result → All IsWritableEntry entries.now → 2 ^ 64 ≤ 240 + sum_by entry_plus_room entries.now }
 {
-    let mut sum: usize = 0;
+    let mut sum: usize = FRAME;
     for entry in entries {
         sum = sum.checked_add(room_of_entry_plus(entry)?)?;
     }
     Some(sum)
 }
 
+/// The bytes of an entry without attributes and handle.
 fn room_of_entry(entry: &Listed) -> Option<usize>
     ensures some { IfSome result (λ bytes. bytes ≡ entry_room entry.now) }
-    ensures none { IsNone result → 2 ^ 64 ≤ entry_room entry.now }
+    ensures counted { IfSome result (λ bytes. HasShortName entry.now) }
+    ensures none { IsNone result → HasShortName entry.now → ⊥ }
 {
-    ENTRY_FRAME.checked_add(padded_len(&entry.name)?)
+    Some(ENTRY_FRAME + padded_len(&entry.name)?)
 }
 
+/// The most bytes of an entry with its attributes and its handle.
 fn room_of_entry_plus(entry: &Listed) -> Option<usize>
     ensures some { IfSome result (λ bytes. bytes ≡ entry_plus_room entry.now) }
-    ensures none { IsNone result → 2 ^ 64 ≤ entry_plus_room entry.now }
+    ensures counted { IfSome result (λ bytes. IsWritableEntry entry.now) }
+    ensures none { IsNone result → IsWritableEntry entry.now → ⊥ }
 {
-    room_of_entry(entry)?
-        .checked_add(ENTRY_ATTRIBUTES)?
-        .checked_add(room_of_handle(&entry.handle)?)
+    Some(ENTRY_FRAME + padded_len(&entry.name)? + ENTRY_ATTRIBUTES + room_of_handle(&entry.handle)?)
 }
 
 /// The bytes of a handle that may be missing: its flag, and where it is given its length and its bytes.
 fn room_of_handle(handle: &Option<Bytes>) -> Option<usize>
     ensures some { IfSome result (λ bytes. bytes ≡ handle_room handle.now) }
-    ensures none { IsNone result → 2 ^ 64 ≤ handle_room handle.now }
+    ensures counted { IfSome result (λ bytes. IsShortHandle handle.now) }
+    ensures none { IsNone result → IsShortHandle handle.now → ⊥ }
 {
     match handle {
         None => Some(4),
-        Some(handle) => padded_len(handle)?.checked_add(8),
+        Some(handle) => Some(8 + padded_len(handle)?),
     }
+}
+
+/// The bytes of a string with the zeros that fill it up; none where no word counts them.
+fn padded_len(bytes: &Bytes) -> Option<usize>
+    ensures some { IfSome result (λ count. count ≡ padded (length bytes.now)) }
+    ensures counted { IfSome result (λ count. IsShort bytes.now) }
+    ensures none { IsNone result → IsShort bytes.now → ⊥ }
+{
+    let count = bytes.as_slice().len();
+    if count > u32::MAX as usize {
+        return None;
+    }
+    Some(count + (4 - count % 4) % 4)
 }

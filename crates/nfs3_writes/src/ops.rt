@@ -1,8 +1,9 @@
 //! The operations of a plan.
 
-ghost use Rattle.std.specs.Prelude.{◌≡◌};
+ghost use Rattle.std.specs.Prelude.{◌≡◌, IfOk};
 
-use ivy_base::Op;
+use ivy_base::{Memory, Op};
+use std::alloc::Global;
 use std::marker::Model;
 
 /// Operations in their order, which contracts see as a list.
@@ -33,6 +34,17 @@ impl Ops {
         ensures { result.now ≡ self.now }
     {
         self.items.as_slice()
+    }
+
+    /// A copy of these operations and of their bytes. The error is want of memory.
+    pub fn copy(&self, alloc: Global) -> Result<Ops, Memory>
+        ensures { IfOk result (λ copy. copy ≡ self.now) }
+    {
+        let mut items = Vec::with_capacity(alloc, self.items.len())?;
+        for op in &self.items {
+            items.push(op.copy(alloc)?)?;
+        }
+        Ok(Ops { items })
     }
 
     /// The operations as a vector, which is not copied.

@@ -102,7 +102,7 @@ module _ (t : Tree) (view : View) (who : Identity) where
   size_above None dir key size = size
   size_above (Some number) dir key size = key.size
 
-  target_has_key : (dir : Key) (name : List ℕ) → NamesAreKeys t → length dir.0 ≡ 20 → HasKey (target_of t dir name)
+  pub target_has_key : (dir : Key) (name : List ℕ) → NamesAreKeys t → length dir.0 ≡ 20 → HasKey (target_of t dir name)
   target_has_key dir name keys size = by (is_dot name) (is_dot_dot name)
     where
       by : (b c : Bool) → HasKey (cond b (Some dir) (cond c (Some (unwrap_or (parent t dir) dir)) (entry t dir name)))
@@ -126,7 +126,7 @@ module _ (t : Tree) (view : View) (who : Identity) where
   short_read_link handle short = behind_object (object_of t view handle) _ _ (λ o e. behind_checks ((not (link_kind o.inode.kind), Inval) ∷ []) _ _ (λ passed.
       short_text _ o.inode.body (short o.number o.inode (is_object t view handle o e).inode (is_link o.inode.kind passed.0))))
 
-  few_read : (bytes : List ℕ) (offset count : ℕ) → length (part bytes offset count) ≤ 8192
+  pub few_read : (bytes : List ℕ) (offset count : ℕ) → length (part bytes offset count) ≤ 8192
   few_read bytes offset count = omega (arith, length-take (min count 8192) (drop offset bytes))
 
   short_read : (handle : List ℕ) (offset count : ℕ) → IsShort (read t view who handle offset count)

@@ -6,3 +6,10 @@ mod Listings
 mod Trees
 mod PageSizes
 mod Lengths
+mod Fields
+mod PageForms
+mod AnswerForms
+mod PlanForms
+mod Counts
+mod Replays
+mod PageEntries

@@ -30,10 +30,10 @@ numbers_placed : (n : ℕ) (es : List (List ℕ × Key)) → AllByRecursion (λ 
 numbers_placed n [] keys = tt
 numbers_placed n (e ∷ es) keys = (keys.0.size, numbers_placed (n + 1) es keys.1)
 
-all_dropped : (c : ℕ) (es : List Entry) → AllByRecursion HasNumber es → AllByRecursion HasNumber (drop c es)
-all_dropped zero es all = all
-all_dropped (suc c) [] all = tt
-all_dropped (suc c) (e ∷ es) all = all_dropped c es all.1
+pub all_dropped : (P : Entry → Type 0) (c : ℕ) (es : List Entry) → AllByRecursion P es → AllByRecursion P (drop c es)
+all_dropped P zero es all = all
+all_dropped P (suc c) [] all = tt
+all_dropped P (suc c) (e ∷ es) all = all_dropped P c es all.1
 
 size_or : (o : Option Key) (number : Key) → IfSome o IsKey → length number.0 ≡ 20 → length (unwrap_or o number).0 ≡ 20
 size_or None number key size = size
@@ -42,7 +42,7 @@ size_or (Some above) number key size = key.size
 pub numbers_from : (t : Tree) (dir : Key) (cookie : ℕ) → NamesAreKeys t → length dir.0 ≡ 20 → AllByRecursion HasNumber (entries_from t dir cookie)
 numbers_from t dir cookie keys size =
     let above = size_or (parent t dir) dir (key_above t.names dir keys) size in
-    all_dropped cookie (placed 0 (all_entries t dir)) (size, (above, numbers_placed 2 (listing t dir) (keys_in t.names dir keys)))
+    all_dropped HasNumber cookie (placed 0 (all_entries t dir)) (size, (above, numbers_placed 2 (listing t dir) (keys_in t.names dir keys)))
 
 -- ---- entries that fit
 

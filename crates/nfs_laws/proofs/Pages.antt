@@ -31,7 +31,7 @@ seen e = shown (listed e)
 abbrev pub IsFront : List Entry → List Entry → Type 0
 IsFront some all = (rest : List Entry) × (some ++ rest ≡ all)
 
-front_of_front : (xs ys zs : List Entry) → IsFront xs ys → IsFront ys zs → IsFront xs zs
+pub front_of_front : (xs ys zs : List Entry) → IsFront xs ys → IsFront ys zs → IsFront xs zs
 front_of_front xs ys zs p q = (p.0 ++ q.0, sym (append_assoc xs p.0 q.0) ∙ ap (λ (es : List Entry). es ++ q.0) p.1 ∙ q.1)
 
 front_if : (b : Bool) (e : Entry) (some all : List Entry) → IsFront some all → IsFront (cond b [] (e ∷ some)) (e ∷ all)
@@ -42,7 +42,7 @@ pub front_of_fitting : (size : List ℕ → ℕ) (room : ℕ) (es : List Entry) 
 front_of_fitting size room [] = ([], refl)
 front_of_fitting size room (e ∷ es) = front_if (nat_lt room (size e.1.0)) e _ es (front_of_fitting size (room - size e.1.0) es)
 
-front_of_one : (left fit : List Entry) → IsFront fit left → IsFront (at_least_one left fit) left
+pub front_of_one : (left fit : List Entry) → IsFront fit left → IsFront (at_least_one left fit) left
 front_of_one [] fit f = f
 front_of_one (e ∷ es) [] f = (es, refl)
 front_of_one (e ∷ es) (x ∷ xs) f = f

@@ -65,7 +65,7 @@ module _ (t : Tree) (view : View) (who : Identity) (now : Moment) (own : PubKey)
   behind_object = of_plan_about (Goes t) (goes_refused t)
 
   by_test : (b : Bool) (p q : Plan) → (b ≡ true → Goes t p) → (b ≡ false → Goes t q) → Goes t (cond b p q)
-  by_test = of_plan_if (Goes t) (goes_refused t)
+  by_test = of_plan_if (Goes t)
 
   -- an inode that is made, and its name
   new_name : (kind : Kind) (what : SetWhat) (target : List ℕ) (dir : Object) (name : List ℕ) (times : Bool) (set : Op)
@@ -85,7 +85,7 @@ module _ (t : Tree) (view : View) (who : Identity) (now : Moment) (own : PubKey)
       new_name Lnk what text dir name _ _))
 
   -- a file that is there has an inode, and so a key as its number
-  there : (number : Key) (guarded : Bool) → (guarded || not (is_file (inode_at t number))) ≡ false → NumbersAreKeys t → length number.0 ≡ 20
+  pub there : (number : Key) (guarded : Bool) → (guarded || not (is_file (inode_at t number))) ≡ false → NumbersAreKeys t → length number.0 ≡ 20
   there number guarded free keys =
       (keys number (file_is_some (inode_at t number) (not_false (is_file (inode_at t number)) (both_false guarded (not (is_file (inode_at t number))) free).1))).size
 

@@ -73,7 +73,7 @@ most_tail (tails.TwoCaches v w) = most_wcc v ▷ most_wcc w
 most_tail (tails.AttributesAndCache a w) = within (most_attributes a ▷ most_wcc w) (omega arith)
 
 -- a handle of a number of 20 bytes
-most_handle : (view : View) (number : Key) → length number.0 ≡ 20 → length (handle_of view number) ≤ 44
+pub most_handle : (view : View) (number : Key) → length number.0 ≡ 20 → length (handle_of view number) ≤ 44
 most_handle view number key = omega (arith, key, length-name (view_block view), length-append (view_name view).0 number.0)
 
 pub most_opaque_handle : (view : View) (number : Key) → length number.0 ≡ 20 → AtMost (opaque (handle_of view number)) 48

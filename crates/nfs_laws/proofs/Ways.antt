@@ -22,34 +22,53 @@ use Rattle.nfs_model.specs.Changing.{Plan, Refuse, about as plan_about, unless a
 abbrev pub Pass : List Check → Type 0
 Pass checks = AllByRecursion (λ c. c.0 ≡ false) checks
 
-module _ (P : Reply → Type 0) (refused : (fault : NfsStatus) (with : Tail) → P (reply.Refused fault with)) where
-  answer_check : (b : Bool) (fault : NfsStatus) (checks : List Check) (with : Tail) (r : Reply)
+-- behind checks, and behind the object of a handle, with this tail
+module _ (P : Reply → Type 0) (with : Tail) (refused : (fault : NfsStatus) → P (reply.Refused fault with)) where
+  answer_check : (b : Bool) (fault : NfsStatus) (checks : List Check) (r : Reply)
       → ((b ≡ false) × Pass checks → P r) → ((Pass checks → P r) → P (unless checks with r)) → P (unless ((b, fault) ∷ checks) with r)
-  answer_check true fault checks with r h again = refused fault with
-  answer_check false fault checks with r h again = again (λ rest. h (refl, rest))
+  answer_check true fault checks r h again = refused fault
+  answer_check false fault checks r h again = again (λ rest. h (refl, rest))
 
+  pub with_unless : (checks : List Check) (r : Reply) → (Pass checks → P r) → P (unless checks with r)
+  with_unless [] r h = h tt
+  with_unless (c ∷ checks) r h = answer_check c.0 c.1 checks r h (λ g. with_unless checks r g)
+
+  pub with_about : (found : Result Object NfsStatus) (answer : Object → Reply) → ((o : Object) → found ≡ Ok o → P (answer o)) → P (about found with answer)
+  with_about (Err fault) answer h = refused fault
+  with_about (Ok o) answer h = h o refl
+
+-- whatever the tail
+module _ (P : Reply → Type 0) (refused : (fault : NfsStatus) (with : Tail) → P (reply.Refused fault with)) where
   pub of_unless : (checks : List Check) (with : Tail) (r : Reply) → (Pass checks → P r) → P (unless checks with r)
-  of_unless [] with r h = h tt
-  of_unless (c ∷ checks) with r h = answer_check c.0 c.1 checks with r h (λ g. of_unless checks with r g)
+  of_unless checks with r h = with_unless P with (λ fault. refused fault with) checks r h
 
   pub of_about : (found : Result Object NfsStatus) (none : Tail) (answer : Object → Reply) → ((o : Object) → found ≡ Ok o → P (answer o)) → P (about found none answer)
-  of_about (Err fault) none answer h = refused fault none
-  of_about (Ok o) none answer h = h o refl
+  of_about found none answer h = with_about P none (λ fault. refused fault none) found answer h
+
+-- likewise of plans
+module _ (P : Plan → Type 0) (with : Tail) (refused : (fault : NfsStatus) → P (Refuse (reply.Refused fault with))) where
+  plan_check : (b : Bool) (fault : NfsStatus) (checks : List Check) (p : Plan)
+      → ((b ≡ false) × Pass checks → P p) → ((Pass checks → P p) → P (plan_unless checks with p)) → P (plan_unless ((b, fault) ∷ checks) with p)
+  plan_check true fault checks p h again = refused fault
+  plan_check false fault checks p h again = again (λ rest. h (refl, rest))
+
+  pub with_plan_unless : (checks : List Check) (p : Plan) → (Pass checks → P p) → P (plan_unless checks with p)
+  with_plan_unless [] p h = h tt
+  with_plan_unless (c ∷ checks) p h = plan_check c.0 c.1 checks p h (λ g. with_plan_unless checks p g)
+
+  pub with_plan_about : (found : Result Object NfsStatus) (plan : Object → Plan) → ((o : Object) → found ≡ Ok o → P (plan o)) → P (plan_about found with plan)
+  with_plan_about (Err fault) plan h = refused fault
+  with_plan_about (Ok o) plan h = h o refl
 
 module _ (P : Plan → Type 0) (refused : (fault : NfsStatus) (with : Tail) → P (Refuse (reply.Refused fault with))) where
-  plan_check : (b : Bool) (fault : NfsStatus) (checks : List Check) (with : Tail) (p : Plan)
-      → ((b ≡ false) × Pass checks → P p) → ((Pass checks → P p) → P (plan_unless checks with p)) → P (plan_unless ((b, fault) ∷ checks) with p)
-  plan_check true fault checks with p h again = refused fault with
-  plan_check false fault checks with p h again = again (λ rest. h (refl, rest))
-
   pub of_plan_unless : (checks : List Check) (with : Tail) (p : Plan) → (Pass checks → P p) → P (plan_unless checks with p)
-  of_plan_unless [] with p h = h tt
-  of_plan_unless (c ∷ checks) with p h = plan_check c.0 c.1 checks with p h (λ g. of_plan_unless checks with p g)
+  of_plan_unless checks with p h = with_plan_unless P with (λ fault. refused fault with) checks p h
 
   pub of_plan_about : (found : Result Object NfsStatus) (none : Tail) (plan : Object → Plan) → ((o : Object) → found ≡ Ok o → P (plan o)) → P (plan_about found none plan)
-  of_plan_about (Err fault) none plan h = refused fault none
-  of_plan_about (Ok o) none plan h = h o refl
+  of_plan_about found none plan h = with_plan_about P none (λ fault. refused fault none) found plan h
 
+-- behind a test
+module _ (P : Plan → Type 0) where
   pub of_plan_if : (b : Bool) (p q : Plan) → (b ≡ true → P p) → (b ≡ false → P q) → P (cond b p q)
   of_plan_if true p q h g = h refl
   of_plan_if false p q h g = g refl

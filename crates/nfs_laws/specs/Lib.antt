@@ -1,3 +1,5 @@
 pub mod Listings
 pub mod Lengths
 pub mod Plans
+pub mod Replies
+pub mod PageEntries

@@ -14,7 +14,8 @@ use Rattle.nfs_model.specs.declared.arguments.How.{How}
 use Rattle.nfs_model.specs.declared.arguments.How.TheVariants.{Unchecked, Guarded, Exclusive}
 use Rattle.nfs_model.specs.declared.arguments.Node.{Node}
 use Rattle.nfs_model.specs.declared.arguments.Node.TheVariants.{Plain, Device, Other}
-use Rattle.nfs_model.specs.Arguments.{program_of, procedure_of, arguments, set_time, set_what, create_how, special_node, IsHandle, IsShortText, IsTime, IsSetWhat, IsVerifier, IsHow, IsPlainKind, IsDeviceKind, IsOtherKind, IsNode, ArgumentsFit, AreArguments}
+use Rattle.nfs_model.specs.Arguments.{program_of, procedure_of, arguments, set_time, set_what, create_how, special_node, IsHandle, IsShortText, IsTime, IsSetWhat, IsVerifier, IsHow, IsPlainKind, IsDeviceKind, IsOtherKind, IsNode, ArgumentsFit}
+use Rattle.nfs_model.specs.Laws.{ArgumentsReadOne, ArgumentsAreOne}
 
 -- ---- parts
 
@@ -127,71 +128,84 @@ one_stable = of_fewer (λ n f. omega arith) one_word
 
 -- ---- arguments
 
--- of one procedure
-same_arguments : (args other : Args) → program_of args ≡ program_of other → procedure_of args ≡ procedure_of other
-    → ArgumentsFit args → ArgumentsFit other → arguments args ≡ arguments other → args ≡ other
-same_arguments call.Null call.Null p q f g e = refl
-same_arguments (call.GetAttr object) (call.GetAttr object2) p q f g e = ap call.GetAttr (whole one_handle object object2 f g e)
-same_arguments (call.SetAttr object what guard) (call.SetAttr object2 what2 guard2) p q f g e =
-    ap (λ (p : (List ℕ × SetWhat) × Option Moment). call.SetAttr p.0.0 p.0.1 p.1)
-    (whole (one_handle ▷ one_set_what ▷ one_optional one_moment) ((object, what), guard) ((object2, what2), guard2) ((f.0, f.1), f.2) ((g.0, g.1), g.2) e)
-same_arguments (call.Lookup dir name) (call.Lookup dir2 name2) p q f g e =
-    ap (λ (p : List ℕ × List ℕ). call.Lookup p.0 p.1)
-    (whole (one_handle ▷ one_text) (dir, name) (dir2, name2) (f.0, f.1) (g.0, g.1) e)
-same_arguments (call.Access object bits) (call.Access object2 bits2) p q f g e =
-    ap (λ (p : List ℕ × ℕ). call.Access p.0 p.1)
-    (whole (one_handle ▷ one_word) (object, bits) (object2, bits2) (f.0, f.1) (g.0, g.1) e)
-same_arguments (call.ReadLink link) (call.ReadLink link2) p q f g e = ap call.ReadLink (whole one_handle link link2 f g e)
-same_arguments (call.Read file offset count) (call.Read file2 offset2 count2) p q f g e =
-    ap (λ (p : (List ℕ × ℕ) × ℕ). call.Read p.0.0 p.0.1 p.1)
-    (whole (one_handle ▷ one_double_word ▷ one_word) ((file, offset), count) ((file2, offset2), count2) ((f.0, f.1), f.2) ((g.0, g.1), g.2) e)
-same_arguments (call.Write file offset count stable bytes) (call.Write file2 offset2 count2 stable2 bytes2) p q f g e =
-    ap (λ (p : (((List ℕ × ℕ) × ℕ) × ℕ) × List ℕ). call.Write p.0.0.0.0 p.0.0.0.1 p.0.0.1 p.0.1 p.1)
-    (whole (one_handle ▷ one_double_word ▷ one_word ▷ one_stable ▷ one_opaque) ((((file, offset), count), stable), bytes) ((((file2, offset2), count2), stable2), bytes2) ((((f.0, f.1), f.2), f.3), f.4) ((((g.0, g.1), g.2), g.3), g.4) e)
-same_arguments (call.Create dir name how) (call.Create dir2 name2 how2) p q f g e =
-    ap (λ (p : (List ℕ × List ℕ) × How). call.Create p.0.0 p.0.1 p.1)
-    (whole (one_handle ▷ one_text ▷ one_how) ((dir, name), how) ((dir2, name2), how2) ((f.0, f.1), f.2) ((g.0, g.1), g.2) e)
-same_arguments (call.MkDir dir name what) (call.MkDir dir2 name2 what2) p q f g e =
-    ap (λ (p : (List ℕ × List ℕ) × SetWhat). call.MkDir p.0.0 p.0.1 p.1)
-    (whole (one_handle ▷ one_text ▷ one_set_what) ((dir, name), what) ((dir2, name2), what2) ((f.0, f.1), f.2) ((g.0, g.1), g.2) e)
-same_arguments (call.SymLink dir name what text) (call.SymLink dir2 name2 what2 text2) p q f g e =
-    ap (λ (p : ((List ℕ × List ℕ) × SetWhat) × List ℕ). call.SymLink p.0.0.0 p.0.0.1 p.0.1 p.1)
-    (whole (one_handle ▷ one_text ▷ one_set_what ▷ one_text) (((dir, name), what), text) (((dir2, name2), what2), text2) (((f.0, f.1), f.2), f.3) (((g.0, g.1), g.2), g.3) e)
-same_arguments (call.MkNod dir name node) (call.MkNod dir2 name2 node2) p q f g e =
-    ap (λ (p : (List ℕ × List ℕ) × Node). call.MkNod p.0.0 p.0.1 p.1)
-    (whole (one_handle ▷ one_text ▷ one_node) ((dir, name), node) ((dir2, name2), node2) ((f.0, f.1), f.2) ((g.0, g.1), g.2) e)
-same_arguments (call.Remove dir name) (call.Remove dir2 name2) p q f g e =
-    ap (λ (p : List ℕ × List ℕ). call.Remove p.0 p.1)
-    (whole (one_handle ▷ one_text) (dir, name) (dir2, name2) (f.0, f.1) (g.0, g.1) e)
-same_arguments (call.RmDir dir name) (call.RmDir dir2 name2) p q f g e =
-    ap (λ (p : List ℕ × List ℕ). call.RmDir p.0 p.1)
-    (whole (one_handle ▷ one_text) (dir, name) (dir2, name2) (f.0, f.1) (g.0, g.1) e)
-same_arguments (call.Rename dir name to_dir to_name) (call.Rename dir2 name2 to_dir2 to_name2) p q f g e =
-    ap (λ (p : ((List ℕ × List ℕ) × List ℕ) × List ℕ). call.Rename p.0.0.0 p.0.0.1 p.0.1 p.1)
-    (whole (one_handle ▷ one_text ▷ one_handle ▷ one_text) (((dir, name), to_dir), to_name) (((dir2, name2), to_dir2), to_name2) (((f.0, f.1), f.2), f.3) (((g.0, g.1), g.2), g.3) e)
-same_arguments (call.Link file dir name) (call.Link file2 dir2 name2) p q f g e =
-    ap (λ (p : (List ℕ × List ℕ) × List ℕ). call.Link p.0.0 p.0.1 p.1)
-    (whole (one_handle ▷ one_handle ▷ one_text) ((file, dir), name) ((file2, dir2), name2) ((f.0, f.1), f.2) ((g.0, g.1), g.2) e)
-same_arguments (call.ReadDir dir cookie verifier count) (call.ReadDir dir2 cookie2 verifier2 count2) p q f g e =
-    ap (λ (p : ((List ℕ × ℕ) × List ℕ) × ℕ). call.ReadDir p.0.0.0 p.0.0.1 p.0.1 p.1)
-    (whole (one_handle ▷ one_double_word ▷ one_verifier ▷ one_word) (((dir, cookie), verifier), count) (((dir2, cookie2), verifier2), count2) (((f.0, f.1), f.2), f.3) (((g.0, g.1), g.2), g.3) e)
-same_arguments (call.ReadDirPlus dir cookie verifier dircount maxcount) (call.ReadDirPlus dir2 cookie2 verifier2 dircount2 maxcount2) p q f g e =
-    ap (λ (p : (((List ℕ × ℕ) × List ℕ) × ℕ) × ℕ). call.ReadDirPlus p.0.0.0.0 p.0.0.0.1 p.0.0.1 p.0.1 p.1)
-    (whole (one_handle ▷ one_double_word ▷ one_verifier ▷ one_word ▷ one_word) ((((dir, cookie), verifier), dircount), maxcount) ((((dir2, cookie2), verifier2), dircount2), maxcount2) ((((f.0, f.1), f.2), f.3), f.4) ((((g.0, g.1), g.2), g.3), g.4) e)
-same_arguments (call.FsStat object) (call.FsStat object2) p q f g e = ap call.FsStat (whole one_handle object object2 f g e)
-same_arguments (call.FsInfo object) (call.FsInfo object2) p q f g e = ap call.FsInfo (whole one_handle object object2 f g e)
-same_arguments (call.PathConf object) (call.PathConf object2) p q f g e = ap call.PathConf (whole one_handle object object2 f g e)
-same_arguments (call.Commit file offset count) (call.Commit file2 offset2 count2) p q f g e =
-    ap (λ (p : (List ℕ × ℕ) × ℕ). call.Commit p.0.0 p.0.1 p.1)
-    (whole (one_handle ▷ one_double_word ▷ one_word) ((file, offset), count) ((file2, offset2), count2) ((f.0, f.1), f.2) ((g.0, g.1), g.2) e)
-same_arguments call.MountNull call.MountNull p q f g e = refl
-same_arguments (call.Mnt path) (call.Mnt path2) p q f g e = ap call.Mnt (whole one_path path path2 f g e)
-same_arguments call.Dump call.Dump p q f g e = refl
-same_arguments (call.Umnt path) (call.Umnt path2) p q f g e = ap call.Umnt (whole one_path path path2 f g e)
-same_arguments call.UmntAll call.UmntAll p q f g e = refl
-same_arguments call.Export call.Export p q f g e = refl
-same_arguments args other p q f g e = absurd (omega (arith, p, q))
+-- what is made of one value is one, whatever follows
+pub same_made : {A B : Type 0} {x y : A} {r s : List ℕ} (make : A → B) → (x ≡ y) × (r ≡ s) → (make x ≡ make y) × (r ≡ s)
+same_made make p = (ap make p.0, p.1)
 
-pub one_arguments : (program procedure : ℕ) (bytes : List ℕ) (args other : Args) → AreArguments program procedure bytes args → AreArguments program procedure bytes other → args ≡ other
+-- of one procedure
+same_arguments : (args other : Args) (r s : List ℕ) → program_of args ≡ program_of other → procedure_of args ≡ procedure_of other
+    → ArgumentsFit args → ArgumentsFit other → arguments args ++ r ≡ arguments other ++ s → (args ≡ other) × (r ≡ s)
+same_arguments call.Null call.Null r s p q f g e = (refl, e)
+same_arguments (call.GetAttr object) (call.GetAttr object2) r s p q f g e = same_made call.GetAttr (one_handle.one object object2 r s f g e)
+same_arguments (call.SetAttr object what guard) (call.SetAttr object2 what2 guard2) r s p q f g e =
+    same_made (λ (p : (List ℕ × SetWhat) × Option Moment). call.SetAttr p.0.0 p.0.1 p.1)
+    ((one_handle ▷ one_set_what ▷ one_optional one_moment).one ((object, what), guard) ((object2, what2), guard2) r s ((f.0, f.1), f.2) ((g.0, g.1), g.2) e)
+same_arguments (call.Lookup dir name) (call.Lookup dir2 name2) r s p q f g e =
+    same_made (λ (p : List ℕ × List ℕ). call.Lookup p.0 p.1)
+    ((one_handle ▷ one_text).one (dir, name) (dir2, name2) r s (f.0, f.1) (g.0, g.1) e)
+same_arguments (call.Access object bits) (call.Access object2 bits2) r s p q f g e =
+    same_made (λ (p : List ℕ × ℕ). call.Access p.0 p.1)
+    ((one_handle ▷ one_word).one (object, bits) (object2, bits2) r s (f.0, f.1) (g.0, g.1) e)
+same_arguments (call.ReadLink link) (call.ReadLink link2) r s p q f g e = same_made call.ReadLink (one_handle.one link link2 r s f g e)
+same_arguments (call.Read file offset count) (call.Read file2 offset2 count2) r s p q f g e =
+    same_made (λ (p : (List ℕ × ℕ) × ℕ). call.Read p.0.0 p.0.1 p.1)
+    ((one_handle ▷ one_double_word ▷ one_word).one ((file, offset), count) ((file2, offset2), count2) r s ((f.0, f.1), f.2) ((g.0, g.1), g.2) e)
+same_arguments (call.Write file offset count stable bytes) (call.Write file2 offset2 count2 stable2 bytes2) r s p q f g e =
+    same_made (λ (p : (((List ℕ × ℕ) × ℕ) × ℕ) × List ℕ). call.Write p.0.0.0.0 p.0.0.0.1 p.0.0.1 p.0.1 p.1)
+    ((one_handle ▷ one_double_word ▷ one_word ▷ one_stable ▷ one_opaque).one ((((file, offset), count), stable), bytes) ((((file2, offset2), count2), stable2), bytes2) r s ((((f.0, f.1), f.2), f.3), f.4) ((((g.0, g.1), g.2), g.3), g.4) e)
+same_arguments (call.Create dir name how) (call.Create dir2 name2 how2) r s p q f g e =
+    same_made (λ (p : (List ℕ × List ℕ) × How). call.Create p.0.0 p.0.1 p.1)
+    ((one_handle ▷ one_text ▷ one_how).one ((dir, name), how) ((dir2, name2), how2) r s ((f.0, f.1), f.2) ((g.0, g.1), g.2) e)
+same_arguments (call.MkDir dir name what) (call.MkDir dir2 name2 what2) r s p q f g e =
+    same_made (λ (p : (List ℕ × List ℕ) × SetWhat). call.MkDir p.0.0 p.0.1 p.1)
+    ((one_handle ▷ one_text ▷ one_set_what).one ((dir, name), what) ((dir2, name2), what2) r s ((f.0, f.1), f.2) ((g.0, g.1), g.2) e)
+same_arguments (call.SymLink dir name what text) (call.SymLink dir2 name2 what2 text2) r s p q f g e =
+    same_made (λ (p : ((List ℕ × List ℕ) × SetWhat) × List ℕ). call.SymLink p.0.0.0 p.0.0.1 p.0.1 p.1)
+    ((one_handle ▷ one_text ▷ one_set_what ▷ one_text).one (((dir, name), what), text) (((dir2, name2), what2), text2) r s (((f.0, f.1), f.2), f.3) (((g.0, g.1), g.2), g.3) e)
+same_arguments (call.MkNod dir name node) (call.MkNod dir2 name2 node2) r s p q f g e =
+    same_made (λ (p : (List ℕ × List ℕ) × Node). call.MkNod p.0.0 p.0.1 p.1)
+    ((one_handle ▷ one_text ▷ one_node).one ((dir, name), node) ((dir2, name2), node2) r s ((f.0, f.1), f.2) ((g.0, g.1), g.2) e)
+same_arguments (call.Remove dir name) (call.Remove dir2 name2) r s p q f g e =
+    same_made (λ (p : List ℕ × List ℕ). call.Remove p.0 p.1)
+    ((one_handle ▷ one_text).one (dir, name) (dir2, name2) r s (f.0, f.1) (g.0, g.1) e)
+same_arguments (call.RmDir dir name) (call.RmDir dir2 name2) r s p q f g e =
+    same_made (λ (p : List ℕ × List ℕ). call.RmDir p.0 p.1)
+    ((one_handle ▷ one_text).one (dir, name) (dir2, name2) r s (f.0, f.1) (g.0, g.1) e)
+same_arguments (call.Rename dir name to_dir to_name) (call.Rename dir2 name2 to_dir2 to_name2) r s p q f g e =
+    same_made (λ (p : ((List ℕ × List ℕ) × List ℕ) × List ℕ). call.Rename p.0.0.0 p.0.0.1 p.0.1 p.1)
+    ((one_handle ▷ one_text ▷ one_handle ▷ one_text).one (((dir, name), to_dir), to_name) (((dir2, name2), to_dir2), to_name2) r s (((f.0, f.1), f.2), f.3) (((g.0, g.1), g.2), g.3) e)
+same_arguments (call.Link file dir name) (call.Link file2 dir2 name2) r s p q f g e =
+    same_made (λ (p : (List ℕ × List ℕ) × List ℕ). call.Link p.0.0 p.0.1 p.1)
+    ((one_handle ▷ one_handle ▷ one_text).one ((file, dir), name) ((file2, dir2), name2) r s ((f.0, f.1), f.2) ((g.0, g.1), g.2) e)
+same_arguments (call.ReadDir dir cookie verifier count) (call.ReadDir dir2 cookie2 verifier2 count2) r s p q f g e =
+    same_made (λ (p : ((List ℕ × ℕ) × List ℕ) × ℕ). call.ReadDir p.0.0.0 p.0.0.1 p.0.1 p.1)
+    ((one_handle ▷ one_double_word ▷ one_verifier ▷ one_word).one (((dir, cookie), verifier), count) (((dir2, cookie2), verifier2), count2) r s (((f.0, f.1), f.2), f.3) (((g.0, g.1), g.2), g.3) e)
+same_arguments (call.ReadDirPlus dir cookie verifier dircount maxcount) (call.ReadDirPlus dir2 cookie2 verifier2 dircount2 maxcount2) r s p q f g e =
+    same_made (λ (p : (((List ℕ × ℕ) × List ℕ) × ℕ) × ℕ). call.ReadDirPlus p.0.0.0.0 p.0.0.0.1 p.0.0.1 p.0.1 p.1)
+    ((one_handle ▷ one_double_word ▷ one_verifier ▷ one_word ▷ one_word).one ((((dir, cookie), verifier), dircount), maxcount) ((((dir2, cookie2), verifier2), dircount2), maxcount2) r s ((((f.0, f.1), f.2), f.3), f.4) ((((g.0, g.1), g.2), g.3), g.4) e)
+same_arguments (call.FsStat object) (call.FsStat object2) r s p q f g e = same_made call.FsStat (one_handle.one object object2 r s f g e)
+same_arguments (call.FsInfo object) (call.FsInfo object2) r s p q f g e = same_made call.FsInfo (one_handle.one object object2 r s f g e)
+same_arguments (call.PathConf object) (call.PathConf object2) r s p q f g e = same_made call.PathConf (one_handle.one object object2 r s f g e)
+same_arguments (call.Commit file offset count) (call.Commit file2 offset2 count2) r s p q f g e =
+    same_made (λ (p : (List ℕ × ℕ) × ℕ). call.Commit p.0.0 p.0.1 p.1)
+    ((one_handle ▷ one_double_word ▷ one_word).one ((file, offset), count) ((file2, offset2), count2) r s ((f.0, f.1), f.2) ((g.0, g.1), g.2) e)
+same_arguments call.MountNull call.MountNull r s p q f g e = (refl, e)
+same_arguments (call.Mnt path) (call.Mnt path2) r s p q f g e = same_made call.Mnt (one_path.one path path2 r s f g e)
+same_arguments call.Dump call.Dump r s p q f g e = (refl, e)
+same_arguments (call.Umnt path) (call.Umnt path2) r s p q f g e = same_made call.Umnt (one_path.one path path2 r s f g e)
+same_arguments call.UmntAll call.UmntAll r s p q f g e = (refl, e)
+same_arguments call.Export call.Export r s p q f g e = (refl, e)
+same_arguments args other r s p q f g e = absurd (omega (arith, p, q))
+
+-- the bytes begin with the arguments of one value alone
+pub read_one : ArgumentsReadOne
+read_one program procedure = record {
+  one = λ args other r s f g e. same_arguments args other r s (sym f.program_is ∙ g.program_is) (sym f.procedure_is ∙ g.procedure_is) f.fit g.fit e;
+}
+
+pub one_arguments : ArgumentsAreOne
 one_arguments program procedure bytes args other f g =
-    same_arguments args other (sym f.program_is ∙ g.program_is) (sym f.procedure_is ∙ g.procedure_is) f.fit g.fit (sym f.spelled ∙ g.spelled)
+    whole (read_one program procedure) args other
+    (record { program_is = f.program_is; procedure_is = f.procedure_is; fit = f.fit })
+    (record { program_is = g.program_is; procedure_is = g.procedure_is; fit = g.fit })
+    (sym f.spelled ∙ g.spelled)

@@ -9,7 +9,7 @@ use Rattle.ivy_base.specs.declared.operation.Moment.{Moment}
 use Rattle.log_model.specs.Spelling.{kind_number}
 use Rattle.wire_model.specs.Xdr.{word, double_word, opaque, optional, boolean}
 use Rattle.wire_model.specs.OneReading.{ReadsOne}
-use Rattle.wire_model.proofs.OneReading.{◌▷◌, always, whole, of_parts, one_word, one_double_word, one_boolean, one_moment, one_opaque, one_optional}
+use Rattle.wire_model.proofs.OneReading.{◌▷◌, regrouped, always, whole, of_parts, one_word, one_double_word, one_boolean, one_moment, one_opaque, one_optional}
 use Rattle.nfs_model.specs.declared.arguments.Args.{Args}
 use Rattle.nfs_model.specs.declared.arguments.Args.TheVariants as call
 use Rattle.nfs_model.specs.declared.replies.NfsStatus.{NfsStatus}
@@ -25,7 +25,8 @@ use Rattle.nfs_model.specs.declared.replies.Reply.TheVariants as reply
 use Rattle.nfs_model.specs.Arguments.{IsHandle, IsVerifier}
 use Rattle.nfs_model.specs.Results.{status_number, fattr, before, wcc, tail, write_verifier, many, result}
 use Rattle.nfs_model.specs.Replies.{IsFattr, IsBefore, IsWcc, IsTail, IsText, IsPlainEntry, IsPlusEntry, ReplyFits, tail_form, tail_form_of, result_form, result_form_of, IsReplyTo}
-use Rattle.nfs_model.proofs.OneArguments.{one_handle, one_verifier}
+use Rattle.nfs_model.specs.Laws.{RepliesReadOne, RepliesAreOne}
+use Rattle.nfs_model.proofs.OneArguments.{one_handle, one_verifier, same_made}
 
 -- ---- parts
 
@@ -166,22 +167,25 @@ statuses_apart s t e = absurd (omega (arith, e))
 pub one_status : ReadsOne (λ (s : NfsStatus). ⊤) (λ s. word (status_number s))
 one_status = of_parts status_number (λ s f. status_fits s) (λ s. refl) statuses_apart one_word
 
-one_tail : (t u : Tail) → tail_form t ≡ tail_form u → IsTail t → IsTail u → tail t ≡ tail u → t ≡ u
-one_tail tails.Empty tails.Empty p f g e = refl
-one_tail (tails.Attributes a) (tails.Attributes b) p f g e = ap tails.Attributes (whole one_post_attributes a b f g e)
-one_tail (tails.Cache a) (tails.Cache b) p f g e = ap tails.Cache (whole one_wcc a b f g e)
-one_tail (tails.TwoCaches a b) (tails.TwoCaches c d) p f g e =
-    ap (λ (p : Wcc × Wcc). tails.TwoCaches p.0 p.1) (whole (one_wcc ▷ one_wcc) (a, b) (c, d) f g e)
-one_tail (tails.AttributesAndCache a b) (tails.AttributesAndCache c d) p f g e =
-    ap (λ (p : Option Fattr × Wcc). tails.AttributesAndCache p.0 p.1) (whole (one_post_attributes ▷ one_wcc) (a, b) (c, d) f g e)
-one_tail t u p f g e = absurd (omega (arith, p))
+one_tail : (t u : Tail) (r s : List ℕ) → tail_form t ≡ tail_form u → IsTail t → IsTail u → tail t ++ r ≡ tail u ++ s → (t ≡ u) × (r ≡ s)
+one_tail tails.Empty tails.Empty r s p f g e = (refl, e)
+one_tail (tails.Attributes a) (tails.Attributes b) r s p f g e = same_made tails.Attributes (one_post_attributes.one a b r s f g e)
+one_tail (tails.Cache a) (tails.Cache b) r s p f g e = same_made tails.Cache (one_wcc.one a b r s f g e)
+one_tail (tails.TwoCaches a b) (tails.TwoCaches c d) r s p f g e =
+    same_made (λ (p : Wcc × Wcc). tails.TwoCaches p.0 p.1) ((one_wcc ▷ one_wcc).one (a, b) (c, d) r s f g e)
+one_tail (tails.AttributesAndCache a b) (tails.AttributesAndCache c d) r s p f g e =
+    same_made (λ (p : Option Fattr × Wcc). tails.AttributesAndCache p.0 p.1) ((one_post_attributes ▷ one_wcc).one (a, b) (c, d) r s f g e)
+one_tail t u r s p f g e = absurd (omega (arith, p))
 
 both : (s s2 : NfsStatus) (t t2 : Tail) → s ≡ s2 → t ≡ t2 → reply.Refused s t ≡ reply.Refused s2 t2
 both s s2 t t2 p q = rw (p, q) refl
 
-one_refusal : (s s2 : NfsStatus) (t t2 : Tail) → tail_form t ≡ tail_form t2 → IsTail t → IsTail t2
-    → word (status_number s) ++ tail t ≡ word (status_number s2) ++ tail t2 → reply.Refused s t ≡ reply.Refused s2 t2
-one_refusal s s2 t t2 p f g e = let q = one_status.one s s2 (tail t) (tail t2) tt tt e in both s s2 t t2 q.0 (one_tail t t2 p f g q.1)
+one_refusal : (s s2 : NfsStatus) (t t2 : Tail) (rest rest2 : List ℕ) → tail_form t ≡ tail_form t2 → IsTail t → IsTail t2
+    → (word (status_number s) ++ tail t) ++ rest ≡ (word (status_number s2) ++ tail t2) ++ rest2 → (reply.Refused s t ≡ reply.Refused s2 t2) × (rest ≡ rest2)
+one_refusal s s2 t t2 rest rest2 p f g e =
+    let q = one_status.one s s2 (tail t ++ rest) (tail t2 ++ rest2) tt tt (regrouped (word (status_number s)) (tail t) (word (status_number s2)) (tail t2) rest rest2 e) in
+    let u = one_tail t t2 rest rest2 p f g q.1 in
+    (both s s2 t t2 q.0 u.0, u.1)
 
 -- ---- pages
 
@@ -262,15 +266,15 @@ abbrev listing : (Listed → List ℕ) → Option Fattr → List ℕ → List Li
 listing body dir verifier page eof = word 0 ++ optional fattr dir ++ verifier ++ flat_map (flagged body) page ++ word 0 ++ boolean eof
 
 module _ (Fits : Listed → Type 0) (body : Listed → List ℕ) (reads : ReadsOne Fits body) where
-  one_listing : (dir dir2 : Option Fattr) (verifier verifier2 : List ℕ) (page page2 : List Listed) (eof eof2 : Bool)
+  one_listing : (dir dir2 : Option Fattr) (verifier verifier2 : List ℕ) (page page2 : List Listed) (eof eof2 : Bool) (r s : List ℕ)
       → IfSome dir IsFattr → IfSome dir2 IsFattr → IsVerifier verifier → IsVerifier verifier2 → AllByRecursion Fits page → AllByRecursion Fits page2
-      → listing body dir verifier page eof ≡ listing body dir2 verifier2 page2 eof2
-      → ◌≡◌ {A = Listing} ((((tt, dir), verifier), page), eof) ((((tt, dir2), verifier2), page2), eof2)
-  one_listing dir dir2 verifier verifier2 page page2 eof eof2 f f2 g g2 h h2 e =
-      whole (always (word 0) ▷ one_post_attributes ▷ one_verifier ▷ one_page Fits body reads ▷ one_boolean)
-      ((((tt, dir), verifier), page), eof) ((((tt, dir2), verifier2), page2), eof2)
+      → listing body dir verifier page eof ++ r ≡ listing body dir2 verifier2 page2 eof2 ++ s
+      → ◌≡◌ {A = Listing} ((((tt, dir), verifier), page), eof) ((((tt, dir2), verifier2), page2), eof2) × (r ≡ s)
+  one_listing dir dir2 verifier verifier2 page page2 eof eof2 r s f f2 g g2 h h2 e =
+      (always (word 0) ▷ one_post_attributes ▷ one_verifier ▷ one_page Fits body reads ▷ one_boolean).one
+      ((((tt, dir), verifier), page), eof) ((((tt, dir2), verifier2), page2), eof2) r s
       ((((tt, f), g), h), tt) ((((tt, f2), g2), h2), tt)
-      (sym (in_parts dir verifier page eof) ∙ e ∙ in_parts dir2 verifier2 page2 eof2)
+      (sym (ap (λ (bytes : List ℕ). bytes ++ r) (in_parts dir verifier page eof)) ∙ e ∙ ap (λ (bytes : List ℕ). bytes ++ s) (in_parts dir2 verifier2 page2 eof2))
     where
       in_parts : (dir : Option Fattr) (verifier : List ℕ) (page : List Listed) (eof : Bool)
           → listing body dir verifier page eof ≡ ((word 0 ++ optional fattr dir) ++ verifier) ++ entries body page ++ boolean eof
@@ -298,8 +302,12 @@ begins_zero (reply.Directory dir verifier page eof) f g = refl
 begins_zero (reply.DirectoryPlus dir verifier page eof) f g = refl
 begins_zero r f g = absurd (omega (arith, f, g))
 
-no_refusal : (s : NfsStatus) (t : Tail) (r : Reply) → result_form r ≤ 100 → 1 ≤ result_form r → word (status_number s) ++ tail t ≡ result r → ⊥
-no_refusal s t r f g e = is_no_ok s (one_word.one (status_number s) 0 (tail t) (drop 4 (result r)) (status_fits s) (omega arith) (e ∙ begins_zero r g f)).0
+no_refusal : (s : NfsStatus) (t : Tail) (r : Reply) (rest rest2 : List ℕ) → result_form r ≤ 100 → 1 ≤ result_form r
+    → (word (status_number s) ++ tail t) ++ rest ≡ result r ++ rest2 → ⊥
+no_refusal s t r rest rest2 f g e =
+    let begun : (word (status_number s) ++ tail t) ++ rest ≡ (word 0 ++ drop 4 (result r)) ++ rest2 = e ∙ ap (λ (bytes : List ℕ). bytes ++ rest2) (begins_zero r g f) in
+    is_no_ok s (one_word.one (status_number s) 0 (tail t ++ rest) (drop 4 (result r) ++ rest2) (status_fits s) (omega arith)
+    (regrouped (word (status_number s)) (tail t) (word 0) (drop 4 (result r)) rest rest2 begun)).0
 
 -- replies of one form: those to NULL and of MOUNT are no refusals
 abbrev IsOfForms : ℕ → ℕ → Reply → Type 0
@@ -313,143 +321,129 @@ tail_below (tails.Cache w) = omega arith
 tail_below (tails.TwoCaches v w) = omega arith
 tail_below (tails.AttributesAndCache a w) = omega arith
 
-refused_or_done : (a b : ℕ) → (5 ≤ a) ⊎ ((1 ≤ b) × (b ≤ 100)) → (s : NfsStatus) (t : Tail) (r : Reply) → tail_form t ≡ a → result_form r ≡ b
-    → word (status_number s) ++ tail t ≡ result r → ⊥
-refused_or_done a b (inl h) s t r p q e = absurd (omega (arith, h, p, tail_below t))
-refused_or_done a b (inr h) s t r p q e = no_refusal s t r (omega (arith, h.1, q)) (omega (arith, h.0, q)) e
+refused_or_done : (a b : ℕ) → (5 ≤ a) ⊎ ((1 ≤ b) × (b ≤ 100)) → (s : NfsStatus) (t : Tail) (r : Reply) (rest rest2 : List ℕ) → tail_form t ≡ a → result_form r ≡ b
+    → (word (status_number s) ++ tail t) ++ rest ≡ result r ++ rest2 → ⊥
+refused_or_done a b (inl h) s t r rest rest2 p q e = absurd (omega (arith, h, p, tail_below t))
+refused_or_done a b (inr h) s t r rest rest2 p q e = no_refusal s t r rest rest2 (omega (arith, h.1, q)) (omega (arith, h.0, q)) e
 
-same_reply : (a b : ℕ) → (5 ≤ a) ⊎ ((1 ≤ b) × (b ≤ 100)) → (r other : Reply) → IsOfForms a b r → IsOfForms a b other → ReplyFits r → ReplyFits other → result r ≡ result other → r ≡ other
-same_reply a b h reply.Nothing reply.Nothing p q f g e = refl
-same_reply a b h (reply.Refused s t) (reply.Refused s2 t2) p q f g e = one_refusal s s2 t t2 (p ∙ sym q) f g e
-same_reply a b h (reply.Attributes object) (reply.Attributes object2) p q f g e =
-    ap (λ (p : Unit {0} × Fattr). reply.Attributes p.1)
-    (whole (always (word 0) ▷ one_fattr)
-    (tt, object) (tt, object2)
+same_reply : (a b : ℕ) → (5 ≤ a) ⊎ ((1 ≤ b) × (b ≤ 100)) → (reply other : Reply) (r s : List ℕ) → IsOfForms a b reply → IsOfForms a b other → ReplyFits reply → ReplyFits other
+    → result reply ++ r ≡ result other ++ s → (reply ≡ other) × (r ≡ s)
+same_reply a b h reply.Nothing reply.Nothing r s p q f g e = (refl, e)
+same_reply a b h (reply.Refused fault with) (reply.Refused fault2 with2) r s p q f g e = one_refusal fault fault2 with with2 r s (p ∙ sym q) f g e
+same_reply a b h (reply.Attributes object) (reply.Attributes object2) r s p q f g e =
+    same_made (λ (p : Unit {0} × Fattr). reply.Attributes p.1)
+    ((always (word 0) ▷ one_fattr).one (tt, object) (tt, object2) r s
     (tt, f) (tt, g) e)
-same_reply a b h (reply.Changed cache) (reply.Changed cache2) p q f g e =
-    ap (λ (p : Unit {0} × Wcc). reply.Changed p.1)
-    (whole (always (word 0) ▷ one_wcc)
-    (tt, cache) (tt, cache2)
+same_reply a b h (reply.Changed cache) (reply.Changed cache2) r s p q f g e =
+    same_made (λ (p : Unit {0} × Wcc). reply.Changed p.1)
+    ((always (word 0) ▷ one_wcc).one (tt, cache) (tt, cache2) r s
     (tt, f) (tt, g) e)
-same_reply a b h (reply.Found handle object dir) (reply.Found handle2 object2 dir2) p q f g e =
-    ap (λ (p : ((Unit {0} × List ℕ) × Option Fattr) × Option Fattr). reply.Found p.0.0.1 p.0.1 p.1)
-    (whole (always (word 0) ▷ one_handle ▷ one_post_attributes ▷ one_post_attributes)
-    (((tt, handle), object), dir) (((tt, handle2), object2), dir2)
+same_reply a b h (reply.Found handle object dir) (reply.Found handle2 object2 dir2) r s p q f g e =
+    same_made (λ (p : ((Unit {0} × List ℕ) × Option Fattr) × Option Fattr). reply.Found p.0.0.1 p.0.1 p.1)
+    ((always (word 0) ▷ one_handle ▷ one_post_attributes ▷ one_post_attributes).one (((tt, handle), object), dir) (((tt, handle2), object2), dir2) r s
     (((tt, f.0), f.1), f.2) (((tt, g.0), g.1), g.2) e)
-same_reply a b h (reply.Allowed object bits) (reply.Allowed object2 bits2) p q f g e =
-    ap (λ (p : (Unit {0} × Option Fattr) × ℕ). reply.Allowed p.0.1 p.1)
-    (whole (always (word 0) ▷ one_post_attributes ▷ one_word)
-    ((tt, object), bits) ((tt, object2), bits2)
+same_reply a b h (reply.Allowed object bits) (reply.Allowed object2 bits2) r s p q f g e =
+    same_made (λ (p : (Unit {0} × Option Fattr) × ℕ). reply.Allowed p.0.1 p.1)
+    ((always (word 0) ▷ one_post_attributes ▷ one_word).one ((tt, object), bits) ((tt, object2), bits2) r s
     ((tt, f.0), f.1) ((tt, g.0), g.1) e)
-same_reply a b h (reply.Text link text) (reply.Text link2 text2) p q f g e =
-    ap (λ (p : (Unit {0} × Option Fattr) × List ℕ). reply.Text p.0.1 p.1)
-    (whole (always (word 0) ▷ one_post_attributes ▷ one_text)
-    ((tt, link), text) ((tt, link2), text2)
+same_reply a b h (reply.Text link text) (reply.Text link2 text2) r s p q f g e =
+    same_made (λ (p : (Unit {0} × Option Fattr) × List ℕ). reply.Text p.0.1 p.1)
+    ((always (word 0) ▷ one_post_attributes ▷ one_text).one ((tt, link), text) ((tt, link2), text2) r s
     ((tt, f.0), f.1) ((tt, g.0), g.1) e)
-same_reply a b h (reply.Bytes file count eof bytes) (reply.Bytes file2 count2 eof2 bytes2) p q f g e =
-    ap (λ (p : (((Unit {0} × Option Fattr) × ℕ) × Bool) × List ℕ). reply.Bytes p.0.0.0.1 p.0.0.1 p.0.1 p.1)
-    (whole (always (word 0) ▷ one_post_attributes ▷ one_word ▷ one_boolean ▷ one_text)
-    ((((tt, file), count), eof), bytes) ((((tt, file2), count2), eof2), bytes2)
+same_reply a b h (reply.Bytes file count eof bytes) (reply.Bytes file2 count2 eof2 bytes2) r s p q f g e =
+    same_made (λ (p : (((Unit {0} × Option Fattr) × ℕ) × Bool) × List ℕ). reply.Bytes p.0.0.0.1 p.0.0.1 p.0.1 p.1)
+    ((always (word 0) ▷ one_post_attributes ▷ one_word ▷ one_boolean ▷ one_text).one ((((tt, file), count), eof), bytes) ((((tt, file2), count2), eof2), bytes2) r s
     ((((tt, f.0), f.1), tt), f.2) ((((tt, g.0), g.1), tt), g.2) e)
-same_reply a b h (reply.Written cache count) (reply.Written cache2 count2) p q f g e =
-    ap (λ (p : (((Unit {0} × Wcc) × ℕ) × Unit {0}) × Unit {0}). reply.Written p.0.0.0.1 p.0.0.1)
-    (whole (always (word 0) ▷ one_wcc ▷ one_word ▷ always (word 2) ▷ always write_verifier)
-    ((((tt, cache), count), tt), tt) ((((tt, cache2), count2), tt), tt)
+same_reply a b h (reply.Written cache count) (reply.Written cache2 count2) r s p q f g e =
+    same_made (λ (p : (((Unit {0} × Wcc) × ℕ) × Unit {0}) × Unit {0}). reply.Written p.0.0.0.1 p.0.0.1)
+    ((always (word 0) ▷ one_wcc ▷ one_word ▷ always (word 2) ▷ always write_verifier).one ((((tt, cache), count), tt), tt) ((((tt, cache2), count2), tt), tt) r s
     ((((tt, f.0), f.1), tt), tt) ((((tt, g.0), g.1), tt), tt) e)
-same_reply a b h (reply.Made handle object cache) (reply.Made handle2 object2 cache2) p q f g e =
-    ap (λ (p : (((Unit {0} × Unit {0}) × List ℕ) × Option Fattr) × Wcc). reply.Made p.0.0.1 p.0.1 p.1)
-    (whole (always (word 0) ▷ always (word 1) ▷ one_handle ▷ one_post_attributes ▷ one_wcc)
-    ((((tt, tt), handle), object), cache) ((((tt, tt), handle2), object2), cache2)
+same_reply a b h (reply.Made handle object cache) (reply.Made handle2 object2 cache2) r s p q f g e =
+    same_made (λ (p : (((Unit {0} × Unit {0}) × List ℕ) × Option Fattr) × Wcc). reply.Made p.0.0.1 p.0.1 p.1)
+    ((always (word 0) ▷ always (word 1) ▷ one_handle ▷ one_post_attributes ▷ one_wcc).one ((((tt, tt), handle), object), cache) ((((tt, tt), handle2), object2), cache2) r s
     ((((tt, tt), f.0), f.1), f.2) ((((tt, tt), g.0), g.1), g.2) e)
-same_reply a b h (reply.Renamed from to) (reply.Renamed from2 to2) p q f g e =
-    ap (λ (p : (Unit {0} × Wcc) × Wcc). reply.Renamed p.0.1 p.1)
-    (whole (always (word 0) ▷ one_wcc ▷ one_wcc)
-    ((tt, from), to) ((tt, from2), to2)
+same_reply a b h (reply.Renamed from to) (reply.Renamed from2 to2) r s p q f g e =
+    same_made (λ (p : (Unit {0} × Wcc) × Wcc). reply.Renamed p.0.1 p.1)
+    ((always (word 0) ▷ one_wcc ▷ one_wcc).one ((tt, from), to) ((tt, from2), to2) r s
     ((tt, f.0), f.1) ((tt, g.0), g.1) e)
-same_reply a b h (reply.Linked file cache) (reply.Linked file2 cache2) p q f g e =
-    ap (λ (p : (Unit {0} × Option Fattr) × Wcc). reply.Linked p.0.1 p.1)
-    (whole (always (word 0) ▷ one_post_attributes ▷ one_wcc)
-    ((tt, file), cache) ((tt, file2), cache2)
+same_reply a b h (reply.Linked file cache) (reply.Linked file2 cache2) r s p q f g e =
+    same_made (λ (p : (Unit {0} × Option Fattr) × Wcc). reply.Linked p.0.1 p.1)
+    ((always (word 0) ▷ one_post_attributes ▷ one_wcc).one ((tt, file), cache) ((tt, file2), cache2) r s
     ((tt, f.0), f.1) ((tt, g.0), g.1) e)
-same_reply a b h (reply.Committed cache) (reply.Committed cache2) p q f g e =
-    ap (λ (p : (Unit {0} × Wcc) × Unit {0}). reply.Committed p.0.1)
-    (whole (always (word 0) ▷ one_wcc ▷ always write_verifier)
-    ((tt, cache), tt) ((tt, cache2), tt)
+same_reply a b h (reply.Committed cache) (reply.Committed cache2) r s p q f g e =
+    same_made (λ (p : (Unit {0} × Wcc) × Unit {0}). reply.Committed p.0.1)
+    ((always (word 0) ▷ one_wcc ▷ always write_verifier).one ((tt, cache), tt) ((tt, cache2), tt) r s
     ((tt, f), tt) ((tt, g), tt) e)
-same_reply a b h (reply.Space object) (reply.Space object2) p q f g e =
-    ap (λ (p : ((Unit {0} × Option Fattr) × Unit {0}) × Unit {0}). reply.Space p.0.0.1)
-    (whole (always (word 0) ▷ one_post_attributes ▷ always (many double_word (2 ^ 40 ∷ 2 ^ 40 ∷ 2 ^ 40 ∷ 2 ^ 32 ∷ 2 ^ 32 ∷ 2 ^ 32 ∷ [])) ▷ always (word 0))
-    (((tt, object), tt), tt) (((tt, object2), tt), tt)
+same_reply a b h (reply.Space object) (reply.Space object2) r s p q f g e =
+    same_made (λ (p : ((Unit {0} × Option Fattr) × Unit {0}) × Unit {0}). reply.Space p.0.0.1)
+    ((always (word 0) ▷ one_post_attributes ▷ always (many double_word (2 ^ 40 ∷ 2 ^ 40 ∷ 2 ^ 40 ∷ 2 ^ 32 ∷ 2 ^ 32 ∷ 2 ^ 32 ∷ [])) ▷ always (word 0)).one (((tt, object), tt), tt) (((tt, object2), tt), tt) r s
     (((tt, f), tt), tt) (((tt, g), tt), tt) e)
-same_reply a b h (reply.Limits object) (reply.Limits object2) p q f g e =
-    ap (λ (p : (((Unit {0} × Option Fattr) × Unit {0}) × Unit {0}) × Unit {0}). reply.Limits p.0.0.0.1)
-    (whole (always (word 0) ▷ one_post_attributes ▷ always (many word (8192 ∷ 8192 ∷ 512 ∷ 8192 ∷ 8192 ∷ 512 ∷ 8192 ∷ [])) ▷ always (double_word 16777216) ▷ always (many word (0 ∷ 1 ∷ 27 ∷ [])))
-    ((((tt, object), tt), tt), tt) ((((tt, object2), tt), tt), tt)
+same_reply a b h (reply.Limits object) (reply.Limits object2) r s p q f g e =
+    same_made (λ (p : (((Unit {0} × Option Fattr) × Unit {0}) × Unit {0}) × Unit {0}). reply.Limits p.0.0.0.1)
+    ((always (word 0) ▷ one_post_attributes ▷ always (many word (8192 ∷ 8192 ∷ 512 ∷ 8192 ∷ 8192 ∷ 512 ∷ 8192 ∷ [])) ▷ always (double_word 16777216) ▷ always (many word (0 ∷ 1 ∷ 27 ∷ []))).one ((((tt, object), tt), tt), tt) ((((tt, object2), tt), tt), tt) r s
     ((((tt, f), tt), tt), tt) ((((tt, g), tt), tt), tt) e)
-same_reply a b h (reply.Paths object) (reply.Paths object2) p q f g e =
-    ap (λ (p : (Unit {0} × Option Fattr) × Unit {0}). reply.Paths p.0.1)
-    (whole (always (word 0) ▷ one_post_attributes ▷ always (many word (1000 ∷ 255 ∷ 1 ∷ 1 ∷ 0 ∷ 1 ∷ [])))
-    ((tt, object), tt) ((tt, object2), tt)
+same_reply a b h (reply.Paths object) (reply.Paths object2) r s p q f g e =
+    same_made (λ (p : (Unit {0} × Option Fattr) × Unit {0}). reply.Paths p.0.1)
+    ((always (word 0) ▷ one_post_attributes ▷ always (many word (1000 ∷ 255 ∷ 1 ∷ 1 ∷ 0 ∷ 1 ∷ []))).one ((tt, object), tt) ((tt, object2), tt) r s
     ((tt, f), tt) ((tt, g), tt) e)
-same_reply a b h (reply.Mounted handle) (reply.Mounted handle2) p q f g e =
-    ap (λ (p : (Unit {0} × List ℕ) × Unit {0}). reply.Mounted p.0.1)
-    (whole (always (word 0) ▷ one_handle ▷ always (many word (1 ∷ 1 ∷ [])))
-    ((tt, handle), tt) ((tt, handle2), tt)
+same_reply a b h (reply.Mounted handle) (reply.Mounted handle2) r s p q f g e =
+    same_made (λ (p : (Unit {0} × List ℕ) × Unit {0}). reply.Mounted p.0.1)
+    ((always (word 0) ▷ one_handle ▷ always (many word (1 ∷ 1 ∷ []))).one ((tt, handle), tt) ((tt, handle2), tt) r s
     ((tt, f), tt) ((tt, g), tt) e)
-same_reply a b h (reply.Directory dir verifier page eof) (reply.Directory dir2 verifier2 page2 eof2) p q f g e =
-    ap (λ (p : Listing). reply.Directory p.0.0.0.1 p.0.0.1 p.0.1 p.1)
-    (one_listing IsPlainEntry plain_body one_plain dir dir2 verifier verifier2 page page2 eof eof2 f.0 g.0 f.1 g.1 f.2 g.2 e)
-same_reply a b h (reply.DirectoryPlus dir verifier page eof) (reply.DirectoryPlus dir2 verifier2 page2 eof2) p q f g e =
-    ap (λ (p : Listing). reply.DirectoryPlus p.0.0.0.1 p.0.0.1 p.0.1 p.1)
-    (one_listing IsPlusEntry plus_body one_plus dir dir2 verifier verifier2 page page2 eof eof2 f.0 g.0 f.1 g.1 f.2 g.2 e)
-same_reply a b h reply.NoSuchPath reply.NoSuchPath p q f g e = refl
-same_reply a b h reply.NoMounts reply.NoMounts p q f g e = refl
-same_reply a b h reply.Exports reply.Exports p q f g e = refl
-same_reply a b h (reply.Mounted handle) reply.NoSuchPath p q f g e = cc
-same_reply a b h reply.NoSuchPath (reply.Mounted handle) p q f g e = cc
-same_reply a b h (reply.Refused s t) reply.Nothing p q f g e = absurd (refused_or_done a b h s t reply.Nothing p q e)
-same_reply a b h (reply.Refused s t) (reply.Attributes object) p q f g e = absurd (refused_or_done a b h s t (reply.Attributes object) p q e)
-same_reply a b h (reply.Refused s t) (reply.Changed cache) p q f g e = absurd (refused_or_done a b h s t (reply.Changed cache) p q e)
-same_reply a b h (reply.Refused s t) (reply.Found handle object dir) p q f g e = absurd (refused_or_done a b h s t (reply.Found handle object dir) p q e)
-same_reply a b h (reply.Refused s t) (reply.Allowed object bits) p q f g e = absurd (refused_or_done a b h s t (reply.Allowed object bits) p q e)
-same_reply a b h (reply.Refused s t) (reply.Text link text) p q f g e = absurd (refused_or_done a b h s t (reply.Text link text) p q e)
-same_reply a b h (reply.Refused s t) (reply.Bytes file count eof bytes) p q f g e = absurd (refused_or_done a b h s t (reply.Bytes file count eof bytes) p q e)
-same_reply a b h (reply.Refused s t) (reply.Written cache count) p q f g e = absurd (refused_or_done a b h s t (reply.Written cache count) p q e)
-same_reply a b h (reply.Refused s t) (reply.Made handle object cache) p q f g e = absurd (refused_or_done a b h s t (reply.Made handle object cache) p q e)
-same_reply a b h (reply.Refused s t) (reply.Renamed from to) p q f g e = absurd (refused_or_done a b h s t (reply.Renamed from to) p q e)
-same_reply a b h (reply.Refused s t) (reply.Linked file cache) p q f g e = absurd (refused_or_done a b h s t (reply.Linked file cache) p q e)
-same_reply a b h (reply.Refused s t) (reply.Committed cache) p q f g e = absurd (refused_or_done a b h s t (reply.Committed cache) p q e)
-same_reply a b h (reply.Refused s t) (reply.Space object) p q f g e = absurd (refused_or_done a b h s t (reply.Space object) p q e)
-same_reply a b h (reply.Refused s t) (reply.Limits object) p q f g e = absurd (refused_or_done a b h s t (reply.Limits object) p q e)
-same_reply a b h (reply.Refused s t) (reply.Paths object) p q f g e = absurd (refused_or_done a b h s t (reply.Paths object) p q e)
-same_reply a b h (reply.Refused s t) (reply.Mounted handle) p q f g e = absurd (refused_or_done a b h s t (reply.Mounted handle) p q e)
-same_reply a b h (reply.Refused s t) (reply.Directory dir verifier page eof) p q f g e = absurd (refused_or_done a b h s t (reply.Directory dir verifier page eof) p q e)
-same_reply a b h (reply.Refused s t) (reply.DirectoryPlus dir verifier page eof) p q f g e = absurd (refused_or_done a b h s t (reply.DirectoryPlus dir verifier page eof) p q e)
-same_reply a b h (reply.Refused s t) reply.NoSuchPath p q f g e = absurd (refused_or_done a b h s t reply.NoSuchPath p q e)
-same_reply a b h (reply.Refused s t) reply.NoMounts p q f g e = absurd (refused_or_done a b h s t reply.NoMounts p q e)
-same_reply a b h (reply.Refused s t) reply.Exports p q f g e = absurd (refused_or_done a b h s t reply.Exports p q e)
-same_reply a b h reply.Nothing (reply.Refused s t) p q f g e = absurd (refused_or_done a b h s t reply.Nothing q p (sym e))
-same_reply a b h (reply.Attributes object) (reply.Refused s t) p q f g e = absurd (refused_or_done a b h s t (reply.Attributes object) q p (sym e))
-same_reply a b h (reply.Changed cache) (reply.Refused s t) p q f g e = absurd (refused_or_done a b h s t (reply.Changed cache) q p (sym e))
-same_reply a b h (reply.Found handle object dir) (reply.Refused s t) p q f g e = absurd (refused_or_done a b h s t (reply.Found handle object dir) q p (sym e))
-same_reply a b h (reply.Allowed object bits) (reply.Refused s t) p q f g e = absurd (refused_or_done a b h s t (reply.Allowed object bits) q p (sym e))
-same_reply a b h (reply.Text link text) (reply.Refused s t) p q f g e = absurd (refused_or_done a b h s t (reply.Text link text) q p (sym e))
-same_reply a b h (reply.Bytes file count eof bytes) (reply.Refused s t) p q f g e = absurd (refused_or_done a b h s t (reply.Bytes file count eof bytes) q p (sym e))
-same_reply a b h (reply.Written cache count) (reply.Refused s t) p q f g e = absurd (refused_or_done a b h s t (reply.Written cache count) q p (sym e))
-same_reply a b h (reply.Made handle object cache) (reply.Refused s t) p q f g e = absurd (refused_or_done a b h s t (reply.Made handle object cache) q p (sym e))
-same_reply a b h (reply.Renamed from to) (reply.Refused s t) p q f g e = absurd (refused_or_done a b h s t (reply.Renamed from to) q p (sym e))
-same_reply a b h (reply.Linked file cache) (reply.Refused s t) p q f g e = absurd (refused_or_done a b h s t (reply.Linked file cache) q p (sym e))
-same_reply a b h (reply.Committed cache) (reply.Refused s t) p q f g e = absurd (refused_or_done a b h s t (reply.Committed cache) q p (sym e))
-same_reply a b h (reply.Space object) (reply.Refused s t) p q f g e = absurd (refused_or_done a b h s t (reply.Space object) q p (sym e))
-same_reply a b h (reply.Limits object) (reply.Refused s t) p q f g e = absurd (refused_or_done a b h s t (reply.Limits object) q p (sym e))
-same_reply a b h (reply.Paths object) (reply.Refused s t) p q f g e = absurd (refused_or_done a b h s t (reply.Paths object) q p (sym e))
-same_reply a b h (reply.Mounted handle) (reply.Refused s t) p q f g e = absurd (refused_or_done a b h s t (reply.Mounted handle) q p (sym e))
-same_reply a b h (reply.Directory dir verifier page eof) (reply.Refused s t) p q f g e = absurd (refused_or_done a b h s t (reply.Directory dir verifier page eof) q p (sym e))
-same_reply a b h (reply.DirectoryPlus dir verifier page eof) (reply.Refused s t) p q f g e = absurd (refused_or_done a b h s t (reply.DirectoryPlus dir verifier page eof) q p (sym e))
-same_reply a b h reply.NoSuchPath (reply.Refused s t) p q f g e = absurd (refused_or_done a b h s t reply.NoSuchPath q p (sym e))
-same_reply a b h reply.NoMounts (reply.Refused s t) p q f g e = absurd (refused_or_done a b h s t reply.NoMounts q p (sym e))
-same_reply a b h reply.Exports (reply.Refused s t) p q f g e = absurd (refused_or_done a b h s t reply.Exports q p (sym e))
-same_reply a b h r other p q f g e = absurd (omega (arith, p, q))
+same_reply a b h (reply.Directory dir verifier page eof) (reply.Directory dir2 verifier2 page2 eof2) r s p q f g e =
+    same_made (λ (p : Listing). reply.Directory p.0.0.0.1 p.0.0.1 p.0.1 p.1)
+    (one_listing IsPlainEntry plain_body one_plain dir dir2 verifier verifier2 page page2 eof eof2 r s f.0 g.0 f.1 g.1 f.2 g.2 e)
+same_reply a b h (reply.DirectoryPlus dir verifier page eof) (reply.DirectoryPlus dir2 verifier2 page2 eof2) r s p q f g e =
+    same_made (λ (p : Listing). reply.DirectoryPlus p.0.0.0.1 p.0.0.1 p.0.1 p.1)
+    (one_listing IsPlusEntry plus_body one_plus dir dir2 verifier verifier2 page page2 eof eof2 r s f.0 g.0 f.1 g.1 f.2 g.2 e)
+same_reply a b h reply.NoSuchPath reply.NoSuchPath r s p q f g e = (refl, append_cancel_left (result reply.NoSuchPath) r s e)
+same_reply a b h reply.NoMounts reply.NoMounts r s p q f g e = (refl, append_cancel_left (result reply.NoMounts) r s e)
+same_reply a b h reply.Exports reply.Exports r s p q f g e = (refl, append_cancel_left (result reply.Exports) r s e)
+same_reply a b h (reply.Mounted handle) reply.NoSuchPath r s p q f g e = cc
+same_reply a b h reply.NoSuchPath (reply.Mounted handle) r s p q f g e = cc
+same_reply a b h (reply.Refused fault with) reply.Nothing r s p q f g e = absurd (refused_or_done a b h fault with reply.Nothing r s p q e)
+same_reply a b h (reply.Refused fault with) (reply.Attributes object) r s p q f g e = absurd (refused_or_done a b h fault with (reply.Attributes object) r s p q e)
+same_reply a b h (reply.Refused fault with) (reply.Changed cache) r s p q f g e = absurd (refused_or_done a b h fault with (reply.Changed cache) r s p q e)
+same_reply a b h (reply.Refused fault with) (reply.Found handle object dir) r s p q f g e = absurd (refused_or_done a b h fault with (reply.Found handle object dir) r s p q e)
+same_reply a b h (reply.Refused fault with) (reply.Allowed object bits) r s p q f g e = absurd (refused_or_done a b h fault with (reply.Allowed object bits) r s p q e)
+same_reply a b h (reply.Refused fault with) (reply.Text link text) r s p q f g e = absurd (refused_or_done a b h fault with (reply.Text link text) r s p q e)
+same_reply a b h (reply.Refused fault with) (reply.Bytes file count eof bytes) r s p q f g e = absurd (refused_or_done a b h fault with (reply.Bytes file count eof bytes) r s p q e)
+same_reply a b h (reply.Refused fault with) (reply.Written cache count) r s p q f g e = absurd (refused_or_done a b h fault with (reply.Written cache count) r s p q e)
+same_reply a b h (reply.Refused fault with) (reply.Made handle object cache) r s p q f g e = absurd (refused_or_done a b h fault with (reply.Made handle object cache) r s p q e)
+same_reply a b h (reply.Refused fault with) (reply.Renamed from to) r s p q f g e = absurd (refused_or_done a b h fault with (reply.Renamed from to) r s p q e)
+same_reply a b h (reply.Refused fault with) (reply.Linked file cache) r s p q f g e = absurd (refused_or_done a b h fault with (reply.Linked file cache) r s p q e)
+same_reply a b h (reply.Refused fault with) (reply.Committed cache) r s p q f g e = absurd (refused_or_done a b h fault with (reply.Committed cache) r s p q e)
+same_reply a b h (reply.Refused fault with) (reply.Space object) r s p q f g e = absurd (refused_or_done a b h fault with (reply.Space object) r s p q e)
+same_reply a b h (reply.Refused fault with) (reply.Limits object) r s p q f g e = absurd (refused_or_done a b h fault with (reply.Limits object) r s p q e)
+same_reply a b h (reply.Refused fault with) (reply.Paths object) r s p q f g e = absurd (refused_or_done a b h fault with (reply.Paths object) r s p q e)
+same_reply a b h (reply.Refused fault with) (reply.Mounted handle) r s p q f g e = absurd (refused_or_done a b h fault with (reply.Mounted handle) r s p q e)
+same_reply a b h (reply.Refused fault with) (reply.Directory dir verifier page eof) r s p q f g e = absurd (refused_or_done a b h fault with (reply.Directory dir verifier page eof) r s p q e)
+same_reply a b h (reply.Refused fault with) (reply.DirectoryPlus dir verifier page eof) r s p q f g e = absurd (refused_or_done a b h fault with (reply.DirectoryPlus dir verifier page eof) r s p q e)
+same_reply a b h (reply.Refused fault with) reply.NoSuchPath r s p q f g e = absurd (refused_or_done a b h fault with reply.NoSuchPath r s p q e)
+same_reply a b h (reply.Refused fault with) reply.NoMounts r s p q f g e = absurd (refused_or_done a b h fault with reply.NoMounts r s p q e)
+same_reply a b h (reply.Refused fault with) reply.Exports r s p q f g e = absurd (refused_or_done a b h fault with reply.Exports r s p q e)
+same_reply a b h reply.Nothing (reply.Refused fault with) r s p q f g e = absurd (refused_or_done a b h fault with reply.Nothing s r q p (sym e))
+same_reply a b h (reply.Attributes object) (reply.Refused fault with) r s p q f g e = absurd (refused_or_done a b h fault with (reply.Attributes object) s r q p (sym e))
+same_reply a b h (reply.Changed cache) (reply.Refused fault with) r s p q f g e = absurd (refused_or_done a b h fault with (reply.Changed cache) s r q p (sym e))
+same_reply a b h (reply.Found handle object dir) (reply.Refused fault with) r s p q f g e = absurd (refused_or_done a b h fault with (reply.Found handle object dir) s r q p (sym e))
+same_reply a b h (reply.Allowed object bits) (reply.Refused fault with) r s p q f g e = absurd (refused_or_done a b h fault with (reply.Allowed object bits) s r q p (sym e))
+same_reply a b h (reply.Text link text) (reply.Refused fault with) r s p q f g e = absurd (refused_or_done a b h fault with (reply.Text link text) s r q p (sym e))
+same_reply a b h (reply.Bytes file count eof bytes) (reply.Refused fault with) r s p q f g e = absurd (refused_or_done a b h fault with (reply.Bytes file count eof bytes) s r q p (sym e))
+same_reply a b h (reply.Written cache count) (reply.Refused fault with) r s p q f g e = absurd (refused_or_done a b h fault with (reply.Written cache count) s r q p (sym e))
+same_reply a b h (reply.Made handle object cache) (reply.Refused fault with) r s p q f g e = absurd (refused_or_done a b h fault with (reply.Made handle object cache) s r q p (sym e))
+same_reply a b h (reply.Renamed from to) (reply.Refused fault with) r s p q f g e = absurd (refused_or_done a b h fault with (reply.Renamed from to) s r q p (sym e))
+same_reply a b h (reply.Linked file cache) (reply.Refused fault with) r s p q f g e = absurd (refused_or_done a b h fault with (reply.Linked file cache) s r q p (sym e))
+same_reply a b h (reply.Committed cache) (reply.Refused fault with) r s p q f g e = absurd (refused_or_done a b h fault with (reply.Committed cache) s r q p (sym e))
+same_reply a b h (reply.Space object) (reply.Refused fault with) r s p q f g e = absurd (refused_or_done a b h fault with (reply.Space object) s r q p (sym e))
+same_reply a b h (reply.Limits object) (reply.Refused fault with) r s p q f g e = absurd (refused_or_done a b h fault with (reply.Limits object) s r q p (sym e))
+same_reply a b h (reply.Paths object) (reply.Refused fault with) r s p q f g e = absurd (refused_or_done a b h fault with (reply.Paths object) s r q p (sym e))
+same_reply a b h (reply.Mounted handle) (reply.Refused fault with) r s p q f g e = absurd (refused_or_done a b h fault with (reply.Mounted handle) s r q p (sym e))
+same_reply a b h (reply.Directory dir verifier page eof) (reply.Refused fault with) r s p q f g e = absurd (refused_or_done a b h fault with (reply.Directory dir verifier page eof) s r q p (sym e))
+same_reply a b h (reply.DirectoryPlus dir verifier page eof) (reply.Refused fault with) r s p q f g e = absurd (refused_or_done a b h fault with (reply.DirectoryPlus dir verifier page eof) s r q p (sym e))
+same_reply a b h reply.NoSuchPath (reply.Refused fault with) r s p q f g e = absurd (refused_or_done a b h fault with reply.NoSuchPath s r q p (sym e))
+same_reply a b h reply.NoMounts (reply.Refused fault with) r s p q f g e = absurd (refused_or_done a b h fault with reply.NoMounts s r q p (sym e))
+same_reply a b h reply.Exports (reply.Refused fault with) r s p q f g e = absurd (refused_or_done a b h fault with reply.Exports s r q p (sym e))
+same_reply a b h reply other r s p q f g e = absurd (omega (arith, p, q))
 
 forms_of : (args : Args) → (5 ≤ tail_form_of args) ⊎ ((1 ≤ result_form_of args) × (result_form_of args ≤ 100))
 forms_of call.Null = inl (omega arith)
@@ -465,5 +459,12 @@ to_forms : (args : Args) (r : Reply) → IsReplyTo args r → IsOfForms (tail_fo
 to_forms args (reply.Refused s t) h = h
 to_forms args r h = h
 
-pub one_reply : (args : Args) (r other : Reply) → IsReplyTo args r → IsReplyTo args other → ReplyFits r → ReplyFits other → result r ≡ result other → r ≡ other
-one_reply args r other p q f g e = same_reply (tail_form_of args) (result_form_of args) (forms_of args) r other (to_forms args r p) (to_forms args other q) f g e
+-- the bytes begin with one reply alone
+pub read_one : RepliesReadOne
+read_one args = record {
+  one = λ reply other r s f g e.
+      same_reply (tail_form_of args) (result_form_of args) (forms_of args) reply other r s (to_forms args reply f.form) (to_forms args other g.form) f.fits g.fits e;
+}
+
+pub one_reply : RepliesAreOne
+one_reply args reply other p q f g e = whole (read_one args) reply other (record { form = p; fits = f }) (record { form = q; fits = g }) e

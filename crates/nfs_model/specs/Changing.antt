@@ -32,6 +32,19 @@ use Rattle.nfs_model.specs.declared.replies.Reply.TheVariants as reply
 use Rattle.nfs_model.specs.Checks.{Check, first_failure, too_long_name, invalid_name, is_dot, is_dot_dot}
 use Rattle.nfs_model.specs.Objects.{Object, object_of, handle_of, attributes, attributes_at, cache_data, no_cache_data, may_write, may_search, is_owner, is_in_group}
 
+-- the procedures that may write records
+abbrev pub is_changing : Args → Bool
+is_changing (call.SetAttr object what guard) = true
+is_changing (call.Write file offset count stable bytes) = true
+is_changing (call.Create dir name how) = true
+is_changing (call.MkDir dir name what) = true
+is_changing (call.SymLink dir name what text) = true
+is_changing (call.Remove dir name) = true
+is_changing (call.RmDir dir name) = true
+is_changing (call.Rename dir name to_dir to_name) = true
+is_changing (call.Link file dir name) = true
+is_changing _ = false
+
 -- a refusal, an answer without a record, or the operations of one to three records
 pub data Plan : Type 0 where
   Refuse : (reply : Reply) → Plan

@@ -191,3 +191,8 @@ result_form_of call.Export = 105
 abbrev pub IsReplyTo : Args → Reply → Type 0
 IsReplyTo args (reply.Refused s t) = tail_form t ≡ tail_form_of args
 IsReplyTo args r = result_form r ≡ result_form_of args
+
+-- a reply of the procedure's form, within its bounds
+pub record IsFittingReply (args : Args) (r : Reply) : Type 0 where
+  pub form : IsReplyTo args r
+  pub fits : ReplyFits r

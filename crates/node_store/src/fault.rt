@@ -11,7 +11,7 @@ use thiserror::Error;
 #[derive(Clone, Copy, Debug, PartialEq, Eq, Error)]
 pub enum PutFault {
     /// The store doesn't take the block.
-    #[error("refused: {0:?}")]
+    #[error("refused: {0}")]
     Refused(StoreFault),
     /// Want of memory. No clause ties this to a cause.
     #[error("out of memory")]

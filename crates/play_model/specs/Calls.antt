@@ -11,12 +11,13 @@ use Rattle.wire_model.specs.Rpc.{CallMessage, IsCall, IsCaller, IsOtherVersion, 
 use Rattle.nfs_model.specs.declared.arguments.Args.{Args}
 use Rattle.nfs_model.specs.declared.arguments.Args.TheVariants.{Null}
 use Rattle.nfs_model.specs.declared.replies.Reply.{Reply}
-use Rattle.nfs_model.specs.declared.replies.Reply.TheVariants.{Found, Made}
+use Rattle.nfs_model.specs.declared.replies.Reply.TheVariants.{Found, Made, Directory, DirectoryPlus}
 use Rattle.nfs_model.specs.Arguments.{AreArguments, nfs_program}
 use Rattle.nfs_model.specs.Results.{result}
 use Rattle.turn_model.specs.Candidates.{AreCandidates}
 use Rattle.turn_model.specs.Turn.{Agent, Asked, Candidate, Turned, IsTurn, own_seq}
 use Rattle.script_driver.specs.Run.{Outcome, Goes, Refuses}
+use Rattle.play_model.specs.declared.command.Given.{Given}
 use Rattle.play_model.specs.declared.command.Piece.{Piece}
 use Rattle.play_model.specs.Blocks.{heads_at}
 use Rattle.play_model.specs.Messages.{message_of}
@@ -36,7 +37,7 @@ abbrev pub sending_of : World → List ℕ → List Piece → Option Sending
 sending_of w name pieces = do
   p ← participant w name
   view ← p.view
-  message ← message_of w.handles view pieces
+  message ← message_of w.replies view pieces
   Some (record { by = p; view = view; message = message })
 
 -- ---- answers by the message alone (RFC 5531, section 9)
@@ -92,6 +93,19 @@ handle_given (Found handle object dir) = Some handle
 handle_given (Made handle object cache) = Some handle
 handle_given _ = None
 
+-- the verifier of the page of a directory that it is
+abbrev pub verifier_given : Reply → Option (List ℕ)
+verifier_given (Directory dir verifier page eof) = Some verifier
+verifier_given (DirectoryPlus dir verifier page eof) = Some verifier
+verifier_given _ = None
+
+-- what a reply leaves to the lines behind it; a reply without a result leaves nothing
+abbrev pub given_of : Reply → Given
+given_of r = record { handle = handle_given r; verifier = verifier_given r }
+
+abbrev pub nothing_given : Given
+nothing_given = record { handle = None; verifier = None }
+
 -- a line that shows a reply message, or that there is none
 abbrev pub reply_line : List ℕ → List ℕ
 reply_line message = codes "reply " ++ encode_lower message ++ 10 ∷ []
@@ -100,23 +114,28 @@ abbrev pub shown_reply : Option (List ℕ) → List ℕ
 shown_reply None = codes "none" ++ 10 ∷ []
 shown_reply (Some message) = reply_line message
 
--- with one reply more, which made or found that handle
-abbrev pub replied : World → Option (List ℕ) → World
-replied w handle = record w { handles = w.handles ++ handle ∷ [] }
+-- with one reply more, which left that
+abbrev pub replied : World → Given → World
+replied w given = record w { replies = w.replies ++ given ∷ [] }
+
+-- what is no reply isn't counted
+abbrev pub counted : World → Option (List ℕ) → Given → World
+counted w None given = w
+counted w (Some message) given = replied w given
 
 -- the world once a turn has answered: the participant knows and holds the set, and has published what it wrote
 abbrev pub answered : World → Participant → ℕ → Turned → Outcome World
 answered w p xid turned = Goes
-    (replied (publishing (with_participant w (record p { known = turned.set; held = turned.set })) p.own (own_beyond p.own (own_seq p.own p.known) turned.set)) (handle_given turned.reply))
+    (replied (publishing (with_participant w (record p { known = turned.set; held = turned.set })) p.own (own_beyond p.own (own_seq p.own p.known) turned.set)) (given_of turned.reply))
     (reply_line (reply xid (Success (result turned.reply))))
 
 -- What is answered to what was sent. Where memory is wanting the call is refused as a whole.
 pub data Answers (w : World) (s : Sending) : Outcome World → Type 0 where
-  by_message : (given : Option (List ℕ)) → IsByMessage s.message given → Answers w s (Goes (replied w None) (shown_reply given))
+  by_message : (given : Option (List ℕ)) → IsByMessage s.message given → Answers w s (Goes (counted w given nothing_given) (shown_reply given))
   by_turn : (xid : ℕ) (asked : Asked) (candidates : List Candidate) (turned : Turned) → Asks s.message xid asked
       → Refreshes w s.by s.view candidates → IsTurn (agent_of s.by s.view) s.by.known candidates asked w.now turned
       → Answers w s (answered w s.by xid turned)
-  out_of_memory : (c : CallMessage) → IsCall s.message c → Answers w s (Goes (replied w None) (reply_line (reply c.xid SystemError)))
+  out_of_memory : (c : CallMessage) → IsCall s.message c → Answers w s (Goes (replied w nothing_given) (reply_line (reply c.xid SystemError)))
 
 -- a line that sends nothing is refused
 abbrev pub CallLine : World → List ℕ → List Piece → Outcome World → Type 0

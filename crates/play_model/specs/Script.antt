@@ -1,13 +1,13 @@
 -- The lines of a script: which command a line is. Words are separated by single blanks, a name has 1 to 16 letters and
 -- digits, a number is decimal without sign or leading zero, and a line has at most 32,768 bytes.
-use Rattle.std.specs.Prelude.{ℕ, ◌+◌, ◌*◌, ◌-◌, ◌^◌, nat_le, nat_lt, ◌==◌, Bool, true, false, ◌&&◌, ◌||◌, not, List, [], ◌∷◌, ◌++◌, length, drop, fold, replicate, codes, Option, Some, None, Result, Ok, Err, if◌then◌else◌, nat_eq}
+use Rattle.std.specs.Prelude.{ℕ, ◌+◌, ◌*◌, ◌-◌, ◌^◌, nat_le, nat_lt, ◌==◌, Bool, true, false, ◌&&◌, ◌||◌, not, List, [], ◌∷◌, ◌++◌, length, drop, fold, replicate, codes, Option, Some, None, option_map, Result, Ok, Err, if◌then◌else◌, nat_eq}
 use Rattle.std.specs.List.{slice_split, list_all, starts_with}
 use Rattle.std.specs.Str.{bytes_eq}
 use Rattle.std.specs.Char.{is_ascii_digit}
 use Rattle.hex.specs.Hex.{decode_of}
 use Rattle.script_driver.specs.Run.{line_limit}
 use Rattle.play_model.specs.declared.command.Piece.{Piece}
-use Rattle.play_model.specs.declared.command.Piece.TheVariants.{Call, Root, HandleOf, Text, Mode}
+use Rattle.play_model.specs.declared.command.Piece.TheVariants as piece
 use Rattle.play_model.specs.declared.command.Command.{Command}
 use Rattle.play_model.specs.declared.command.Command.TheVariants as command
 
@@ -63,47 +63,90 @@ are_sets word = (let sets = slice_split (λ b. b == 44) word in nat_le (length s
 
 -- ---- pieces of a message
 
-abbrev pub call_of : List (List ℕ) → Option Piece
-call_of (p ∷ u ∷ g ∷ []) = do
+-- the parts of a word between colons
+abbrev pub parts_of : List ℕ → List (List ℕ)
+parts_of word = slice_split (λ b. b == 58) word
+
+-- the piece of a number below that limit
+abbrev pub numbered : ℕ → (ℕ → Piece) → List ℕ → Option Piece
+numbered limit make digits = do
+  number ← number_below limit digits
+  Some (make number)
+
+-- the head of a call, where the last of its groups is a number of four bytes
+abbrev pub call_with : List ℕ → List ℕ → List ℕ → Option ℕ → Option Piece
+call_with p u g k = do
   procedure ← number_below (2 ^ 32) p
   uid ← number_below (2 ^ 32) u
   gid ← number_below (2 ^ 32) g
-  Some (Call procedure uid gid)
+  groups ← k
+  if nat_lt (gid + groups) (2 ^ 32) then Some (piece.Call procedure uid gid groups) else None
+
+abbrev pub call_of : List (List ℕ) → Option Piece
+call_of (p ∷ u ∷ g ∷ []) = call_with p u g (Some 0)
+call_of (p ∷ u ∷ g ∷ k ∷ []) = call_with p u g (number_below (2 ^ 32) k)
 call_of _ = None
 
 abbrev pub is_printable : ℕ → Bool
 is_printable b = nat_le 33 b && nat_le b 126
 
 abbrev pub text_of : List ℕ → Option Piece
-text_of text = if list_all is_printable text then Some (Text text) else None
+text_of text = if list_all is_printable text then Some (piece.Text text) else None
 
-abbrev pub handle_of_reply : List ℕ → Option Piece
-handle_of_reply digits = do
-  reply ← number_below (2 ^ 64) digits
-  Some (HandleOf reply)
+-- the value of a hexadecimal digit, and the byte of two
+abbrev pub digit_value : ℕ → Option ℕ
+digit_value d =
+    if nat_le 97 d && nat_le d 102 then Some (d - 87)
+    else if nat_le 48 d && nat_le d 57 then Some (d - 48)
+    else None
 
-abbrev pub mode_of : List ℕ → Option Piece
-mode_of digits = do
-  mode ← number_below (2 ^ 32) digits
-  Some (Mode mode)
+abbrev pub byte_of : List ℕ → Option ℕ
+byte_of (h ∷ l ∷ []) = do
+  high ← digit_value h
+  low ← digit_value l
+  Some (high * 16 + low)
+byte_of _ = None
+
+-- opaque data: how many bytes, and the byte that each is
+abbrev pub opaque_of : List (List ℕ) → Option Piece
+opaque_of (n ∷ b ∷ []) = do
+  count ← number_below (2 ^ 64) n
+  byte ← byte_of b
+  Some (piece.Opaque count byte)
+opaque_of _ = None
+
+-- the bytes of an even number of digits; an empty word is no piece
+abbrev pub raw_of : List ℕ → Option Piece
+raw_of word =
+    if nat_le 1 (length word) && list_all is_lower_hex word
+    then option_map piece.Raw (ok_value (decode_of word)) else None
+
+-- data that the word says by itself
+abbrev pub data_of : List ℕ → Option Piece
+data_of word =
+    if starts_with nat_eq word (codes "s:") then text_of (drop 2 word)
+    else if starts_with nat_eq word (codes "o:") then opaque_of (parts_of (drop 2 word))
+    else if starts_with nat_eq word (codes "sa:") then numbered (2 ^ 32) piece.Mode (drop 3 word)
+    else if starts_with nat_eq word (codes "u:") then numbered (2 ^ 32) piece.Word (drop 2 word)
+    else if starts_with nat_eq word (codes "w:") then numbered (2 ^ 64) piece.DoubleWord (drop 2 word)
+    else raw_of word
 
 abbrev pub piece_of : List ℕ → Option Piece
 piece_of word =
-    if bytes_eq word (codes "root") then Some Root
-    else if starts_with nat_eq word (codes "nfs:") then call_of (slice_split (λ b. b == 58) (drop 4 word))
-    else if starts_with nat_eq word (codes "h:") then handle_of_reply (drop 2 word)
-    else if starts_with nat_eq word (codes "s:") then text_of (drop 2 word)
-    else if starts_with nat_eq word (codes "sa:") then mode_of (drop 3 word)
-    else None
+    if bytes_eq word (codes "root") then Some piece.Root
+    else if starts_with nat_eq word (codes "nfs:") then call_of (parts_of (drop 4 word))
+    else if starts_with nat_eq word (codes "h:") then numbered (2 ^ 64) piece.HandleOf (drop 2 word)
+    else if starts_with nat_eq word (codes "v:") then numbered (2 ^ 64) piece.VerifierOf (drop 2 word)
+    else data_of word
 
 abbrev pub pieces_of : List (List ℕ) → Option (List Piece)
 pieces_of [] = Some []
 pieces_of (word ∷ words) = onto (piece_of word) (pieces_of words)
   where
     onto : Option Piece → Option (List Piece) → Option (List Piece)
-    onto None pieces = None
-    onto (Some piece) None = None
-    onto (Some piece) (Some pieces) = Some (piece ∷ pieces)
+    onto None ps = None
+    onto (Some p) None = None
+    onto (Some p) (Some ps) = Some (p ∷ ps)
 
 -- ---- commands, each of the words behind its first
 

@@ -1,5 +1,5 @@
 -- The step of a script: what a line may do in a world. A kind of line that comes later is one more case.
-use Rattle.std.specs.Prelude.{◌≡◌, ◌≢◌, ℕ, nat_lt, List, [], Option, Some, None, MatchBool}
+use Rattle.std.specs.Prelude.{◌≡◌, ℕ, nat_lt, List, [], Option, Some, None, MatchBool}
 use Rattle.wire_model.specs.Rpc.{SystemError, reply}
 use Rattle.script_driver.specs.Run.{Outcome, Goes, Ends, Refuses, Exceeds}
 use Rattle.play_model.specs.declared.command.Command.{Command}
@@ -41,13 +41,13 @@ MayDoFirst w command outcome = WithinLimit w command outcome
 abbrev pub IvyStep : World → List ℕ → Outcome World → Type 0
 IvyStep w line outcome = MayDoFirst w (command_of line) outcome
 
--- what is shown of a call for which memory was wanting
-abbrev pub lacks_memory_line : List ℕ
-lacks_memory_line = reply_line (reply 1 SystemError)
+-- a line is shown of a call for which memory was wanting
+abbrev pub LacksShown : List ℕ → Type 0
+LacksShown output = (xid : ℕ) × (output ≡ reply_line (reply xid SystemError))
 
 -- no call was refused for want of memory
 abbrev pub HasMemory : World → List ℕ → Outcome World → Type 0
-HasMemory w line (Goes next output) = output ≢ lacks_memory_line
+HasMemory w line (Goes next output) = LacksShown output → ⊥
 HasMemory w line Ends = Unit {0}
 HasMemory w line Refuses = Unit {0}
 HasMemory w line Exceeds = Unit {0}

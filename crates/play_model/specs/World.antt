@@ -16,6 +16,7 @@ use Rattle.log_model.specs.Chain.{opening}
 use Rattle.log_model.specs.View.{View, have_own_head_keys, is_member, view_block, most_members, most_former}
 use Rattle.script_driver.specs.Run.{Outcome, Goes, Refuses, Exceeds}
 use Rattle.play_model.specs.Blocks.{Heads, Met, nothing_met, meets, meets_all, newest_stamp, published_blocks, published_heads}
+use Rattle.play_model.specs.declared.command.Given.{Given}
 use Rattle.play_model.specs.Script.{◌>>=◌}
 
 -- who writes a log: its name in the script, its public key, the view that it entered, the records that it knows, and those
@@ -33,7 +34,7 @@ pub record NamedView : Type 0 where
   pub view : View
 
 -- A ring, the participants and the views in the order of their lines, the blocks that were met, the newest head of each log,
--- the moment, and the file handle that each reply so far made or found.
+-- the moment, and what each reply so far left to the lines behind it.
 pub record World : Type 0 where
   pub has_ring : Bool
   pub participants : List Participant
@@ -41,10 +42,10 @@ pub record World : Type 0 where
   pub blocks : Met
   pub heads : Heads
   pub now : Moment
-  pub handles : List (Option (List ℕ))
+  pub replies : List Given
 
 abbrev pub empty_world : World
-empty_world = record { has_ring = false; participants = []; views = []; blocks = nothing_met; heads = []; now = record { sec = 0; nsec = 0 }; handles = [] }
+empty_world = record { has_ring = false; participants = []; views = []; blocks = nothing_met; heads = []; now = record { sec = 0; nsec = 0 }; replies = [] }
 
 -- the participant, or the view, of that name
 abbrev pub participant : World → List ℕ → Option Participant

@@ -8,16 +8,58 @@ use std::marker::Model;
 /// A part of a call's message.
 #[derive(Drop)]
 pub enum Piece {
-    /// The head of a call of NFS version 3: its procedure, and the caller's user and group.
-    Call { procedure: u32, uid: u32, gid: u32 },
+    /// The head of a call of NFS version 3: its procedure, the caller's user and group, and the number of further groups,
+    /// which are those behind the group.
+    Call {
+        procedure: u32,
+        uid: u32,
+        gid: u32,
+        groups: u32,
+    },
     /// The file handle of the root.
     Root,
     /// The file handle that the reply of that number, from 1, made or found.
-    HandleOf { reply: u64 },
+    HandleOf {
+        reply: u64,
+    },
+    /// The verifier in the reply of that number, from 1, which is a page of a directory.
+    VerifierOf {
+        reply: u64,
+    },
     /// A string of printable ASCII without blanks.
-    Text { text: Bytes },
+    Text {
+        text: Bytes,
+    },
+    /// Opaque data: so many times one byte.
+    Opaque {
+        count: u64,
+        byte: u8,
+    },
     /// New attributes that give a mode and nothing else.
-    Mode { mode: u32 },
+    Mode {
+        mode: u32,
+    },
+    /// A number of four bytes.
+    Word {
+        number: u32,
+    },
+    /// A number of eight bytes.
+    DoubleWord {
+        number: u64,
+    },
+    /// These bytes.
+    Raw {
+        bytes: Bytes,
+    },
+}
+
+/// What a reply leaves to the lines behind it.
+#[derive(Drop)]
+pub struct Given {
+    /// The file handle that it made or found.
+    pub handle: Option<Bytes>,
+    /// The verifier of the page that it has.
+    pub verifier: Option<[u8; 8]>,
 }
 
 /// The pieces of a message in their order, which contracts see as a list.

@@ -11,4 +11,4 @@
 
 pub mod command;
 
-pub use command::{Command, Names, Piece, Pieces};
+pub use command::{Command, Given, Names, Piece, Pieces};

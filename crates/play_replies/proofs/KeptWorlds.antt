@@ -27,7 +27,8 @@ use Rattle.play_model.specs.declared.command.Command.{Command}
 use Rattle.play_model.specs.declared.command.Command.TheVariants as command
 use Rattle.play_model.specs.declared.command.Piece.{Piece}
 use Rattle.play_model.specs.Blocks.{all_of, bytes_met, meets, published_blocks}
-use Rattle.play_model.specs.Calls.{Sending, sending_of, Answers, by_message, by_turn, out_of_memory, own_beyond, handle_given, replied}
+use Rattle.play_model.specs.declared.command.Given.{Given}
+use Rattle.play_model.specs.Calls.{Sending, sending_of, Answers, by_message, by_turn, out_of_memory, own_beyond, given_of, nothing_given, replied, counted}
 use Rattle.play_model.specs.Kept.{KnowsUnder, IsKeptWell}
 use Rattle.play_model.specs.Script.{◌>>=◌, command_of}
 use Rattle.play_model.specs.Step.{Does, MayDo, WithinLimit, MayDoFirst, IvyStep, most_bytes}
@@ -215,22 +216,26 @@ module _ (w next : World) (output : List ℕ) (ok : IsValid w) where
   goes_to : (v : World) (text : List ℕ) → Goes v text ≡ Goes next output → v ≡ next
   goes_to v text e = cc
 
-  replied_keeps : (text : List ℕ) → Goes (replied w None) text ≡ Goes next output → IsValid next
-  replied_keeps text e =
-      subst IsValid (goes_to (replied w None) text e) (record {
-        participants = all_still_sound w (replied w None) (grows_not w.blocks) w.participants ok.participants;
+  replied_keeps : (left : Given) (text : List ℕ) → Goes (replied w left) text ≡ Goes next output → IsValid next
+  replied_keeps left text e =
+      subst IsValid (goes_to (replied w left) text e) (record {
+        participants = all_still_sound w (replied w left) (grows_not w.blocks) w.participants ok.participants;
         apart = ok.apart;
         views = ok.views;
         heads = ok.heads;
         moment = ok.moment;
       })
 
+  counted_keeps : (given : Option (List ℕ)) (text : List ℕ) → Goes (counted w given nothing_given) text ≡ Goes next output → IsValid next
+  counted_keeps None text e = subst IsValid (goes_to w text e) ok
+  counted_keeps (Some message) text e = replied_keeps nothing_given text e
+
   answers_keep : (s : Sending) (o : Outcome World) → IsSender w s → Answers w s o → o ≡ Goes next output → IsValid next
-  answers_keep s o sender (by_message given by) e = replied_keeps _ e
+  answers_keep s o sender (by_message given by) e = counted_keeps given _ e
   answers_keep s o sender (by_turn xid asked candidates turned asks refreshes turn) e =
       let new : Participant = record s.by { known = turned.set; held = turned.set } in
       let records : List Record = own_beyond s.by.own (own_seq s.by.own s.by.known) turned.set in
-      let v : World = replied (publishing (with_participant w new) s.by.own records) (handle_given turned.reply) in
+      let v : World = replied (publishing (with_participant w new) s.by.own records) (given_of turned.reply) in
       let grows = meets_all_grows w.blocks (published_blocks s.by.own records) in
       subst IsValid (goes_to v _ e) (record {
         participants = each_put_for new (IsSound v) w.participants (all_still_sound w v grows w.participants ok.participants)
@@ -240,7 +245,7 @@ module _ (w next : World) (output : List ℕ) (ok : IsValid w) where
         heads = published_met w.blocks w.heads s.by.own records ok.heads;
         moment = ok.moment;
       })
-  answers_keep s o sender (out_of_memory c is_call) e = replied_keeps _ e
+  answers_keep s o sender (out_of_memory c is_call) e = replied_keeps nothing_given _ e
 
   sent_keeps : (name : List ℕ) (pieces : List Piece) (sent : Option Sending) → sending_of w name pieces ≡ sent → MatchOption sent (Goes next output ≡ Refuses) (λ s. Answers w s (Goes next output)) → IsValid next
   sent_keeps name pieces None e does = cc does

@@ -108,14 +108,14 @@ through_message p view (Some message) s e =
     (ap (λ (t : Sending). t.by) same, ap (λ (t : Sending). t.view) same)
 
 through_view : (w : World) (pieces : List Piece) (p : Participant) (o : Option View) (s : Sending)
-    → (o >>= λ view. message_of w.handles view pieces >>= λ message. Some (record { by = p; view = view; message = message })) ≡ Some s → (p ≡ s.by) × (o ≡ Some s.view)
+    → (o >>= λ view. message_of w.replies view pieces >>= λ message. Some (record { by = p; view = view; message = message })) ≡ Some s → (p ≡ s.by) × (o ≡ Some s.view)
 through_view w pieces p None s e = cc e
 through_view w pieces p (Some view) s e =
-    let same = through_message p view (message_of w.handles view pieces) s e in
+    let same = through_message p view (message_of w.replies view pieces) s e in
     (same.0, ap (λ (v : View). Some v) same.1)
 
 through_sender : (w : World) (pieces : List Piece) (o : Option Participant) (s : Sending)
-    → (o >>= λ p. p.view >>= λ view. message_of w.handles view pieces >>= λ message. Some (record { by = p; view = view; message = message })) ≡ Some s
+    → (o >>= λ p. p.view >>= λ view. message_of w.replies view pieces >>= λ message. Some (record { by = p; view = view; message = message })) ≡ Some s
     → (o ≡ Some s.by) × (s.by.view ≡ Some s.view)
 through_sender w pieces None s e = cc e
 through_sender w pieces (Some p) s e =

@@ -8,8 +8,8 @@ use Rattle.log_model.specs.Record.{Record}
 use Rattle.log_model.specs.Replay.{replay}
 use Rattle.log_model.specs.View.{View}
 use Rattle.log_model.specs.Spelling.{most_records}
-use Rattle.nfs_model.specs.Changing.{Plan, Refuse, Nothing, Operations, plan}
-use Rattle.turn_model.specs.Turn.{Asked, Turned, is_changing, own_seq, turn_on}
+use Rattle.nfs_model.specs.Changing.{is_changing, Plan, Refuse, Nothing, Operations, plan}
+use Rattle.turn_model.specs.Turn.{Asked, Turned, own_seq, turn_on}
 use Rattle.turn_model.proofs.Turns.{turn-reading, turn-refused, turn-nothing, turn-too_many, turn-written}
 use Rattle.candidate_laws.proofs.Taken.{own_log_is_known}
 use Rattle.script_driver.specs.Run.{Outcome, Goes, Refuses, Exceeds}

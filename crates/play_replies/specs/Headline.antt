@@ -12,16 +12,16 @@ use Rattle.log_model.specs.Spelling.{most_records}
 use Rattle.nfs_model.specs.declared.replies.NfsStatus.TheVariants.{RoFs}
 use Rattle.nfs_model.specs.declared.replies.Reply.{Reply}
 use Rattle.nfs_model.specs.declared.replies.Reply.TheVariants.{Refused}
-use Rattle.nfs_model.specs.Changing.{Refuse, Nothing, Operations, plan, finish}
+use Rattle.nfs_model.specs.Changing.{is_changing, Refuse, Nothing, Operations, plan, finish}
 use Rattle.nfs_model.specs.Reading.{answer}
 use Rattle.nfs_model.specs.Results.{result}
 use Rattle.turn_model.specs.Known.{IsVerified}
-use Rattle.turn_model.specs.Turn.{Asked, Candidate, IsAtHand, is_changing, bare_tail, own_seq, appended}
+use Rattle.turn_model.specs.Turn.{Asked, Candidate, IsAtHand, bare_tail, own_seq, appended}
 use Rattle.script_driver.specs.Run.{Outcome, Goes}
 use Rattle.play_model.specs.declared.command.Piece.{Piece}
 use Rattle.play_model.specs.declared.command.Command.TheVariants.{As}
 use Rattle.play_model.specs.Blocks.{all_of, heads_among}
-use Rattle.play_model.specs.Calls.{Sending, sending_of, Asks, IsByMessage, Refreshes, reply_line, shown_reply, replied}
+use Rattle.play_model.specs.Calls.{Sending, sending_of, Asks, IsByMessage, Refreshes, reply_line, shown_reply, replied, counted, nothing_given}
 use Rattle.play_model.specs.Script.{command_of}
 use Rattle.play_model.specs.World.{World, Participant, participant}
 
@@ -68,19 +68,19 @@ pub record IsServed (w : World) (s : Sending) (next : World) (output : List ℕ)
   pub shown : output ≡ reply_line (reply xid (Success (result reply_given)))
   pub known : participant next s.by.name ≡ Some (record s.by { known = set; held = set })
 
--- the message is answered without a turn, and nothing changes but that there was a reply
+-- the message is answered without a turn, and nothing changes but that there was a reply; what is no reply isn't counted
 pub record IsAnsweredAlone (w : World) (s : Sending) (next : World) (output : List ℕ) : Type 0 where
   pub given : Option (List ℕ)
   pub by : IsByMessage s.message given
   pub shown : output ≡ shown_reply given
-  pub same : next ≡ replied w None
+  pub same : next ≡ counted w given nothing_given
 
 -- memory was wanting, and nothing changes but that there was a reply
 pub record LacksMemory (w : World) (s : Sending) (next : World) (output : List ℕ) : Type 0 where
   pub call : CallMessage
   pub is_call : IsCall s.message call
   pub shown : output ≡ reply_line (reply call.xid SystemError)
-  pub same : next ≡ replied w None
+  pub same : next ≡ replied w nothing_given
 
 -- Each call is answered by its message alone, or on the replay of a closed set of verified records, or memory was wanting.
 abbrev pub Headline : World → List ℕ → Outcome World → Type 0

@@ -19,7 +19,7 @@ use Rattle.play_model.specs.declared.command.Command.TheVariants as command
 use Rattle.play_model.specs.Blocks.{Met, is_met, all_of, meets, meets_all, published_blocks}
 use Rattle.play_model.specs.Script.{command_of}
 use Rattle.play_model.specs.World.{World, Participant, publishing, goes_if, plain_key, keys_of, view_by, view_named, view_of_keys, participant, entering, order_text, showing_order}
-use Rattle.play_model.specs.Calls.{Sending, sending_of, Answers, by_message, by_turn, out_of_memory, own_beyond}
+use Rattle.play_model.specs.Calls.{Sending, sending_of, Answers, by_message, by_turn, out_of_memory, own_beyond, nothing_given, counted}
 use Rattle.turn_model.specs.Turn.{own_seq}
 use Rattle.play_model.specs.Step.{Does, MayDo, IvyStep}
 use Rattle.play_runs.proofs.Steps.{Cases, cases_of}
@@ -90,8 +90,12 @@ module _ (w : World) (apart : NamesTellApart w.blocks.found) where
   of_order None = tt
   of_order (Some p) = either_apart (is_some p.view) (Goes w (order_text w p)) Refuses apart tt
 
+  of_count : (given : Option (List ℕ)) → NamesTellApart (counted w given nothing_given).blocks.found
+  of_count None = apart
+  of_count (Some message) = apart
+
   of_call : (s : Sending) (o : Outcome World) → Answers w s o → IsApart o
-  of_call s _ (by_message given is) = apart
+  of_call s _ (by_message given is) = of_count given
   of_call s _ (by_turn xid asked candidates turned asks has takes) = published_apart w s.by.own (own_beyond s.by.own (own_seq s.by.own s.by.known) turned.set) apart
   of_call s _ (out_of_memory c is_c) = apart
 

@@ -1,5 +1,4 @@
-pub mod Messages
-pub mod Sendings
+pub mod Reading
 pub mod Replies
 pub mod Steps
 pub mod Apart

@@ -15,7 +15,7 @@ use Rattle.script_driver.specs.Run.{Outcome, Goes, Ends, Refuses, Exceeds}
 use Rattle.turn_model.specs.Candidates.{MakeChain, IsPassedOver, IsTried, IsCandidate, own_log, newest, as_known}
 use Rattle.turn_model.specs.Turn.{Candidate, IsTurn}
 use Rattle.play_model.specs.Blocks.{heads_at}
-use Rattle.play_model.specs.Calls.{Sending, Answers, by_message, by_turn, out_of_memory, agent_of, replied}
+use Rattle.play_model.specs.Calls.{Sending, Answers, by_message, by_turn, out_of_memory, agent_of, nothing_given, replied, counted}
 use Rattle.play_model.specs.World.{World}
 use Rattle.play_runs.specs.Others.{AgreeOnMembers, OtherLogsDontCount, CallsAreAnsweredAlike}
 
@@ -89,10 +89,10 @@ IsShownThere v s Refuses = Unit {0}
 IsShownThere v s Exceeds = Unit {0}
 
 answered_there : (w v : World) (s : Sending) (o : Outcome World) → AgreeOnMembers s.view w v → w.now ≡ v.now → Answers w s o → IsShownThere v s o
-answered_there w v s _ agree now (by_message given is) = (replied v None, by_message given is)
+answered_there w v s _ agree now (by_message given is) = (counted v given nothing_given, by_message given is)
 answered_there w v s _ agree now (by_turn xid asked candidates turned asks has takes) =
     (_, by_turn xid asked candidates turned asks (other_logs_dont_count s.view w v s.by candidates agree has) (subst (λ (m : Moment). IsTurn (agent_of s.by s.view) s.by.known candidates asked m turned) now takes))
-answered_there w v s _ agree now (out_of_memory c is_c) = (replied v None, out_of_memory c is_c)
+answered_there w v s _ agree now (out_of_memory c is_c) = (replied v nothing_given, out_of_memory c is_c)
 
 pub calls_are_answered_alike : CallsAreAnsweredAlike
 calls_are_answered_alike w v s next output agree now answers = answered_there w v s (Goes next output) agree now answers

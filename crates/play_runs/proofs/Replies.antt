@@ -1,7 +1,7 @@
 -- A message has one reply by itself, or asks one thing of a turn.
-use Rattle.std.proofs.Common.{◌≡◌, ◌≢◌, ◌⊎◌, inl, inr, ℕ, ◌<◌, ◌≤◌, List, [], Option, Some, refl, sym, ap, ◌∙◌, subst, arith}
-use Rattle.wire_model.specs.Rpc.{CallMessage, IsCall, IsCaller, Identity, Success, ProgramUnavailable, ProgramMismatch, ProcedureUnavailable, GarbageArguments, BadCredential, reply}
-use Rattle.wire_model.proofs.OneReading.{one_call, one_caller, no_other_version}
+use Rattle.std.proofs.Common.{◌≡◌, ◌≢◌, ◌⊎◌, inl, inr, ℕ, ◌<◌, ◌≤◌, List, [], Option, Some, None, refl, sym, ap, ◌∙◌, subst, arith}
+use Rattle.wire_model.specs.Rpc.{CallMessage, IsCall, IsOtherVersion, IsCaller, Identity, Success, ProgramUnavailable, ProgramMismatch, ProcedureUnavailable, GarbageArguments, RpcMismatch, BadCredential, reply}
+use Rattle.wire_model.proofs.OneReading.{one_call, one_caller, no_other_version, one_other_version}
 use Rattle.nfs_model.specs.declared.arguments.Args.{Args}
 use Rattle.nfs_model.specs.declared.arguments.Args.TheVariants.{Null}
 use Rattle.nfs_model.specs.Arguments.{AreArguments, nfs_program}
@@ -103,13 +103,50 @@ module _ (m : List ℕ) (c : CallMessage) (is_c : IsCall m c) where
   of_turn xid asked a = of_this a.call _ a.is_call
       (served a.call _ a.served (inr (asked.caller, a.caller, inr (asked.args, a.arguments, inr (a.not_null, ap (λ (n : ℕ). Turns n asked) (sym a.xid_is))))))
 
-  pub one_reply : (given other : Option (List ℕ)) → IsByMessage m given → IsByMessage m other → given ≡ other
-  one_reply given other a b = cc (one_of_program c (Says given) (Says other) (of_message given a) (of_message other b))
+  one_reply_to : (given other : Option (List ℕ)) → IsByMessage m given → IsByMessage m other → given ≡ other
+  one_reply_to given other a b = cc (one_of_program c (Says given) (Says other) (of_message given a) (of_message other b))
 
-  pub reply_or_turn : (given : Option (List ℕ)) (xid : ℕ) (asked : Asked) → IsByMessage m given → Asks m xid asked → ⊥
-  reply_or_turn given xid asked a b = cc (one_of_program c (Says given) (Turns xid asked) (of_message given a) (of_turn xid asked b))
+  no_turn : (given : Option (List ℕ)) (xid : ℕ) (asked : Asked) → IsByMessage m given → Asks m xid asked → ⊥
+  no_turn given xid asked a b = cc (one_of_program c (Says given) (Turns xid asked) (of_message given a) (of_turn xid asked b))
 
-  pub one_asked : (xid other_xid : ℕ) (asked other : Asked) → Asks m xid asked → Asks m other_xid other → (xid ≡ other_xid) × (asked ≡ other)
-  one_asked xid other_xid asked other a b =
+  one_asked_by : (xid other_xid : ℕ) (asked other : Asked) → Asks m xid asked → Asks m other_xid other → (xid ≡ other_xid) × (asked ≡ other)
+  one_asked_by xid other_xid asked other a b =
       let same : Turns xid asked ≡ Turns other_xid other = one_of_program c (Turns xid asked) (Turns other_xid other) (of_turn xid asked a) (of_turn other_xid other b) in
       (cc same, cc same)
+
+-- ---- the message may be no call
+
+module _ (m : List ℕ) where
+  -- the reply to a call, to a call of another version, or to neither
+  data Kind : Option (List ℕ) → Type 0 where
+    to_call : {given : Option (List ℕ)} (c : CallMessage) → IsCall m c → Kind given
+    to_version : {given : Option (List ℕ)} (xid : ℕ) → IsOtherVersion m xid → given ≡ Some (reply xid RpcMismatch) → Kind given
+    to_neither : {given : Option (List ℕ)} → ((xid : ℕ) → IsOtherVersion m xid → ⊥) → given ≡ None → Kind given
+
+  kind_of : {given : Option (List ℕ)} → IsByMessage m given → Kind given
+  kind_of (no_call none other) = to_neither other refl
+  kind_of (other_version xid other) = to_version xid other refl
+  kind_of (no_program d is_d other) = to_call d is_d
+  kind_of (no_version d is_d program other) = to_call d is_d
+  kind_of (no_procedure d is_d program version many) = to_call d is_d
+  kind_of (no_caller d is_d is none) = to_call d is_d
+  kind_of (no_arguments d who is_d is caller none) = to_call d is_d
+  kind_of (null d who is_d is caller has) = to_call d is_d
+
+  one_of_kinds : (given other : Option (List ℕ)) → IsByMessage m given → IsByMessage m other → Kind given → Kind other → given ≡ other
+  one_of_kinds given other a b (to_call c is_c) kind = one_reply_to m c is_c given other a b
+  one_of_kinds given other a b (to_version x is_x e) (to_call c is_c) = one_reply_to m c is_c given other a b
+  one_of_kinds given other a b (to_version x is_x e) (to_version y is_y f) = e ∙ ap (λ (n : ℕ). Some (reply n RpcMismatch)) (one_other_version m x y is_x is_y) ∙ sym f
+  one_of_kinds given other a b (to_version x is_x e) (to_neither none f) = absurd (none x is_x)
+  one_of_kinds given other a b (to_neither none e) (to_call c is_c) = one_reply_to m c is_c given other a b
+  one_of_kinds given other a b (to_neither none e) (to_version y is_y f) = absurd (none y is_y)
+  one_of_kinds given other a b (to_neither none e) (to_neither none_either f) = e ∙ sym f
+
+  pub one_reply : (given other : Option (List ℕ)) → IsByMessage m given → IsByMessage m other → given ≡ other
+  one_reply given other a b = one_of_kinds given other a b (kind_of a) (kind_of b)
+
+  pub reply_or_turn : (given : Option (List ℕ)) (xid : ℕ) (asked : Asked) → IsByMessage m given → Asks m xid asked → ⊥
+  reply_or_turn given xid asked a b = no_turn m b.call b.is_call given xid asked a b
+
+  pub one_asked : (xid other_xid : ℕ) (asked other : Asked) → Asks m xid asked → Asks m other_xid other → (xid ≡ other_xid) × (asked ≡ other)
+  one_asked xid other_xid asked other a b = one_asked_by m a.call a.is_call xid other_xid asked other a b

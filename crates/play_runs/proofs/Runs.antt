@@ -4,7 +4,7 @@ use Rattle.ivy_base.specs.Naming.{NamesTellApart}
 use Rattle.script_driver.specs.Run.{Outcome, WithLaw}
 use Rattle.script_driver.proofs.RunLaws.{runs_with_law, one_run, sure_or_marked}
 use Rattle.play_model.specs.World.{World}
-use Rattle.play_model.specs.Step.{IvyStep, HasMemory, lacks_memory_line}
+use Rattle.play_model.specs.Step.{IvyStep, HasMemory, LacksShown}
 use Rattle.play_runs.specs.Runs.{FullRunsAreOne, WantOfMemoryIsShown}
 use Rattle.play_runs.proofs.Steps.{one_outcome, memory_or_not}
 use Rattle.play_runs.proofs.Apart.{stays_apart}
@@ -23,4 +23,4 @@ full_runs_are_one w number lines first second apart runs others =
     (along w number lines first apart runs) (along w number lines second apart others)
 
 pub want_is_shown : WantOfMemoryIsShown
-want_is_shown = sure_or_marked IvyStep HasMemory lacks_memory_line memory_or_not
+want_is_shown = sure_or_marked IvyStep HasMemory LacksShown memory_or_not

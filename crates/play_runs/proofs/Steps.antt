@@ -1,14 +1,15 @@
 -- Laws of the step: each line does something, a line that is too long goes nowhere, and where memory isn't wanting a line
 -- does one thing.
-use Rattle.std.proofs.Common.{◌≡◌, ◌≢◌, ℕ, ◌<◌, Bool, true, false, cond, List, [], length, Option, Some, None, refl, sym, ap, ◌∙◌, subst, inl, inr, ◌⊎◌}
-use Rattle.std.specs.Prelude.{MatchOption, MatchBool, nat_lt}
+use Rattle.std.proofs.Common.{◌≡◌, ◌≢◌, ℕ, ◌<◌, Bool, true, false, cond, ◌||◌, List, [], ◌++◌, length, get_or, Option, Some, None, refl, sym, ap, ◌∙◌, subst, inl, inr, ◌⊎◌, arith}
+use Rattle.std.specs.Prelude.{MatchOption, MatchBool, is_some, nat_lt, not}
 use Rattle.std.proofs.lemmas.Bool.{lt-ltb}
-use Rattle.std.proofs.lemmas.Slice.Eq.{bytes_eq-Decides}
-use Rattle.std.specs.Str.{bytes_eq}
+use Rattle.hex.specs.Hex.{encode_with}
+use Rattle.ivy_base.specs.declared.key.PubKey.{PubKey}
 use Rattle.ivy_base.specs.Naming.{NamesTellApart}
 use Rattle.log_model.specs.Rank.{front}
-use Rattle.wire_model.specs.Rpc.{CallMessage, IsCall, SystemError, reply}
-use Rattle.wire_model.proofs.OneReading.{one_call}
+use Rattle.log_model.specs.View.{View, have_own_head_keys, most_members, most_former}
+use Rattle.nfs_model.specs.Results.{result}
+use Rattle.wire_model.specs.Rpc.{Success, SystemError, ProgramUnavailable, ProgramMismatch, ProcedureUnavailable, GarbageArguments, RpcMismatch, BadCredential, reply}
 use Rattle.turn_model.specs.Turn.{Asked, Candidate, Turned, IsTurn}
 use Rattle.turn_model.proofs.Known.{turn_is_one}
 use Rattle.candidate_laws.proofs.OneCandidate.{candidates_are_one}
@@ -18,33 +19,37 @@ use Rattle.play_model.specs.declared.command.Command.{Command}
 use Rattle.play_model.specs.declared.command.Command.TheVariants as command
 use Rattle.play_model.specs.Blocks.{all_of, bytes_met, heads_at}
 use Rattle.play_model.specs.Script.{command_of, command_of_words, words_of, is_comment}
-use Rattle.play_model.specs.World.{World, ring_line, log_line, view_line, use_line, at_line, order_line}
-use Rattle.play_model.specs.Calls.{Sending, sending_of, Asks, Refreshes, Answers, by_message, by_turn, out_of_memory, agent_of, reply_line, shown_reply, replied, answered}
-use Rattle.play_model.specs.Step.{Does, MayDo, WithinLimit, MayDoFirst, most_bytes, IvyStep, HasMemory, lacks_memory_line}
-use Rattle.play_runs.proofs.Messages.{call_record}
-use Rattle.play_runs.proofs.Sendings.{Begins, begins_is_call, sends}
+use Rattle.play_model.specs.World.{World, Participant, participant, view_named, goes_if, ring_line, log_line, view_line, view_by, keys_of, use_line, entering, at_line, order_line, order_text, showing_order}
+use Rattle.play_model.specs.Calls.{Sending, sending_of, IsByMessage, no_call, other_version, no_program, no_version, no_procedure, no_caller, no_arguments, null, Asks, Refreshes, Answers, by_message, by_turn, out_of_memory, agent_of, nothing_given, reply_line, shown_reply, replied, counted, answered}
+use Rattle.play_model.specs.Step.{Does, MayDo, WithinLimit, MayDoFirst, most_bytes, IvyStep, HasMemory, LacksShown}
+use Rattle.play_runs.proofs.Reading.{call_or_not, other_or_not}
 use Rattle.play_runs.proofs.Replies.{one_reply, reply_or_turn, one_asked}
 
 -- ---- each line does something
 
-SomeCall : World → Option Sending → Type 0
-SomeCall w sent = (outcome : Outcome World) × MatchOption sent (outcome ≡ Refuses) (λ s. Answers w s outcome)
+some_answer : (w : World) (s : Sending) → (outcome : Outcome World) × Answers w s outcome
+some_answer w s = elim (call_or_not s.message) [
+  | inl call ↦ (Goes (replied w nothing_given) (reply_line (reply call.0.xid SystemError)), out_of_memory call.0 call.1)
+  | inr none ↦ elim (other_or_not s.message) [
+    | inl other ↦ (
+      Goes (replied w nothing_given) (reply_line (reply other.0 RpcMismatch)),
+      by_message (Some (reply other.0 RpcMismatch)) (other_version other.0 other.1),
+    )
+    | inr neither ↦ (Goes w (shown_reply None), by_message None (no_call none neither))
+  ]
+]
 
-some_call : (w : World) (name : List ℕ) (pieces : List Piece) (sent : Option Sending) → sending_of w name pieces ≡ sent → SomeCall w sent
-unfolding SomeCall
-some_call w name pieces None e = (Refuses, refl)
-some_call w name pieces (Some s) e =
-    let begins = sends w name pieces s e in
-    (Goes (replied w None) (reply_line (reply 1 SystemError)), out_of_memory (call_record begins.procedure begins.rest) (begins_is_call s.message begins))
+some_call : (w : World) (sent : Option Sending) → (outcome : Outcome World) × MatchOption sent (outcome ≡ Refuses) (λ s. Answers w s outcome)
+some_call w None = (Refuses, refl)
+some_call w (Some s) = some_answer w s
 
 some_command : (w : World) (c : Command) → (outcome : Outcome World) × Does w c outcome
-unfolding SomeCall
 some_command w (command.Ring nodes replicas) = (ring_line w nodes replicas, refl)
 some_command w (command.Log log id seed) = (log_line w log id seed, refl)
 some_command w (command.View view members former) = (view_line w view members former, refl)
 some_command w (command.Use log view) = (use_line w log view, refl)
 some_command w (command.At sec nsec) = (at_line w sec nsec, refl)
-some_command w (command.As log pieces) = some_call w log pieces (sending_of w log pieces) refl
+some_command w (command.As log pieces) = some_call w (sending_of w log pieces)
 some_command w (command.Order log) = (order_line w log, refl)
 some_command w command.Nothing = (Goes w [], refl)
 some_command w command.End = (Ends, refl)
@@ -118,40 +123,106 @@ long_stops w line next output long does =
 
 -- ---- memory was wanting, or not
 
-same_or_not : (xs ys : List ℕ) → (xs ≡ ys) ⊎ (xs ≢ ys)
-same_or_not xs ys = elim (bytes_eq xs ys) as (λ b. bytes_eq xs ys ≡ b → (xs ≡ ys) ⊎ (xs ≢ ys)) [
-  | true ↦ λ e. inl ((bytes_eq-Decides xs ys).0 e)
-  | false ↦ λ e. inr (λ same. absurd (cc (sym e ∙ (bytes_eq-Decides xs ys).1 same)))
-] refl
+-- what begins otherwise is no reply
+other_word : (output : List ℕ) (first : ℕ) → get_or output 0 0 ≡ first → first ≢ 114 → LacksShown output → ⊥
+other_word output first is other lacks = other (sym is ∙ ap (λ (text : List ℕ). get_or text 0 0) lacks.1)
 
-pub memory_or_not : (w : World) (line : List ℕ) (outcome : Outcome World) → IvyStep w line outcome → HasMemory w line outcome ⊎ Says lacks_memory_line outcome
-memory_or_not w line (Goes next output) does = elim (same_or_not output lacks_memory_line) [ inl same ↦ inr same | inr other ↦ inl other ]
-memory_or_not w line Ends does = inl tt
-memory_or_not w line Refuses does = inl tt
-memory_or_not w line Exceeds does = inl tt
+-- the last digit of the sixth word, which is SYSTEM_ERR's
+status_shown : (xid : ℕ) → get_or (reply_line (reply xid SystemError)) 53 0 ≡ 53
+unfolding encode_with
+status_shown xid = refl
+
+other_status : (output : List ℕ) (digit : ℕ) → get_or output 53 0 ≡ digit → digit ≢ 53 → LacksShown output → ⊥
+other_status output digit is other lacks = other (sym is ∙ ap (λ (text : List ℕ). get_or text 53 0) lacks.1 ∙ status_shown lacks.0)
+
+-- a reply by the message alone doesn't say that memory was wanting
+by_message_has : (message : List ℕ) (given : Option (List ℕ)) → IsByMessage message given → LacksShown (shown_reply given) → ⊥
+unfolding encode_with
+by_message_has message _ (no_call none other) = other_word (shown_reply None) 110 refl (λ e. omega (arith, e))
+by_message_has message _ (other_version xid other) = other_status (reply_line (reply xid RpcMismatch)) 50 refl (λ e. omega (arith, e))
+by_message_has message _ (no_program c is_c other) = other_status (reply_line (reply c.xid ProgramUnavailable)) 49 refl (λ e. omega (arith, e))
+by_message_has message _ (no_version c is_c program other) = other_status (reply_line (reply c.xid (ProgramMismatch 3 3))) 50 refl (λ e. omega (arith, e))
+by_message_has message _ (no_procedure c is_c program version many) = other_status (reply_line (reply c.xid ProcedureUnavailable)) 51 refl (λ e. omega (arith, e))
+by_message_has message _ (no_caller c is_c is none) = other_status (reply_line (reply c.xid BadCredential)) 0 refl (λ e. omega (arith, e))
+by_message_has message _ (no_arguments c who is_c is caller none) = other_status (reply_line (reply c.xid GarbageArguments)) 52 refl (λ e. omega (arith, e))
+by_message_has message _ (null c who is_c is caller has) = other_status (reply_line (reply c.xid (Success []))) 48 refl (λ e. omega (arith, e))
+
+-- nor does the reply of a turn
+by_turn_has : (xid : ℕ) (result : List ℕ) → LacksShown (reply_line (reply xid (Success result))) → ⊥
+unfolding encode_with
+by_turn_has xid result = other_status (reply_line (reply xid (Success result))) 48 refl (λ e. omega (arith, e))
+
+module _ (w : World) (line : List ℕ) where
+  -- memory wasn't wanting, or it is shown that it was
+  abbrev IsTold : Outcome World → Type 0
+  IsTold outcome = HasMemory w line outcome ⊎ Says LacksShown outcome
+
+  told_if : (allowed : Bool) (next : World) → IsTold (goes_if allowed next)
+  told_if true next = inl (other_word [] 0 refl (λ e. omega (arith, e)))
+  told_if false next = inl tt
+
+  told_either : (b : Bool) (x y : Outcome World) → IsTold x → IsTold y → IsTold (cond b x y)
+  told_either true x y p q = p
+  told_either false x y p q = q
+
+  told_of_keys : (view : List ℕ) (members former : Option (List PubKey)) → IsTold (view_by w view members former)
+  told_of_keys view None former = inl tt
+  told_of_keys view (Some members) None = inl tt
+  told_of_keys view (Some members) (Some former) =
+      told_either (not (have_own_head_keys (members ++ former))) _ _ (inl tt)
+      (told_either (nat_lt most_members (length members) || nat_lt most_former (length former)) _ _ (inl tt) (inl (other_word [] 0 refl (λ e. omega (arith, e)))))
+
+  told_entering : (p : Option Participant) (view : Option View) → IsTold (entering w p view)
+  told_entering None view = inl tt
+  told_entering (Some p) None = inl tt
+  told_entering (Some p) (Some view) = told_if _ _
+
+  told_order : (p : Option Participant) → IsTold (showing_order w p)
+  told_order None = inl tt
+  told_order (Some p) = told_either (is_some p.view) (Goes w (order_text w p)) Refuses (inl (other_word (order_text w p) 111 refl (λ e. omega (arith, e)))) (inl tt)
+
+  told_call : (s : Sending) (o : Outcome World) → Answers w s o → IsTold o
+  told_call s _ (by_message given is) = inl (by_message_has s.message given is)
+  told_call s _ (by_turn xid asked candidates turned asks has takes) = inl (by_turn_has xid (result turned.reply))
+  told_call s _ (out_of_memory c is_c) = inr (c.xid, refl)
+
+  told_sent : (sent : Option Sending) (o : Outcome World) → MatchOption sent (o ≡ Refuses) (λ s. Answers w s o) → IsTold o
+  told_sent None o does = subst IsTold (sym does) (inl tt)
+  told_sent (Some s) o does = told_call s o does
+
+  told_command : (c : Command) (o : Outcome World) → Does w c o → IsTold o
+  told_command (command.Ring nodes replicas) o does = subst IsTold (sym does) (told_if _ _)
+  told_command (command.Log log id seed) o does = subst IsTold (sym does) (told_if _ _)
+  told_command (command.View view members former) o does =
+      subst IsTold (sym does) (told_either (is_some (view_named w view)) Refuses (view_by w view (keys_of w members) (keys_of w former)) (inl tt) (told_of_keys view (keys_of w members) (keys_of w former)))
+  told_command (command.Use log view) o does = subst IsTold (sym does) (told_entering (participant w log) (view_named w view))
+  told_command (command.At sec nsec) o does = subst IsTold (sym does) (told_if _ _)
+  told_command (command.As log pieces) o does = told_sent (sending_of w log pieces) o does
+  told_command (command.Order log) o does = subst IsTold (sym does) (told_order (participant w log))
+  told_command command.Nothing o does = subst IsTold (sym does) (inl (other_word [] 0 refl (λ e. omega (arith, e))))
+  told_command command.End o does = subst IsTold (sym does) (inl tt)
+
+  told_line : (c : Option Command) (o : Outcome World) → MayDo w c o → IsTold o
+  told_line None o does = subst IsTold (sym does) (inl tt)
+  told_line (Some c) o does = told_command c o does
+
+  told_cases : (c : Option Command) (o : Outcome World) → Cases w c o → IsTold o
+  told_cases c o (inl e) = subst IsTold (sym e) (inl tt)
+  told_cases c o (inr (inl e)) = subst IsTold (sym e) (inl tt)
+  told_cases c o (inr (inr does)) = told_line c o does
+
+pub memory_or_not : (w : World) (line : List ℕ) (outcome : Outcome World) → IvyStep w line outcome → HasMemory w line outcome ⊎ Says LacksShown outcome
+memory_or_not w line outcome does = told_cases w line (command_of line) outcome (cases_of w (command_of line) outcome does)
 
 -- ---- where memory isn't wanting, one thing
 
--- a call of the superuser's is answered SYSTEM_ERR in that line
-lacks_line : (m : List ℕ) → Begins m → (c : CallMessage) → IsCall m c → reply_line (reply c.xid SystemError) ≡ lacks_memory_line
-lacks_line m begins c is_call =
-    let same : c ≡ call_record begins.procedure begins.rest = one_call m c (call_record begins.procedure begins.rest) is_call (begins_is_call m begins) in
-    ap (λ (d : CallMessage). reply_line (reply d.xid SystemError)) same
-
-module _ (w : World) (apart : NamesTellApart w.blocks.found) (s : Sending) (begins : Begins s.message) (line : List ℕ) where
-  this_call : CallMessage
-  this_call = call_record begins.procedure begins.rest
-
-  is_this : IsCall s.message this_call
-  unfolding this_call
-  is_this = begins_is_call s.message begins
-
+module _ (w : World) (apart : NamesTellApart w.blocks.found) (s : Sending) (line : List ℕ) where
   same_turn : (xid other_xid : ℕ) (asked other : Asked) (candidates others : List Candidate) (turned next : Turned)
       → Asks s.message xid asked → Asks s.message other_xid other → Refreshes w s.by s.view candidates → Refreshes w s.by s.view others
       → IsTurn (agent_of s.by s.view) s.by.known candidates asked w.now turned → IsTurn (agent_of s.by s.view) s.by.known others other w.now next
       → answered w s.by xid turned ≡ answered w s.by other_xid next
   same_turn xid other_xid asked other candidates others turned next asks asks_other has has_others takes takes_other =
-      let ask = one_asked s.message this_call is_this xid other_xid asked other asks asks_other in
+      let ask = one_asked s.message xid other_xid asked other asks asks_other in
       let chains : others ≡ candidates = candidates_are_one (heads_at w.heads) w.blocks.found s.view s.by.own (front s.by.known) s.by.known others candidates apart has_others has in
       let same : turned ≡ next = turn_is_one (agent_of s.by s.view) s.by.known candidates asked w.now turned next takes
       (subst (λ (a : Asked). IsTurn (agent_of s.by s.view) s.by.known candidates a w.now next) (sym ask.1)
@@ -160,21 +231,21 @@ module _ (w : World) (apart : NamesTellApart w.blocks.found) (s : Sending) (begi
 
   same_call : (o p : Outcome World) → Answers w s o → Answers w s p → HasMemory w line o → HasMemory w line p → o ≡ p
   same_call _ _ (by_message given is) (by_message other is_other) enough enough_p =
-      ap (λ (g : Option (List ℕ)). Goes (replied w None) (shown_reply g)) (one_reply s.message this_call is_this given other is is_other)
-  same_call _ _ (by_message given is) (by_turn xid asked candidates turned asks has takes) enough enough_p = absurd (reply_or_turn s.message this_call is_this given xid asked is asks)
-  same_call _ _ (by_turn xid asked candidates turned asks has takes) (by_message given is) enough enough_p = absurd (reply_or_turn s.message this_call is_this given xid asked is asks)
+      ap (λ (g : Option (List ℕ)). Goes (counted w g nothing_given) (shown_reply g)) (one_reply s.message given other is is_other)
+  same_call _ _ (by_message given is) (by_turn xid asked candidates turned asks has takes) enough enough_p = absurd (reply_or_turn s.message given xid asked is asks)
+  same_call _ _ (by_turn xid asked candidates turned asks has takes) (by_message given is) enough enough_p = absurd (reply_or_turn s.message given xid asked is asks)
   same_call _ _ (by_turn xid asked candidates turned asks has takes) (by_turn other_xid other others next asks_other has_others takes_other) enough enough_p =
       same_turn xid other_xid asked other candidates others turned next asks asks_other has has_others takes takes_other
-  same_call _ p (out_of_memory c is_c) q enough enough_p = absurd (enough (lacks_line s.message begins c is_c))
-  same_call _ _ (by_message given is) (out_of_memory d is_d) enough enough_p = absurd (enough_p (lacks_line s.message begins d is_d))
-  same_call _ _ (by_turn xid asked candidates turned asks has takes) (out_of_memory d is_d) enough enough_p = absurd (enough_p (lacks_line s.message begins d is_d))
+  same_call _ p (out_of_memory c is_c) q enough enough_p = absurd (enough (c.xid, refl))
+  same_call _ _ (by_message given is) (out_of_memory d is_d) enough enough_p = absurd (enough_p (d.xid, refl))
+  same_call _ _ (by_turn xid asked candidates turned asks has takes) (out_of_memory d is_d) enough enough_p = absurd (enough_p (d.xid, refl))
 
 module _ (w : World) (apart : NamesTellApart w.blocks.found) (line : List ℕ) where
   same_sent : (name : List ℕ) (pieces : List Piece) (sent : Option Sending) → sending_of w name pieces ≡ sent → (o p : Outcome World)
       → MatchOption sent (o ≡ Refuses) (λ s. Answers w s o) → MatchOption sent (p ≡ Refuses) (λ s. Answers w s p)
       → HasMemory w line o → HasMemory w line p → o ≡ p
   same_sent name pieces None e o p does does_p enough enough_p = does ∙ sym does_p
-  same_sent name pieces (Some s) e o p does does_p enough enough_p = same_call w apart s (sends w name pieces s e) line o p does does_p enough enough_p
+  same_sent name pieces (Some s) e o p does does_p enough enough_p = same_call w apart s line o p does does_p enough enough_p
 
   same_command : (c : Command) (o p : Outcome World) → Does w c o → Does w c p → HasMemory w line o → HasMemory w line p → o ≡ p
   same_command (command.Ring nodes replicas) o p does does_p enough enough_p = does ∙ sym does_p

@@ -2,7 +2,7 @@
 use Rattle.std.specs.Prelude.{◌≡◌, ◌⊎◌, ℕ, ◌<◌, List, length}
 use Rattle.ivy_base.specs.Naming.{NamesTellApart}
 use Rattle.script_driver.specs.Run.{Outcome, Goes, Ran, Runs, WithLaw, HasPiece, line_limit}
-use Rattle.play_model.specs.Step.{IvyStep, HasMemory, lacks_memory_line}
+use Rattle.play_model.specs.Step.{IvyStep, HasMemory, LacksShown}
 use Rattle.play_model.specs.World.{World}
 
 -- each line does something in each world, so each script has a run
@@ -21,4 +21,4 @@ FullRunsAreOne = (w : World) (number : ℕ) (lines : List (List ℕ)) (first sec
 -- a run in which a call is refused so shows it
 abbrev pub WantOfMemoryIsShown : Type 0
 WantOfMemoryIsShown = (w : World) (number : ℕ) (lines : List (List ℕ)) (ran : Ran) → Runs IvyStep w number lines ran
-    → Runs (WithLaw IvyStep HasMemory) w number lines ran ⊎ HasPiece lacks_memory_line ran.text
+    → Runs (WithLaw IvyStep HasMemory) w number lines ran ⊎ HasPiece LacksShown ran.text

@@ -2,7 +2,7 @@
 
 use crate::ends::{Course, Halting, Slow};
 use ivy_base::{Bytes, Memory};
-use ivy_io::{MemSink, MemSource, StdSink, StdSource};
+use ivy_io::{Failing, MemSink, MemSource, StdSink, StdSource};
 use ivy_play::{Status, play};
 use std::alloc::Global;
 
@@ -15,27 +15,27 @@ pub struct Run {
 
 /// The numbers of the read and of the write that fail, from 1. None has the number 0.
 #[derive(Clone, Copy)]
-pub struct Failing {
+pub struct Plan {
     pub read: u64,
     pub write: u64,
 }
 
-impl Failing {
+impl Plan {
     /// Each call goes well.
-    pub const NONE: Failing = Failing { read: 0, write: 0 };
+    pub const NONE: Plan = Plan { read: 0, write: 0 };
 }
 
 /// A source of the script, and a sink, of which these calls fail.
-fn memory(alloc: Global, script: &[u8], failing: Failing) -> Result<(MemSource, MemSink), Memory> {
+fn memory(alloc: Global, script: &[u8], plan: Plan) -> Result<(MemSource, MemSink), Memory> {
     let script = Bytes::copy_of(alloc, script)?;
-    let source = MemSource::new(script, vec![in alloc; failing.read]?);
-    let sink = MemSink::new(alloc, vec![in alloc; failing.write]?);
+    let source = MemSource::new(script, Failing::of(vec![in alloc; plan.read]?));
+    let sink = MemSink::new(alloc, Failing::of(vec![in alloc; plan.write]?));
     Ok((source, sink))
 }
 
 /// The run over bytes in memory.
-pub fn played(alloc: Global, script: &[u8], failing: Failing) -> Result<Run, Memory> {
-    let (mut source, mut sink) = memory(alloc, script, failing)?;
+pub fn played(alloc: Global, script: &[u8], plan: Plan) -> Result<Run, Memory> {
+    let (mut source, mut sink) = memory(alloc, script, plan)?;
     let status = play(alloc, &mut source, &mut sink);
     let text = sink.written().to_vec(alloc)?;
     Ok(Run { status, text })
@@ -43,7 +43,7 @@ pub fn played(alloc: Global, script: &[u8], failing: Failing) -> Result<Run, Mem
 
 /// The run by reads and writes of one byte each.
 pub fn played_slowly(alloc: Global, script: &[u8]) -> Result<Run, Memory> {
-    let (source, sink) = memory(alloc, script, Failing::NONE)?;
+    let (source, sink) = memory(alloc, script, Plan::NONE)?;
     let mut source = Slow { inner: source };
     let mut sink = Slow { inner: sink };
     let status = play(alloc, &mut source, &mut sink);
@@ -62,6 +62,6 @@ pub fn played_over_std(alloc: Global, script: &[u8], reads: Course, writes: Cour
         course: writes,
     });
     let status = play(alloc, &mut source, &mut sink);
-    let text = sink.writer.inner;
+    let text = sink.into_writer().inner;
     Run { status, text }
 }

@@ -2,7 +2,7 @@
 
 use crate::ends::Course;
 use crate::forms::put_line;
-use crate::runs::{Failing, Run, played, played_over_std, played_slowly};
+use crate::runs::{Plan, Run, played, played_over_std, played_slowly};
 use crate::told::{put_brief, put_run};
 use ivy_base::Memory;
 use ivy_play::Status;
@@ -63,10 +63,10 @@ impl Trial {
         match words.as_slice() {
             ["----", "open"] => {
                 let open = script.strip_suffix(b"\n".as_slice()).unwrap_or(script);
-                put_run(alloc, &mut told, &played(alloc, open, Failing::NONE)?, "")?;
+                put_run(alloc, &mut told, &played(alloc, open, Plan::NONE)?, "")?;
             }
             ["----", "brief"] => {
-                put_brief(alloc, &mut told, &played(alloc, script, Failing::NONE)?)?
+                put_brief(alloc, &mut told, &played(alloc, script, Plan::NONE)?)?
             }
             ["----", "slow"] => put_run(alloc, &mut told, &played_slowly(alloc, script)?, "")?,
             ["----", "reads"] => put_reads(alloc, &mut told, script)?,
@@ -75,7 +75,7 @@ impl Trial {
                 let run = played_over_std(alloc, script, course_of(reads), course_of(writes));
                 put_run(alloc, &mut told, &run, "")?;
             }
-            _ => put_run(alloc, &mut told, &played(alloc, script, Failing::NONE)?, "")?,
+            _ => put_run(alloc, &mut told, &played(alloc, script, Plan::NONE)?, "")?,
         }
         Ok(told)
     }
@@ -85,14 +85,14 @@ impl Trial {
         let mut script = self.script.as_slice().to_vec(alloc)?;
         put_line(alloc, &mut script, line)?;
         script.extend_from_slice(b"end\n".as_slice())?;
-        played(alloc, script.as_slice(), Failing::NONE)
+        played(alloc, script.as_slice(), Plan::NONE)
     }
 }
 
 /// Tells the runs in which one read fails, up to the first in which none does.
 fn put_reads(alloc: Global, told: &mut Vec<u8>, script: &[u8]) -> Result<(), Memory> {
     for read in 1..=MOST_RUNS {
-        let run = played(alloc, script, Failing { read, write: 0 })?;
+        let run = played(alloc, script, Plan { read, write: 0 })?;
         put_run(
             alloc,
             told,
@@ -109,7 +109,7 @@ fn put_reads(alloc: Global, told: &mut Vec<u8>, script: &[u8]) -> Result<(), Mem
 /// Tells the runs in which one write fails, up to the first in which none does.
 fn put_writes(alloc: Global, told: &mut Vec<u8>, script: &[u8]) -> Result<(), Memory> {
     for write in 1..=MOST_RUNS {
-        let run = played(alloc, script, Failing { read: 0, write })?;
+        let run = played(alloc, script, Plan { read: 0, write })?;
         put_run(
             alloc,
             told,

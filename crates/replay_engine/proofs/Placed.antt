@@ -20,7 +20,8 @@ use Rattle.record_sets.specs.Rows.{IsRow, union}
 use Rattle.record_sets.proofs.Unions.{union_in_order, spelled_in_order}
 use Rattle.log_records.specs.Places.{merge_place}
 use Rattle.log_records.proofs.PlaceLemmas.{is_under, place_cons, place_within, under_place}
-use Rattle.replay_engine.specs.Places.{first_place, AreNew, AreBehind, applied_for, start_of}
+use Rattle.replay_engine.specs.Places.{first_place, AreNew, AreBehind, start_of}
+use Rattle.turn_model.specs.Work.{applied_for}
 
 reversed : (o : Ordering) → is_lt o ≡ true → ordering_reverse o ≡ Greater
 reversed Less h = refl

@@ -1,5 +1,5 @@
--- Where new records go among held ones, and how many records are applied for that.
-use Rattle.std.specs.Prelude.{ℕ, ◌+◌, ◌-◌, ◌*◌, ◌/◌, ◌%◌, ◌==◌, not, IsTrue, List, [], ◌∷◌, length, if◌then◌else◌}
+-- Where new records go among held ones.
+use Rattle.std.specs.Prelude.{ℕ, ◌-◌, ◌%◌, ◌==◌, not, IsTrue, List, [], ◌∷◌, length, if◌then◌else◌}
 use Rattle.std.specs.List.{AllByRecursion}
 use Rattle.std.specs.Ordering.{is_lt, is_eq}
 use Rattle.log_model.specs.Record.{Record}
@@ -18,10 +18,6 @@ AreNew held more = AllByRecursion (λ r. AllByRecursion (λ q. IsTrue (not (is_e
 -- each new record is behind each held one
 abbrev pub AreBehind : List Record → List Record → Type 0
 AreBehind held more = AllByRecursion (λ r. AllByRecursion (λ q. IsTrue (is_lt (record_cmp q r))) held) more
-
--- how many records are applied: the new ones where they go last, and else all from the last multiple of 64 at or before the first place on
-abbrev pub applied_for : ℕ → ℕ → ℕ → ℕ
-applied_for held more place = if place == held then more else held + more - 64 * (place / 64)
 
 -- where a replay begins that puts records in at the place: there, where it is the end, and else at the last multiple of 64 at or before it
 abbrev pub start_of : ℕ → ℕ → ℕ

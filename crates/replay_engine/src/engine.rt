@@ -8,7 +8,8 @@ ghost use Rattle.log_records.specs.Records.{records_of};
 ghost use Rattle.record_sets.specs.Rows.{IsRow};
 ghost use Rattle.turn_model.specs.Basis.{kept_tree};
 ghost use Rattle.fs_tree.specs.Bases.{basis_of};
-ghost use Rattle.replay_engine.specs.Places.{AreNew, AreBehind, applied_for, first_place, start_of};
+ghost use Rattle.replay_engine.specs.Places.{AreNew, AreBehind, first_place, start_of};
+ghost use Rattle.turn_model.specs.Work.{applied_for};
 ghost use Rattle.replay_engine.specs.Engines.{holding, taken_in, undone};
 
 use crate::copies::copy_records;

@@ -13,7 +13,7 @@
 //! records above its tide, the tree is the replay of that set and of the records of the calls that stand.
 //!
 //! How many records are applied is exact, each with a step: for m new records of which the first goes to place p among n
-//! held ones, m where p = n, and n + m - 64 * (p / 64) otherwise (`applied_for` in `specs/Places.antt`). A step is one turn of
+//! held ones, m where p = n, and n + m - 64 * (p / 64) otherwise (`applied_for` in `turn_model`). A step is one turn of
 //! the loop in `replaying`, which ticks and applies one record. That nothing else here applies records is to be read.
 //!
 //! Inside, `replaying` is that loop, `state` the records, the tree and the checkpoints, with what a call replaces of them,

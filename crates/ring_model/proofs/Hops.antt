@@ -8,12 +8,12 @@ use Rattle.std.proofs.lemmas.Nat.{mod-mul-add, mod_below, pow_pos}
 use Rattle.ring_model.specs.Arc.{is_inside}
 use Rattle.ring_model.specs.Members.{IsAmong, first, IsAscending, following, from_place}
 use Rattle.ring_model.specs.Ring.{Links, start, IsSettledRing}
-use Rattle.ring_model.specs.Route.{Route, IsNearestFirst, IsRoute}
+use Rattle.ring_model.specs.Route.{Route, HasOneAtEach, IsNearestFirst, IsRoute}
 use Rattle.ring_model.specs.Lookup.{IsLookup, answers_in, IsFate}
 use Rattle.ring_model.specs.Lookup.IsLookup.{over, spent, known, silent, answered}
 use Rattle.ring_model.proofs.Lists.{among-right, among-cases, all-among, among_filtered, filter_gives, some_same, among_take, among_index, index_among, among_filter, first_among, first_of}
 use Rattle.ring_model.proofs.Arcs.{is_inside-itself, is_inside-later}
-use Rattle.ring_model.proofs.Members.{among_live, ascending_filter, all_from_place, from_place_live}
+use Rattle.ring_model.proofs.Members.{among_live, same_member, ascending_filter, all_from_place, from_place_live}
 
 -- how far b is clockwise behind a, of t places
 abbrev pub ahead : ℕ → ℕ → ℕ → ℕ
@@ -128,20 +128,24 @@ module _ {A : Type 0} (place : A → ℕ) (r bits : ℕ) (live : List A) (lives 
       let e : get_or (ring n).fingers i.0 n ≡ f.0 = some_same (get_or (ring n).fingers i.0 n) f.0 (s.fingers n i.0 ln (omega arith) ∙ f.1) in
       subst (λ z. IsAmong z live) (sym e ∙ i.2) (from_place_live place live (start place bits n i.0) f.0 f.2)
 
-module _ {A : Type 0} (place : A → ℕ) (r bits : ℕ) (live : List A) (lives : A → Bool) (ring : A → Links A) (key : ℕ) (s : IsSettledRing place r bits live lives ring) (p : A) (lp : IsAmong p live) (last : (m : A) → IsAmong m live → is_inside (place p) (place m) key ≡ false) where
   pub named_live : (n m : A) → IsAmong n live → IsAmong m ((ring n).list ++ (ring n).fingers) → IsAmong m live
   named_live n m ln h =
       ⊎_elim
       (λ i. among_live place live n m (among_take (2 * r) m (following place live n) (subst (IsAmong m) (s.lists n ln) i)))
-      (λ i. finger_lives place r bits live lives ring s n m ln i)
+      (λ i. finger_lives n m ln i)
       (among-cases m (ring n).list (ring n).fingers h)
 
+  -- all that a node knows are members, so that one place has one of them
+  pub settled_has_one : (n : A) → IsAmong n live → HasOneAtEach place (ring n)
+  settled_has_one n ln x y ix iy e = same_member place live x y s.ascending (named_live n x ln ix) (named_live n y ln iy) e
+
+module _ {A : Type 0} (place : A → ℕ) (r bits : ℕ) (live : List A) (lives : A → Bool) (ring : A → Links A) (key : ℕ) (s : IsSettledRing place r bits live lives ring) (p : A) (lp : IsAmong p live) (last : (m : A) → IsAmong m live → is_inside (place p) (place m) key ≡ false) where
   -- the way from the nearest node that n names is less than half the way from n
   pub hop : (n x : A) (xs : List A) (route : Route A) (j : ℕ) → IsAmong n live → IsRoute place r n (ring n) key route → route.nearer ≡ x ∷ xs → j ≤ bits → ahead (2 ^ bits) (place n) (place p) < 2 ^ j
       → (i : ℕ) × (i < j) × (ahead (2 ^ bits) (place x) (place p) < 2 ^ i)
   hop n x xs route j ln ro e jb short =
       let x_in : IsAmong x route.nearer = subst (IsAmong x) (sym e) (inl refl) in
-      let lx : IsAmong x live = named_live n x ln (ro.from x x_in) in
+      let lx : IsAmong x live = named_live place r bits live lives ring s n x ln (ro.from x x_in) in
       let wn : place n < 2 ^ bits = s.within n ln in
       let wp : place p < 2 ^ bits = s.within p lp in
       let wx : place x < 2 ^ bits = s.within x lx in
@@ -189,16 +193,16 @@ module _ {A : Type 0} (place : A → ℕ) (r bits : ℕ) (live : List A) (lives 
   answers_after (spent many) fates n route j e ln ro passed jb short = omega arith
   answers_after (known {p = q} {ps = ps} k more) fates n route j e ln ro passed jb short =
       let q_in : IsAmong q route.nearer = subst (IsAmong q) e (inl refl) in
-      absurd (true≢false (sym (ro.inside q q_in) ∙ passed q k (s.lives_all q (named_live n q ln (ro.from q q_in)))))
+      absurd (true≢false (sym (ro.inside q q_in) ∙ passed q k (s.lives_all q (named_live place r bits live lives ring s n q ln (ro.from q q_in)))))
   answers_after (silent {p = q} {ps = ps} few new more) fates n route j e ln ro passed jb short =
       let q_in : IsAmong q route.nearer = subst (IsAmong q) e (inl refl) in
-      absurd (true≢false (sym (s.lives_all q (named_live n q ln (ro.from q q_in))) ∙ fates.0))
+      absurd (true≢false (sym (s.lives_all q (named_live place r bits live lives ring s n q ln (ro.from q q_in))) ∙ fates.0))
   answers_after (answered {asked = asked} {p = q} {ps = ps} {route = there} few new more) fates n route j e ln ro passed jb short =
       let q_in : IsAmong q route.nearer = subst (IsAmong q) e (inl refl) in
       let h = hop n q ps route j ln ro (sym e) jb short in
       let i : ℕ = h.0 in
       let ij : i < j = h.1 in
-      let rest = answers_after more fates.1 q there i refl (named_live n q ln (ro.from q q_in)) fates.0.1 (behind q_in) (omega arith) h.2 in
+      let rest = answers_after more fates.1 q there i refl (named_live place r bits live lives ring s n q ln (ro.from q q_in)) fates.0.1 (behind q_in) (omega arith) h.2 in
       omega arith
     where
       behind : IsAmong q route.nearer → (m : A) → IsAmong m (q ∷ asked) → lives m ≡ true → is_inside (place q) (place m) key ≡ false

@@ -6,7 +6,7 @@ use Rattle.std.proofs.lemmas.List.{append-nil}
 use Rattle.ring_model.specs.Arc.{is_inside}
 use Rattle.ring_model.specs.Members.{IsAmong, first}
 use Rattle.ring_model.specs.Ring.{Links}
-use Rattle.ring_model.specs.Route.{with_nearer, nearer_with, route_of, IsNearestFirst, IsRoute}
+use Rattle.ring_model.specs.Route.{with_nearer, nearer_with, route_of, HasOneAtEach, IsNearestFirst, IsRoute}
 use Rattle.ring_model.proofs.Lists.{among-left, among-right, among-cases, all-among, all_from}
 use Rattle.ring_model.proofs.Arcs.{is_inside-later}
 
@@ -110,7 +110,7 @@ module _ {A : Type 0} (place : A → ℕ) where
       }
 
   -- where one place has one member among the entries, the computed route is a route
-  pub route_is : (r : ℕ) (n : A) (links : Links A) (key : ℕ) → ((y z : A) → IsAmong y (links.list ++ links.fingers) → IsAmong z (links.list ++ links.fingers) → place y ≡ place z → y ≡ z) → IsRoute place r n links key (route_of place r n links key)
+  pub route_is : (r : ℕ) (n : A) (links : Links A) (key : ℕ) → HasOneAtEach place links → IsRoute place r n links key (route_of place r n links key)
   route_is r n links key u =
       let none : AreFound n key [] [] = record { inside = λ m h. elim h [ ]; whole = λ m h i. elim h [ ]; from = λ m h. h; order = tt } in
       let lists = found_with n key [] [] links.list (λ y z i j. u y z (among-left y links.list links.fingers i) (among-left z links.list links.fingers j)) none in

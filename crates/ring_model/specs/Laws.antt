@@ -3,13 +3,21 @@ use Rattle.std.specs.Prelude.{◌≡◌, ℕ, suc, ◌*◌, ◌<◌, ◌≤◌, 
 use Rattle.std.specs.List.{AllByRecursion}
 use Rattle.ring_model.specs.Members.{IsAmong, following, owners, is_other}
 use Rattle.ring_model.specs.Ring.{Links, IsCoveredRing, IsSettledRing}
-use Rattle.ring_model.specs.Route.{Route}
+use Rattle.ring_model.specs.Route.{Route, route_of, HasOneAtEach, IsRoute}
 use Rattle.ring_model.specs.Lookup.{IsLookup, IsFate, AreNames, answers_in}
 use Rattle.ring_model.specs.Round.{IsRound}
 use Rattle.ring_model.specs.Change.{AreFewStops, IsJoin}
 use Rattle.ring_model.specs.Blocks.{IsAtLeast, AreMoved}
 
 module _ {A : Type 0} (place : A → ℕ) where
+  -- The route that a node computes is one that it may answer, where among its entries and fingers one place has one node.
+  abbrev pub ComputedIsRoute : Type 0
+  ComputedIsRoute = (r : ℕ) (n : A) (links : Links A) (key : ℕ) → HasOneAtEach place links → IsRoute place r n links key (route_of place r n links key)
+
+  -- In a settled ring that is so at each member.
+  abbrev pub SettledHasOneAtEach : Type 0
+  SettledHasOneAtEach = (r bits : ℕ) (live : List A) (lives : A → Bool) (ring : A → Links A) → IsSettledRing place r bits live lives ring → (n : A) → IsAmong n live → HasOneAtEach place (ring n)
+
   -- A look-up in a covered ring whose entries have a live node, and in which at most 512 nodes are named in all,
   -- ends with a list whose first r live nodes are the key's owners, in their order.
   abbrev pub LookupFinds : Type 0

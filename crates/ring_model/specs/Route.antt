@@ -33,6 +33,10 @@ module _ {A : Type 0} (place : A → ℕ) where
   abbrev pub route_of : ℕ → A → Links A → ℕ → Route A
   route_of r n links key = record { nearer = nearer_part n links key; owners = owners_part r n links.list key }
 
+  -- among a node's entries and fingers one place has one node
+  abbrev pub HasOneAtEach : Links A → Type 0
+  HasOneAtEach links = (x y : A) → IsAmong x (links.list ++ links.fingers) → IsAmong y (links.list ++ links.fingers) → place x ≡ place y → x ≡ y
+
   -- each is nearer to the key than those after it
   abbrev pub IsNearestFirst : ℕ → List A → Type 0
   IsNearestFirst key [] = ⊤

@@ -1,7 +1,7 @@
 //! What holds of each ring.
 
 ghost use Rattle.std.specs.Prelude.{ℕ};
-ghost use Rattle.ring_model.specs.Laws.{LookupFinds, LookupIsShort, FewStopsLeaveCovered, RoundMendsStops, JoinFindsList, RoundMendsJoin, OwnersHold, OthersDrop, BlockStays};
+ghost use Rattle.ring_model.specs.Laws.{ComputedIsRoute, SettledHasOneAtEach, LookupFinds, LookupIsShort, FewStopsLeaveCovered, RoundMendsStops, JoinFindsList, RoundMendsJoin, OwnersHold, OthersDrop, BlockStays};
 
 /// What has a place on the circle.
 pub trait Placed {
@@ -9,8 +9,11 @@ pub trait Placed {
     ghost place: { Self → ℕ };
 }
 
-/// Laws of look-ups: in a covered ring they find the owners, and in a settled one soon.
+/// Laws of look-ups: what a node computes is a route where it knows one node at a place, as in a settled ring, and by
+/// routes they find the owners in a covered ring, and in a settled one soon.
 pub fn lookup_laws<P: Placed>()
+    ensures routes { ComputedIsRoute P.place }
+    ensures places { SettledHasOneAtEach P.place }
     ensures finds { LookupFinds P.place }
     ensures short { LookupIsShort P.place }
 {}

@@ -27,7 +27,8 @@ impl Mesh for Lone {
                 owners: self.entries(alloc)?,
             },
             Ask::PutBlock(..) | Ask::PutHead(..) => Answer::Refused(StoreFault::Full),
-            _ => Answer::Nothing,
+            Ask::Get(_) => Answer::Nothing,
+            Ask::Near | Ask::Notify(_) => unreachable!(),
         })
     }
 

@@ -57,11 +57,12 @@ use dht_ids::Peer;
 use std::io;
 use table::Table;
 
-/// The laws of rings hold of peers: each is said at them.
+/// The laws of rings hold of peers: each is said at them, and those of look-ups at what nodes answer.
 fn laws() {
     ring_model::lookup_laws::<Peer>();
     ring_model::round_laws::<Peer>();
     ring_model::block_laws::<Peer>();
+    chord_core::answer_laws();
 }
 
 fn main(rt: HostRuntime) -> io::Result<()> {

@@ -2,7 +2,7 @@
 use Rattle.std.proofs.Common.{◌≡◌, [], ◌∷◌, ◌++◌, replicate, codes, Some, None, refl}
 use Rattle.hex.proofs.OnLiterals.{hex_on_literals}
 use Rattle.play_model.specs.Script.{command_of}
-use Rattle.play_model.specs.declared.command.Piece.TheVariants.{Call, Root, HandleOf, Text, Mode}
+use Rattle.play_model.specs.declared.command.Piece.TheVariants.{Call, Root, HandleOf, VerifierOf, Text, Opaque, Mode, Word, DoubleWord, Raw}
 use Rattle.play_model.specs.declared.command.Command.TheVariants as command
 
 ring : command_of (codes "ring 1 1") ≡ Some (command.Ring 1 1)
@@ -33,13 +33,41 @@ moment : command_of (codes "at 5 0") ≡ Some (command.At 5 0)
 unfolding command_of
 moment = refl
 
-call : command_of (codes "as a nfs:9:0:0 root s:a sa:493") ≡ Some (command.As (codes "a") (Call 9 0 0 ∷ Root ∷ Text (codes "a") ∷ Mode 493 ∷ []))
+call : command_of (codes "as a nfs:9:0:0 root s:a sa:493") ≡ Some (command.As (codes "a") (Call 9 0 0 0 ∷ Root ∷ Text (codes "a") ∷ Mode 493 ∷ []))
 unfolding command_of
 call = refl
 
-call_of_a_handle : command_of (codes "as a nfs:3:0:0 h:1 s:a") ≡ Some (command.As (codes "a") (Call 3 0 0 ∷ HandleOf 1 ∷ Text (codes "a") ∷ []))
+call_of_a_handle : command_of (codes "as a nfs:3:0:0 h:1 s:a") ≡ Some (command.As (codes "a") (Call 3 0 0 0 ∷ HandleOf 1 ∷ Text (codes "a") ∷ []))
 unfolding command_of
 call_of_a_handle = refl
+
+call_of_groups : command_of (codes "as a nfs:16:1:2:17 h:1 w:0 v:3 u:4096") ≡ Some (command.As (codes "a") (Call 16 1 2 17 ∷ HandleOf 1 ∷ DoubleWord 0 ∷ VerifierOf 3 ∷ Word 4096 ∷ []))
+unfolding command_of
+call_of_groups = refl
+
+bytes_and_data : command_of (codes "as a 00ff o:18446744073709551615:41") ≡ Some (command.As (codes "a") (Raw (0 ∷ 255 ∷ []) ∷ Opaque 18446744073709551615 65 ∷ []))
+unfolding command_of hex_on_literals
+bytes_and_data = refl
+
+last_group_too_great : command_of (codes "as a nfs:0:0:1:4294967295") ≡ None
+unfolding command_of
+last_group_too_great = refl
+
+too_many_bytes : command_of (codes "as a o:18446744073709551616:41") ≡ None
+unfolding command_of
+too_many_bytes = refl
+
+odd_digits : command_of (codes "as a 00f") ≡ None
+unfolding command_of hex_on_literals
+odd_digits = refl
+
+empty_word : command_of (codes "as a 00 ") ≡ None
+unfolding command_of hex_on_literals
+empty_word = refl
+
+no_program : command_of (codes "as a mnt:0:0:0") ≡ None
+unfolding command_of hex_on_literals
+no_program = refl
 
 order : command_of (codes "order a") ≡ Some (command.Order (codes "a"))
 unfolding command_of

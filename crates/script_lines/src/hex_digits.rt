@@ -1,4 +1,4 @@
-//! Identifiers and seeds, in hexadecimal digits.
+//! Hexadecimal digits: identifiers and seeds.
 
 ghost use Rattle.std.specs.Prelude.{◌≡◌, ◌-◌, ◌++◌, ◌&&◌, nat_le, length, replicate, if◌then◌else◌};
 ghost use Rattle.std.specs.List.{list_all};
@@ -7,7 +7,7 @@ ghost use Rattle.play_model.specs.Script.{hex_bytes, is_lower_hex};
 use hex::FromHex;
 
 /// Whether all bytes are hexadecimal digits with lower-case letters.
-fn are_lower_hex(word: &[u8]) -> bool
+pub fn are_lower_hex(word: &[u8]) -> bool
     ensures { result ≡ list_all is_lower_hex word.now }
 {
     word.iter()

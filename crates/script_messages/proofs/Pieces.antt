@@ -3,6 +3,7 @@ use Rattle.std.proofs.Common.{◌≡◌, ◌<◌, ◌+◌, ℕ, Bool, true, fals
 use Rattle.std.specs.Prelude.{option_map, if◌then◌else◌}
 use Rattle.std.proofs.lemmas.List.{at_drop_more}
 use Rattle.log_model.specs.View.{View}
+use Rattle.play_model.specs.declared.command.Given.{Given}
 use Rattle.play_model.specs.declared.command.Piece.{Piece}
 use Rattle.play_model.specs.Messages.{piece_bytes, bytes_of_pieces}
 use Rattle.play_model.specs.Script.{◌>>=◌}
@@ -17,12 +18,12 @@ piece_in_front before after (Some b) (Some r) h =
     rw (← same, append_assoc) refl
 
 -- what is to be appended from piece i on is, once that piece is, to be appended from the next on
-pub one_more : (handles : List (Option (List ℕ))) (view : View) (pieces : List Piece) (i : ℕ) (piece : Piece) (before after : List ℕ) (is_put : Bool)
+pub one_more : (replies : List Given) (view : View) (pieces : List Piece) (i : ℕ) (piece : Piece) (before after : List ℕ) (is_put : Bool)
     → i < length pieces → piece ≡ get_or pieces i piece
-    → option_map (λ b. before ++ b) (piece_bytes handles view piece) ≡ (if is_put then Some after else None) → is_put ≡ true
-    → option_map (λ b. before ++ b) (bytes_of_pieces handles view (drop i pieces)) ≡ option_map (λ b. after ++ b) (bytes_of_pieces handles view (drop (i + 1) pieces))
-one_more handles view pieces i piece before after false inside is put done = cc done
-one_more handles view pieces i piece before after true inside is put done =
-    at_drop_more (λ ps. option_map (λ b. before ++ b) (bytes_of_pieces handles view ps)) pieces i piece inside
-    ∙ ap (λ p. option_map (λ b. before ++ b) (bytes_of_pieces handles view (p ∷ drop (i + 1) pieces))) (sym is)
-    ∙ piece_in_front before after (piece_bytes handles view piece) (bytes_of_pieces handles view (drop (i + 1) pieces)) put
+    → option_map (λ b. before ++ b) (piece_bytes replies view piece) ≡ (if is_put then Some after else None) → is_put ≡ true
+    → option_map (λ b. before ++ b) (bytes_of_pieces replies view (drop i pieces)) ≡ option_map (λ b. after ++ b) (bytes_of_pieces replies view (drop (i + 1) pieces))
+one_more replies view pieces i piece before after false inside is put done = cc done
+one_more replies view pieces i piece before after true inside is put done =
+    at_drop_more (λ ps. option_map (λ b. before ++ b) (bytes_of_pieces replies view ps)) pieces i piece inside
+    ∙ ap (λ p. option_map (λ b. before ++ b) (bytes_of_pieces replies view (p ∷ drop (i + 1) pieces))) (sym is)
+    ∙ piece_in_front before after (piece_bytes replies view piece) (bytes_of_pieces replies view (drop (i + 1) pieces)) put

@@ -2,13 +2,16 @@
 //!
 //! Layer: over `play_model`, which has the words, and `nfs3_objects`, which makes handles; below the world of a script.
 //! For the layer above: [`message`] gives exactly the bytes of the definition (`message_of` of `play_model`'s
-//! `specs/Messages.antt`), and none where the pieces are no call of the forms that are taken, or one has no value.
+//! `specs/Messages.antt`), and none where a piece has no bytes or they are too many for a message. No memory is taken for the
+//! latter.
 //!
-//! Inside, `forms` has the forms that are taken, and `spelling` appends the bytes of each piece.
+//! Inside, `lengths` tells how many bytes there are, `spelling` appends those of each piece, and `replies` has what earlier
+//! replies left.
 #![tactic(auto)]
 
-mod forms;
+mod lengths;
 pub mod messages;
+mod replies;
 mod spelling;
 
 pub use messages::message;

@@ -1,94 +1,165 @@
 //! The bytes of each piece.
 
-ghost use Rattle.std.specs.Prelude.{◌≡◌, ◌+◌, ◌≤◌, [], ◌++◌, option_map, Some, None, if◌then◌else◌, IfOk, OnOk};
-ghost use Rattle.wire_model.specs.Xdr.{word, opaque};
+ghost use Rattle.std.specs.Prelude.{◌≡◌, [], ◌++◌, option_map, replicate, Some, None, if◌then◌else◌, IfOk, OnOk};
+ghost use Rattle.std.specs.List.{flat_map};
+ghost use Rattle.wire_model.specs.Xdr.{word, opaque, padding};
 ghost use Rattle.ivy_base.specs.Naming.{root_number};
 ghost use Rattle.wire_model.specs.Rpc.{auth, system_body};
 ghost use Rattle.nfs_model.specs.Objects.{handle_of};
-ghost use Rattle.play_model.specs.Messages.{handle_numbered, call_head, piece_bytes};
+ghost use Rattle.play_model.specs.Messages.{call_head, mode_alone, numbers_behind, piece_bytes};
 
+use crate::replies::{handle_numbered, verifier_numbered};
 use fs_tree::ROOT;
-use ivy_base::{Bytes, Memory};
+use ivy_base::Memory;
 use nfs3_objects::handle_of;
-use play_model::Piece;
+use play_model::{Given, Piece};
 use std::alloc::Global;
 use view_blocks::View;
-use xdr_codec::XdrWrite;
 
 /// The number of every message: a script has one call at a time under way.
-const TRANSACTION: u32 = 1;
+const TRANSACTION: u64 = 1;
 
 /// That a message is a call, and the version of RPC (RFC 5531, section 9: CALL and rpcvers).
-const CALL: u32 = 0;
+const CALL: u64 = 0;
 
-const RPC_VERSION: u32 = 2;
+const RPC_VERSION: u64 = 2;
 
 /// NFS and its version (RFC 1813, section 3: NFS_PROGRAM and NFS_V3).
-const NFS_PROGRAM: u32 = 100_003;
+const NFS_PROGRAM: u64 = 100_003;
 
-const NFS_VERSION: u32 = 3;
+const NFS_VERSION: u64 = 3;
 
 /// The flavours of a verifier of no body and of a credential by user and group (RFC 5531, section 8.2).
-const AUTH_NONE: u32 = 0;
+const AUTH_NONE: u64 = 0;
 
-const AUTH_SYS: u32 = 1;
+const AUTH_SYS: u64 = 1;
 
-/// The bytes of a call's head.
-const HEAD: usize = 60;
+/// The bytes of a credential's body that has no name of a machine and no further groups, and those of a group.
+const CREDENTIAL_BODY: u64 = 20;
 
-/// The bytes of a credential's body that has no name of a machine and no further groups.
-const CREDENTIAL_BODY: u32 = 20;
+const GROUP: u64 = 4;
 
-/// The bytes of new attributes that give a mode alone.
-const ATTRIBUTES: usize = 28;
-
-/// Appends the head of a call of NFS version 3 (RFC 5531, section 9: rpc_msg and call_body).
-fn put_head(out: &mut XdrWrite, procedure: u32, uid: u32, gid: u32) -> Result<(), Memory>
-    ensures { OnOk result (out.new.written ≡ out.old.written ++ call_head procedure uid gid) }
+/// Appends bytes as they are.
+fn put(out: &mut Vec<u8>, bytes: &[u8]) -> Result<(), Memory>
+    ensures { OnOk result (out.new.items ≡ out.old.items ++ bytes.now) }
 {
-    out.reserve(HEAD)?;
-    out.put_u32(TRANSACTION);
-    out.put_u32(CALL);
-    out.put_u32(RPC_VERSION);
-    out.put_u32(NFS_PROGRAM);
-    out.put_u32(NFS_VERSION);
-    out.put_u32(procedure);
-    put_credential(out, uid, gid);
-    out.put_u32(AUTH_NONE);
-    out.put_opaque(&[]);
+    out.extend_from_slice(bytes)?;
     Ok(())
 }
 
-/// Appends a credential by user and group alone: its stamp is 0, and it has no name of a machine (RFC 5531, appendix A:
-/// authsys_parms).
-fn put_credential(out: &mut XdrWrite, uid: u32, gid: u32)
-    requires { 28 ≤ out.old.spare }
-    ensures written { out.new.written ≡ out.old.written ++ auth (record { flavour = 1; body = system_body 0 [] (record { uid = uid; gid = gid; groups = [] }) }) }
-    ensures spare { out.new.spare + 28 ≡ out.old.spare }
+/// Appends a number as a word (RFC 4506, section 4.2): of one that no word holds, the lowest four bytes.
+fn put_word(out: &mut Vec<u8>, number: u64) -> Result<(), Memory>
+    ensures { OnOk result (out.new.items ≡ out.old.items ++ word number) }
 {
-    out.put_u32(AUTH_SYS);
-    out.put_u32(CREDENTIAL_BODY);
-    out.put_u32(0);
-    out.put_opaque(&[]);
-    out.put_u32(uid);
-    out.put_u32(gid);
-    out.put_u32(0);
+    put(out, &number.to_be_bytes()[4..])
 }
 
-/// Appends opaque data of any length (RFC 4506, section 4.10). Of a count that no word holds it spells the lowest four bytes.
-fn put_data(out: &mut XdrWrite, bytes: &[u8]) -> Result<(), Memory>
-    ensures { OnOk result (out.new.written ≡ out.old.written ++ opaque bytes.now) }
+/// Appends numbers as words.
+fn put_words(out: &mut Vec<u8>, numbers: &[u64]) -> Result<(), Memory>
+    ensures { OnOk result (out.new.items ≡ out.old.items ++ flat_map word numbers.now) }
 {
-    let count = bytes.len().to_be_bytes();
-    out.reserve(bytes.len() + 8)?;
-    out.put_fixed(&count[4..]);
-    out.put_fixed(bytes);
+    for number in numbers {
+        put_word(out, *number)?;
+    }
+    Ok(())
+}
+
+/// Appends the numbers behind that one as words, so many.
+fn put_numbers_behind(out: &mut Vec<u8>, number: u32, count: u32) -> Result<(), Memory>
+    ensures { OnOk result (out.new.items ≡ out.old.items ++ flat_map word (numbers_behind number count)) }
+{
+    for place in 0..count {
+        put_word(out, u64::from(number) + u64::from(place) + 1)?;
+    }
+    Ok(())
+}
+
+/// Appends so many bytes of one kind.
+fn put_repeated(out: &mut Vec<u8>, count: usize, byte: u8) -> Result<(), Memory>
+    ensures { OnOk result (out.new.items ≡ out.old.items ++ replicate count byte) }
+{
+    let length = out.len().checked_add(count).ok_or(Memory)?;
+    out.resize(length, byte)?;
+    Ok(())
+}
+
+/// Appends the zeros behind opaque data of so many bytes, up to a multiple of four.
+fn put_padding(out: &mut Vec<u8>, count: usize) -> Result<(), Memory>
+    ensures { OnOk result (out.new.items ≡ out.old.items ++ padding count) }
+{
+    put_repeated(out, (4 - count % 4) % 4, 0)
+}
+
+/// Appends opaque data of any length (RFC 4506, section 4.10).
+fn put_data(out: &mut Vec<u8>, bytes: &[u8]) -> Result<(), Memory>
+    ensures { OnOk result (out.new.items ≡ out.old.items ++ opaque bytes.now) }
+{
+    put_word(out, bytes.len() as u64)?;
+    put(out, bytes)?;
+    put_padding(out, bytes.len())
+}
+
+/// Appends opaque data of so many bytes, each of which is that one.
+fn put_filled(out: &mut Vec<u8>, count: u64, byte: u8) -> Result<(), Memory>
+    ensures { OnOk result (out.new.items ≡ out.old.items ++ opaque (replicate count byte)) }
+{
+    put_word(out, count)?;
+    put_repeated(out, count as usize, byte)?;
+    put_padding(out, count as usize)
+}
+
+/// Appends a credential by user and group, and by so many groups behind it: its stamp is 0, and it has no name of a machine (RFC
+/// 5531, appendix A: authsys_parms).
+fn put_credential(out: &mut Vec<u8>, uid: u32, gid: u32, groups: u32) -> Result<(), Memory>
+    ensures { OnOk result (out.new.items ≡ out.old.items ++ auth (record { flavour = 1; body = system_body 0 [] (record { uid = uid; gid = gid; groups = numbers_behind gid groups }) })) }
+{
+    let groups_count = u64::from(groups);
+    let body = CREDENTIAL_BODY + GROUP * groups_count;
+    put_words(
+        out,
+        &[
+            AUTH_SYS,
+            body,
+            0,
+            0,
+            u64::from(uid),
+            u64::from(gid),
+            groups_count,
+        ],
+    )?;
+    put_numbers_behind(out, gid, groups)?;
+    Ok(())
+}
+
+/// Appends the head of a call of NFS version 3 (RFC 5531, section 9: rpc_msg and call_body).
+fn put_head(
+    out: &mut Vec<u8>,
+    procedure: u32,
+    uid: u32,
+    gid: u32,
+    groups: u32,
+) -> Result<(), Memory>
+    ensures { OnOk result (out.new.items ≡ out.old.items ++ call_head procedure (record { uid = uid; gid = gid; groups = numbers_behind gid groups })) }
+{
+    put_words(
+        out,
+        &[
+            TRANSACTION,
+            CALL,
+            RPC_VERSION,
+            NFS_PROGRAM,
+            NFS_VERSION,
+            u64::from(procedure),
+        ],
+    )?;
+    put_credential(out, uid, gid, groups)?;
+    put_words(out, &[AUTH_NONE, 0])?;
     Ok(())
 }
 
 /// Appends the handle of the root.
-fn put_root(alloc: Global, out: &mut XdrWrite, view: &View) -> Result<(), Memory>
-    ensures { OnOk result (out.new.written ≡ out.old.written ++ opaque (handle_of view.now root_number)) }
+fn put_root(alloc: Global, out: &mut Vec<u8>, view: &View) -> Result<(), Memory>
+    ensures { OnOk result (out.new.items ≡ out.old.items ++ opaque (handle_of view.now root_number)) }
 {
     let handle = handle_of(alloc, view, &ROOT)?;
     put_data(out, handle.as_slice())
@@ -96,54 +167,49 @@ fn put_root(alloc: Global, out: &mut XdrWrite, view: &View) -> Result<(), Memory
 
 /// Appends new attributes that give a mode and nothing else (RFC 1813, section 2.5, sattr3): that the mode is set, the mode,
 /// that user, group and size are not set, and that neither time changes.
-fn put_attributes(out: &mut XdrWrite, mode: u32) -> Result<(), Memory>
-    ensures { OnOk result (out.new.written ≡ out.old.written ++ (word 1 ++ word mode ++ word 0 ++ word 0 ++ word 0 ++ word 0 ++ word 0)) }
+fn put_attributes(out: &mut Vec<u8>, mode: u32) -> Result<(), Memory>
+    ensures { OnOk result (out.new.items ≡ out.old.items ++ mode_alone mode) }
 {
-    out.reserve(ATTRIBUTES)?;
-    out.put_u32(1);
-    out.put_u32(mode);
-    out.put_u32(0);
-    out.put_u32(0);
-    out.put_u32(0);
-    out.put_u32(0);
-    out.put_u32(0);
-    Ok(())
+    put_words(out, &[1, u64::from(mode), 0, 0, 0, 0, 0])
 }
 
-/// The handle that the reply of that number, from 1, made or found.
-fn handle_numbered(handles: &[Option<Bytes>], reply: u64) -> Option<&[u8]>
-    ensures { option_map (λ handle. handle.now) result ≡ handle_numbered handles.now reply }
-{
-    let index = usize::try_from(reply.checked_sub(1)?).ok()?;
-    Some(handles.get(index)?.as_ref()?.as_slice())
-}
-
-/// Appends the bytes of a piece. It is false where the piece has no value.
+/// Appends the bytes of a piece. It is false where the piece has none.
 pub fn put_piece(
     alloc: Global,
-    out: &mut XdrWrite,
-    handles: &[Option<Bytes>],
+    out: &mut Vec<u8>,
+    replies: &[Given],
     view: &View,
     piece: &Piece,
 ) -> Result<bool, Memory>
-    ensures { IfOk result (λ is_put. option_map (λ bytes. out.old.written ++ bytes) (piece_bytes handles.now view.now piece.now)
-        ≡ (if is_put then Some out.new.written else None)) }
+    ensures { IfOk result (λ is_put. option_map (λ bytes. out.old.items ++ bytes) (piece_bytes replies.now view.now piece.now)
+        ≡ (if is_put then Some out.new.items else None)) }
 {
     match piece {
         Piece::Call {
             procedure,
             uid,
             gid,
-        } => put_head(out, *procedure, *uid, *gid)?,
+            groups,
+        } => put_head(out, *procedure, *uid, *gid, *groups)?,
         Piece::Root => put_root(alloc, out, view)?,
         Piece::HandleOf { reply } => {
-            let Some(handle) = handle_numbered(handles, *reply) else {
+            let Some(handle) = handle_numbered(replies, *reply) else {
                 return Ok(false);
             };
             put_data(out, handle)?;
         }
+        Piece::VerifierOf { reply } => {
+            let Some(verifier) = verifier_numbered(replies, *reply) else {
+                return Ok(false);
+            };
+            put(out, verifier)?;
+        }
         Piece::Text { text } => put_data(out, text.as_slice())?,
+        Piece::Opaque { count, byte } => put_filled(out, *count, *byte)?,
         Piece::Mode { mode } => put_attributes(out, *mode)?,
+        Piece::Word { number } => put_word(out, u64::from(*number))?,
+        Piece::DoubleWord { number } => put(out, &number.to_be_bytes())?,
+        Piece::Raw { bytes } => put(out, bytes.as_slice())?,
     }
     Ok(true)
 }

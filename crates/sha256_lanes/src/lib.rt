@@ -15,6 +15,3 @@ mod messages;
 mod words;
 
 pub use messages::{Heads, Values, hash_four};
-
-#[cfg(test)]
-mod tests;

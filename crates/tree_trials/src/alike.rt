@@ -94,9 +94,7 @@ fn same_entries(alloc: Global, tree: &Tree, plain: &Plain, dir: &Key) -> Result<
 fn same_inside(tree: &Tree, plain: &Plain, dir: &Key) -> bool {
     for number in 0..=HIGHEST {
         let ino = key(number);
-        if tree.names().inside(&ino, dir)
-            != (plain.is_directory(&ino) && plain.is_inside(&ino, dir))
-        {
+        if tree.names().inside(&ino, dir) != plain.is_inside(&ino, dir) {
             return false;
         }
     }

@@ -10,7 +10,7 @@
 //! - `attr NUMBER`: an inode's kind, mode, owners, size and the three times. `names NUMBER`: how many names it has, the
 //!   directory of a directory's name, and whether it is live
 //! - `list DIR`: a directory's entries in their order. `entry DIR NAME`: the inode of one
-//! - `inside NUMBER DIR`: whether a directory is the other or lies inside it
+//! - `inside NUMBER DIR`: whether an inode is the directory or lies inside it
 //! - `read NUMBER OFFSET COUNT`: a file's bytes, `\0` being a zero byte. `target NUMBER`: the text of a link
 //! - `many COUNT`: in a tree of its own, so many directories in the root, beside as many names of one file
 //! - `generated SEED COUNT`: so many operations that a generator of that seed chooses, on trees of their own; how many had an

@@ -27,8 +27,8 @@ use Rattle.log_model.proofs.Numbers.{records_make_keys}
 use Rattle.log_model.proofs.Sets.{ascending_in_order}
 use Rattle.wire_model.specs.Rpc.{IsIdentity}
 use Rattle.nfs_model.specs.Arguments.{ArgumentsFit}
-use Rattle.nfs_model.specs.Changing.{Plan, Refuse, Nothing, Operations, plan}
-use Rattle.turn_model.specs.Turn.{Agent, Asked, Turned, is_changing, own_seq, own_name, linked, appended, by_plan, turn_on}
+use Rattle.nfs_model.specs.Changing.{is_changing, Plan, Refuse, Nothing, Operations, plan}
+use Rattle.turn_model.specs.Turn.{Agent, Asked, Turned, own_seq, own_name, linked, appended, by_plan, turn_on}
 use Rattle.turn_model.proofs.Plans.{plan_may_be_written}
 use Rattle.turn_laws.specs.Closed.{TurnSetIsClosed}
 use Rattle.turn_laws.proofs.Starts.{ends_with, own_stamp, over_front}

@@ -6,8 +6,8 @@ use Rattle.ivy_base.specs.declared.operation.Moment.{Moment}
 use Rattle.log_model.specs.Record.{Record}
 use Rattle.log_model.specs.Replay.{replay}
 use Rattle.log_model.specs.Spelling.{most_records}
-use Rattle.nfs_model.specs.Changing.{Plan, Refuse, Nothing, Operations, plan}
-use Rattle.turn_model.specs.Turn.{TurnKeepsKnown, Agent, Asked, Turned, is_changing, by_plan, turn_on, own_seq}
+use Rattle.nfs_model.specs.Changing.{is_changing, Plan, Refuse, Nothing, Operations, plan}
+use Rattle.turn_model.specs.Turn.{TurnKeepsKnown, Agent, Asked, Turned, by_plan, turn_on, own_seq}
 
 module _ (a : Agent) (s : List Record) (asked : Asked) (now : Moment) (r : Record) (within : Contains s r) where
   chosen : (b c : Bool) (x y z : Turned) → Contains x.set r → Contains y.set r → Contains z.set r → Contains (cond b x (cond c y z)).set r

@@ -17,8 +17,8 @@ use Rattle.log_model.proofs.Numbers.{records_make_keys}
 use Rattle.wire_model.specs.Rpc.{Identity, IsIdentity}
 use Rattle.nfs_model.specs.declared.arguments.Args.{Args}
 use Rattle.nfs_model.specs.Arguments.{ArgumentsFit}
-use Rattle.nfs_model.specs.Changing.{Plan, Refuse, Nothing, Operations, plan}
-use Rattle.turn_model.specs.Turn.{Agent, Asked, Turned, is_changing, own_seq, by_plan, turn_on}
+use Rattle.nfs_model.specs.Changing.{is_changing, Plan, Refuse, Nothing, Operations, plan}
+use Rattle.turn_model.specs.Turn.{Agent, Asked, Turned, own_seq, by_plan, turn_on}
 use Rattle.turn_model.specs.OneLog.{log_from, written_at, MayStand, LoneTurnGoesOn}
 use Rattle.turn_model.proofs.OneLog.{own_seq-log, appended-log, replay-log, MayStand-append, MayStand-written_at}
 use Rattle.turn_model.proofs.Plans.{plan_may_be_written}

@@ -13,8 +13,8 @@ use Rattle.nfs_model.specs.declared.replies.NfsStatus.TheVariants.{RoFs, ServerF
 use Rattle.nfs_model.specs.declared.replies.Reply.{Reply}
 use Rattle.nfs_model.specs.declared.replies.Reply.TheVariants.{Refused}
 use Rattle.nfs_model.specs.Reading.{answer}
-use Rattle.nfs_model.specs.Changing.{Plan, Refuse, Nothing, Operations, plan, finish}
-use Rattle.turn_model.specs.Turn.{Agent, Asked, Turned, is_changing, bare_tail, own_seq, appended, by_plan, turn_on}
+use Rattle.nfs_model.specs.Changing.{is_changing, Plan, Refuse, Nothing, Operations, plan, finish}
+use Rattle.turn_model.specs.Turn.{Agent, Asked, Turned, bare_tail, own_seq, appended, by_plan, turn_on}
 use Rattle.turn_model.specs.OneLog.{log_from, written_at}
 use Rattle.turn_model.proofs.OneLog.{own_seq-log, appended-log, replay_more-log}
 

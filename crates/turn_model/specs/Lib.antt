@@ -3,3 +3,4 @@ pub mod Known
 pub mod Basis
 pub mod Candidates
 pub mod OneLog
+pub mod Work

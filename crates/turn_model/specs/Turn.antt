@@ -1,5 +1,5 @@
 -- A turn: from what an agent knows and what it was given, the set that it answers on, the reply, and what it knows then.
-use Rattle.std.specs.Prelude.{◌≡◌, ◌≤◌, ◌↔◌, ℕ, ◌+◌, nat_lt, Bool, true, false, ◌||◌, ◌&&◌, not, List, [], ◌∷◌, ◌++◌, length, Contains, None, ◌==◌, if◌then◌else◌, ◌⊎◌}
+use Rattle.std.specs.Prelude.{◌≡◌, ◌≤◌, ◌↔◌, ℕ, ◌+◌, nat_lt, Bool, false, ◌||◌, ◌&&◌, not, List, [], ◌∷◌, ◌++◌, length, Contains, None, ◌==◌, if◌then◌else◌, ◌⊎◌}
 use Rattle.std.specs.Option.{option_map_or}
 use Rattle.ivy_base.specs.declared.key.Key.{Key}
 use Rattle.ivy_base.specs.declared.key.PubKey.{PubKey}
@@ -27,7 +27,7 @@ use Rattle.nfs_model.specs.declared.replies.Reply.{Reply}
 use Rattle.nfs_model.specs.declared.replies.Reply.TheVariants.{Refused}
 use Rattle.nfs_model.specs.Objects.{no_cache_data}
 use Rattle.nfs_model.specs.Reading.{answer}
-use Rattle.nfs_model.specs.Changing.{Plan, Refuse, Nothing, Operations, plan, finish}
+use Rattle.nfs_model.specs.Changing.{is_changing, Plan, Refuse, Nothing, Operations, plan, finish}
 
 -- ---- the set that a turn takes
 
@@ -50,19 +50,6 @@ IsAtHand known candidates r = Contains known r
 pub record Asked : Type 0 where
   pub caller : Identity
   pub args : Args
-
--- the procedures that may write records
-abbrev pub is_changing : Args → Bool
-is_changing (call.SetAttr object what guard) = true
-is_changing (call.Write file offset count stable bytes) = true
-is_changing (call.Create dir name how) = true
-is_changing (call.MkDir dir name what) = true
-is_changing (call.SymLink dir name what text) = true
-is_changing (call.Remove dir name) = true
-is_changing (call.RmDir dir name) = true
-is_changing (call.Rename dir name to_dir to_name) = true
-is_changing (call.Link file dir name) = true
-is_changing _ = false
 
 -- the tail of a refusal that gives no attributes
 abbrev pub bare_tail : Args → Tail

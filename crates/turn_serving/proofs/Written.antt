@@ -17,7 +17,7 @@ use Rattle.log_model.specs.Rank.{front}
 use Rattle.log_model.specs.Chain.{AllMayBeWritten}
 use Rattle.log_model.specs.Closed.{log_of, IsClosed}
 use Rattle.log_model.specs.Replay.{effect, replay}
-use Rattle.log_model.specs.Spelling.{new_record, IsMoment}
+use Rattle.log_model.specs.Spelling.{new_record, most_records, IsMoment}
 use Rattle.log_model.proofs.Later.{apply_more, replay_more}
 use Rattle.wire_model.specs.Rpc.{IsIdentity}
 use Rattle.nfs_model.specs.Arguments.{ArgumentsFit}
@@ -67,7 +67,7 @@ linked_effects own v now seq prev (op ∷ ops) =
 
 module _ (view : View) (s : List Record) (own : PubKey) (asked : Asked) (now : Moment) (ops : List Op)
     (closed : IsClosed view s) (begun : log_of own s ≢ []) (caller : IsIdentity asked.caller) (fits : ArgumentsFit asked.args) (moment : IsMoment now)
-    (planned : plan (replay s) view asked.caller asked.args now own (own_seq own s + 1) ≡ Operations ops) (few : own_seq own s + length ops ≤ 1048576) where
+    (planned : plan (replay s) view asked.caller asked.args now own (own_seq own s + 1) ≡ Operations ops) (few : own_seq own s + length ops ≤ most_records) where
   may_write : AllMayBeWritten own (own_seq own s + 1) ops
   may_write = plan_may_be_written (replay s) view asked.caller asked.args now own (own_seq own s + 1) ops (closed_makes_keys view s closed) caller fits moment planned (omega (arith, few))
 
@@ -89,7 +89,7 @@ module _ (view : View) (s : List Record) (own : PubKey) (asked : Asked) (now : M
 
 -- no number is left
 pub turn_refused : (view : View) (own : PubKey) (s more : List Record) (asked : Asked) (now : Moment) (ops : List Op) (reply : Reply)
-    → 1048576 < own_seq own s + length ops → reply ≡ Refused RoFs (bare_tail asked.args) → more ≡ []
+    → most_records < own_seq own s + length ops → reply ≡ Refused RoFs (bare_tail asked.args) → more ≡ []
     → by_plan (agent_in view own) s asked now (Operations ops) ≡ record { reply = reply; set = s ++ more }
 turn_refused view own s more asked now ops reply many is none =
     let written : Turned = record {
@@ -97,13 +97,13 @@ turn_refused view own s more asked now ops reply many is none =
       set = appended own now s ops;
     } in
     let left : Turned = record { reply = Refused RoFs (bare_tail asked.args); set = s } in
-    ap (λ (b : Bool). cond b left written) (lt-ltb 1048576 (own_seq own s + length ops) many)
+    ap (λ (b : Bool). cond b left written) (lt-ltb most_records (own_seq own s + length ops) many)
     ∙ ap (λ (r : Reply). record { reply = r; set = s }) (sym is)
     ∙ ap (λ (l : List Record). record { reply = reply; set = l }) (sym (append-nil s) ∙ ap (λ (l : List Record). s ++ l) (sym none))
 
 -- the records are written
 pub turn_written : (view : View) (own : PubKey) (s more : List Record) (asked : Asked) (now : Moment) (ops : List Op) (reply : Reply) (after : Tree)
-    → own_seq own s + length ops ≤ 1048576
+    → own_seq own s + length ops ≤ most_records
     → reply ≡ finish (replay s) after view asked.caller asked.args ops
     → after ≡ replay (appended own now s ops)
     → more ≡ linked own (without_log (head_key_of own) (front s)) now (own_seq own s + 1) (own_name own s) ops
@@ -114,14 +114,14 @@ turn_written view own s more asked now ops reply after few is later new =
       set = appended own now s ops;
     } in
     let left : Turned = record { reply = Refused RoFs (bare_tail asked.args); set = s } in
-    ap (λ (b : Bool). cond b left written) (le-ltb 1048576 (own_seq own s + length ops) few)
+    ap (λ (b : Bool). cond b left written) (le-ltb most_records (own_seq own s + length ops) few)
     ∙ ap (λ (r : Reply). record { reply = r; set = appended own now s ops }) (sym (is ∙ ap (λ (t : Tree). finish (replay s) t view asked.caller asked.args ops) later))
     ∙ ap (λ (l : List Record). record { reply = reply; set = s ++ l }) (sym new)
 
 -- as the code writes them
 pub turn_served : (view : View) (own : PubKey) (s : List Record) (asked : Asked) (now : Moment) (ops : List Op)
     → IsClosed view s → log_of own s ≢ [] → IsIdentity asked.caller → ArgumentsFit asked.args → IsMoment now
-    → plan (replay s) view asked.caller asked.args now own (own_seq own s + 1) ≡ Operations ops → own_seq own s + length ops ≤ 1048576 → IsView view
+    → plan (replay s) view asked.caller asked.args now own (own_seq own s + 1) ≡ Operations ops → own_seq own s + length ops ≤ most_records → IsView view
     → (tree after : Tree) (reply : Reply) (more : List Record) (done said : List Op) (seq : ℕ) (name head : Key) (v cited : Vector)
     → tree ≡ replay s → done ≡ ops → after ≡ apply_all tree (at_moment now done)
     → said ≡ ops → reply ≡ finish tree after view asked.caller asked.args said

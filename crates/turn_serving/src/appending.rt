@@ -6,7 +6,7 @@ ghost use Rattle.fs_tree.specs.Applicable.{IsApplicable};
 ghost use Rattle.log_model.specs.Closed.{IsClosed, log_of};
 ghost use Rattle.log_model.specs.Rank.{front};
 ghost use Rattle.log_model.specs.Replay.{replay};
-ghost use Rattle.log_model.specs.Spelling.{IsMoment};
+ghost use Rattle.log_model.specs.Spelling.{most_records, IsMoment};
 ghost use Rattle.log_model.specs.Standing.{blocks_of};
 ghost use Rattle.log_records.specs.Records.{records_of};
 ghost use Rattle.nfs_model.specs.Arguments.{ArgumentsFit};
@@ -49,7 +49,7 @@ pub fn append(
     requires tree { tree.now ≡ replay (records_of taken.now.records.now) }
     requires seq { before.seq ≡ own_seq taken.now.own.now (records_of taken.now.records.now) }
     requires name { before.name ≡ own_name taken.now.own.now (records_of taken.now.records.now) }
-    requires few { before.seq ≤ 1048576 }
+    requires few { before.seq ≤ most_records }
     requires planned { plan (replay (records_of taken.now.records.now)) taken.now.view.now (identity_of asked.now.caller) asked.now.args now taken.now.own.now (own_seq taken.now.own.now (records_of taken.now.records.now) + 1) ≡ Operations ops.items }
     ensures turn { IfOk result (λ s. by_plan (agent_in taken.now.view.now taken.now.own.now) (records_of taken.now.records.now) (asked_of asked.now) now (Operations ops.items)
         ≡ record { reply = s.reply; set = records_of taken.now.records.now ++ records_of s.written.records.items }) }

@@ -1,7 +1,8 @@
 //! Which calls may change the tree, and what is said where such a call can't be written.
 
 ghost use Rattle.std.specs.Prelude.{◌≡◌};
-ghost use Rattle.turn_model.specs.Turn.{bare_tail, is_changing};
+ghost use Rattle.nfs_model.specs.Changing.{is_changing};
+ghost use Rattle.turn_model.specs.Turn.{bare_tail};
 
 use nfs_model::{Args, Tail};
 use nfs3_objects::no_cache_data;

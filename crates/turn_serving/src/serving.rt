@@ -3,7 +3,7 @@
 ghost use Rattle.std.specs.Prelude.{◌≡◌, ◌≢◌, ◌≤◌, ◌++◌, [], map, IfOk};
 ghost use Rattle.log_model.specs.Closed.{IsClosed, log_of};
 ghost use Rattle.log_model.specs.Rank.{front};
-ghost use Rattle.log_model.specs.Spelling.{IsMoment};
+ghost use Rattle.log_model.specs.Spelling.{most_records, IsMoment};
 ghost use Rattle.log_model.specs.Standing.{blocks_of};
 ghost use Rattle.log_records.specs.Records.{records_of};
 ghost use Rattle.nfs_model.specs.Arguments.{ArgumentsFit};
@@ -108,7 +108,7 @@ fn newest_own(taken: &Taken<'_>) -> Before
     requires front { taken.now.front.now ≡ front (records_of taken.now.records.now) }
     ensures seq { result.seq ≡ own_seq taken.now.own.now (records_of taken.now.records.now) }
     ensures name { result.name ≡ own_name taken.now.own.now (records_of taken.now.records.now) }
-    ensures few { result.seq ≤ 1048576 }
+    ensures few { result.seq ≤ most_records }
 {
     // That it is a view, so that each log is one member's.
     let _ = taken.view.members();

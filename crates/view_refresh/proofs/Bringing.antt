@@ -16,6 +16,7 @@ use Rattle.log_model.specs.Closed.{log_of, IsClosed}
 use Rattle.log_model.proofs.Lists.{here, in_cons, in_nothing, each, each_from, from_filter}
 use Rattle.log_model.proofs.Opening.{same_owner}
 use Rattle.log_model.specs.Standing.{StandsAmong, Stand}
+use Rattle.log_records.specs.declared.edge.Edge.{Edge}
 use Rattle.log_records.specs.declared.chain_fault.ChainFault.{ChainFault}
 use Rattle.log_records.specs.declared.chain_fault.ChainFault.TheVariants.{Bad, Fork, Memory}
 use Rattle.log_records.specs.Batches.{owner_of, stamp_in, IsSound, IsOnward, ChainFails}
@@ -54,7 +55,7 @@ not_before_itself : (t : Stamp) → IsTriedBefore t t → ⊥
 not_before_itself t h = ⊎_elim (λ lt. absurd (omega (arith, lt))) (λ g. let tied : is_lt (key_cmp t.name t.name) ≡ false = ap is_lt (tied_itself keys_total t.name) in let less = g.1 in absurd (cc (tied, less))) h
 
 -- a chain that wasn't taken breaks a rule
-breaks : (view : View) (held floor : Vector) (head : Stamp) (edge : Option Vector) (rest : List Record) (fault : ChainFault) → fault ≢ Memory → ChainFails view held floor head edge rest fault → IsSound view held edge head rest → IsOnward held floor rest → ⊥
+breaks : (view : View) (held floor : Vector) (head : Stamp) (edge : Option Edge) (rest : List Record) (fault : ChainFault) → fault ≢ Memory → ChainFails view held floor head edge rest fault → IsSound view held edge head rest → IsOnward held floor rest → ⊥
 breaks view held floor head edge rest Bad other f sound onward = f sound
 breaks view held floor head edge rest Fork other f sound onward = f.1 onward
 breaks view held floor head edge rest Memory other f sound onward = other refl
@@ -110,7 +111,7 @@ module _ (blocks : List (List ℕ)) (heads : Heads) (view : View) (well : IsView
       none w.rest (counted head w.rest w.goes.walk))
 
   module _ (apart : NamesTellApart blocks) (head : Stamp) (rest : List Record) (new : IsNew heads (front known) (head_key_of owner) head) (walk : IsWalk blocks owner (seq_of (front known) (head_key_of owner)) head rest)
-      (edge : Option Vector) (edge_is : edge ≡ edge_of (newest (log_of owner known))) where
+      (edge : Option Edge) (edge_is : edge ≡ edge_of (newest (log_of owner known))) where
     owned : owner_of rest ≡ owner
     owned = walk_owner blocks owner head (seq_of (front known) (head_key_of owner)) rest new.further walk
 

@@ -9,6 +9,7 @@ use Rattle.log_model.specs.Vector.{Stamp, Vector, seq_of}
 use Rattle.log_model.specs.Record.{Record}
 use Rattle.log_model.specs.Rank.{front}
 use Rattle.log_model.specs.Closed.{log_of, IsClosed}
+use Rattle.log_records.specs.declared.edge.Edge.{Edge}
 use Rattle.log_records.specs.declared.chain_fault.ChainFault.{ChainFault}
 use Rattle.log_records.specs.declared.chain_fault.ChainFault.TheVariants.{Memory}
 use Rattle.log_records.specs.Batches.{owner_of, stamp_in, AreOfOneOwner, IsSound, IsOnward, ChainFails}
@@ -64,8 +65,8 @@ module _ (blocks : List (List ℕ)) (heads : Heads) (view : View) (well : IsView
       pub is_owner : owner_of rest ≡ owner
       is_owner = walk_owner blocks owner head held rest further walk
 
-      module _ (edge : Option Vector) (edge_is : edge ≡ edge_of (newest (log_of owner known))) where
-        pub edge_case : IfSome edge (λ v. stamp_in v rest ≡ None)
+      module _ (edge : Option Edge) (edge_is : edge ≡ edge_of (newest (log_of owner known))) where
+        pub edge_case : IfSome edge (λ e. stamp_in e.vector rest ≡ None)
         edge_case = edge_is_apart view owner (log_of owner known) rest edge (closed.chains owner) edge_is is_owner
 
         module _ (apart : NamesTellApart blocks) (started lowest : Vector) (started_is : started ≡ floor) (lowest_is : lowest ≡ floor) where

@@ -6,12 +6,13 @@ use Rattle.std.proofs.lemmas.List.{map-append, take-append-drop}
 use Rattle.std.proofs.lemmas.List.Elements.{filter-append}
 use Rattle.ivy_base.specs.declared.key.PubKey.{PubKey}
 use Rattle.ivy_base.specs.Naming.{owner_cmp}
-use Rattle.log_model.specs.Vector.{Vector}
 use Rattle.log_model.specs.Record.{Record}
 use Rattle.log_model.specs.Closed.{log_of}
 use Rattle.log_model.proofs.Opening.{same_owner}
 use Rattle.log_model.proofs.Owners.{owner_itself}
+use Rattle.log_records.specs.declared.edge.Edge.{Edge}
 use Rattle.log_records.specs.declared.record.Record as kept
+use Rattle.log_records.specs.Batches.{as_edge}
 use Rattle.log_records.specs.Records.{record_of, records_of}
 use Rattle.view_refresh.specs.Walked.{newest}
 use Rattle.view_refresh.proofs.Held.{newest_push}
@@ -52,6 +53,6 @@ module _ (owner : PubKey) (held : List kept.Record) (i : ℕ) (r : kept.Record) 
       ∙ ap (λ (xs : List Record). log_of owner front ++ xs) (mine_first owner (record_of r) (records_of (drop i held)) own ∙ ap (λ (xs : List Record). record_of r ∷ xs) none) in
       ap newest parts ∙ newest_push (log_of owner front) (record_of r)
 
--- its vector is the edge
-pub edge_is : (last : Option Record) (r : Record) (v : Vector) → last ≡ Some r → v ≡ r.vector → Some v ≡ option_map (λ x. x.vector) last
-edge_is last r v is e = ap (λ (w : Vector). Some w) e ∙ sym (ap (λ (o : Option Record). option_map (λ x. x.vector) o) is)
+-- the edge is its own
+pub edge_is : (last : Option Record) (r : Record) (edge : Edge) → last ≡ Some r → edge ≡ as_edge r → Some edge ≡ option_map as_edge last
+edge_is last r edge is e = ap (λ (x : Edge). Some x) e ∙ sym (ap (λ (o : Option Record). option_map as_edge o) is)

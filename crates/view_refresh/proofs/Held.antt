@@ -18,6 +18,8 @@ use Rattle.log_model.proofs.Owners.{owner_itself}
 use Rattle.log_model.proofs.Part.{found_stamp, Numbered, numbered}
 use Rattle.turn_laws.proofs.Heads.{one_member, member_is}
 use Rattle.turn_laws.proofs.Starts.{own_stamp, front_stands, Stands}
+use Rattle.log_records.specs.declared.edge.Edge.{Edge}
+use Rattle.log_records.specs.Batches.{as_edge}
 use Rattle.view_refresh.specs.Walked.{newest}
 
 -- ---- the newest of some records
@@ -45,8 +47,8 @@ newest_ends (x ∷ y ∷ xs) p e = let more = newest_ends (y ∷ xs) p e in reco
 abbrev pub stamp_of : Option Record → Option Stamp
 stamp_of o = option_map (λ r. (own_entry r).1) o
 
-abbrev pub edge_of : Option Record → Option Vector
-edge_of o = option_map (λ r. r.vector) o
+abbrev pub edge_of : Option Record → Option Edge
+edge_of o = option_map as_edge o
 
 -- ---- of a chain the newest has the number that says how long it is
 

@@ -12,7 +12,8 @@ use Rattle.log_model.specs.Rank.{own_entry}
 use Rattle.log_model.specs.Chain.{IsChain}
 use Rattle.log_model.proofs.Lists.{each_append}
 use Rattle.log_model.specs.Standing.{StandsAmong, Stand}
-use Rattle.log_records.specs.Batches.{owner_of, stamp_in, AreOfOneOwner, GoesOnFrom, PassesFloor, OldestNames, Extends, IsSound, IsOnward}
+use Rattle.log_records.specs.declared.edge.Edge.{Edge}
+use Rattle.log_records.specs.Batches.{owner_of, stamp_in, as_edge, AreOfOneOwner, GoesOnFrom, PassesFloor, OldestNames, Extends, IsSound, IsOnward}
 use Rattle.log_records.proofs.Batches.{extends, chains_begin, chains_go_on, ends_behind}
 use Rattle.turn_model.specs.Candidates.{PassesThrough, MakeChain}
 use Rattle.view_refresh.specs.Walked.{LeadsTo, IsWalk, newest}
@@ -53,10 +54,10 @@ module _ (blocks : List (List ℕ)) (owner : PubKey) (head : Stamp) where
 -- ---- the edge
 
 -- the vector of the last known record has no entry of its log
-pub edge_is_apart : (view : View) (owner : PubKey) (log rest : List Record) (edge : Option Vector) → IsChain view owner log → edge ≡ edge_of (newest log) → owner_of rest ≡ owner → IfSome edge (λ v. stamp_in v rest ≡ None)
-edge_is_apart view owner log rest edge c is owned = subst (λ (o : Option Vector). IfSome o (λ v. stamp_in v rest ≡ None)) (sym is) (by (newest log) refl)
+pub edge_is_apart : (view : View) (owner : PubKey) (log rest : List Record) (edge : Option Edge) → IsChain view owner log → edge ≡ edge_of (newest log) → owner_of rest ≡ owner → IfSome edge (λ e. stamp_in e.vector rest ≡ None)
+edge_is_apart view owner log rest edge c is owned = subst (λ (o : Option Edge). IfSome o (λ e. stamp_in e.vector rest ≡ None)) (sym is) (by (newest log) refl)
   where
-    by : (o : Option Record) → newest log ≡ o → IfSome (edge_of o) (λ v. stamp_in v rest ≡ None)
+    by : (o : Option Record) → newest log ≡ o → IfSome (edge_of o) (λ e. stamp_in e.vector rest ≡ None)
     by None e = tt
     by (Some q) e =
         let good = newest_good view owner log q c e in
@@ -73,17 +74,17 @@ module _ (view : View) (owner : PubKey) (floor : Vector) (head : Stamp) (log res
   passes (Some f) = λ lt. absurd (omega (arith, lt))
 
   -- what goes on behind it is taken
-  pub is_taken : (blocks : List (List ℕ)) (edge : Option Vector) → edge ≡ edge_of (newest log) → GoesBehind view owner blocks head log rest → IsSound view floor edge head rest × IsOnward floor floor rest
+  pub is_taken : (blocks : List (List ℕ)) (edge : Option Edge) → edge ≡ edge_of (newest log) → GoesBehind view owner blocks head log rest → IsSound view floor edge head rest × IsOnward floor floor rest
   is_taken blocks edge is goes = (
     record {
-      goes_on = subst (λ (s : Option Stamp). GoesOnFrom view s edge rest) (sym stamp_is) (subst (λ (v : Option Vector). GoesOnFrom view (stamp_of (newest log)) v rest) (sym is) goes.goes_on);
+      goes_on = subst (λ (s : Option Stamp). GoesOnFrom view s edge rest) (sym stamp_is) (subst (λ (e : Option Edge). GoesOnFrom view (stamp_of (newest log)) e rest) (sym is) goes.goes_on);
       ends = goes.ends;
     },
     record { names = subst (λ (s : Option Stamp). OldestNames s rest) (sym stamp_is) goes.names; passes = passes (stamp_in floor rest) },
   )
 
   -- what is taken makes one chain with it
-  pub makes_chain : (edge : Option Vector) → edge ≡ edge_of (newest log) → IsChain view owner log → IsSound view floor edge head rest → IsOnward floor floor rest → IsChain view owner (log ++ rest)
+  pub makes_chain : (edge : Option Edge) → edge ≡ edge_of (newest log) → IsChain view owner log → IsSound view floor edge head rest → IsOnward floor floor rest → IsChain view owner (log ++ rest)
   makes_chain edge is c sound onward = by (newest log) refl
     where
       ext : Extends floor floor head rest
@@ -101,13 +102,13 @@ module _ (view : View) (owner : PubKey) (floor : Vector) (head : Stamp) (log res
       by (Some q) e =
           let ends = newest_ends log q e in
           let there : stamp_in floor rest ≡ Some (own_entry q).1 = stamp_is ∙ ap (λ (o : Option Record). stamp_of o) e in
-          let edge_is : edge ≡ Some q.vector = is ∙ ap (λ (o : Option Record). edge_of o) e in
+          let edge_is : edge ≡ Some (as_edge q) = is ∙ ap (λ (o : Option Record). edge_of o) e in
           let before : IsChain view (owner_of rest) (ends.before ++ q ∷ []) = subst (λ (o : PubKey). IsChain view o (ends.before ++ q ∷ [])) (sym owned) (subst (λ (l : List Record). IsChain view owner l) ends.is c) in
-          let w = chains_go_on view floor floor head ends.before q rest before there ext (subst (λ (v : Option Vector). GoesOnFrom view (stamp_in floor rest) v rest) edge_is sound.goes_on) in
+          let w = chains_go_on view floor floor head ends.before q rest before there ext (subst (λ (e : Option Edge). GoesOnFrom view (stamp_in floor rest) e rest) edge_is sound.goes_on) in
           let joined : log ++ rest ≡ ends.before ++ q ∷ rest = ap (λ (l : List Record). l ++ rest) ends.is ∙ append_assoc ends.before (q ∷ []) rest in
           subst (λ (l : List Record). IsChain view owner l) (sym joined) (subst (λ (o : PubKey). IsChain view o (ends.before ++ q ∷ rest)) owned w.0)
 
-  pub makes : (blocks : List (List ℕ)) (edge : Option Vector) → edge ≡ edge_of (newest log) → IsChain view owner log → Stand blocks log → Stand blocks rest → IsSound view floor edge head rest → IsOnward floor floor rest
+  pub makes : (blocks : List (List ℕ)) (edge : Option Edge) → edge ≡ edge_of (newest log) → IsChain view owner log → Stand blocks log → Stand blocks rest → IsSound view floor edge head rest → IsOnward floor floor rest
       → MakeChain blocks view owner floor head (log ++ rest)
   makes blocks edge is c stand_log stand_rest sound onward =
       let ends = ends_behind head log rest sound.ends in

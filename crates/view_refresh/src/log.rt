@@ -5,7 +5,7 @@ ghost use Rattle.log_model.specs.Closed.{IsClosed, log_of};
 ghost use Rattle.log_model.specs.Rank.{front};
 ghost use Rattle.log_model.specs.Vector.{Stamp};
 ghost use Rattle.log_model.specs.View.{IsView};
-ghost use Rattle.log_records.specs.Batches.{owners_in};
+ghost use Rattle.log_records.specs.Batches.{as_edge, owners_in};
 ghost use Rattle.log_records.specs.Heads.{stamp};
 ghost use Rattle.log_records.specs.Records.{records_of};
 ghost use Rattle.view_refresh.specs.Brought.{Brings, IsNew};
@@ -17,7 +17,7 @@ use crate::walk::walk;
 use block_map::{Blocks, Heads};
 use dht_ids::Judged;
 use ivy_base::{Key, Memory, PubKey, head_key};
-use log_records::{Batch, ChainFault, Record};
+use log_records::{Batch, ChainFault, Edge, Record};
 use std::alloc::Global;
 use version_vectors::Vector;
 use view_blocks::View;
@@ -83,15 +83,15 @@ pub fn new_head(heads: &Heads, front: &Vector, log: &Key) -> Option<Judged>
     }
 }
 
-/// The vector of the owner's last record, where there is one. The error is want of memory.
-pub fn edge_of(alloc: Global, records: &[Record], owner: &PubKey) -> Result<Option<Vector>, Memory>
-    ensures { IfOk result (λ edge. edge ≡ option_map (λ r. r.vector) (newest (log_of owner.now (records_of records.now)))) }
+/// What is known of the owner's last record, where there is one. The error is want of memory.
+pub fn edge_of(alloc: Global, records: &[Record], owner: &PubKey) -> Result<Option<Edge>, Memory>
+    ensures { IfOk result (λ edge. edge ≡ option_map as_edge (newest (log_of owner.now (records_of records.now)))) }
 {
     let mut i = records.len();
     'later: while i > 0 {
         i -= 1;
         if is_one(&records[i].owner, owner) {
-            return Ok(Some(records[i].vector.copy(alloc)?));
+            return Ok(Some(Edge::of(alloc, &records[i])?));
         }
     }
     Ok(None)

@@ -102,12 +102,20 @@ one_moment = of_parts (λ (m : Moment). (m.sec, m.nsec)) (λ m f. f) (λ m. refl
 pub one_raw : (n : ℕ) → ReadsOne (λ (bytes : List ℕ). length bytes ≡ n) (λ bytes. bytes)
 one_raw n = of_length n (λ bytes h. h) (λ x y f g e. e)
 
+-- and with its padding
+pub one_fixed : (n : ℕ) → ReadsOne (λ (bytes : List ℕ). length bytes ≡ n) fixed
+one_fixed n = record {
+  one = λ x y r s f g e.
+      let same : length x ≡ length y = f ∙ sym g in
+      let p = same_fronts x y (padding (length x) ++ r) (padding (length y) ++ s) same (regrouped x (padding (length x)) y (padding (length y)) r s e) in
+      (p.0, (same_fronts (padding (length x)) (padding (length y)) r s (ap (λ (n : ℕ). length (padding n)) same) p.1).1);
+}
+
 pub one_opaque : ReadsOne (λ (bytes : List ℕ). length bytes < 2 ^ 32) opaque
 one_opaque = record {
   one = λ x y r s f g e.
       let p = one_word.one (length x) (length y) (fixed x ++ r) (fixed y ++ s) f g (regrouped (word (length x)) (fixed x) (word (length y)) (fixed y) r s e) in
-      let q = same_fronts x y (padding (length x) ++ r) (padding (length y) ++ s) p.0 (regrouped x (padding (length x)) y (padding (length y)) r s p.1) in
-      (q.0, (same_fronts (padding (length x)) (padding (length y)) r s (ap (λ (n : ℕ). length (padding n)) p.0) q.1).1);
+      (one_fixed (length y)).one x y r s p.0 refl p.1;
 }
 
 pub one_short_opaque : (most : ℕ) → most < 2 ^ 32 → ReadsOne (λ (bytes : List ℕ). length bytes ≤ most) opaque
@@ -235,6 +243,8 @@ numbers_are_one = record { word_length = word_length; double_word_length = doubl
 
 pub items_are_one : ItemsAreOne
 items_are_one = record {
+  booleans = one_boolean;
+  fixed_data = one_fixed;
   opaques = one_opaque;
   optional_words = one_optional one_word;
   optional_double_words = one_optional one_double_word;

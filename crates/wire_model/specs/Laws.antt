@@ -1,7 +1,7 @@
 -- Laws of the spellings: each can be read in one way only.
 use Rattle.std.specs.Prelude.{◌≡◌, ℕ, ◌<◌, ◌^◌, List, length, IfSome}
 use Rattle.std.specs.List.{AllByRecursion}
-use Rattle.wire_model.specs.Xdr.{word, double_word, opaque, optional, array, moment, IsWordMoment}
+use Rattle.wire_model.specs.Xdr.{word, double_word, boolean, fixed, opaque, optional, array, moment, IsWordMoment, IsAny, IsOfLength}
 use Rattle.wire_model.specs.OneReading.{ReadsOne}
 use Rattle.wire_model.specs.Rpc.{Auth, Identity, CallMessage, IsCall, IsOtherVersion, IsCaller}
 
@@ -12,8 +12,10 @@ pub record NumbersAreOne : Type 0 where
   pub words : ReadsOne (λ n. n < 2 ^ 32) word
   pub double_words : ReadsOne (λ n. n < 2 ^ 64) double_word
 
--- data with its length or flag in front, of a length that a word holds
+-- booleans, fixed data of a length that is known, and data with its length or flag in front, of a length that a word holds
 pub record ItemsAreOne : Type 0 where
+  pub booleans : ReadsOne IsAny boolean
+  pub fixed_data : (n : ℕ) → ReadsOne (IsOfLength n) fixed
   pub opaques : ReadsOne (λ (bytes : List ℕ). length bytes < 2 ^ 32) opaque
   pub optional_words : ReadsOne (λ o. IfSome o (λ n. n < 2 ^ 32)) (optional word)
   pub optional_double_words : ReadsOne (λ o. IfSome o (λ n. n < 2 ^ 64)) (optional double_word)

@@ -70,7 +70,8 @@ impl Hss {
     ///
     /// Where memory runs out.
     pub fn save(&self, alloc: Global) -> Result<Bytes, Memory>
-        ensures { IfOk result (λ bytes. bytes ≡ saved_bytes self.now) }
+        ensures bytes { IfOk result (λ bytes. bytes ≡ saved_bytes self.now) }
+        ensures whole { IsSigner self.now }
     {
         let key = self.top.key();
         let mut sets = Vec::with_capacity(alloc, self.sets.len() + 1)?;

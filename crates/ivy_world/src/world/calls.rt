@@ -1,14 +1,14 @@
 //! Calls, and the lines that show their replies.
 
-ghost use Rattle.std.specs.Prelude.{◌≡◌, IfOk};
+ghost use Rattle.std.specs.Prelude.{◌≡◌, IfOk, OnOk};
 ghost use Rattle.script_driver.specs.Machine.{outcome_told};
-ghost use Rattle.play_model.specs.Calls.{CallLine, reply_line, shown_reply};
+ghost use Rattle.play_model.specs.Calls.{CallLine, counted, reply_line, shown_reply};
 ghost use Rattle.ivy_world.specs.Sendings.{IsSent};
 
 use super::World;
 use call_answers::{Answered, answer_message};
 use ivy_base::{Bytes, Memory};
-use play_model::Piece;
+use play_model::{Given, Piece};
 use script_driver::Taken;
 use script_messages::message;
 use std::alloc::Global;
@@ -56,7 +56,7 @@ impl World {
         );
         let Answered {
             reply,
-            handle,
+            left,
             blocks,
             newest,
         } = match answered {
@@ -68,8 +68,18 @@ impl World {
             }
         };
         self.publish(alloc, &own, blocks, newest)?;
-        self.handles.push(handle)?;
+        self.count(&reply, left)?;
         Ok(Taken::Went(shown_reply(alloc, reply)?))
+    }
+
+    /// Counts a reply, which left that to later lines; what is no reply isn't counted. The error is want of memory.
+    fn count(&mut self, reply: &Option<Bytes>, left: Given) -> Result<(), Memory>
+        ensures { OnOk result (self.new ≡ counted self.old reply.now left) }
+    {
+        if reply.is_some() {
+            self.replies.push(left)?;
+        }
+        Ok(())
     }
 
     /// Who makes a call, by the place, and its message; None where there is no participant of that name, it has entered no
@@ -88,7 +98,7 @@ impl World {
         let Some(view) = self.agents[place].view() else {
             return Ok(None);
         };
-        let Some(message) = message(alloc, self.handles.as_slice(), view, pieces)? else {
+        let Some(message) = message(alloc, self.replies.as_slice(), view, pieces)? else {
             return Ok(None);
         };
         Ok(Some((place, message)))

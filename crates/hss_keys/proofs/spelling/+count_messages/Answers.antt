@@ -1,5 +1,6 @@
 use Rattle.std.proofs.Common.{ℕ, Fits, w64, sym, subst, arith}
-use Rattle.hss_keys.proofs.Signing.{at_most_three, capacity_of_none, capacity_of_more}
+use Rattle.hss_keys.specs.ToldApart.{at_most_three}
+use Rattle.hss_keys.proofs.Signing.{capacity_of_none, capacity_of_more}
 use Rattle.hss_keys.proofs.spelling.+count_messages.Goals as goal
 
 pub returns-in-Some : goal.returns-in-Some

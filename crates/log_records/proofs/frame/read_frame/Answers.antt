@@ -1,12 +1,12 @@
 use Rattle.std.proofs.lemmas.Result.{err_from_is_err_and}
 use Rattle.log_records.proofs.Chains.{refused}
-use Rattle.log_records.proofs.Frames.{frame_front, no_frame_cited, no_frame_kind, no_frame_log, no_frame_magic, no_frame_moment, no_frame_prev, no_frame_seq}
+use Rattle.log_records.proofs.Frames.{frame_front, no_frame_cited, no_frame_kind, no_frame_log, no_frame_moment, no_frame_prev, no_frame_seq, no_frame_tag}
 use Rattle.log_records.proofs.frame.read_frame.Goals as goal
 
 pub returns-in_err-read_constant-clause-err : goal.returns-in_err-read_constant-clause-err
 returns-in_err-read_constant-clause-err c =
     let p = err_from_is_err_and c.from_residual.result c.from_residual.ensures.1 in
-    rw (p.1, p.2) (no_frame_magic c.args.log.now c.in_err-read_constant.ensures.err)
+    rw (p.1, p.2) (no_frame_tag c.args.log.now c.in_err-read_constant.ensures.err)
 
 pub returns-in_err-kind-clause-err : goal.returns-in_err-kind-clause-err
 returns-in_err-kind-clause-err c =

@@ -1,6 +1,5 @@
 use Rattle.std.proofs.lemmas.Result.{err_from_is_err_and}
 use Rattle.nfs3_replies.proofs.ReadAnswers.{is_reply, no_reply_refused, more_than_a_reply, ended}
-use Rattle.nfs3_replies.proofs.ReadWritable.{writable}
 use Rattle.nfs3_replies.proofs.reading.read_reply.Goals as goal
 
 pub returns-in_err-reply-clause-err : goal.returns-in_err-reply-clause-err
@@ -15,6 +14,3 @@ returns-in_err-finish-clause-err c =
 
 pub returns-clause-ok : goal.returns-clause-ok
 returns-clause-ok c = is_reply c.args.program c.args.procedure c.requires (rw c.new-reader.ensures at c.in_ok-reply.ensures.ok) c.in_ok-finish.ensures.ok
-
-pub returns-clause-writable : goal.returns-clause-writable
-returns-clause-writable c = writable c.in_ok-reply.reply c.in_ok-reply.ensures.ok.fits.1

@@ -5,5 +5,5 @@ use Rattle.script_messages.proofs.messages.put_pieces.Given as goal
 
 abbrev pub invariant-loop-piece : goal.invariant-loop-piece
 invariant-loop-piece l =
-    option_map (λ bytes. l.fn.out.written ++ bytes) (bytes_of_pieces l.fn.handles l.fn.view l.fn.pieces)
-    ≡ option_map (λ bytes. l.out.written ++ bytes) (bytes_of_pieces l.fn.handles l.fn.view (drop l.piece-index l.fn.pieces))
+    option_map (λ bytes. l.fn.out.items ++ bytes) (bytes_of_pieces l.fn.replies l.fn.view l.fn.pieces)
+    ≡ option_map (λ bytes. l.out.items ++ bytes) (bytes_of_pieces l.fn.replies l.fn.view (drop l.piece-index l.fn.pieces))

@@ -1,18 +1,7 @@
-use Rattle.std.proofs.Common.{append_assoc}
+use Rattle.script_messages.proofs.Groups.{caller, head_put}
 use Rattle.script_messages.proofs.spelling.put_head.Goals as goal
 
 pub returns : goal.returns
 returns c =
-    simp (
-      c.put_opaque.ensures.written,
-      c.put_u32-7.ensures.written,
-      c.put_credential.ensures.written,
-      c.put_u32-6.ensures.written,
-      c.put_u32-5.ensures.written,
-      c.put_u32-4.ensures.written,
-      c.put_u32-3.ensures.written,
-      c.put_u32-2.ensures.written,
-      c.put_u32.ensures.written,
-      c.in_ok-reserve.ensures.written,
-      append_assoc,
-    )
+    head_put c.args.out.now.items c.put_words.new.out.items c.put_credential.new.out.items c.put_words-2.new.out.items c.args.procedure c.from.result (caller c.args.uid c.args.gid c.args.groups)
+    c.from.ensures c.in_ok-put_words.ensures c.in_ok-put_credential.ensures c.in_ok-put_words-2.ensures

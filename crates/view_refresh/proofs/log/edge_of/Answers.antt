@@ -15,7 +15,7 @@ returns-then-is_one c =
     let same = c.index-records-i-then-is_one.is ∙ get_or_default records (i - 1) r tested (omega (arith, some, within)) in
     let own = ap (λ (x : kept.Record). x.owner) same ∙ c.is_one.ensures.0 c.if-is_one.true in
     let last = is_last c.args.owner.now records i r some within c.index-records-i-then-is_one.is own c.later.invariant.none in
-    edge_is _ _ _ last (c.in_ok-copy.ensures ∙ ap (λ (x : kept.Record). x.vector) (sym c.index-records-i-then-is_one.is))
+    edge_is _ _ _ last c.in_ok-of.ensures
 
 pub later-preserved : goal.later-preserved
 later-preserved c =

@@ -7,14 +7,14 @@ pub split_seat-our_note-requires : goal.split_seat-our_note-requires
 split_seat-our_note-requires g c = (
   ap (λ x. x.gate) c.pass.view_is ∙ (c.requires.0.0 ∙ sym (ap (λ x. x.gate) c.self.view_is)),
   omega (arith, c.self.invariant.0),
-  splits g.A.Sequential.stands c.self.inside.table.shared.key.value c.pass.inside.seat.id c.pass.inside.seat.me.0 0 c.pass.invariant.outside (omega arith),
+  splits g.A.Sequential.stands c.self.inside.table.shared.key.value c.pass.inside.seat.id c.pass.inside.seat.me.0 0 c.pass.invariant.outside (omega arith) (λ none. omega (arith, none)),
 )
 
 pub split_seat-their_note-requires : goal.split_seat-their_note-requires
 split_seat-their_note-requires g c = (
   ap (λ x. x.gate) c.other.view_is ∙ (c.requires.1.0 ∙ sym (ap (λ x. x.gate) c.self.view_is)),
   omega (arith, c.self.invariant.0),
-  splits g.A.Sequential.stands c.self.inside.table.shared.key.value c.other.inside.seat.id c.other.inside.seat.me.0 0 c.other.invariant.outside (omega arith),
+  splits g.A.Sequential.stands c.self.inside.table.shared.key.value c.other.inside.seat.id c.other.inside.seat.me.0 0 c.other.invariant.outside (omega arith) (λ none. omega (arith, none)),
 )
 
 pub returns-clause-met : goal.returns-clause-met

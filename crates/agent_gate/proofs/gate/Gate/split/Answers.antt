@@ -13,5 +13,5 @@ split_seat-part-requires g c =
     let p = c.pass.invariant in (
       ap (λ x. x.gate) c.pass.view_is ∙ (c.requires.0.0 ∙ sym (ap (λ x. x.gate) c.self.view_is)),
       omega (arith, c.self.invariant.0),
-      splits g.A.Sequential.stands c.self.inside.table.shared.key.value c.pass.inside.seat.id c.pass.inside.seat.me.0 1 p.outside (omega (arith, p.part)),
+      splits g.A.Sequential.stands c.self.inside.table.shared.key.value c.pass.inside.seat.id c.pass.inside.seat.me.0 1 p.outside (omega (arith, p.part)) (λ none. absurd (omega (arith, none, c.requires.1, ap (λ x. x.parts) c.pass.view_is))),
     )

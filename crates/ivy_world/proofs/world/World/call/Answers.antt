@@ -17,5 +17,5 @@ returns c =
     let at = found_at _ _ _ _ _ c.self.view_is sends.at c.index_mut.ensures.value in
     let before = found_at _ _ _ _ _ c.self.view_is sends.at c.index.ensures in
     call_answered _ _ c.self.view_is _ _ _ _ _ _ _ _ _ _ _ c.self.invariant sends at c.found.ensures.found c.in-Ok.ensures.ok
-    _ c.own.result.now c.push.new.self.items c.in_ok-shown_reply.field-0.items refl refl c.as_slice.ensures (c.own.ensures ∙ ap (λ (p : Participant). p.own) (some_is (sym before ∙ at)))
-    (c.self-2.view_is ∙ c.in_ok-publish.ensures) c.in_ok-push.ensures.items c.in_ok-shown_reply.ensures
+    _ _ c.own.result.now c.in_ok-shown_reply.field-0.items refl refl c.as_slice.ensures (c.own.ensures ∙ ap (λ (p : Participant). p.own) (some_is (sym before ∙ at)))
+    c.in_ok-publish.ensures c.in_ok-count.ensures c.in_ok-shown_reply.ensures

@@ -1,5 +1,6 @@
-use Rattle.std.proofs.Common.{◌≡◌, ℕ, List, Option, sym, ap, ◌∙◌}
+use Rattle.std.proofs.Common.{◌≡◌, List, sym, ap, ◌∙◌}
 use Rattle.std.specs.Str.{bytes_eq}
+use Rattle.play_model.specs.declared.command.Given.{Given}
 use Rattle.play_model.specs.Messages.{message_of}
 use Rattle.play_model.specs.World.{World, Participant}
 use Rattle.ivy_world.proofs.Places.{no_place}
@@ -19,20 +20,20 @@ pub returns-in_default-2 : goal.returns-in_default-2
 returns-in_default-2 c =
     let at = at_place c.args.self.now c.self.inside.agents.items c.args.log.now c.in-Some.place c.index.result.now
     (sym (ap (λ (w : World). w.participants) c.self.view_is)) c.in-Some.ensures c.index.ensures in
-    let handles : c.args.self.now.handles ≡ c.as_slice.result.now = sym (ap (λ (w : World). w.handles) c.self.view_is) ∙ sym c.as_slice.ensures.value in
+    let replies : c.args.self.now.replies ≡ c.as_slice.result.now = sym (ap (λ (w : World). w.replies) c.self.view_is) ∙ sym c.as_slice.ensures.value in
     sends_nothing c.args.self.now c.args.log.now c.args.pieces.now c.index.result.now c.in-Some-view.view.now at.1 (sym c.in-Some-view.ensures.value)
-    (ap (λ (hs : List (Option (List ℕ))). message_of hs c.in-Some-view.view.now c.args.pieces.now) handles ∙ sym c.in_ok-message.ensures ∙ c.in_default-2.is)
+    (ap (λ (gs : List Given). message_of gs c.in-Some-view.view.now c.args.pieces.now) replies ∙ sym c.in_ok-message.ensures.message ∙ c.in_default-2.is)
 
 pub returns : goal.returns
 returns c =
     let at = at_place c.args.self.now c.self.inside.agents.items c.args.log.now c.in-Some.place c.index.result.now
     (sym (ap (λ (w : World). w.participants) c.self.view_is)) c.in-Some.ensures c.index.ensures in
-    let handles : c.args.self.now.handles ≡ c.as_slice.result.now = sym (ap (λ (w : World). w.handles) c.self.view_is) ∙ sym c.as_slice.ensures.value in
+    let replies : c.args.self.now.replies ≡ c.as_slice.result.now = sym (ap (λ (w : World). w.replies) c.self.view_is) ∙ sym c.as_slice.ensures.value in
     record {
       by = c.index.result.now;
       view = c.in-Some-view.view.now;
       sends = sends_one c.args.self.now c.args.log.now c.args.pieces.now c.index.result.now c.in-Some-view.view.now c.in-Some-2.message at.1 (sym c.in-Some-view.ensures.value)
-          (ap (λ (hs : List (Option (List ℕ))). message_of hs c.in-Some-view.view.now c.args.pieces.now) handles ∙ sym c.in_ok-message.ensures ∙ c.in-Some-2.is);
+          (ap (λ (gs : List Given). message_of gs c.in-Some-view.view.now c.args.pieces.now) replies ∙ sym c.in_ok-message.ensures.message ∙ c.in-Some-2.is);
       at = at.0;
       entered = sym c.in-Some-view.ensures.value;
     }

@@ -1,0 +1,29 @@
+//! What is known of the held record that a chain goes on from.
+
+ghost use Rattle.std.specs.Prelude.{◌≡◌, IfOk};
+ghost use Rattle.log_records.specs.Batches.{as_edge};
+ghost use Rattle.log_records.specs.Records.{record_of};
+
+use crate::record::Record;
+use ivy_base::Memory;
+use std::alloc::Global;
+use version_vectors::Vector;
+
+/// What is known of the newest held record of a log, beside its number and its name: what the next record of the log has
+/// to keep to.
+#[derive(Drop)]
+pub struct Edge {
+    /// The record's vector, which knows nothing of its own log.
+    pub vector: Vector,
+}
+
+impl Edge {
+    /// What is known of that record once it is held. The error is want of memory.
+    pub fn of(alloc: Global, held: &Record) -> Result<Edge, Memory>
+        ensures { IfOk result (λ edge. edge ≡ as_edge (record_of held.now)) }
+    {
+        Ok(Edge {
+            vector: held.vector.copy(alloc)?,
+        })
+    }
+}

@@ -1,0 +1,11 @@
+pub mod Examples
+pub mod Apart
+pub mod Growing
+pub mod LineKinds
+pub mod Leaves
+pub mod AskedPlans
+pub mod AskedOwners
+pub mod AskedLookups
+pub mod AskedCourses
+pub mod AskedGets
+pub mod Still

@@ -1,0 +1,84 @@
+-- Lines that show something, or set the moment or a loss, change nothing else.
+use Rattle.std.proofs.Common.{◌≡◌, ℕ, Bool, true, false, cond, List, [], Option, Some, None, refl, sym, ap, ◌∙◌, subst}
+use Rattle.std.specs.Prelude.{nat_lt, nat_le, is_some, ◌&&◌}
+use Rattle.script_driver.specs.Run.{Outcome, Goes, Ends, Refuses, Exceeds}
+use Rattle.script_model.specs.declared.command.Command.{Command}
+use Rattle.script_model.specs.declared.command.Command.TheVariants as command
+use Rattle.log_heads.specs.Signed.{hss_judged}
+use Rattle.world_model.specs.Nodes.{Node}
+use Rattle.world_model.specs.World.{World, Participant, participant}
+use Rattle.world_model.specs.Story.{Story}
+use Rattle.world_model.specs.Logs.{Played, at_line, beside, goes_if}
+use Rattle.world_model.specs.Faults.{holds_by, holds_line, holds_text, lose_line, node_named, order_line, order_text, showing, work_line, work_text}
+use Rattle.world_model.specs.Step.{Does}
+use Rattle.world_laws.specs.Laws.{IsStill, StillLinesChangeNothing}
+
+-- but for the moment and losses it is that world
+abbrev IsAlmost : World → World → Type 0
+IsAlmost w next = next ≡ record w { now = next.now; lost = next.lost }
+
+abbrev AllGo : World → Outcome World → Type 0
+AllGo w (Goes next output) = IsAlmost w next
+AllGo w Ends = Unit {0}
+AllGo w Refuses = Unit {0}
+AllGo w Exceeds = Unit {0}
+
+-- where the outcome goes on, it does so to such a world and the same story
+abbrev IsStillIn : Played → Outcome Played → Type 0
+IsStillIn w (Goes next output) = (next.1 ≡ w.1) × IsAlmost w.0 next.0
+IsStillIn w Ends = Unit {0}
+IsStillIn w Refuses = Unit {0}
+IsStillIn w Exceeds = Unit {0}
+
+by_beside : (w : Played) (o : Outcome World) → AllGo w.0 o → IsStillIn w (beside w.1 o)
+by_beside w (Goes next output) h = (refl, h)
+by_beside w Ends h = tt
+by_beside w Refuses h = tt
+by_beside w Exceeds h = tt
+
+of_line : (w : Played) (o : Outcome World) (outcome : Outcome Played) → outcome ≡ beside w.1 o → AllGo w.0 o → IsStillIn w outcome
+of_line w o outcome does h = subst (λ (p : Outcome Played). IsStillIn w p) (sym does) (by_beside w o h)
+
+of_goes_if : (w next : World) (t : Bool) → IsAlmost w next → AllGo w (goes_if t next)
+of_goes_if w next true h = h
+of_goes_if w next false h = tt
+
+of_holds : (w : World) (n : Option Node) → AllGo w (holds_by w n)
+of_holds w None = tt
+of_holds w (Some n) = by n.is_live
+  where
+    by : (t : Bool) → AllGo w (cond t (Goes w (holds_text n)) Refuses)
+    by true = refl
+    by false = tt
+
+of_showing : (w : World) (text : Participant → List ℕ) (p : Option Participant) → AllGo w (showing w text p)
+of_showing w text None = tt
+of_showing w text (Some p) = by (is_some p.agent.view)
+  where
+    by : (t : Bool) → AllGo w (cond t (Goes w (text p)) Refuses)
+    by true = refl
+    by false = tt
+
+pub still_lines : StillLinesChangeNothing
+still_lines w next (command.At sec nsec) output still does = of_line w (at_line w.0 sec nsec) (Goes next output) does (of_goes_if w.0 _ (nat_lt sec 4294967296 && nat_lt nsec 1000000000) refl)
+still_lines w next (command.Lose count) output still does = of_line w (lose_line w.0 count) (Goes next output) does (of_goes_if w.0 _ (nat_lt 0 count && nat_le count 1000000) refl)
+still_lines w next (command.Holds node) output still does = of_line w (holds_line w.0 node) (Goes next output) does (of_holds w.0 (node_named w.0 node))
+still_lines w next (command.Order log) output still does = of_line w (order_line w.0 log) (Goes next output) does (of_showing w.0 (order_text w.0) (participant w.0 log))
+still_lines w next (command.Work log) output still does = of_line w (work_line w.0 log) (Goes next output) does (of_showing w.0 work_text (participant w.0 log))
+still_lines w next command.Nothing output still does = subst (λ (o : Outcome Played). IsStillIn w o) (sym does) (refl, refl)
+still_lines w next (command.Ring nodes replicas) output still does = absurd still
+still_lines w next (command.Log log id seed sets) output still does = absurd still
+still_lines w next (command.View view members former) output still does = absurd still
+still_lines w next (command.Use log view) output still does = absurd still
+still_lines w next (command.As log pieces) output still does = absurd still
+still_lines w next (command.Open session log pieces) output still does = absurd still
+still_lines w next (command.Step session count) output still does = absurd still
+still_lines w next (command.Finish session) output still does = absurd still
+still_lines w next (command.Join node) output still does = absurd still
+still_lines w next (command.Stop node) output still does = absurd still
+still_lines w next command.Round output still does = absurd still
+still_lines w next (command.Damage node key offset byte) output still does = absurd still
+still_lines w next (command.Snap log) output still does = absurd still
+still_lines w next (command.Restart log) output still does = absurd still
+still_lines w next (command.Keep log count new) output still does = absurd still
+still_lines w next command.End output still does = absurd still

@@ -1,0 +1,168 @@
+-- Scripts whose ring changes little, and what they may rely on: what was put stays (CFS, SOSP 2001, section 5.1).
+use Rattle.std.specs.Prelude.{◌≡◌, ◌≢◌, if◌then◌else◌, ℕ, ◌+◌, ◌<◌, ◌≤◌, Bool, true, false, List, [], ◌∷◌, ◌++◌, length, is_some, ◌↔◌, Contains, Option, Some, None, Result, Ok, option_map, option_and_then}
+use Rattle.std.specs.List.{AllByRecursion}
+use Rattle.std.specs.Option.{option_map_or}
+use Rattle.ivy_base.specs.declared.key.Key.{Key}
+use Rattle.ivy_base.specs.Naming.{NamesTellApart}
+use Rattle.ring_model.specs.Circle.{number}
+use Rattle.ring_model.specs.Blocks.{IsAtLeast}
+use Rattle.ring_model.specs.Members.{IsAmong, owners}
+use Rattle.ring_model.specs.Ring.{Links, IsCoveredRing, IsSettledRing}
+use Rattle.dht_ids.specs.Peers.{place}
+use Rattle.dht_ids.specs.declared.ask.Ask.TheVariants as ask
+use Rattle.dht_ids.specs.declared.judge.Judged.{Judged}
+use Rattle.dht_ids.specs.declared.peer.Peer.{Peer}
+use Rattle.dht_ids.specs.declared.post.Post.{Post}
+use Rattle.dhash_client.specs.GetBlock.{IsGetOfBlock}
+use Rattle.dhash_client.specs.GetHead.{IsGetOfHead}
+use Rattle.dhash_client.specs.Course.{Told, told_all}
+use Rattle.dhash_client.specs.declared.miss.Miss.{Miss}
+use Rattle.log_heads.specs.Signed.{hss_judged}
+use Rattle.node_store.specs.Stores.{bytes_at}
+use Rattle.script_driver.specs.Run.{Goes}
+use Rattle.script_model.specs.declared.command.Command.{Command}
+use Rattle.script_model.specs.declared.command.Command.TheVariants as command
+use Rattle.script_model.specs.declared.command.NodeWord.{NodeWord}
+use Rattle.script_model.specs.Lines.{command_of}
+use Rattle.script_model.specs.declared.command.Piece.{Piece}
+use Rattle.log_model.specs.Closed.{log_of}
+use Rattle.log_model.specs.Record.{Record}
+use Rattle.log_model.specs.View.{View}
+use Rattle.agent_model.specs.Agent.{is_head}
+use Rattle.world_model.specs.Agents.{own}
+use Rattle.session_model.specs.Sessions.{Said, Session}
+use Rattle.world_model.specs.Calls.{shown_end}
+use Rattle.world_model.specs.Rounds.{IsRoundOf}
+use Rattle.world_model.specs.World.{World, Participant, entries, participant, named_bytes, node_at, view_named}
+use Rattle.world_model.specs.Story.{HadTurn, empty_story, known_of}
+use Rattle.world_model.specs.Logs.{Played}
+use Rattle.world_laws.specs.Headline.{IsOnReplay}
+use Rattle.world_model.specs.Fates.{Fates, asking}
+use Rattle.world_model.specs.Ring.{RingLine, live_in_order}
+use Rattle.world_model.specs.Step.{IvyStep}
+
+-- ---- the ring of a world
+
+abbrev pub no_links : Links Peer
+no_links = record { list = []; before = None; fingers = [] }
+
+abbrev pub links_in : World → Peer → Links Peer
+links_in w p = option_map_or (λ n. n.ring.links) (node_at w p.id) no_links
+
+abbrev pub lives_in : World → Peer → Bool
+lives_in w p = option_map_or (λ n. n.is_live) (node_at w p.id) false
+
+abbrev pub IsSettledIn : World → ℕ → Type 0
+IsSettledIn w r = IsSettledRing place r 160 (live_in_order w) (lives_in w) (links_in w)
+
+abbrev pub IsCoveredIn : World → ℕ → Type 0
+IsCoveredIn w r = IsCoveredRing place r (live_in_order w) (lives_in w) (links_in w)
+
+-- ---- calm scripts
+
+-- how the ring was since it was made or the last round: so many nodes stopped, or one has just joined
+pub data Since : Type 0 where
+  Stopped : (count : ℕ) → Since
+  Joined : Since
+
+-- a command that changes no node but by asks of sessions
+abbrev pub IsQuiet : Command → Type 0
+IsQuiet (command.Ring nodes replicas) = ⊥
+IsQuiet (command.Join number) = ⊥
+IsQuiet (command.Stop node) = ⊥
+IsQuiet command.Round = ⊥
+IsQuiet (command.Lose count) = ⊥
+IsQuiet (command.Damage node key offset byte) = ⊥
+IsQuiet (command.Keep log count new) = ⊥
+IsQuiet _ = Unit {0}
+
+-- what a command makes of it: asks are lost and blocks spoilt nowhere, and no save fails; a join comes where no node stopped, and
+-- fewer than r stop. Between a join and its round there is no other line, not even an empty one.
+pub data IsCalm (w : World) (r : ℕ) : Since → Command → Since → Type 0 where
+  rounds : (since : Since) → w.sessions ≡ [] → IsCalm w r since command.Round (Stopped 0)
+  joins : (number : ℕ) → w.sessions ≡ [] → IsCalm w r (Stopped 0) (command.Join number) Joined
+  stops : (count : ℕ) (node : NodeWord) → w.sessions ≡ [] → count + 1 < r → 2 ≤ length (live_in_order w) → IsCalm w r (Stopped count) (command.Stop node) (Stopped (count + 1))
+  other : (count : ℕ) (c : Command) → IsQuiet c → IsCalm w r (Stopped count) c (Stopped count)
+
+-- a calm part of a script, from a world to a world
+pub data Calmly (r : ℕ) : Played → Since → List (List ℕ) → Played → Since → Type 0 where
+  none : {w : Played} {since : Since} → Calmly r w since [] w since
+  more : {w mid next : Played} {since between after : Since} {line : List ℕ} {lines : List (List ℕ)} (c : Command) (output : List ℕ) → command_of line ≡ Some c → IsCalm w.0 r since c between
+      → IvyStep w line (Goes mid output) → Calmly r mid between lines next after → Calmly r w since (line ∷ lines) next after
+
+-- ---- what stays
+
+-- the rank of what a node holds under a key: 0 for content, a head's number for a head
+abbrev pub rank_in : World → Key → Peer → Option ℕ
+rank_in w key p = option_and_then (λ n. option_map (λ bytes. option_map_or (λ j. j.seq) (hss_judged key bytes) 0) (bytes_at key n.blocks)) (node_at w p.id)
+
+-- the world was reached calmly from the line that made its ring; and no block that was met is a public key
+pub record IsCalmAt (r : ℕ) (w : Played) (since : Since) (lines : List (List ℕ)) : Type 0 where
+  pub before : Played
+  pub count : ℕ
+  pub made : World
+  pub fresh : (before.0.participants ≡ []) × (before.0.views ≡ []) × (before.0.sessions ≡ []) × (before.0.lost ≡ []) × (before.0.met ≡ []) × (before.1 ≡ empty_story)
+  pub rings : RingLine before.0 count r (Goes made [])
+  pub calmly : Calmly r (made, before.1) (Stopped 0) lines w since
+  pub apart : NamesTellApart (named_bytes w.0)
+  pub no_key : (p : Participant) → Contains w.0.participants p → Contains w.0.met (own p.agent).0 → ⊥
+
+-- the ring is settled after each round, and covered at each later line but between a join and its round
+abbrev pub RingStays : Type 0
+RingStays = (r : ℕ) (w : Played) (count : ℕ) (lines : List (List ℕ)) → IsCalmAt r w (Stopped count) lines → IsCoveredIn w.0 r × (count ≡ 0 → IsSettledIn w.0 r)
+
+-- the rank of a post
+abbrev pub post_rank : Post → ℕ
+post_rank p = if is_head p.kind then option_map_or (λ j. j.seq) (hss_judged p.key p.bytes) 0 else 0
+
+-- of each post of which a put was acknowledged an owner of its key holds it, or a newer head
+abbrev pub AckedIsHeld : Type 0
+AckedIsHeld = (r : ℕ) (w : Played) (count : ℕ) (lines : List (List ℕ)) (p : Post) → IsCalmAt r w (Stopped count) lines → Contains w.1.acked p
+    → (m : Peer) × IsAmong m (owners place r (live_in_order w.0) (number p.key)) × IsAtLeast (post_rank p) (rank_in w.0 p.key m)
+
+-- so a get of a block gives it
+abbrev pub BlocksAreGiven : Type 0
+BlocksAreGiven = (r : ℕ) (w : Played) (next : World) (count : ℕ) (lines : List (List ℕ)) (p : Post) (looks asks : Told) (came : Result (List ℕ) Miss) → IsCalmAt r w (Stopped count) lines → Contains w.1.acked p → is_head p.kind ≡ false
+    → Fates hss_judged w.0 (asking (ask.Route p.key) looks ++ asking (ask.Get p.key) asks) next → IsGetOfBlock p.key r (entries w.0) (told_all (ask.Route p.key) looks ++ told_all (ask.Get p.key) asks) came → came ≡ Ok p.bytes
+
+-- and a get of a head one of its number or a greater one
+abbrev pub HeadsAreGiven : Type 0
+HeadsAreGiven = (r : ℕ) (w : Played) (next : World) (count : ℕ) (lines : List (List ℕ)) (p : Post) (looks asks : Told) (came : Result (List Judged) Miss) → IsCalmAt r w (Stopped count) lines → Contains w.1.acked p → is_head p.kind ≡ true
+    → Fates hss_judged w.0 (asking (ask.Route p.key) looks ++ asking (ask.Get p.key) asks) next → IsGetOfHead (hss_judged p.key) p.key r (entries w.0) (told_all (ask.Route p.key) looks ++ told_all (ask.Get p.key) asks) came
+    → (heads : List Judged) × (j : Judged) × (came ≡ Ok heads) × Contains heads j × (post_rank p ≤ j.seq)
+
+-- right after a round, be it that of a join, a live node holds exactly the blocks that a live node held before it and of which it is an owner
+abbrev pub RoundMovesBlocks : Type 0
+RoundMovesBlocks = (r : ℕ) (w : Played) (next : World) (since : Since) (lines : List (List ℕ)) (m : Peer) (key : Key) → IsCalmAt r w since lines → w.0.sessions ≡ [] → IsRoundOf hss_judged r w.0 next → lives_in next m ≡ true
+    → (is_some (rank_in next key m) ≡ true) ↔ (IsAmong m (owners place r (live_in_order w.0) (number key)) × (p : Peer) × (lives_in w.0 p ≡ true) × (is_some (rank_in w.0 key p) ≡ true))
+
+-- ---- completeness
+
+-- no session of a participant is open that enters a view or starts again
+abbrev pub HasNoneOpen : World → Command → Type 0
+HasNoneOpen w (command.Use log view) = AllByRecursion (λ s. s.session.by ≢ log) w.sessions
+HasNoneOpen w (command.Restart log) = AllByRecursion (λ s. s.session.by ≢ log) w.sessions
+HasNoneOpen w _ = Unit {0}
+
+-- so at each line between two worlds
+pub data Tidily : Played → List (List ℕ) → Played → Type 0 where
+  none : {w : Played} → Tidily w [] w
+  more : {w mid next : Played} {line : List ℕ} {lines : List (List ℕ)} (c : Command) (output : List ℕ) → command_of line ≡ Some c → HasNoneOpen w.0 c → IvyStep w line (Goes mid output) → Tidily mid lines next → Tidily w (line ∷ lines) next
+
+-- Each log has a key of its own, each participant enters one view, and all members of a view that was entered have entered it.
+pub record IsTidy (w : World) (lines : List (List ℕ)) (caller : List ℕ) : Type 0 where
+  pub own_keys : (p q : Participant) → Contains w.participants p → Contains w.participants q → own p.agent ≡ own q.agent → p ≡ q
+  pub once : (line later log view other : List ℕ) → Contains lines line → Contains lines later → command_of line ≡ Some (command.Use log view) → command_of later ≡ Some (command.Use log other)
+      → view_named w view ≡ view_named w other
+  pub entered : (p q : Participant) (view : View) → participant w caller ≡ Some p → p.agent.view ≡ Some view → Contains w.participants q → Contains view.members (own q.agent) → q.agent.view ≡ Some view
+
+-- the record was written by a member of the view
+abbrev pub IsWritten : Played → View → Record → Type 0
+IsWritten w view one = (q : Participant) × Contains w.0.participants q × Contains view.members (own q.agent) × Contains (log_of (own q.agent) (known_of w.1 q.name)) one
+
+-- In such a script no whole call fails for want of a block. While no session is open the set that its turn takes is all records that the members have written so far.
+abbrev pub CallsAreServed : Type 0
+CallsAreServed = (r : ℕ) (w next : Played) (count : ℕ) (lines : List (List ℕ)) (line name output : List ℕ) (pieces : List Piece) → (calm : IsCalmAt r w (Stopped count) lines) → Tidily (calm.made, calm.before.1) lines w → IsTidy w.0 lines name
+    → command_of line ≡ Some (command.As name pieces) → IvyStep w line (Goes next output)
+    → ((session : Session) (said : Said) → output ≡ shown_end session said → session.missed ≡ None)
+    × ((h : HadTurn) (turn : IsOnReplay h) (one : Record) → w.0.sessions ≡ [] → next.1.turns ≡ w.1.turns ++ h ∷ [] → Contains turn.taken one ↔ IsWritten w h.view one)

@@ -1,0 +1,101 @@
+-- What holds of each reply: it is the file system's answer on the from-scratch replay of one causally closed set of verified records of the caller's view alone.
+use Rattle.std.specs.Prelude.{◌≡◌, ℕ, ◌++◌, List, Contains, Some}
+use Rattle.ivy_base.specs.Naming.{NamesTellApart}
+use Rattle.log_model.specs.Closed.{IsClosed, IsClosedPart, log_of}
+use Rattle.log_model.specs.Record.{Record}
+use Rattle.log_model.specs.Replay.{replay}
+use Rattle.turn_model.specs.Basis.{HoldsAll, kept_tree}
+use Rattle.turn_model.specs.Known.{IsVerified}
+use Rattle.turn_model.specs.Turn.{Asked, Candidate, IsAtHand, turn_on}
+use Rattle.world_model.specs.Agents.{inputs, own}
+use Rattle.agent_model.specs.Candidates.{AreCandidatesOf}
+use Rattle.agent_model.specs.Standing.{Refresh}
+use Rattle.session_model.specs.Brought.{brought_in, heads_at}
+use Rattle.session_model.specs.Refreshing.{Note, Refreshes, Done}
+use Rattle.session_model.specs.Replies.{Asks}
+use Rattle.session_model.specs.Sessions.{Said, Session}
+use Rattle.script_driver.specs.Run.{Outcome, Goes}
+use Rattle.script_model.specs.declared.command.Command.{Command}
+use Rattle.script_model.specs.declared.command.Command.TheVariants as command
+use Rattle.script_model.specs.Lines.{command_of}
+use Rattle.script_model.specs.Messages.{message_of}
+use Rattle.world_model.specs.World.{session_named}
+use Rattle.world_model.specs.Story.{Story, HadTurn, began_of}
+use Rattle.world_model.specs.Keepers.{fails_next}
+use Rattle.world_model.specs.Logs.{Played}
+use Rattle.world_model.specs.Calls.{shown_end}
+use Rattle.world_laws.specs.Causes.{HasCause}
+
+-- ---- a turn
+
+pub record IsOnReplay (h : HadTurn) : Type 0 where
+  -- it is a turn of its participant's agent, in the view that it entered, and its session's
+  pub in_view : h.by.agent.view ≡ Some h.view
+  pub of_view : h.session.standing.view ≡ h.view
+  pub of_own : (h.session.by ≡ h.by.name) × (h.knowing.name ≡ h.by.name) × (h.session.standing.own ≡ own h.by.agent)
+  -- what was asked, and what the session was brought for it
+  pub xid : ℕ
+  pub asked : Asked
+  pub asks : Asks h.session.standing.view h.session.message xid asked
+  pub notes : List Note
+  pub given : Refresh
+  pub refreshed : Refreshes h.session.standing (brought_in h.session.parts) notes given Done
+  -- the candidates are determined by the heads that it was brought; the set that is taken is the largest closed part of these and of what was known
+  pub candidates : List Candidate
+  pub of_heads : AreCandidatesOf (heads_at (brought_in h.session.parts)) h.met h.view h.session.standing h.began.knew given.started candidates
+  pub taken : List Record
+  pub taken_is_largest : IsClosedPart h.view (IsAtHand h.knowing.known candidates) taken
+  -- the reply, and what is known then, are those of a turn on it
+  pub is_answer : h.turned ≡ turn_on (inputs h.by.agent h.view (fails_next h.by.keeper)) taken asked h.now
+  -- the set, with what was written, has all that was known; before it was written, of the own log just that; it is verified
+  pub keeps_what_was_known : (r : Record) → Contains h.knowing.known r → Contains h.turned.set r
+  pub own_log_is_known : log_of (own h.by.agent) taken ≡ log_of (own h.by.agent) h.knowing.known
+  pub is_verified : IsVerified h.met h.view (own h.by.agent) h.after.floor h.knowing.received h.turned.set
+  -- what is known then is closed; the tree that is kept is its replay, and the basis stands for a closed part of it
+  pub set_is_closed : IsClosed h.view h.turned.set
+  pub kept_tree_is_replay : kept_tree h.after.holding ≡ replay h.turned.set
+  pub basis_stands : HoldsAll h.view h.turned.set h.after.holding
+
+-- where names tell apart what was met before it
+abbrev pub TurnHolds : HadTurn → Type 0
+TurnHolds h = NamesTellApart h.met → IsOnReplay h
+
+-- the turns that were answered between two stories
+abbrev pub NewTurns : Story → Story → List HadTurn → Type 0
+NewTurns st next more = next.turns ≡ st.turns ++ more
+
+-- ---- what is shown
+
+-- the lines that show a reply
+abbrev pub ShowsReply : Command → Type 0
+ShowsReply (command.As log pieces) = Unit {0}
+ShowsReply (command.Finish session) = Unit {0}
+ShowsReply _ = ⊥
+
+-- the session of the line, and the number of its call: the one that it begins, of that participant and that message, or the one of that name
+abbrev pub IsAskedBy : Played → Command → ℕ → Session → Type 0
+IsAskedBy w (command.As log pieces) number s = (number ≡ w.1.begun) × (s.by ≡ log) × (message_of w.0.replies s.standing.view pieces ≡ Some s.message)
+IsAskedBy w (command.Finish name) number s = (before : Session) × (session_named w.0 name ≡ Some before) × (number ≡ (began_of w.1 name).number) × (s.by ≡ before.by) × (s.message ≡ before.message)
+IsAskedBy w _ number s = ⊥
+
+-- what is shown is what a session said, which has its cause
+pub record IsCaused (w : Played) (command : Command) (next : Played) (output : List ℕ) : Type 0 where
+  pub number : ℕ
+  pub session : Session
+  pub said : Said
+  pub asked_by : IsAskedBy w command number session
+  pub shown : output ≡ shown_end session said
+  pub cause : HasCause next.1 number session said
+
+-- ---- the law of a step
+
+pub record HoldsOf (w : Played) (command : Command) (next : Played) (output : List ℕ) : Type 0 where
+  pub more : List HadTurn
+  pub new : NewTurns w.1 next.1 more
+  pub turns : (h : HadTurn) → Contains more h → TurnHolds h
+  pub caused : ShowsReply command → IsCaused w command next output
+
+-- Each turn that a line has made is on the replay of a closed set of verified records, and each reply that it shows has its cause. That each answer in a
+-- session's trail is the fate of that ask is part of the step.
+abbrev pub Headline : Played → List ℕ → Outcome Played → Type 0
+Headline w line outcome = (c : Command) (next : Played) (output : List ℕ) → command_of line ≡ Some c → outcome ≡ Goes next output → HoldsOf w c next output

@@ -1,0 +1,254 @@
+-- Laws of the world's steps and of its runs. Each is stated here, and proved by the crates above.
+use Rattle.std.specs.Prelude.{◌≡◌, ◌≢◌, ◌⊎◌, ◌↔◌, ℕ, ◌+◌, ◌<◌, List, [], ◌∷◌, ◌++◌, map, take, Contains, Option, Ok, Some, None}
+use Rattle.std.specs.List.{AllByRecursion}
+use Rattle.ivy_base.specs.declared.key.Key.{Key}
+use Rattle.ivy_base.specs.declared.key.PubKey.{PubKey}
+use Rattle.ivy_base.specs.Naming.{NamesTellApart, HasClash, head_key_of, name}
+use Rattle.wire_model.specs.Rpc.{SystemError, reply}
+use Rattle.log_model.specs.Record.{Record}
+use Rattle.log_model.specs.Chain.{LinkedFrom}
+use Rattle.log_model.specs.Closed.{log_of}
+use Rattle.log_model.specs.Spelling.{HasSpelling, no_name, record_block}
+use Rattle.log_model.specs.Standing.{Stand}
+use Rattle.log_model.specs.Vector.{Stamp, Vector, stamp_at}
+use Rattle.log_model.specs.View.{View}
+use Rattle.turn_model.specs.Basis.{Basis, fresh_basis}
+use Rattle.turn_model.specs.Known.{EndsAt}
+use Rattle.turn_model.specs.Turn.{Candidate, IsPrefixOf}
+use Rattle.dht_ids.specs.declared.ask.Ask.TheVariants as ask
+use Rattle.dht_ids.specs.declared.judge.Judged.{Judged}
+use Rattle.dht_ids.specs.declared.peer.Peer.{Peer}
+use Rattle.dht_ids.specs.declared.post.Post.{Post}
+use Rattle.hash_signature_model.specs.declared.keys.PrivateKey.{PrivateKey}
+use Rattle.hash_signature_model.specs.declared.set.Set.{Set}
+use Rattle.hss_keys.specs.Signer.{Signer, leaf_used, leaves_used, left_of, lower_key, signed_lower}
+use Rattle.log_heads.specs.Signed.{hss_judged}
+use Rattle.agent_model.specs.Candidates.{AreCandidatesOf, Brings}
+use Rattle.agent_model.specs.Turning.{TurnEnd}
+use Rattle.agent_model.specs.Standing.{Refresh, Standing}
+use Rattle.session_model.specs.Brought.{Brought, BlockOf, Want, brought_in, heads_at}
+use Rattle.session_model.specs.Refreshing.{Loaded, LoadsFor, Note}
+use Rattle.session_model.specs.Sessions.{Session, Over, IsGet, IsPut, put_question, wanted_key}
+use Rattle.session_model.specs.Asking.{IsBegun, AsksOneNext, BeginsNoOther, GoesOnAlways}
+use Rattle.session_model.specs.Courses.{HasRefreshed, IsRefusal, LacksMemory}
+use Rattle.session_model.specs.Replies.{said_no_memory}
+use Rattle.script_driver.specs.Run.{Outcome, Goes, Ran, Runs, WithLaw, HasPiece}
+use Rattle.script_driver.specs.Seen.{HasStory, SeenStep}
+use Rattle.script_model.specs.declared.command.Command.{Command}
+use Rattle.script_model.specs.declared.command.Command.TheVariants as command
+use Rattle.script_model.specs.Lines.{command_of}
+use Rattle.world_model.specs.Agents.{Agent, IsKept, Kept, TakesTurn, kept_bytes, own}
+use Rattle.world_model.specs.Keepers.{fails_next}
+use Rattle.world_model.specs.World.{World, NamedSession, Participant, empty_world, named_bytes, participant}
+use Rattle.world_model.specs.Story.{Story, HadTurn, empty_story, known_of}
+use Rattle.world_model.specs.Logs.{Played}
+use Rattle.world_model.specs.Calls.{reply_line}
+use Rattle.world_model.specs.Step.{Does, IvyStep}
+use Rattle.world_model.specs.Steps.{Scene, Steps, heads_by}
+use Rattle.world_laws.specs.Causes.{IsOf}
+use Rattle.world_laws.specs.Keeps.{BeganFresh, HasNoSnapshot, IsInHand, IsSnapshotOf, IsSoundSession, Keeps, OnlyPublishes, sealed_with}
+use Rattle.world_laws.specs.Headline.{Headline, IsOnReplay, NewTurns, TurnHolds}
+
+-- ---- blocks met
+
+-- Whether names tell blocks apart is decided.
+abbrev pub ClashIsDecided : Type 0
+ClashIsDecided = (blocks : List (List ℕ)) → NamesTellApart blocks ⊎ HasClash blocks
+
+-- Names that tell more blocks apart tell fewer apart.
+abbrev pub FewerStayApart : Type 0
+FewerStayApart = (blocks more : List (List ℕ)) → ((b : List ℕ) → Contains blocks b → Contains more b) → NamesTellApart more → NamesTellApart blocks
+
+-- A line forgets no block that was met.
+abbrev pub MetGrows : Type 0
+MetGrows = (w next : Played) (line output : List ℕ) → IvyStep w line (Goes next output) → (b : List ℕ) → Contains w.0.met b → Contains next.0.met b
+
+-- a command that shows something, or sets the moment or a loss to come, and nothing else
+abbrev pub IsStill : Command → Type 0
+IsStill (command.At sec nsec) = Unit {0}
+IsStill (command.Lose count) = Unit {0}
+IsStill (command.Holds node) = Unit {0}
+IsStill (command.Order log) = Unit {0}
+IsStill (command.Work log) = Unit {0}
+IsStill command.Nothing = Unit {0}
+IsStill _ = ⊥
+
+-- It leaves nodes, agents, sessions and blocks as they are, and the story: whatever doesn't speak of the moment and of losses holds on.
+abbrev pub StillLinesChangeNothing : Type 0
+StillLinesChangeNothing = (w next : Played) (c : Command) (output : List ℕ) → IsStill c → Does hss_judged w c (Goes next output)
+    → (next.1 ≡ w.1) × (next.0 ≡ record w.0 { now = next.0.now; lost = next.0.lost })
+
+-- ---- runs
+
+-- a script begins in such a world, and each line leaves one
+abbrev pub EmptyKeeps : Type 0
+EmptyKeeps = Keeps (empty_world, empty_story)
+
+abbrev pub LinesKeep : Type 0
+LinesKeep = (w next : Played) (line output : List ℕ) → Keeps w → IvyStep w line (Goes next output) → Keeps next
+
+-- a step of a session in hand leaves such a world and such a session, and a turn in it is on the replay
+abbrev pub StepsKeep : Type 0
+StepsKeep = (c next : Scene) (r : ℕ) → Keeps (c.world, c.story) → IsInHand c r → c.world.replicas ≡ Some r → Steps hss_judged r c.session.by c next
+    → Keeps (next.world, next.story) × IsInHand next r × (more : List HadTurn) × NewTurns c.story next.story more × ((h : HadTurn) → Contains more h → TurnHolds h)
+
+-- so does a step of a session that only publishes, which has no turn
+abbrev pub PublishingKeeps : Type 0
+PublishingKeeps = (c next : Scene) (r : ℕ) → Keeps (c.world, c.story) → OnlyPublishes c.world r c.session → c.world.replicas ≡ Some r → Steps hss_judged r c.session.by c next
+    → Keeps (next.world, next.story) × OnlyPublishes next.world r next.session × (next.story.turns ≡ c.story.turns)
+
+-- in such a world the headline holds of each line; so it holds of each line of a run
+abbrev pub HeadlineHolds : Type 0
+HeadlineHolds = (w : Played) (line : List ℕ) (outcome : Outcome Played) → Keeps w → IvyStep w line outcome → Headline w line outcome
+
+abbrev pub EachReplyIsOnReplay : Type 0
+EachReplyIsOnReplay = (w : Played) (number : ℕ) (lines : List (List ℕ)) (ran : Ran) → Keeps w → Runs IvyStep w number lines ran → Runs (WithLaw IvyStep Headline) w number lines ran
+
+-- A world has one outcome of each line, whichever story fits it, so each script has a run.
+abbrev pub EachLineDoesSomething : Type 0
+EachLineDoesSomething = (w : World) (line : List ℕ) → HasStory Keeps w → (outcome : Outcome World) × SeenStep Keeps IvyStep w line outcome
+
+-- ---- one run
+
+-- no call was refused for want of memory in this step: no such reply is shown, unless by the end of a session that was over before, and no session is over so that wasn't
+pub record HasMemoryIn (w next : World) (line output : List ℕ) : Type 0 where
+  pub shown : (xid : ℕ) → HasPiece (λ text. text ≡ reply_line (reply xid SystemError)) output
+      → (s : NamedSession) × Contains w.sessions s × (command_of line ≡ Some (command.Finish s.name)) × (s.session.stage ≡ Over (Some (said_no_memory xid)))
+  pub sessions : AllByRecursion (λ s. (xid : ℕ) → s.session.stage ≡ Over (Some (said_no_memory xid)) → Contains w.sessions s) next.sessions
+
+-- two worlds that a line leads to, in both of which memory was there, are one, and so are their outputs, where names tell apart what was met
+abbrev pub StepsAreOne : Type 0
+StepsAreOne = (w one other : Played) (line text words : List ℕ) → Keeps w → NamesTellApart (named_bytes one.0) → NamesTellApart (named_bytes other.0)
+    → IvyStep w line (Goes one text) → IvyStep w line (Goes other words) → HasMemoryIn w.0 one.0 line text → HasMemoryIn w.0 other.0 line words → (one ≡ other) × (text ≡ words)
+
+-- ---- gets and puts
+
+-- of any entry nodes, some of which there are, whatever is asked for
+abbrev pub GetsAreOne : Type 0
+GetsAreOne = (judged : Key → List ℕ → Option Judged) (r : ℕ) (entries : List Peer) (want : Want)
+    → BeginsNoOther (IsGet judged r entries want) × AsksOneNext (wanted_key want) (ask.Get (wanted_key want)) (IsGet judged r entries want)
+    × GoesOnAlways (wanted_key want) (ask.Get (wanted_key want)) (IsGet judged r entries want) × (entries ≢ [] → IsBegun (IsGet judged r entries want) [])
+
+abbrev pub PutsAreOne : Type 0
+PutsAreOne = (judged : Key → List ℕ → Option Judged) (r : ℕ) (s : Session) (p : Post)
+    → BeginsNoOther (IsPut judged r s p) × AsksOneNext p.key (put_question p) (IsPut judged r s p)
+    × GoesOnAlways p.key (put_question p) (IsPut judged r s p) × (s.entries ≢ [] → IsBegun (IsPut judged r s p) [])
+
+-- ---- leaving out
+
+-- of the view's members both have the same heads, and the same records' blocks
+pub record AgreeOnMembers (view : View) (heads others : Key → List Stamp) (met more : List (List ℕ)) : Type 0 where
+  pub same_heads : (owner : PubKey) → Contains view.members owner → heads (head_key_of owner) ≡ others (head_key_of owner)
+  pub records : (r : Record) → Contains view.members r.owner → HasSpelling r → Contains met (record_block r) ↔ Contains more (record_block r)
+
+-- then they have the same candidates, whatever other logs there are
+abbrev pub OtherLogsDontCount : Type 0
+OtherLogsDontCount = (view : View) (heads others : Key → List Stamp) (met more : List (List ℕ)) (s : Standing) (knew : List Record) (started : Vector) (candidates : List Candidate)
+    → AgreeOnMembers view heads others met more → AreCandidatesOf heads met view s knew started candidates → AreCandidatesOf others more view s knew started candidates
+
+-- two turns of equal views, agents, sets, calls and moments give equal replies
+abbrev pub AlikeTurnsAnswerAlike : Type 0
+AlikeTurnsAnswerAlike = (g h : HadTurn) (one : IsOnReplay g) (other : IsOnReplay h) → g.view ≡ h.view → one.taken ≡ other.taken → own g.by.agent ≡ own h.by.agent
+    → left_of g.by.agent.signer ≡ left_of h.by.agent.signer → g.by.agent.has_failed ≡ h.by.agent.has_failed → fails_next g.by.keeper ≡ fails_next h.by.keeper
+    → one.asked ≡ other.asked → g.now ≡ h.now → g.turned.reply ≡ h.turned.reply
+
+-- ---- what is saved and loaded
+
+-- what may be saved is told by its bytes
+abbrev pub KeptOnce : Type 0
+KeptOnce = (k l : Kept) → IsKept k → IsKept l → kept_bytes k ≡ kept_bytes l → k ≡ l
+
+-- what is loaded of a snapshot is what was made, where names tell apart the blocks met
+abbrev pub LoadedIsMade : Type 0
+LoadedIsMade = (met : List (List ℕ)) (view : View) (known : List Record) (root : Key) (snapshot : IsSnapshotOf met view known root) (brought : List Brought) (b : Basis) → NamesTellApart met
+    → ((key : Key) (bytes : List ℕ) → Contains brought (BlockOf key (Ok bytes)) → (name bytes ≡ key) × Contains met bytes)
+    → LoadsFor (Some root) brought (Loaded (Some b)) → b ≡ snapshot.made
+
+-- A line that makes no snapshot leaves a world without one so.
+abbrev pub NoSnapshotComes : Type 0
+NoSnapshotComes = (w next : Played) (line output log : List ℕ) → Keeps w → HasNoSnapshot w.0 → command_of line ≢ Some (command.Snap log) → IvyStep w line (Goes next output) → HasNoSnapshot next.0
+
+-- ---- keys
+
+-- the heads that left an agent, each by the number of its signature and the record that it is over
+pub record AreLeft (w : World) (p : Participant) (k : Kept) : Type 0 where
+  pub held : p.keeper.kept ≡ Some (kept_bytes k)
+  pub whole : IsKept k
+  pub signed : List (ℕ × Stamp)
+  pub left : p.left ≡ map (sealed_with k.signer) signed
+
+-- The heads that left an agent were each signed under a number of its own: two over records of one number, or signed by the same leaves, are one.
+abbrev pub LeafSignsOnce : Type 0
+LeafSignsOnce = (w : Played) (p : Participant) (k : Kept) → Keeps w → Contains w.0.participants p → IsKept k → p.keeper.kept ≡ Some (kept_bytes k) → (signed : AreLeft w.0 p k)
+    × ((g h : ℕ × Stamp) → Contains signed.signed g → Contains signed.signed h → (g.1.seq ≡ h.1.seq) ⊎ (leaves_used k.signer.sets g.0 ≡ leaves_used k.signer.sets h.0) → g ≡ h)
+
+-- the public keys that signature n has, from the top down, each signed by the leaf above it (RFC 8554, section 6.2)
+abbrev pub keys_signed : PrivateKey → List Set → ℕ → List (List ℕ)
+keys_signed key [] n = []
+keys_signed key (set ∷ lower) n = (let leaf = leaf_used key.set (set ∷ lower) n in signed_lower key leaf set ∷ keys_signed (lower_key key leaf set) lower n)
+
+abbrev pub keys_by : Signer → ℕ → List (List ℕ)
+keys_by signer n = keys_of signer.sets
+  where
+    keys_of : List Set → List (List ℕ)
+    keys_of [] = []
+    keys_of (set ∷ lower) = keys_signed (record { set = set; id = signer.id; seed = signer.seed }) lower n
+
+-- A leaf above the lowest level has signed one message, the key below it: two signatures that use the same leaves down to a level have the same keys signed there.
+abbrev pub UpperLeavesSignOnce : Type 0
+UpperLeavesSignOnce = (signer : Signer) (n m levels : ℕ) → take levels (leaves_used signer.sets n) ≡ take levels (leaves_used signer.sets m) → take levels (keys_by signer n) ≡ take levels (keys_by signer m)
+
+-- a head that is to leave was signed under a number below that which the keeper's bytes have
+abbrev pub HeadsAreSavedFirst : Type 0
+HeadsAreSavedFirst = (w : Played) (p : Participant) (k : Kept) (bytes : List ℕ) → Keeps w → Contains w.0.participants p → IsKept k → p.keeper.kept ≡ Some (kept_bytes k) → Contains (heads_by p.agent.pending) bytes
+    → (number : ℕ) × (newest : Stamp) × (bytes ≡ sealed_with k.signer (number, newest)) × (number < k.signer.made)
+
+-- ---- one truth
+
+-- each log has a key of its own, and each judged head that was met was made by its log's agent
+pub record IsHonest (w : World) : Type 0 where
+  pub own_keys : (p q : Participant) → Contains w.participants p → Contains w.participants q → head_key_of (own p.agent) ≡ head_key_of (own q.agent) → p ≡ q
+  pub own_heads : (bytes : List ℕ) (log : Key) (j : Judged) → Contains w.met bytes → hss_judged log bytes ≡ Some j → (p : Participant) × Contains w.participants p × (log ≡ head_key_of (own p.agent)) × Contains p.left bytes
+
+-- the chain that the keeper of a log's agent names
+pub record IsKeptLog (w : World) (q : Participant) (log : List Record) : Type 0 where
+  pub kept : Kept
+  pub whole : IsKept kept
+  pub holds : q.keeper.kept ≡ Some (kept_bytes kept)
+  pub linked : LinkedFrom (own q.agent) 1 no_name log
+  pub ends : EndsAt (stamp_at kept.floor (head_key_of (own q.agent))) log
+  pub stand : Stand (w.met ++ map (λ p. p.bytes) kept.pending) log
+
+-- what an agent knows of a log is the beginning of that chain
+abbrev pub OneTruth : Type 0
+OneTruth = (w : Played) (p q : Participant) (view : View) (log : List Record) → Keeps w → IsHonest w.0 → Contains w.0.participants p → Contains w.0.participants q
+    → p.agent.view ≡ Some view → (kept : IsKeptLog w.0 q log) → NamesTellApart (named_bytes w.0 ++ map (λ post. post.bytes) kept.kept.pending) → IsPrefixOf (log_of (own q.agent) (known_of w.1 p.name)) log
+
+-- ---- refreshes end in turns
+
+-- what a refresh gives a turn is tied to the heads and the blocks that it was brought
+abbrev pub RefreshBrings : Type 0
+RefreshBrings = (c : Scene) (r : ℕ) (notes : List Note) (given : Refresh) → Keeps (c.world, c.story) → NamesTellApart (named_bytes c.world) → IsInHand c r → HasRefreshed c.session notes given
+    → Brings (heads_at (brought_in c.session.parts)) (named_bytes c.world) c.session.standing.view c.session.standing c.began.knew given
+
+-- the session has just had a turn that was answered
+pub record HasTurned (c next : Scene) : Type 0 where
+  pub had : HadTurn
+  pub new : next.story.turns ≡ c.story.turns ++ had ∷ []
+  pub its : IsOf had c.began.number next.session
+
+-- Once a refresh is done the next step is its turn, where memory is there: it is answered, or the session begins anew.
+abbrev pub RefreshEndsInTurn : Type 0
+RefreshEndsInTurn = (c next : Scene) (r : ℕ) (notes : List Note) (given : Refresh) → Keeps (c.world, c.story) → NamesTellApart (named_bytes c.world) → c.world.replicas ≡ Some r → IsInHand c r
+    → HasRefreshed c.session notes given → Steps hss_judged r c.session.by c next → HasTurned c next ⊎ (next.session.starts ≡ c.session.starts + 1) ⊎ LacksMemory c.session next.session
+
+-- A session begins anew once at most: its second turn isn't refused.
+abbrev pub SecondTurnIsAnswered : Type 0
+SecondTurnIsAnswered = (c : Scene) (p : Participant) (r : ℕ) (view : View) (end : TurnEnd) (after : Agent) (saving : Option Kept) (t : Session) → Keeps (c.world, c.story) → NamesTellApart (named_bytes c.world)
+    → c.world.replicas ≡ Some r → IsInHand c r → participant c.world c.session.by ≡ Some p → TakesTurn c.world.now p.agent view (fails_next p.keeper) c.session end after saving t → IsRefusal end → c.session.starts ≡ 0
+
+-- where the session began with no snapshot to load and no basis the turn is answered at once
+abbrev pub FreshTurnsAreAnswered : Type 0
+FreshTurnsAreAnswered = (c next : Scene) (r : ℕ) (notes : List Note) (given : Refresh) → Keeps (c.world, c.story) → NamesTellApart (named_bytes c.world) → c.world.replicas ≡ Some r → IsInHand c r
+    → (sound : IsSoundSession c.world c.story c.session c.began) → BeganFresh c.session sound.of
+    → HasRefreshed c.session notes given → Steps hss_judged r c.session.by c next → HasTurned c next ⊎ LacksMemory c.session next.session

@@ -1,0 +1,6 @@
+pub mod Causes
+pub mod Headline
+pub mod Keeps
+pub mod Kinds
+pub mod Laws
+pub mod Calm

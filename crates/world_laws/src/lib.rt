@@ -1,0 +1,47 @@
+//! What holds of each world that a script reaches, of each reply, and of runs.
+//!
+//! Layer: statements and their first laws, above `world_model`; below the crates that prove the others and play scripts.
+//! Statements, in reading order: `specs/Headline.antt` (each reply), `specs/Causes.antt` (why a session says what it
+//! says), `specs/Keeps.antt` (each world), `specs/Kinds.antt` (which lines are
+//! refused), `specs/Laws.antt` (steps and runs), `specs/Calm.antt` (rings that change little).
+#![tactic(auto)]
+
+ghost use Rattle.world_laws.specs.Kinds.{LineHasOneKind};
+ghost use Rattle.world_laws.specs.Laws.{ClashIsDecided, FewerStayApart, GetsAreOne, MetGrows, PutsAreOne, StillLinesChangeNothing, UpperLeavesSignOnce};
+
+/// A law and no code: of any blocks, names tell them apart, or two of them clash.
+pub fn clashes_are_decided()
+    ensures { ClashIsDecided }
+{}
+
+/// A law and no code: where names tell blocks apart, they tell fewer of them apart.
+pub fn fewer_blocks_stay_apart()
+    ensures { FewerStayApart }
+{}
+
+/// A law and no code: signatures that use the same leaves down to a level have the same keys signed down to there.
+pub fn upper_leaves_sign_once()
+    ensures { UpperLeavesSignOnce }
+{}
+
+/// A law and no code: whether a line goes on, ends the run, is refused or meets a limit is told by the world and the line.
+pub fn lines_have_one_kind()
+    ensures { LineHasOneKind }
+{}
+
+/// A law and no code: no line forgets a block that was met.
+pub fn met_blocks_stay()
+    ensures { MetGrows }
+{}
+
+/// A law and no code: of any entry nodes, a whole get or put begins no other, one ask is the next, it goes on or is whole
+/// whatever is answered, and where there is an entry node nothing asked is the beginning of one.
+pub fn gets_are_one()
+    ensures gets { GetsAreOne }
+    ensures puts { PutsAreOne }
+{}
+
+/// A law and no code: a line that shows something, or sets the moment or a loss to come, changes nothing else.
+pub fn still_lines_change_nothing()
+    ensures { StillLinesChangeNothing }
+{}

@@ -1,0 +1,13 @@
+pub mod Agents
+pub mod Keepers
+pub mod Nodes
+pub mod World
+pub mod Story
+pub mod Fates
+pub mod Steps
+pub mod Ring
+pub mod Rounds
+pub mod Logs
+pub mod Calls
+pub mod Faults
+pub mod Step
