@@ -1,0 +1,4 @@
+pub mod Nodes
+pub mod Standing
+pub mod Order
+pub mod Forgetting

@@ -1,0 +1,61 @@
+-- Laws of the rounds of a world's ring: where no ask is lost they are the rounds of the definitions of rings.
+use Rattle.std.specs.Prelude.{◌≡◌, ℕ, suc, ◌*◌, ◌<◌, ◌≤◌, Bool, true, not, List, length, filter, Option, Some}
+use Rattle.ivy_base.specs.declared.key.Key.{Key}
+use Rattle.ring_model.specs.Members.{IsAmong}
+use Rattle.ring_model.specs.Ring.{IsSettledRing}
+use Rattle.ring_model.specs.Pass.{ArePasses}
+use Rattle.ring_model.specs.Round.{IsForgotten, AreFingersFixed, IsRound}
+use Rattle.ring_model.specs.Change.{AreFewStops, IsJoin}
+use Rattle.dht_ids.specs.declared.judge.Judged.{Judged}
+use Rattle.dht_ids.specs.declared.peer.Peer.{Peer}
+use Rattle.dht_ids.specs.Peers.{place}
+use Rattle.world_model.specs.World.{World}
+use Rattle.world_model.specs.Ring.{live_in_order}
+use Rattle.world_model.specs.Rounds.{EachDoes, ManyDo, Forgets, Stabilises, FixesFrom, IsRoundOf}
+use Rattle.round_laws.specs.RingOf.{AreNodes, BeforesLive, IsSettledIn, LosesNone, links_in, lives_in}
+
+-- ---- whatever is lost
+
+-- A round changes nothing but the nodes and the count of asks, which grows.
+abbrev pub RoundLeavesTheRest : Type 0
+RoundLeavesTheRest = (judged : Key → List ℕ → Option Judged) (r : ℕ) (w next : World) → IsRoundOf judged r w next
+    → (next ≡ record w { nodes = next.nodes; asked = next.asked }) × (w.asked ≤ next.asked)
+
+-- Nobody stops, starts or changes its place in a round, and all that nodes know of are nodes still.
+abbrev pub RoundLeavesWhoLives : Type 0
+RoundLeavesWhoLives = (judged : Key → List ℕ → Option Judged) (r : ℕ) (w next : World) → AreNodes r w → IsRoundOf judged r w next
+    → AreNodes r next × (lives_in next ≡ lives_in w) × (live_in_order next ≡ live_in_order w)
+
+-- ---- where nothing is lost
+
+-- The first part is the first part of a round of the ring.
+abbrev pub FirstPartForgets : Type 0
+FirstPartForgets = (judged : Key → List ℕ → Option Judged) (r : ℕ) (w next : World) → AreNodes r w → EachDoes (Forgets judged) w (live_in_order w) next → LosesNone w next
+    → IsForgotten (lives_in w) (links_in w) (links_in next)
+
+-- Passes over live nodes are passes of the ring, where the predecessors of live nodes live: so it is after the first part.
+abbrev pub PassesArePasses : Type 0
+PassesArePasses = (judged : Key → List ℕ → Option Judged) (r : ℕ) (w next : World) (ps : List Peer) (k : ℕ) → AreNodes r w → BeforesLive w → ((p : Peer) → IsAmong p ps → lives_in w p ≡ true)
+    → ManyDo (EachDoes (λ v p. Stabilises judged p v)) ps k w next → LosesNone w next → ArePasses place r (lives_in w) ps k (links_in w) (links_in next)
+
+-- The third part is that of a round of the ring.
+abbrev pub FingersAreFixed : Type 0
+FingersAreFixed = (judged : Key → List ℕ → Option Judged) (r : ℕ) (w next : World) (ps : List Peer) → AreNodes r w → ((p : Peer) → IsAmong p ps → lives_in w p ≡ true)
+    → EachDoes (λ v p. FixesFrom judged p 0 160 v) w ps next → LosesNone w next → AreFingersFixed place r 160 (lives_in w) ps (links_in w) (links_in next)
+
+-- A round is one of the ring; its fourth part changes nothing that nodes know of each other.
+abbrev pub RoundIsRound : Type 0
+RoundIsRound = (judged : Key → List ℕ → Option Judged) (r : ℕ) (w next : World) → AreNodes r w → IsRoundOf judged r w next → LosesNone w next
+    → IsRound place r 160 (lives_in w) (live_in_order w) (links_in w) (links_in next)
+
+-- ---- rings that are settled again
+
+-- After fewer than r stops since the ring was settled, with at most 512 members, a round makes it settled again.
+abbrev pub RoundMendsStops : Type 0
+RoundMendsStops = (judged : Key → List ℕ → Option Judged) (r : ℕ) (w next : World) (before : List Peer) → AreNodes r w → AreFewStops place r 160 before (lives_in w) (links_in w) → length before ≤ 512
+    → IsRoundOf judged r w next → LosesNone w next → IsSettledIn next r
+
+-- And where all that happened since is that x joined.
+abbrev pub RoundMendsJoin : Type 0
+RoundMendsJoin = (judged : Key → List ℕ → Option Judged) (r : ℕ) (w next : World) (live : List Peer) (x : Peer) → AreNodes r w → IsJoin place r 160 live (lives_in w) x (links_in w) → length live ≤ 512
+    → IsRoundOf judged r w next → LosesNone w next → IsSettledIn next r

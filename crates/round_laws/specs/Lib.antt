@@ -1,0 +1,2 @@
+pub mod RingOf
+pub mod Laws
