@@ -2,3 +2,5 @@ pub mod Nodes
 pub mod Standing
 pub mod Order
 pub mod Forgetting
+pub mod Renewing
+pub mod Passing

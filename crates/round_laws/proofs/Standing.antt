@@ -139,7 +139,7 @@ module _ (judged : Key → List ℕ → Option Judged) (r : ℕ) (base : List Sh
     asked = h.asked;
   }
 
-  counted_within : (w : World) → IsWithin base planned start w → IsWithin base planned start (counted w)
+  pub counted_within : (w : World) → IsWithin base planned start w → IsWithin base planned start (counted w)
   counted_within w h = record { shapes = h.shapes; known = h.known; losses = h.losses; asked = omega (arith, h.asked) }
 
   -- the fate of an ask: silence, as of one that doesn't live where no ask is lost, or the answer of a live node
