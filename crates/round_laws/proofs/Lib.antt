@@ -4,3 +4,4 @@ pub mod Order
 pub mod Forgetting
 pub mod Renewing
 pub mod Passing
+pub mod Fixing
