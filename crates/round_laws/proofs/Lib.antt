@@ -5,3 +5,5 @@ pub mod Forgetting
 pub mod Renewing
 pub mod Passing
 pub mod Fixing
+pub mod Repairing
+pub mod Growing
