@@ -7,3 +7,4 @@ pub mod Passing
 pub mod Fixing
 pub mod Repairing
 pub mod Growing
+pub mod Rounding
