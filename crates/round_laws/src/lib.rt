@@ -1,6 +1,35 @@
-//! What a round of maintenance does to a world's ring.
+//! What a round of maintenance does to a world's ring, and that it settles the ring again.
+//!
+//! Layer: laws and no code, above `world_model` and below the laws of runs. `world_model` defines a round ask by ask, each
+//! ask with its fate; `ring_model` defines it as a relation between what nodes know before and after it.
+//! For the layers above: whatever is lost, a round changes nodes and the count of asks alone, and nobody stops in it
+//! ([`rounds_leave_the_rest`]). Where no ask of it is lost it is a round of the ring, part by part and as a whole
+//! ([`rounds_are_rounds`]); so it settles a ring again of which few nodes stopped, or that one joined
+//! ([`rounds_settle`]).
+//! Definitions: `specs/RingOf.antt` (the ring of a world, and what holds of its nodes); the laws: `specs/Laws.antt`.
 #![tactic(auto)]
 
-/// A law.
-pub fn placeholder()
+ghost use Rattle.round_laws.specs.Laws.{FingersAreFixed, FirstPartForgets, PassesArePasses, RoundIsRound, RoundLeavesTheRest, RoundLeavesWhoLives, RoundMendsJoin, RoundMendsStops};
+
+/// Laws and no code: whatever is lost, a round changes nothing but nodes and the count of asks; who lives, who stands
+/// where, and that nodes know of made nodes alone stay.
+pub fn rounds_leave_the_rest()
+    ensures rest { RoundLeavesTheRest }
+    ensures lives { RoundLeavesWhoLives }
+{}
+
+/// Laws and no code: without losses the first part forgets silent predecessors, passes are passes and the third part
+/// fixes each finger, as a round of the ring does; so the whole is one.
+pub fn rounds_are_rounds()
+    ensures forgets { FirstPartForgets }
+    ensures passes { PassesArePasses }
+    ensures fingers { FingersAreFixed }
+    ensures whole { RoundIsRound }
+{}
+
+/// Laws and no code: a ring that was settled is settled again after a round without losses, where fewer than r of its
+/// nodes stopped since, or one joined.
+pub fn rounds_settle()
+    ensures stops { RoundMendsStops }
+    ensures join { RoundMendsJoin }
 {}
