@@ -8,3 +8,4 @@ pub mod Fixing
 pub mod Repairing
 pub mod Growing
 pub mod Rounding
+pub mod Storing

@@ -1,7 +1,9 @@
 -- Laws of the rounds of a world's ring: where no ask is lost they are the rounds of the definitions of rings.
 use Rattle.std.specs.Prelude.{◌≡◌, ℕ, suc, ◌*◌, ◌<◌, ◌≤◌, Bool, true, not, List, length, filter, Option, Some}
 use Rattle.ivy_base.specs.declared.key.Key.{Key}
-use Rattle.ring_model.specs.Members.{IsAmong}
+use Rattle.ring_model.specs.Blocks.{AreMoved}
+use Rattle.ring_model.specs.Circle.{number}
+use Rattle.ring_model.specs.Members.{IsAmong, owners}
 use Rattle.ring_model.specs.Ring.{IsSettledRing}
 use Rattle.ring_model.specs.Pass.{ArePasses}
 use Rattle.ring_model.specs.Round.{IsForgotten, AreFingersFixed, IsRound}
@@ -11,7 +13,8 @@ use Rattle.dht_ids.specs.declared.peer.Peer.{Peer}
 use Rattle.dht_ids.specs.Peers.{place}
 use Rattle.world_model.specs.World.{World}
 use Rattle.world_model.specs.Ring.{live_in_order}
-use Rattle.world_model.specs.Rounds.{EachDoes, ManyDo, Forgets, Stabilises, FixesFrom, IsRoundOf}
+use Rattle.world_model.specs.Rounds.{EachDoes, ManyDo, Forgets, Stabilises, FixesFrom, IsRoundOf, Repairs}
+use Rattle.round_laws.specs.Holding.{AreStores, EachTaken, Tells, rank_in}
 use Rattle.round_laws.specs.RingOf.{AreNodes, BeforesLive, IsSettledIn, LosesNone, links_in, lives_in}
 
 -- ---- whatever is lost
@@ -59,3 +62,12 @@ RoundMendsStops = (judged : Key → List ℕ → Option Judged) (r : ℕ) (w nex
 abbrev pub RoundMendsJoin : Type 0
 RoundMendsJoin = (judged : Key → List ℕ → Option Judged) (r : ℕ) (w next : World) (live : List Peer) (x : Peer) → AreNodes r w → IsJoin place r 160 live (lives_in w) x (links_in w) → length live ≤ 512
     → IsRoundOf judged r w next → LosesNone w next → IsSettledIn next r
+
+-- ---- blocks
+
+-- The fourth part of a round without losses, in a settled ring of at most 512 nodes and where each put is taken, moves
+-- the blocks of each key to its owners, as those of a ring move.
+abbrev pub BlocksMove : Type 0
+BlocksMove = (judged : Key → List ℕ → Option Judged) (r : ℕ) (w next : World) → AreNodes r w → length w.nodes ≤ 512 → AreStores w → IsSettledIn w r
+    → (parts : EachDoes (Repairs judged r) w (live_in_order w) next) → EachTaken parts → LosesNone w next
+    → (key : Key) (owns : Peer → Bool) → Tells owns (owners place r (live_in_order w) (number key)) → AreMoved owns (live_in_order w) (rank_in judged w key) (rank_in judged next key)

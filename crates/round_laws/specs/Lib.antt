@@ -1,2 +1,3 @@
 pub mod RingOf
+pub mod Holding
 pub mod Laws
