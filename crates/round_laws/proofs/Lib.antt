@@ -9,3 +9,5 @@ pub mod Repairing
 pub mod Growing
 pub mod Rounding
 pub mod Storing
+pub mod Owning
+pub mod Holding
