@@ -61,7 +61,7 @@ fates_first judged w next asks to question given rest e (one_ask {mid = mid} {re
 
 -- ---- peers that stand apart
 
-one_at_place : (ps : List Peer) (x y : Peer) → AreApart ps → IsAmong x ps → IsAmong y ps → place x ≡ place y → x ≡ y
+pub one_at_place : (ps : List Peer) (x y : Peer) → AreApart ps → IsAmong x ps → IsAmong y ps → place x ≡ place y → x ≡ y
 one_at_place [] x y a i j s = elim i [ ]
 one_at_place (p ∷ ps) x y a (inl e) (inl f) s = sym e ∙ f
 one_at_place (p ∷ ps) x y a (inl e) (inr j) s = absurd (all-among (λ z. place p ≡ place z → ⊥) y ps a.0 j (ap place e ∙ s))

@@ -45,7 +45,7 @@ module _ (judged : Key → List ℕ → Option Judged) where
   of_fate w next to question given (was_stopped n l e s) = (refl, omega arith)
   of_fate w next to question given (was_answered n l e s) = (refl, omega arith)
 
-  of_fates : (w next : World) (asks : List (Peer × (Ask × Answer))) → Fates judged w asks next → Grows w next
+  pub of_fates : (w next : World) (asks : List (Peer × (Ask × Answer))) → Fates judged w asks next → Grows w next
   of_fates w next asks no_asks = grows_none w
   of_fates w next asks (one_ask {mid = mid} {rest = rest} to question given fate later) = grows_both w mid next (of_fate w mid to question given fate) (of_fates mid next rest later)
 
@@ -79,15 +79,15 @@ module _ (judged : Key → List ℕ → Option Judged) where
   of_put p r key block w next dropped (no_route found last looks none) = of_fates w last _ looks.fates
   of_put p r key block w next dropped (puts q qs asks mid last acknowledged dropping looks is_put own fates goes) = grows_both w mid last (of_fates w mid _ looks.fates) (of_fates mid last _ fates)
 
-  of_puts : (p : Peer) (r : ℕ) (blocks : Blocks) (w next : World) (dropped : List Key) → PutsAll judged p r blocks w dropped next → Grows w next
+  pub of_puts : (p : Peer) (r : ℕ) (blocks : Blocks) (w next : World) (dropped : List Key) → PutsAll judged p r blocks w dropped next → Grows w next
   of_puts p r [] w next dropped all_put = grows_none w
   of_puts p r (e ∷ blocks) w next dropped (keeps_one {key = key} {block = block} {mid = mid} one rest) = grows_both w mid next (of_put p r key block w mid _ one) (of_puts p r blocks mid next dropped rest)
   of_puts p r (e ∷ blocks) w next dropped (drops_one {key = key} {block = block} {mid = mid} {dropped = others} one rest) = grows_both w mid next (of_put p r key block w mid _ one) (of_puts p r blocks mid next others rest)
 
-  of_repairs : (r : ℕ) (w next : World) (p : Peer) → Repairs judged r w p next → Grows w next
+  pub of_repairs : (r : ℕ) (w next : World) (p : Peer) → Repairs judged r w p next → Grows w next
   of_repairs r w next p x = grows_at w x.mid next (of_puts p r x.before.blocks w x.mid x.dropped x.puts) (x.drops ∙ ap (λ (v : World). record x.mid { nodes = v.nodes }) (sym x.drops))
 
-  of_each : (Does : World → Peer → World → Type 0) → ((w next : World) (p : Peer) → Does w p next → Grows w next) → (w next : World) (ps : List Peer) → EachDoes Does w ps next → Grows w next
+  pub of_each : (Does : World → Peer → World → Type 0) → ((w next : World) (p : Peer) → Does w p next → Grows w next) → (w next : World) (ps : List Peer) → EachDoes Does w ps next → Grows w next
   of_each Does g w next [] done = grows_none w
   of_each Does g w next (p ∷ ps) (then_does {mid = mid} first rest) = grows_both w mid next (g w mid p first) (of_each Does g mid next ps rest)
 

@@ -95,14 +95,13 @@ sorted_with w old n e h s id m f = ⊎_elim
 
 -- ---- dropped blocks
 
-pub dropped_from : Blocks → List Key → Blocks
+abbrev pub dropped_from : Blocks → List Key → Blocks
 dropped_from blocks keys = fold (λ left key. without key left) blocks keys
 
 value_without : (key other : Key) (blocks : Blocks) → value_at key_cmp other (without key blocks) ≡ cond (not (eq_by_cmp key_cmp key other)) (value_at key_cmp other blocks) None
 value_without key other blocks = find-where_key key_cmp (λ k. not (eq_by_cmp key_cmp key k)) other (λ x tied. ap (λ (y : Key). not (eq_by_cmp key_cmp key y)) (sym (same_id other x (ap is_eq tied)))) blocks
 
 none_dropped : (key : Key) (blocks : Blocks) (keys : List Key) → value_at key_cmp key blocks ≡ None → value_at key_cmp key (dropped_from blocks keys) ≡ None
-unfolding dropped_from
 none_dropped key blocks [] e = e
 none_dropped key blocks (k ∷ keys) e = none_dropped key (without k blocks) keys (value_without k key blocks ∙ by (not (eq_by_cmp key_cmp k key)))
   where
@@ -111,20 +110,25 @@ none_dropped key blocks (k ∷ keys) e = none_dropped key (without k blocks) key
     by false = refl
 
 pub is_gone : (key : Key) (blocks : Blocks) (keys : List Key) → IsAmong key keys → value_at key_cmp key (dropped_from blocks keys) ≡ None
-unfolding dropped_from
 is_gone key blocks [] h = elim h [ ]
 is_gone key blocks (k ∷ keys) (inl e) = none_dropped key (without k blocks) keys (value_without k key blocks ∙ ap (λ b. cond (not b) (value_at key_cmp key blocks) None) (ties k key e))
 is_gone key blocks (k ∷ keys) (inr h) = is_gone key (without k blocks) keys h
 
 pub is_left : (key : Key) (blocks : Blocks) (keys : List Key) → (IsAmong key keys → ⊥) → value_at key_cmp key (dropped_from blocks keys) ≡ value_at key_cmp key blocks
-unfolding dropped_from
 is_left key blocks [] d = refl
 is_left key blocks (k ∷ keys) d = is_left key (without k blocks) keys (λ i. d (inr i)) ∙ value_without k key blocks ∙ ap (λ b. cond (not b) (value_at key_cmp key blocks) None) (not_tied k key (λ e. d (inl e)))
 
 pub sorted_left : (blocks : Blocks) (keys : List Key) → T (is_sorted key_cmp blocks) → T (is_sorted key_cmp (dropped_from blocks keys))
-unfolding dropped_from
 sorted_left blocks [] s = s
 sorted_left blocks (k ∷ keys) s = sorted_left (without k blocks) keys (is_sorted-where_key key_cmp (λ x. not (eq_by_cmp key_cmp k x)) blocks s)
+
+pub left_held : (key : Key) (blocks : Blocks) (keys : List Key) (b : Block) → value_at key_cmp key (dropped_from blocks keys) ≡ Some b → value_at key_cmp key blocks ≡ Some b
+left_held key blocks [] b e = e
+left_held key blocks (k ∷ keys) b e = by (not (eq_by_cmp key_cmp k key)) (sym (value_without k key blocks) ∙ left_held key (without k blocks) keys b e)
+  where
+    by : (t : Bool) → cond t (value_at key_cmp key blocks) None ≡ Some b → value_at key_cmp key blocks ≡ Some b
+    by true f = f
+    by false f = absurd cc
 
 module _ (judged : Key → List ℕ → Option Judged) (r : ℕ) (base : List Shape) (planned : List ℕ) (start end : ℕ) (b : IsBase r base planned start end) where
   -- ---- a look-up changes no node

@@ -11,3 +11,4 @@ pub mod Rounding
 pub mod Storing
 pub mod Owning
 pub mod Holding
+pub mod Moving

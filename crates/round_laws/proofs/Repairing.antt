@@ -54,17 +54,17 @@ module _ (judged : Key → List ℕ → Option Judged) (r : ℕ) (base : List Sh
       kept_both w one.mid next (record { within = a.within; grows = fate_grows judged w one.mid s.0 question s.1 one.fate; links = a.links })
           (kept_asks question keep told (asking question told) one.mid next a.within refl one.others)
 
-  kept_look_up : (key : Key) (entries : List Peer) (found : Option (List Peer)) (w next : World) → IsWithin base planned start w → LooksUp judged w key entries found next → Kept w next
+  pub kept_look_up : (key : Key) (entries : List Peer) (found : Option (List Peer)) (w next : World) → IsWithin base planned start w → LooksUp judged w key entries found next → Kept w next
   kept_look_up key entries found w next h l = kept_asks (ask.Route key) (route_keeps judged key) l.looks (asking (ask.Route key) l.looks) w next h refl l.fates
 
-  kept_put : (p : Peer) (key : Key) (block : Block) (w next : World) (dropped : Bool) → IsWithin base planned start w → PutsAround judged p r key block w dropped next → Kept w next
+  pub kept_put : (p : Peer) (key : Key) (block : Block) (w next : World) (dropped : Bool) → IsWithin base planned start w → PutsAround judged p r key block w dropped next → Kept w next
   kept_put p key block w next dropped h (no_route found last looks none) = kept_look_up key (p ∷ []) found w next h looks
   kept_put p key block w next dropped h (puts q qs asks mid last acknowledged dropping looks is_put own fates goes) =
       let l = kept_look_up key (p ∷ []) (Some (q ∷ qs)) w mid h looks in
       kept_both w mid next l (kept_asks (question_as block.kind key block.bytes) (put_keeps judged block.kind key block.bytes) (filter (λ s. is_other_peer judged p s.0) asks)
           (asking (question_as block.kind key block.bytes) (filter (λ s. is_other_peer judged p s.0) asks)) mid next l.within refl fates)
 
-  kept_puts : (p : Peer) (blocks : Blocks) (w next : World) (dropped : List Key) → IsWithin base planned start w → PutsAll judged p r blocks w dropped next → Kept w next
+  pub kept_puts : (p : Peer) (blocks : Blocks) (w next : World) (dropped : List Key) → IsWithin base planned start w → PutsAll judged p r blocks w dropped next → Kept w next
   kept_puts p [] w next dropped h all_put = kept w h
   kept_puts p (e ∷ blocks) w next dropped h (keeps {key = key} {block = block} {mid = mid} one rest) =
       let f = kept_put p key block w mid false h one in kept_both w mid next f (kept_puts p blocks mid next dropped f.within rest)
@@ -82,7 +82,7 @@ module _ (judged : Key → List ℕ → Option Judged) (r : ℕ) (base : List Sh
         links = links_ring w id n now e refl;
       }
 
-  kept_repairs : (w next : World) (p : Peer) → IsWithin base planned start w → Repairs judged r w p next → Kept w next
+  pub kept_repairs : (w next : World) (p : Peer) → IsWithin base planned start w → Repairs judged r w p next → Kept w next
   kept_repairs w next p h x =
       let f = kept_puts p x.before.blocks w x.mid x.dropped h x.puts in
       subst (Kept w) (sym x.drops) (kept_both w x.mid (with_node x.mid (record x.after { blocks = _ })) f (kept_blocks x.mid p.id x.after _ f.within x.is_after))

@@ -97,7 +97,7 @@ fate_grows judged w next to question given (was_stopped n l e s) = omega arith
 fate_grows judged w next to question given (was_answered n l e s) = omega arith
 
 module _ (judged : Key → List ℕ → Option Judged) (r : ℕ) (base : List Shape) (planned : List ℕ) (start end : ℕ) (b : IsBase r base planned start end) where
-  apart_in : (w : World) → IsWithin base planned start w → AreApart (map peer_of w.nodes)
+  pub apart_in : (w : World) → IsWithin base planned start w → AreApart (map peer_of w.nodes)
   apart_in w h = subst AreApart (sym (made_shape w.nodes ∙ ap made_by h.shapes)) b.apart
 
   pub lives_are : (w : World) → IsWithin base planned start w → lives_in w ≡ lives_by base
@@ -127,6 +127,10 @@ module _ (judged : Key → List ℕ → Option Judged) (r : ℕ) (base : List Sh
         replicas = all-among (λ (s : Shape). s.2 ≡ r) (shape n) base b.replicas member;
         live = sym (λ i. lives_are w h i p) ∙ live_at w p n e is;
       }
+
+  -- a peer that was made has a node
+  pub node_made : (w : World) (p : Peer) → IsWithin base planned start w → IsAmong p (made_by base) → (n : Node) × (node_at w p.id ≡ Some n)
+  node_made w p h made = let found = at_made w.nodes p (apart_in w h) (subst (IsAmong p) (sym (made_shape w.nodes ∙ ap made_by h.shapes)) made) in (found.0, found.1)
 
   pub set_within : (w : World) (n old : Node) → IsWithin base planned start w → node_at w (peer_of n).id ≡ Some old → shape n ≡ shape old → KnowsOnly (made_by base) n → IsWithin base planned start (with_node w n)
   set_within w n old h e s k = record {
