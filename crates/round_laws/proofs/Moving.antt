@@ -184,3 +184,157 @@ module _ (judged : Key → List ℕ → Option Judged) (r : ℕ) (base : List Sh
               test : (z : Bool) → t y ≡ z → AllByRecursion (λ y. t y ≡ true) (filter t l) → AllByRecursion (λ y. t y ≡ true) (cond z (y ∷ filter t l) (filter t l))
               test true e rest = (e, rest)
               test false e rest = rest
+
+  -- ---- all blocks of a node
+
+  -- what becomes of a key's block that the node holds
+  pub record Moves (key : Key) (c : Block) (p : Peer) (w next : World) (dropped : List Key) : Type 0 where
+    pub ranks : (q : Peer) → IsAmong q (own key) → (q ≡ p → ⊥) → rank_in judged next key q ≡ raised (rank judged key c) (rank_in judged w key q)
+    pub rest : (q : Peer) → (IsAmong q (own key) → ⊥) → held_in next key q ≡ held_in w key q
+    pub stays : IsAmong p (own key) → IsAmong key dropped → ⊥
+    pub goes : (IsAmong p (own key) → ⊥) → IsAmong key dropped
+
+  pub record Through (key : Key) (p : Peer) (blocks : Blocks) (w next : World) (dropped : List Key) : Type 0 where
+    pub state : IsRepairing next
+    pub own_blocks : (k : Key) → held_in next k p ≡ held_in w k p
+    pub none : value_at key_cmp key blocks ≡ None → ((q : Peer) → held_in next key q ≡ held_in w key q) × (IsAmong key dropped → ⊥)
+    pub some : (c : Block) → value_at key_cmp key blocks ≡ Some c → Moves key c p w next dropped
+
+  abbrev with_dropped : Bool → Key → List Key → List Key
+  with_dropped true k dropped = k ∷ dropped
+  with_dropped false k dropped = dropped
+
+  -- one block, and then the others
+  through_one : (key : Key) (p : Peer) (k : Key) (block : Block) (blocks : Blocks) (w mid next : World) (drop : Bool) (dropped : List Key) → T (is_sorted key_cmp ((k, block) ∷ blocks)) → Around k block p w mid drop → Through key p blocks mid next dropped
+      → Through key p ((k, block) ∷ blocks) w next (with_dropped drop k dropped)
+  through_one key p k block blocks w mid next drop dropped sorted f g = record {
+    state = g.state;
+    own_blocks = λ x. g.own_blocks x ∙ f.rest p (inr refl) x;
+    none = λ e. ⊎_elim (λ s. absurd (none_some block (sym e ∙ here s))) (λ d. let n = g.none (sym (later d) ∙ e) in ((λ q. n.0 q ∙ f.other_keys q key d), not_added drop d n.1)) (same_or_not key k);
+    some = λ c e. ⊎_elim
+        (λ s. its c s (some_same block c (sym (here s) ∙ e)) (g.none (ap (λ x. value_at key_cmp x blocks) s ∙ below_none k blocks (and_first (below_all key_cmp k blocks) (is_sorted key_cmp blocks) sorted))))
+        (λ d. other c d (g.some c (sym (later d) ∙ e)))
+        (same_or_not key k);
+  }
+    where
+      here : key ≡ k → value_at key_cmp key ((k, block) ∷ blocks) ≡ Some block
+      here s = ap (λ t. cond t (Some block) (value_at key_cmp key blocks)) (ties key k s)
+
+      later : (key ≡ k → ⊥) → value_at key_cmp key ((k, block) ∷ blocks) ≡ value_at key_cmp key blocks
+      later d = ap (λ t. cond t (Some block) (value_at key_cmp key blocks)) (not_tied key k d)
+
+      not_added : (t : Bool) → (key ≡ k → ⊥) → (IsAmong key dropped → ⊥) → IsAmong key (with_dropped t k dropped) → ⊥
+      not_added true d n (inl e) = d (sym e)
+      not_added true d n (inr i) = n i
+      not_added false d n i = n i
+
+      added : (t : Bool) → IsAmong key dropped → IsAmong key (with_dropped t k dropped)
+      added true i = inr i
+      added false i = i
+
+      stays_if : (t : Bool) → MatchBool t (IsAmong p (own k) → ⊥) (IsAmong p (own k)) → key ≡ k → (IsAmong key dropped → ⊥) → IsAmong p (own k) → IsAmong key (with_dropped t k dropped) → ⊥
+      stays_if true goes s n i j = goes i
+      stays_if false goes s n i j = n j
+
+      goes_if : (t : Bool) → MatchBool t (IsAmong p (own k) → ⊥) (IsAmong p (own k)) → key ≡ k → (IsAmong p (own k) → ⊥) → IsAmong key (with_dropped t k dropped)
+      goes_if true goes s d = inl (sym s)
+      goes_if false goes s d = absurd (d goes)
+
+      its : (c : Block) → key ≡ k → block ≡ c → ((q : Peer) → held_in next key q ≡ held_in mid key q) × (IsAmong key dropped → ⊥) → Moves key c p w next (with_dropped drop k dropped)
+      its c s is n = record {
+        ranks = λ q i d. ap (option_map (rank judged key)) (n.0 q)
+            ∙ subst (λ x. rank_in judged mid x q ≡ raised (rank judged x block) (rank_in judged w x q)) (sym s) (f.ranks q (subst (λ x. IsAmong q (own x)) s i) d)
+            ∙ ap (λ (x : Block). raised (rank judged key x) (rank_in judged w key q)) is;
+        rest = λ q d. n.0 q ∙ f.rest q (inl (λ i. d (subst (λ x. IsAmong q (own x)) (sym s) i))) key;
+        stays = λ i. stays_if drop f.goes s n.1 (subst (λ x. IsAmong p (own x)) s i);
+        goes = λ d. goes_if drop f.goes s (λ i. d (subst (λ x. IsAmong p (own x)) (sym s) i));
+      }
+
+      other : (c : Block) → (key ≡ k → ⊥) → Moves key c p mid next dropped → Moves key c p w next (with_dropped drop k dropped)
+      other c d m = record {
+        ranks = λ q i n. m.ranks q i n ∙ ap (λ o. raised (rank judged key c) (option_map (rank judged key) o)) (f.other_keys q key d);
+        rest = λ q n. m.rest q n ∙ f.other_keys q key d;
+        stays = λ i. not_added drop d (m.stays i);
+        goes = λ n. added drop (m.goes n);
+      }
+
+  through : (key : Key) (p : Peer) (blocks : Blocks) (w next : World) (dropped : List Key) → IsRepairing w → lives_by base p ≡ true → T (is_sorted key_cmp blocks) → AllByRecursion (λ e. held_in w e.0 p ≡ Some e.1) blocks
+      → (x : PutsAll judged p r blocks w dropped next) → AllTaken x → next.asked ≤ end → Through key p blocks w next dropped
+  through key p [] w next dropped h lives sorted held all_put taken quiet = record { state = h; own_blocks = λ k. refl; none = λ e. ((λ q. refl), λ i. elim i [ ]); some = λ c e. absurd (none_some c e) }
+  through key p (e ∷ blocks) w next dropped h lives sorted held (keeps {key = k} {block = block} {mid = mid} one rest) taken quiet =
+      let grown = of_puts judged p r blocks mid next dropped rest in
+      let f = around k block p w mid false h lives held.0 one taken.0 (omega (arith, quiet, grown.1)) in
+      let g = through key p blocks mid next dropped f.state lives (and_second (below_all key_cmp k blocks) (is_sorted key_cmp blocks) sorted)
+          (all_weaker (λ (x : Key × Block). held_in w x.0 p ≡ Some x.1) (λ x. held_in mid x.0 p ≡ Some x.1) blocks (λ x i. f.rest p (inr refl) x.0 ∙ i) held.1) rest taken.1 quiet in
+      through_one key p k block blocks w mid next false dropped sorted f g
+  through key p (e ∷ blocks) w next dropped h lives sorted held (drops {key = k} {block = block} {mid = mid} {dropped = others} one rest) taken quiet =
+      let grown = of_puts judged p r blocks mid next others rest in
+      let f = around k block p w mid true h lives held.0 one taken.0 (omega (arith, quiet, grown.1)) in
+      let g = through key p blocks mid next others f.state lives (and_second (below_all key_cmp k blocks) (is_sorted key_cmp blocks) sorted)
+          (all_weaker (λ (x : Key × Block). held_in w x.0 p ≡ Some x.1) (λ x. held_in mid x.0 p ≡ Some x.1) blocks (λ x i. f.rest p (inr refl) x.0 ∙ i) held.1) rest taken.1 quiet in
+      through_one key p k block blocks w mid next true others sorted f g
+
+  -- ---- a node's part
+
+  pub record Moved (p : Peer) (key : Key) (w next : World) : Type 0 where
+    pub state : IsRepairing next
+    pub is : (owns : Peer → Bool) → Tells owns (own key) → IsMoved owns p (rank_in judged w key) (rank_in judged next key)
+
+  moved : (key : Key) (p : Peer) (w next : World) → IsRepairing w → lives_by base p ≡ true → (x : Repairs judged r w p next) → AllTaken x.puts → next.asked ≤ end → Moved p key w next
+  moved key p w next h lives x taken quiet =
+      let made = lives_made base p lives in
+      let before_at = stands judged r base planned start end b w p x.before h.within made x.is_before in
+      let was : (k : Key) → held_in w k p ≡ value_at key_cmp k x.before.blocks = λ k. ap (held_at k) (node_is w p x.before x.is_before before_at.me) in
+      let sorted = h.sorted p.id x.before x.is_before in
+      let asked : next.asked ≡ x.mid.asked = ap (λ (v : World). v.asked) x.drops in
+      let t = through key p x.before.blocks w x.mid x.dropped h lives sorted
+          (all_weaker (λ (e : Key × Block). value_at key_cmp e.0 x.before.blocks ≡ Some e.1) (λ e. held_in w e.0 p ≡ Some e.1) x.before.blocks (λ e i. was e.0 ∙ i) (each_found x.before.blocks sorted)) x.puts taken (omega (arith, quiet, asked)) in
+      let after_at = stands judged r base planned start end b x.mid p x.after t.state.within made x.is_after in
+      let now : Node = record x.after { blocks = dropped_from x.after.blocks x.dropped } in
+      let then_held : (k : Key) → held_in x.mid k p ≡ value_at key_cmp k x.after.blocks = λ k. ap (held_at k) (node_is x.mid p x.after x.is_after after_at.me) in
+      let here : (k : Key) → held_in next k p ≡ value_at key_cmp k (dropped_from x.after.blocks x.dropped) =
+          λ k. ap (λ (v : World). held_in v k p) x.drops ∙ ap (held_at k) (node_here x.mid p x.after now x.is_after after_at.me) in
+      let others : (q : Peer) → (q ≡ p → ⊥) → (k : Key) → held_in next k q ≡ held_in x.mid k q =
+          λ q d k. ap (λ (v : World). held_in v k q) x.drops ∙ ap (held_at k) (node_other x.mid p q x.after now x.is_after after_at.me after_at.me d) in
+      let kept = kept_repairs judged r base planned start end b w next p h.within x in
+      let held_mid : (q : Peer) (k : Key) (c : Block) → held_in next k q ≡ Some c → held_in x.mid k q ≡ Some c =
+          λ q k c e. ⊎_elim
+          (λ s. subst (λ y. held_in x.mid k y ≡ Some c) (sym s) (then_held k ∙ left_held k x.after.blocks x.dropped c (sym (here k) ∙ subst (λ y. held_in next k y ≡ Some c) s e)))
+          (λ d. sym (others q d k) ∙ e)
+          (peer_or_not q p) in
+      record {
+        state = record {
+          within = kept.within;
+          linked = kept.links ∙ h.linked;
+          kinds = λ k y z c d e f. t.state.kinds k y z c d (held_mid y k c e) (held_mid z k d f);
+          sorted = subst AreSorted (sym x.drops) (sorted_with x.mid x.after now (subst (λ (y : Peer). node_at x.mid y.id ≡ Some x.after) (sym after_at.me) x.is_after) t.state.sorted (sorted_left x.after.blocks x.dropped (t.state.sorted p.id x.after x.is_after)));
+        };
+        is = λ owns tells. by owns tells t was then_held here others (value_at key_cmp key x.before.blocks) refl;
+      }
+    where
+      by : (owns : Peer → Bool) → Tells owns (own key) → Through key p x.before.blocks w x.mid x.dropped → ((k : Key) → held_in w k p ≡ value_at key_cmp k x.before.blocks) → ((k : Key) → held_in x.mid k p ≡ value_at key_cmp k x.after.blocks)
+          → ((k : Key) → held_in next k p ≡ value_at key_cmp k (dropped_from x.after.blocks x.dropped)) → ((q : Peer) → (q ≡ p → ⊥) → (k : Key) → held_in next k q ≡ held_in x.mid k q)
+          → (o : Option Block) → value_at key_cmp key x.before.blocks ≡ o → IsMoved owns p (rank_in judged w key) (rank_in judged next key)
+      by owns tells t was then_held here others None e =
+          let n = t.none e in
+          idle (ap (option_map (rank judged key)) (was key ∙ e))
+              (λ m. ap (option_map (rank judged key)) (each (λ q. held_in next key q ≡ held_in w key q) p
+              (here key ∙ is_left key x.after.blocks x.dropped n.1 ∙ sym (then_held key) ∙ t.own_blocks key)
+              (λ q d. others q d key ∙ n.0 q) m))
+      by owns tells t was then_held here others (Some c) e =
+          let s = t.some c e in
+          moves (rank judged key c) (ap (option_map (rank judged key)) (was key ∙ e))
+              (λ m d o. ap (option_map (rank judged key)) (others m d key) ∙ s.ranks m ((tells m).0 o) d)
+              (λ m d o. ap (option_map (rank judged key)) (others m d key ∙ s.rest m (λ i. let u = (tells m).1 i in cc)))
+              (λ o. ap (option_map (rank judged key)) (here key ∙ is_left key x.after.blocks x.dropped (s.stays ((tells p).0 o)) ∙ sym (then_held key) ∙ t.own_blocks key))
+              (λ o. ap (option_map (rank judged key)) (here key ∙ is_gone key x.after.blocks x.dropped (s.goes (λ i. let u = (tells p).1 i in cc))))
+
+  -- ---- all nodes
+
+  pub all_moved : (key : Key) (owns : Peer → Bool) → Tells owns (own key) → (w next : World) (ps : List Peer) → IsRepairing w → ((p : Peer) → IsAmong p ps → lives_by base p ≡ true) → (x : EachDoes (Repairs judged r) w ps next) → EachTaken x
+      → next.asked ≤ end → AreMoved owns ps (rank_in judged w key) (rank_in judged next key)
+  all_moved key owns tells w next [] h lives done taken quiet = none_moved
+  all_moved key owns tells w next (p ∷ ps) h lives (then_does {mid = mid} first rest) taken quiet =
+      let grown = of_each judged (Repairs judged r) (λ v u q f. of_repairs judged r v u q f) mid next ps rest in
+      let f = moved key p w mid h (lives p (inl refl)) first taken.0 (omega (arith, quiet, grown.1)) in
+      then_moved (f.is owns tells) (all_moved key owns tells mid next ps f.state (λ q i. lives q (inr i)) rest taken.1 quiet)
