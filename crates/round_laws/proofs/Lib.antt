@@ -12,3 +12,5 @@ pub mod Storing
 pub mod Owning
 pub mod Holding
 pub mod Moving
+pub mod Untouched
+pub mod Settling

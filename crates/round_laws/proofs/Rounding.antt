@@ -41,13 +41,13 @@ nodes_owned : (r : ℕ) (nodes : List Node) → AllByRecursion (λ s. s.2 ≡ r)
 nodes_owned r [] a = tt
 nodes_owned r (n ∷ nodes) a = (a.0, nodes_owned r nodes a.1)
 
-abbrev shapes_of : World → List Shape
+abbrev pub shapes_of : World → List Shape
 shapes_of w = map shape w.nodes
 
-base_of : (r : ℕ) (w : World) (end : ℕ) → AreNodes r w → ((k : ℕ) → w.asked < k → k ≤ end → Contains w.lost k → ⊥) → IsBase r (shapes_of w) w.lost w.asked end
+pub base_of : (r : ℕ) (w : World) (end : ℕ) → AreNodes r w → ((k : ℕ) → w.asked < k → k ≤ end → Contains w.lost k → ⊥) → IsBase r (shapes_of w) w.lost w.asked end
 base_of r w end h quiet = record { apart = subst AreApart (made_shape w.nodes) h.apart; replicas = shapes_owned r w.nodes h.replicas; quiet = quiet }
 
-within_of : (r : ℕ) (w : World) → AreNodes r w → IsWithin (shapes_of w) w.lost w.asked w
+pub within_of : (r : ℕ) (w : World) → AreNodes r w → IsWithin (shapes_of w) w.lost w.asked w
 within_of r w h = record {
   shapes = refl;
   known = λ id n e. subst (λ made. KnowsOnly made n) (made_shape w.nodes) (all-among (KnowsOnly (map peer_of w.nodes)) n w.nodes h.known (at_among w.nodes id n e));
@@ -110,15 +110,17 @@ third_part judged r w next ps h lives parts quiet =
 -- ---- the whole
 
 -- a round from such a world, whatever is lost, and what it is where no ask is lost
-record Rounded (r : ℕ) (base : List Shape) (planned : List ℕ) (start end : ℕ) (ps : List Peer) (w next : World) : Type 0 where
-  within : IsWithin base planned start next
-  is : next.asked ≤ end → IsRound place r 160 (lives_by base) ps (links_in w) (links_in next)
+pub record Rounded (judged : Key → List ℕ → Option Judged) (r : ℕ) (base : List Shape) (planned : List ℕ) (start end : ℕ) (w next : World) (x : IsRoundOf judged r w next) : Type 0 where
+  pub within : IsWithin base planned start next
+  pub within_three : IsWithin base planned start x.three
+  pub linked : links_in next ≡ links_in x.three
+  pub is : next.asked ≤ end → IsRound place r 160 (lives_by base) (live_in_order w) (links_in w) (links_in next)
 
 forgotten_lives : (lives : Peer → Bool) (old new : Peer → Links Peer) → IsForgotten lives old new → Living lives new
 forgotten_lives lives old new f p b l e = living_is lives (old p).before b (sym (f.before p l) ∙ e)
 
 rounded : (judged : Key → List ℕ → Option Judged) (r : ℕ) (base : List Shape) (planned : List ℕ) (start end : ℕ) (b : IsBase r base planned start end) (w next : World) → IsWithin base planned start w
-    → ((p : Peer) → IsAmong p (live_in_order w) → lives_by base p ≡ true) → ((p : Peer) → lives_by base p ≡ true → IsAmong p (live_in_order w)) → IsRoundOf judged r w next → Rounded r base planned start end (live_in_order w) w next
+    → ((p : Peer) → IsAmong p (live_in_order w) → lives_by base p ≡ true) → ((p : Peer) → lives_by base p ≡ true → IsAmong p (live_in_order w)) → (x : IsRoundOf judged r w next) → Rounded judged r base planned start end w next x
 rounded judged r base planned start end b w next h only all x =
     let one = all_forgot judged r base planned start end b w x.one (live_in_order w) h (λ p j. lives_made base p (only p j)) x.forgets in
     let two = many_passed judged r base planned start end b x.one x.two (live_in_order w) (suc (2 * r)) one.within only x.passes in
@@ -126,6 +128,8 @@ rounded judged r base planned start end b w next h only all x =
     let four = kept_all judged r base planned start end b x.three next (live_in_order w) three.within x.repairs in
     record {
       within = four.within;
+      within_three = three.within;
+      linked = four.links;
       is = λ q.
           let end_three : x.three.asked ≤ end = omega (arith, q, four.grows) in
           let end_two : x.two.asked ≤ end = omega (arith, end_three, three.grows) in
@@ -139,8 +143,8 @@ rounded judged r base planned start end b w next h only all x =
           };
     }
 
-rounded_from : (judged : Key → List ℕ → Option Judged) (r : ℕ) (w next : World) (end : ℕ) (h : AreNodes r w) (quiet : (k : ℕ) → w.asked < k → k ≤ end → Contains w.lost k → ⊥) → IsRoundOf judged r w next
-    → Rounded r (shapes_of w) w.lost w.asked end (live_in_order w) w next
+pub rounded_from : (judged : Key → List ℕ → Option Judged) (r : ℕ) (w next : World) (end : ℕ) (h : AreNodes r w) (quiet : (k : ℕ) → w.asked < k → k ≤ end → Contains w.lost k → ⊥) → (x : IsRoundOf judged r w next)
+    → Rounded judged r (shapes_of w) w.lost w.asked end w next x
 rounded_from judged r w next end h quiet x =
     let b = base_of r w end h quiet in
     rounded judged r (shapes_of w) w.lost w.asked end b w next (within_of r w h)
@@ -169,7 +173,7 @@ round_is_round judged r w next h x quiet =
 -- ---- settled again
 
 -- who stands in the order of live nodes lives
-in_order : (r : ℕ) (w : World) (p : Peer) → AreNodes r w → IsAmong p (live_in_order w) → lives_in w p ≡ true
+pub in_order : (r : ℕ) (w : World) (p : Peer) → AreNodes r w → IsAmong p (live_in_order w) → lives_in w p ≡ true
 in_order r w p h i =
     let b = base_of r w w.asked h (λ k l m c. omega (arith, l, m)) in
     (λ t. lives_are (λ k bytes. None) r (shapes_of w) w.lost w.asked w.asked b w (within_of r w h) t p) ∙ order_lives (shapes_of w) p b.apart (subst (IsAmong p) (order_shape w) i)

@@ -71,3 +71,9 @@ abbrev pub BlocksMove : Type 0
 BlocksMove = (judged : Key → List ℕ → Option Judged) (r : ℕ) (w next : World) → AreNodes r w → length w.nodes ≤ 512 → AreStores w → IsSettledIn w r
     → (parts : EachDoes (Repairs judged r) w (live_in_order w) next) → EachTaken parts → LosesNone w next
     → (key : Key) (owns : Peer → Bool) → Tells owns (owners place r (live_in_order w) (number key)) → AreMoved owns (live_in_order w) (rank_in judged w key) (rank_in judged next key)
+
+-- So a round whose ring is settled in the end moves the blocks of each key: its first three parts touch none.
+abbrev pub RoundMovesBlocks : Type 0
+RoundMovesBlocks = (judged : Key → List ℕ → Option Judged) (r : ℕ) (w next : World) → AreNodes r w → length w.nodes ≤ 512 → AreStores w → IsSettledIn next r
+    → (round : IsRoundOf judged r w next) → EachTaken round.repairs → LosesNone w next
+    → (key : Key) (owns : Peer → Bool) → Tells owns (owners place r (live_in_order w) (number key)) → AreMoved owns (live_in_order w) (rank_in judged w key) (rank_in judged next key)

@@ -5,11 +5,12 @@
 //! For the layers above: whatever is lost, a round changes nodes and the count of asks alone, and nobody stops in it
 //! ([`rounds_leave_the_rest`]). Where no ask of it is lost it is a round of the ring, part by part and as a whole
 //! ([`rounds_are_rounds`]); so it settles a ring again of which few nodes stopped, or that one joined
-//! ([`rounds_settle`]).
-//! Definitions: `specs/RingOf.antt` (the ring of a world, and what holds of its nodes); the laws: `specs/Laws.antt`.
+//! ([`rounds_settle`]), and where each put is taken it moves each key's blocks to the owners ([`rounds_move_blocks`]).
+//! Definitions: `specs/RingOf.antt` (the ring of a world, and what holds of its nodes), `specs/Holding.antt` (what nodes
+//! hold, and when puts are taken); the laws: `specs/Laws.antt`.
 #![tactic(auto)]
 
-ghost use Rattle.round_laws.specs.Laws.{FingersAreFixed, FirstPartForgets, PassesArePasses, RoundIsRound, RoundLeavesTheRest, RoundLeavesWhoLives, RoundMendsJoin, RoundMendsStops};
+ghost use Rattle.round_laws.specs.Laws.{BlocksMove, FingersAreFixed, FirstPartForgets, PassesArePasses, RoundIsRound, RoundLeavesTheRest, RoundLeavesWhoLives, RoundMendsJoin, RoundMendsStops, RoundMovesBlocks};
 
 /// Laws and no code: whatever is lost, a round changes nothing but nodes and the count of asks; who lives, who stands
 /// where, and that nodes know of made nodes alone stay.
@@ -32,4 +33,11 @@ pub fn rounds_are_rounds()
 pub fn rounds_settle()
     ensures stops { RoundMendsStops }
     ensures join { RoundMendsJoin }
+{}
+
+/// Laws and no code: the fourth part of a round without losses, in a settled ring where each put is taken, moves the
+/// blocks of each key as those of a ring move; and so does the whole round, whose other parts touch no block.
+pub fn rounds_move_blocks()
+    ensures part { BlocksMove }
+    ensures whole { RoundMovesBlocks }
 {}
