@@ -1,30 +1,28 @@
 -- The third part of a round: the fingers, each by a look-up.
-use Rattle.std.proofs.Common.{◌≡◌, ◌⊎◌, inl, inr, ⊎_elim, ℕ, zero, suc, ◌+◌, ◌*◌, ◌<◌, ◌≤◌, Bool, true, false, cond, List, [], ◌∷◌, ◌++◌, set, filter, map, length, refl, sym, ap, ◌∙◌, subst, Option, Some, None, IfSome, arith, le_refl, not, nat_lt}
+use Rattle.std.proofs.Common.{◌≡◌, inl, inr, ⊎_elim, ℕ, zero, suc, ◌+◌, ◌*◌, ◌<◌, ◌≤◌, Bool, true, false, cond, List, [], ◌∷◌, ◌++◌, set, filter, length, refl, sym, ap, ◌∙◌, subst, Option, Some, None, IfSome, arith, le_refl, not, nat_lt}
 use Rattle.std.specs.List.{AllByRecursion}
 use Rattle.std.proofs.lemmas.Bool.{cases_lt}
 use Rattle.ivy_base.specs.declared.key.Key.{Key}
 use Rattle.ring_model.specs.Arc.{is_inside}
 use Rattle.ring_model.specs.Circle.{number}
 use Rattle.ring_model.specs.Members.{IsAmong}
-use Rattle.ring_model.specs.Ring.{Links, start as finger_start}
-use Rattle.ring_model.specs.Route.{Route, HasOneAtEach, IsRoute, nearer_part, owners_part, route_of}
+use Rattle.ring_model.specs.Ring.{Links}
+use Rattle.ring_model.specs.Route.{Route, HasOneAtEach, IsRoute, nearer_part, owners_part}
 use Rattle.ring_model.specs.Lookup.{IsLookup, IsFate}
 use Rattle.ring_model.specs.Lookup.IsLookup.{over, spent, known as asked_before, silent as was_silent, answered as has_answered}
 use Rattle.ring_model.specs.Round.{AreFingersFixed, AreFixed, IsFingerFixed, with_finger}
 use Rattle.ring_model.specs.Round.AreFixed.{fixed as all_fixed, fixes as one_fixed}
-use Rattle.ring_model.proofs.Lists.{all-among, all-both, all_from, among-cases, among-left, among-right, cons_head, cons_tail, nil_cons, filter_gives, all_weaker, some_same, none_some}
+use Rattle.ring_model.proofs.Lists.{all-among, all-both, all_from, among-cases, among-left, among-right, cons_head, cons_tail, nil_cons, filter_gives, all_weaker}
 use Rattle.ring_model.proofs.Routes.{route_is}
 use Rattle.dht_ids.specs.Asked.{route_in, routes}
 use Rattle.dht_ids.specs.declared.ask.Answer.{Answer}
-use Rattle.dht_ids.specs.declared.ask.Answer.TheVariants as answer
 use Rattle.dht_ids.specs.declared.ask.Ask.{Ask}
 use Rattle.dht_ids.specs.declared.ask.Ask.TheVariants as ask
 use Rattle.dht_ids.specs.declared.judge.Judged.{Judged}
 use Rattle.dht_ids.specs.declared.peer.Peer.{Peer}
 use Rattle.dht_ids.specs.Peers.{place}
 use Rattle.dhash_client.specs.Course.{Told}
-use Rattle.world_model.specs.Nodes.{Node, answered}
-use Rattle.world_model.specs.World.{World, node_at, with_node}
+use Rattle.world_model.specs.World.{World}
 use Rattle.world_model.specs.Fates.{FateOf, Fates, asking}
 use Rattle.world_model.specs.Fates.Fates.{none as no_asks, more as one_ask}
 use Rattle.world_model.specs.Ring.{LooksUp}
@@ -33,7 +31,7 @@ use Rattle.world_model.specs.Rounds.EachDoes.{done, next as then_does}
 use Rattle.world_model.specs.Rounds.FixesFrom.{done as no_more, next as then_fixes}
 use Rattle.round_laws.specs.RingOf.{AreApart, links_in}
 use Rattle.round_laws.proofs.Nodes.{Shape, lives_by, made_by}
-use Rattle.round_laws.proofs.Standing.{AfterAsk, Fated, IsBase, IsWithin, KeepsRing, fate_grows, fated, relinked, stands, still_asked}
+use Rattle.round_laws.proofs.Standing.{Fated, IsBase, IsWithin, KeepsRing, fate_grows, fated, relinked, stands, still_asked}
 use Rattle.round_laws.proofs.Standing.Fated.{silence, heard}
 
 pub route_keeps : (judged : Key → List ℕ → Option Judged) (key : Key) → KeepsRing judged (ask.Route key)
@@ -141,8 +139,8 @@ module _ (judged : Key → List ℕ → Option Judged) (r : ℕ) (base : List Sh
   owners_made : (replicas : ℕ) (n : Peer) (list : List Peer) (key : ℕ) → IsAmong n (made_by base) → AllMade list → AllMade (owners_part place replicas n list key)
   owners_made replicas n list key made all =
       all-both (λ q. IsAmong q (made_by base)) (filter (λ m. not (is_inside (place n) (place m) key)) list) (cond (nat_lt (length list) (2 * replicas)) (n ∷ []) [])
-          (filter_gives (λ m. not (is_inside (place n) (place m) key)) (λ q. IsAmong q (made_by base)) list (all_weaker (λ q. IsAmong q (made_by base)) (λ q. not (is_inside (place n) (place q) key) ≡ true → IsAmong q (made_by base)) list (λ q i t. i) all))
-          (by (nat_lt (length list) (2 * replicas)))
+      (filter_gives (λ m. not (is_inside (place n) (place m) key)) (λ q. IsAmong q (made_by base)) list (all_weaker (λ q. IsAmong q (made_by base)) (λ q. not (is_inside (place n) (place q) key) ≡ true → IsAmong q (made_by base)) list (λ q i t. i) all))
+      (by (nat_lt (length list) (2 * replicas)))
     where
       by : (t : Bool) → AllMade (cond t (n ∷ []) [])
       by true = (made, tt)
@@ -169,7 +167,7 @@ module _ (judged : Key → List ℕ → Option Judged) (r : ℕ) (base : List Sh
           let all_fingers : AllMade (links_in w s.0).fingers = subst (λ (l : Links Peer). AllMade l.fingers) (sym at.links) k.fingers in
           let all : AllMade ((links_in w s.0).list ++ (links_in w s.0).fingers) = all-both (λ q. IsAmong q (made_by base)) (links_in w s.0).list (links_in w s.0).fingers all_list all_fingers in
           let member : (x : Peer) → IsAmong x ((links_in w s.0).list ++ (links_in w s.0).fingers) → IsAmong x (made_by base) =
-              λ x i. all-among (λ q. IsAmong q (made_by base)) x ((links_in w s.0).list ++ (links_in w s.0).fingers) all i in
+          λ x i. all-among (λ q. IsAmong q (made_by base)) x ((links_in w s.0).list ++ (links_in w s.0).fingers) all i in
           let one : HasOneAtEach place (links_in w s.0) = λ x y i j same. one_at_place (made_by base) x y b.apart (member x i) (member y j) same in
           let route = computed n.ring.replicas s.0 n.ring.me n.ring.links (links_in w s.0) (number key) at.me at.replicas at.links one in
           record {

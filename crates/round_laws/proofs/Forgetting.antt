@@ -1,5 +1,5 @@
 -- The first part of a round: silent predecessors are forgotten.
-use Rattle.std.proofs.Common.{◌≡◌, ◌⊎◌, inl, inr, ⊎_elim, ℕ, ◌<◌, ◌≤◌, Bool, true, false, cond, List, [], ◌∷◌, refl, sym, ap, ◌∙◌, subst, Option, Some, None, IfSome, arith, le_refl}
+use Rattle.std.proofs.Common.{◌≡◌, ◌⊎◌, inl, inr, ⊎_elim, ℕ, ◌≤◌, Bool, true, false, List, [], ◌∷◌, refl, sym, ap, ◌∙◌, subst, Option, Some, None, IfSome, arith, le_refl}
 use Rattle.std.proofs.lemmas.Bool.{cond-true, cond-false, cases_Bool}
 use Rattle.ivy_base.specs.declared.key.Key.{Key}
 use Rattle.ring_model.specs.Members.{IsAmong}
@@ -11,15 +11,13 @@ use Rattle.dht_ids.specs.declared.ask.Ask.{Ask}
 use Rattle.dht_ids.specs.declared.ask.Ask.TheVariants as ask
 use Rattle.dht_ids.specs.declared.judge.Judged.{Judged}
 use Rattle.dht_ids.specs.declared.peer.Peer.{Peer}
-use Rattle.world_model.specs.Nodes.{Node, answered}
-use Rattle.world_model.specs.World.{World, node_at, with_node}
-use Rattle.world_model.specs.Fates.{FateOf, counted}
+use Rattle.world_model.specs.World.{World}
 use Rattle.world_model.specs.Rounds.{EachDoes, Forgets}
 use Rattle.world_model.specs.Rounds.EachDoes.{done, next as then_does}
 use Rattle.world_model.specs.Rounds.Forgets.{has_none, keeps, forgets}
 use Rattle.round_laws.specs.RingOf.{links_in}
 use Rattle.round_laws.proofs.Nodes.{Shape, lives_by, made_by}
-use Rattle.round_laws.proofs.Standing.{AfterAsk, Fated, IsBase, IsWithin, KeepsRing, Relinks, fate_grows, fated, peer_or_not, relinked, stands, still_asked, to_knows}
+use Rattle.round_laws.proofs.Standing.{Fated, IsBase, IsWithin, KeepsRing, fate_grows, fated, peer_or_not, relinked, stands, still_asked}
 use Rattle.round_laws.proofs.Standing.Fated.{silence, heard}
 
 pub near_keeps : (judged : Key → List ℕ → Option Judged) → KeepsRing judged ask.Near

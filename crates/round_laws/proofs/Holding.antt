@@ -1,8 +1,8 @@
 -- What nodes hold while look-ups and puts go on.
-use Rattle.std.proofs.Common.{◌≡◌, ◌⊎◌, inl, inr, ⊎_elim, ℕ, ◌<◌, ◌≤◌, Bool, true, false, cond, not, List, [], ◌∷◌, filter, map, fold, refl, sym, ap, ◌∙◌, subst, Option, Some, None, T, arith, nat_eq, option_map, option_and_then}
+use Rattle.std.proofs.Common.{◌≡◌, inl, inr, ⊎_elim, ℕ, Bool, true, false, cond, not, List, [], ◌∷◌, fold, refl, sym, ap, ◌∙◌, subst, Option, Some, None, T, nat_eq, option_map, option_and_then}
 use Rattle.std.specs.List.{AllByRecursion}
 use Rattle.std.specs.Ordering.{eq_by_cmp, is_eq}
-use Rattle.std.specs.FinMap.Entries.{find as value_at, find-where_key, is_sorted, is_sorted-put, is_sorted-where_key, put, where_key}
+use Rattle.std.specs.FinMap.Entries.{find as value_at, find-where_key, is_sorted, is_sorted-put, is_sorted-where_key}
 use Rattle.std.proofs.lemmas.Bool.{cond-true, cond-false, eq-eqb, eqb-true}
 use Rattle.ivy_base.specs.declared.key.Key.{Key}
 use Rattle.ivy_base.specs.Naming.{key_cmp}
@@ -10,7 +10,6 @@ use Rattle.ring_model.specs.Blocks.{raised}
 use Rattle.ring_model.specs.Gets.{nodes}
 use Rattle.ring_model.specs.Members.{IsAmong}
 use Rattle.dht_ids.specs.declared.ask.Answer.{Answer}
-use Rattle.dht_ids.specs.declared.ask.Answer.TheVariants as answer
 use Rattle.dht_ids.specs.declared.ask.Ask.{Ask}
 use Rattle.dht_ids.specs.declared.ask.Ask.TheVariants as ask
 use Rattle.dht_ids.specs.declared.ask.StoreFault.{StoreFault}
@@ -24,7 +23,7 @@ use Rattle.node_store.specs.declared.kind.Kind.TheVariants.{Content, Head}
 use Rattle.node_store.proofs.Maps.{keys_total}
 use Rattle.world_model.specs.Nodes.{Node, answered, stored}
 use Rattle.world_model.specs.World.{World, node_at, peer_of, with_node}
-use Rattle.world_model.specs.Fates.{FateOf, Fates, asking, counted}
+use Rattle.world_model.specs.Fates.{Fates, asking, counted}
 use Rattle.world_model.specs.Rounds.{question_as}
 use Rattle.round_laws.specs.RingOf.{node_of, own_node}
 use Rattle.round_laws.specs.Holding.{held_in, rank, rank_in}
@@ -34,7 +33,7 @@ use Rattle.round_laws.proofs.Standing.Fated.{silence, heard}
 use Rattle.round_laws.proofs.Fixing.{fates_first, fates_none, route_keeps}
 use Rattle.round_laws.proofs.Repairing.{put_keeps}
 use Rattle.round_laws.proofs.Owning.{AreDistinct}
-use Rattle.round_laws.proofs.Storing.{StoresAt, stores_at, under}
+use Rattle.round_laws.proofs.Storing.{stores_at, under}
 
 -- ---- the node of a peer
 
@@ -195,7 +194,7 @@ module _ (judged : Key → List ℕ → Option Judged) (r : ℕ) (base : List Sh
       let one = fates_first judged w next asks s.0 (question_as kind key bytes) s.1 (asking (question_as kind key bytes) told) e fates in
       let f = put_at key kind bytes s.0 s.1 w one.mid h made.0 (k s.0) held.0 (fated judged r base planned start end b w one.mid s.0 (question_as kind key bytes) s.1 h one.fate) in
       let kinds_mid : (q : Peer) (c : Block) → held_in one.mid key q ≡ Some c → c.kind ≡ kind =
-          λ q c i. ⊎_elim (λ same. f.kind_then c (subst (λ x. held_in one.mid key x ≡ Some c) same i)) (λ n. k q c (sym (f.others q n key) ∙ i)) (peer_or_not q s.0) in
+      λ q c i. ⊎_elim (λ same. f.kind_then c (subst (λ x. held_in one.mid key x ≡ Some c) same i)) (λ n. k q c (sym (f.others q n key) ∙ i)) (peer_or_not q s.0) in
       let g = puts_at key kind bytes told (asking (question_as kind key bytes) told) one.mid next f.within made.1 d.1 kinds_mid held.1 refl one.others in
       record {
         within = g.within;

@@ -14,3 +14,4 @@ pub mod Holding
 pub mod Moving
 pub mod Untouched
 pub mod Settling
+pub mod Stopping

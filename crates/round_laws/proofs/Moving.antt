@@ -1,5 +1,5 @@
 -- The fourth part of a round: each block goes to its owners.
-use Rattle.std.proofs.Common.{◌≡◌, ◌⊎◌, inl, inr, ⊎_elim, ◌↔◌, ℕ, ◌*◌, ◌<◌, ◌≤◌, Bool, true, false, cond, not, ◌&&◌, T, List, [], ◌∷◌, ◌++◌, length, take, filter, refl, sym, ap, ◌∙◌, subst, Option, Some, None, IfSome, MatchBool, arith, option_map}
+use Rattle.std.proofs.Common.{◌≡◌, ◌⊎◌, inl, inr, ⊎_elim, ℕ, ◌*◌, ◌≤◌, Bool, true, false, cond, not, ◌&&◌, T, List, [], ◌∷◌, ◌++◌, length, take, filter, refl, sym, ap, ◌∙◌, subst, Option, Some, None, MatchBool, arith, option_map}
 use Rattle.std.specs.List.{AllByRecursion}
 use Rattle.std.specs.Ordering.{eq_by_cmp, is_eq, is_lt}
 use Rattle.std.specs.declared.cmp.Ordering.{Ordering}
@@ -25,18 +25,17 @@ use Rattle.dht_ids.specs.declared.peer.Peer.{Peer}
 use Rattle.dht_ids.specs.Peers.{place}
 use Rattle.dhash_client.specs.Course.{Told}
 use Rattle.node_store.specs.Stores.{Block, Blocks}
-use Rattle.node_store.specs.declared.kind.Kind.{Kind}
 use Rattle.world_model.specs.Nodes.{Node}
-use Rattle.world_model.specs.World.{World, node_at, peer_of, with_node}
+use Rattle.world_model.specs.World.{World, node_at}
 use Rattle.world_model.specs.Fates.{asking}
 use Rattle.world_model.specs.Ring.{LooksUp}
 use Rattle.world_model.specs.Rounds.{EachDoes, PutsAll, PutsAround, Repairs, is_other_peer, question_as}
 use Rattle.world_model.specs.Rounds.EachDoes.{done, next as then_does}
 use Rattle.world_model.specs.Rounds.PutsAround.{no_route, puts}
 use Rattle.world_model.specs.Rounds.PutsAll.{done as all_put, keeps, drops}
-use Rattle.round_laws.specs.RingOf.{links_in, node_of, own_node}
+use Rattle.round_laws.specs.RingOf.{links_in, own_node}
 use Rattle.round_laws.specs.Holding.{AllTaken, EachTaken, IsTaken, Tells, held_in, rank, rank_in}
-use Rattle.round_laws.proofs.Nodes.{Shape, at, id_itself, lives_by, made_by, not_tied, order_by, same_or_not, same_place, ties}
+use Rattle.round_laws.proofs.Nodes.{Shape, id_itself, lives_by, made_by, not_tied, order_by, same_or_not, same_place, ties}
 use Rattle.round_laws.proofs.Order.{lives_made}
 use Rattle.round_laws.proofs.Standing.{IsBase, IsWithin, node_made, peer_or_not, stands}
 use Rattle.round_laws.proofs.Forgetting.{each}
@@ -44,7 +43,7 @@ use Rattle.round_laws.proofs.Fixing.{look_up, one_at_place}
 use Rattle.round_laws.proofs.Repairing.{kept_look_up, kept_put, kept_repairs}
 use Rattle.round_laws.proofs.Growing.{of_each, of_fates, of_puts, of_repairs}
 use Rattle.round_laws.proofs.Owning.{AreDistinct, asked_are_owners, distinct_filter, distinct_from_place, distinct_take, held_filter, is_dropped, nodes_filter}
-use Rattle.round_laws.proofs.Holding.{AreSorted, PutsAt, dropped_from, held_at, is_gone, is_left, left_held, node_here, node_is, node_other, puts_at, routes_same, sorted_left, sorted_with}
+use Rattle.round_laws.proofs.Holding.{AreSorted, dropped_from, held_at, is_gone, is_left, left_held, node_here, node_is, node_other, puts_at, routes_same, sorted_left, sorted_with}
 
 -- ---- blocks in order
 
@@ -102,7 +101,7 @@ module _ (judged : Key → List ℕ → Option Judged) (r : ℕ) (base : List Sh
   found_is key p found w mid h lives l q =
       let looked = look_up judged r base planned start end b key p found w mid h.within (lives_made base p lives) l in
       lookup_right place r settled.positive (lives_by base) (order_by base) (links_in w) (number key) (p ∷ []) (made_by base) (routes l.looks) found settled.ascending settled.living settled.lives_all
-          (λ m i. (λ j. (h.linked j m).list) ∙ settled.lists m i) names (looked.fates q) p lives (inl refl) l.lookup
+      (λ m i. (λ j. (h.linked j m).list) ∙ settled.lists m i) names (looked.fates q) p lives (inl refl) l.lookup
     where
       names : AreNames (order_by base) (links_in w) (p ∷ []) (made_by base)
       names = record {
@@ -114,7 +113,7 @@ module _ (judged : Key → List ℕ → Option Judged) (r : ℕ) (base : List Sh
             let s = stands judged r base planned start end b w n node.0 h.within made node.1 in
             let k = h.within.known n.id node.0 node.1 in
             all-among (λ x. IsAmong x (made_by base)) m ((links_in w n).list ++ (links_in w n).fingers)
-                (subst (λ (x : Links Peer). AllByRecursion (λ y. IsAmong y (made_by base)) (x.list ++ x.fingers)) (sym s.links) (all-both (λ x. IsAmong x (made_by base)) node.0.ring.links.list node.0.ring.links.fingers k.list k.fingers)) j;
+            (subst (λ (x : Links Peer). AllByRecursion (λ y. IsAmong y (made_by base)) (x.list ++ x.fingers)) (sym s.links) (all-both (λ x. IsAmong x (made_by base)) node.0.ring.links.list node.0.ring.links.fingers k.list k.fingers)) j;
       }
 
   -- ---- one block
@@ -142,10 +141,10 @@ module _ (judged : Key → List ℕ → Option Judged) (r : ℕ) (base : List Sh
       let to : nodes told ≡ filter (is_other_peer judged p) (take r all) = nodes_filter (is_other_peer judged p) asks ∙ ap (filter (is_other_peer judged p)) asked in
       let same_held : (k : Key) (x : Peer) → held_in mid k x ≡ held_in w k x = λ k x. ap (λ (o : Option Node). held_at k (own_node x o)) (routes_same judged r base planned start end b key looks.looks (asking (ask.Route key) looks.looks) w mid h.within refl looks.fates x.id) in
       let made : AllByRecursion (λ x. IsAmong x (made_by base)) (nodes told) =
-          subst (AllByRecursion (λ x. IsAmong x (made_by base))) (sym to) (all_from (λ x. IsAmong x (made_by base)) (filter (is_other_peer judged p) (take r all)) (λ x i. lives_made base x (own_lives key x (among_filtered (is_other_peer judged p) x (take r all) i)))) in
+      subst (AllByRecursion (λ x. IsAmong x (made_by base))) (sym to) (all_from (λ x. IsAmong x (made_by base)) (filter (is_other_peer judged p) (take r all)) (λ x i. lives_made base x (own_lives key x (among_filtered (is_other_peer judged p) x (take r all) i)))) in
       let out = puts_at judged r base planned start end b key block.kind block.bytes told (asking question told) mid next look.within made
-          (subst (λ l. AreDistinct l) (sym to) (distinct_filter (is_other_peer judged p) (take r all) (distinct_take r all distinct)))
-          (λ x c e. h.kinds key x p c block (sym (same_held key x) ∙ e) own_block) (held_filter (is_other_peer judged p) asks taken) refl fates in
+      (subst (λ l. AreDistinct l) (sym to) (distinct_filter (is_other_peer judged p) (take r all) (distinct_take r all distinct)))
+      (λ x c e. h.kinds key x p c block (sym (same_held key x) ∙ e) own_block) (held_filter (is_other_peer judged p) asks taken) refl fates in
       let sort_mid : AreSorted mid = λ id n e. h.sorted id n (sym (routes_same judged r base planned start end b key looks.looks (asking (ask.Route key) looks.looks) w mid h.within refl looks.fates id) ∙ e) in
       let other_keys : (x : Peer) (k : Key) → (k ≡ key → ⊥) → held_in next k x ≡ held_in w k x = λ x k d. out.other_keys x k d ∙ same_held k x in
       record {
@@ -265,13 +264,13 @@ module _ (judged : Key → List ℕ → Option Judged) (r : ℕ) (base : List Sh
       let grown = of_puts judged p r blocks mid next dropped rest in
       let f = around k block p w mid false h lives held.0 one taken.0 (omega (arith, quiet, grown.1)) in
       let g = through key p blocks mid next dropped f.state lives (and_second (below_all key_cmp k blocks) (is_sorted key_cmp blocks) sorted)
-          (all_weaker (λ (x : Key × Block). held_in w x.0 p ≡ Some x.1) (λ x. held_in mid x.0 p ≡ Some x.1) blocks (λ x i. f.rest p (inr refl) x.0 ∙ i) held.1) rest taken.1 quiet in
+      (all_weaker (λ (x : Key × Block). held_in w x.0 p ≡ Some x.1) (λ x. held_in mid x.0 p ≡ Some x.1) blocks (λ x i. f.rest p (inr refl) x.0 ∙ i) held.1) rest taken.1 quiet in
       through_one key p k block blocks w mid next false dropped sorted f g
   through key p (e ∷ blocks) w next dropped h lives sorted held (drops {key = k} {block = block} {mid = mid} {dropped = others} one rest) taken quiet =
       let grown = of_puts judged p r blocks mid next others rest in
       let f = around k block p w mid true h lives held.0 one taken.0 (omega (arith, quiet, grown.1)) in
       let g = through key p blocks mid next others f.state lives (and_second (below_all key_cmp k blocks) (is_sorted key_cmp blocks) sorted)
-          (all_weaker (λ (x : Key × Block). held_in w x.0 p ≡ Some x.1) (λ x. held_in mid x.0 p ≡ Some x.1) blocks (λ x i. f.rest p (inr refl) x.0 ∙ i) held.1) rest taken.1 quiet in
+      (all_weaker (λ (x : Key × Block). held_in w x.0 p ≡ Some x.1) (λ x. held_in mid x.0 p ≡ Some x.1) blocks (λ x i. f.rest p (inr refl) x.0 ∙ i) held.1) rest taken.1 quiet in
       through_one key p k block blocks w mid next true others sorted f g
 
   -- ---- a node's part
@@ -288,20 +287,20 @@ module _ (judged : Key → List ℕ → Option Judged) (r : ℕ) (base : List Sh
       let sorted = h.sorted p.id x.before x.is_before in
       let asked : next.asked ≡ x.mid.asked = ap (λ (v : World). v.asked) x.drops in
       let t = through key p x.before.blocks w x.mid x.dropped h lives sorted
-          (all_weaker (λ (e : Key × Block). value_at key_cmp e.0 x.before.blocks ≡ Some e.1) (λ e. held_in w e.0 p ≡ Some e.1) x.before.blocks (λ e i. was e.0 ∙ i) (each_found x.before.blocks sorted)) x.puts taken (omega (arith, quiet, asked)) in
+      (all_weaker (λ (e : Key × Block). value_at key_cmp e.0 x.before.blocks ≡ Some e.1) (λ e. held_in w e.0 p ≡ Some e.1) x.before.blocks (λ e i. was e.0 ∙ i) (each_found x.before.blocks sorted)) x.puts taken (omega (arith, quiet, asked)) in
       let after_at = stands judged r base planned start end b x.mid p x.after t.state.within made x.is_after in
       let now : Node = record x.after { blocks = dropped_from x.after.blocks x.dropped } in
       let then_held : (k : Key) → held_in x.mid k p ≡ value_at key_cmp k x.after.blocks = λ k. ap (held_at k) (node_is x.mid p x.after x.is_after after_at.me) in
       let here : (k : Key) → held_in next k p ≡ value_at key_cmp k (dropped_from x.after.blocks x.dropped) =
-          λ k. ap (λ (v : World). held_in v k p) x.drops ∙ ap (held_at k) (node_here x.mid p x.after now x.is_after after_at.me) in
+      λ k. ap (λ (v : World). held_in v k p) x.drops ∙ ap (held_at k) (node_here x.mid p x.after now x.is_after after_at.me) in
       let others : (q : Peer) → (q ≡ p → ⊥) → (k : Key) → held_in next k q ≡ held_in x.mid k q =
-          λ q d k. ap (λ (v : World). held_in v k q) x.drops ∙ ap (held_at k) (node_other x.mid p q x.after now x.is_after after_at.me after_at.me d) in
+      λ q d k. ap (λ (v : World). held_in v k q) x.drops ∙ ap (held_at k) (node_other x.mid p q x.after now x.is_after after_at.me after_at.me d) in
       let kept = kept_repairs judged r base planned start end b w next p h.within x in
       let held_mid : (q : Peer) (k : Key) (c : Block) → held_in next k q ≡ Some c → held_in x.mid k q ≡ Some c =
-          λ q k c e. ⊎_elim
-          (λ s. subst (λ y. held_in x.mid k y ≡ Some c) (sym s) (then_held k ∙ left_held k x.after.blocks x.dropped c (sym (here k) ∙ subst (λ y. held_in next k y ≡ Some c) s e)))
-          (λ d. sym (others q d k) ∙ e)
-          (peer_or_not q p) in
+      λ q k c e. ⊎_elim
+      (λ s. subst (λ y. held_in x.mid k y ≡ Some c) (sym s) (then_held k ∙ left_held k x.after.blocks x.dropped c (sym (here k) ∙ subst (λ y. held_in next k y ≡ Some c) s e)))
+      (λ d. sym (others q d k) ∙ e)
+      (peer_or_not q p) in
       record {
         state = record {
           within = kept.within;
@@ -318,16 +317,16 @@ module _ (judged : Key → List ℕ → Option Judged) (r : ℕ) (base : List Sh
       by owns tells t was then_held here others None e =
           let n = t.none e in
           idle (ap (option_map (rank judged key)) (was key ∙ e))
-              (λ m. ap (option_map (rank judged key)) (each (λ q. held_in next key q ≡ held_in w key q) p
-              (here key ∙ is_left key x.after.blocks x.dropped n.1 ∙ sym (then_held key) ∙ t.own_blocks key)
-              (λ q d. others q d key ∙ n.0 q) m))
+          (λ m. ap (option_map (rank judged key)) (each (λ q. held_in next key q ≡ held_in w key q) p
+          (here key ∙ is_left key x.after.blocks x.dropped n.1 ∙ sym (then_held key) ∙ t.own_blocks key)
+          (λ q d. others q d key ∙ n.0 q) m))
       by owns tells t was then_held here others (Some c) e =
           let s = t.some c e in
           moves (rank judged key c) (ap (option_map (rank judged key)) (was key ∙ e))
-              (λ m d o. ap (option_map (rank judged key)) (others m d key) ∙ s.ranks m ((tells m).0 o) d)
-              (λ m d o. ap (option_map (rank judged key)) (others m d key ∙ s.rest m (λ i. let u = (tells m).1 i in cc)))
-              (λ o. ap (option_map (rank judged key)) (here key ∙ is_left key x.after.blocks x.dropped (s.stays ((tells p).0 o)) ∙ sym (then_held key) ∙ t.own_blocks key))
-              (λ o. ap (option_map (rank judged key)) (here key ∙ is_gone key x.after.blocks x.dropped (s.goes (λ i. let u = (tells p).1 i in cc))))
+          (λ m d o. ap (option_map (rank judged key)) (others m d key) ∙ s.ranks m ((tells m).0 o) d)
+          (λ m d o. ap (option_map (rank judged key)) (others m d key ∙ s.rest m (λ i. let u = (tells m).1 i in cc)))
+          (λ o. ap (option_map (rank judged key)) (here key ∙ is_left key x.after.blocks x.dropped (s.stays ((tells p).0 o)) ∙ sym (then_held key) ∙ t.own_blocks key))
+          (λ o. ap (option_map (rank judged key)) (here key ∙ is_gone key x.after.blocks x.dropped (s.goes (λ i. let u = (tells p).1 i in cc))))
 
   -- ---- all nodes
 

@@ -2,7 +2,7 @@
 use Rattle.std.proofs.Common.{◌≡◌, ◌⊎◌, inl, inr, ⊎_elim, ℕ, Bool, true, false, cond, List, [], ◌∷◌, map, filter, find, refl, sym, ap, ◌∙◌, subst, Option, Some, None, nat_eq, option_map}
 use Rattle.std.specs.List.{AllByRecursion}
 use Rattle.std.specs.Option.{option_map_or}
-use Rattle.std.specs.Cmp.{IsTotalOrder, tied_itself}
+use Rattle.std.specs.Cmp.{tied_itself}
 use Rattle.std.specs.Ordering.{eq_by_cmp, is_eq}
 use Rattle.std.specs.Cmp.Lexicographic.{nat_list_cmp_total}
 use Rattle.std.proofs.lemmas.Cmp.{on_total}
@@ -17,7 +17,7 @@ use Rattle.ring_model.proofs.Lists.{some_same, none_some}
 use Rattle.dht_ids.specs.declared.peer.Peer.{Peer}
 use Rattle.dht_ids.specs.Peers.{place}
 use Rattle.world_model.specs.Nodes.{Node}
-use Rattle.world_model.specs.World.{World, live_peers, node_at, peer_of, with_node}
+use Rattle.world_model.specs.World.{World, node_at, peer_of, with_node}
 use Rattle.world_model.specs.Ring.{in_ring_order, live_in_order}
 use Rattle.round_laws.specs.RingOf.{AreApart, links_in, lives_in, no_links, own_node}
 
@@ -186,18 +186,19 @@ none_replaced [] n m e a = refl
 none_replaced (k ∷ nodes) n m e a =
     (λ i. cond-false (eq_by_cmp key_cmp (peer_of k).id (peer_of n).id) n k (not_tied (peer_of k).id (peer_of n).id (λ s. a.0 (same_place (peer_of m) (peer_of k) (e ∙ sym s)))) i ∷ none_replaced nodes n m e a.1 i)
 
-pub shapes_kept : (nodes : List Node) (n old : Node) → AreApart (map peer_of nodes) → at nodes (peer_of n).id ≡ Some old → shape n ≡ shape old → map shape (replaced n nodes) ≡ map shape nodes
-shapes_kept [] n old apart e s = refl
-shapes_kept (m ∷ nodes) n old apart e s = by (eq_by_cmp key_cmp (peer_of m).id (peer_of n).id) refl (λ f. shapes_kept nodes n old apart.1 f s)
+-- what a new node has as the old one had, all have as before
+pub mapped_kept : {X : Type 0} (f : Node → X) (nodes : List Node) (n old : Node) → AreApart (map peer_of nodes) → at nodes (peer_of n).id ≡ Some old → f n ≡ f old → map f (replaced n nodes) ≡ map f nodes
+mapped_kept f [] n old apart e s = refl
+mapped_kept {X = X} f (m ∷ nodes) n old apart e s = by (eq_by_cmp key_cmp (peer_of m).id (peer_of n).id) refl (λ g. mapped_kept f nodes n old apart.1 g s)
   where
-    by : (t : Bool) → eq_by_cmp key_cmp (peer_of m).id (peer_of n).id ≡ t → (at nodes (peer_of n).id ≡ Some old → map shape (replaced n nodes) ≡ map shape nodes) → map shape (cond t n m ∷ replaced n nodes) ≡ map shape (m ∷ nodes)
+    by : (t : Bool) → eq_by_cmp key_cmp (peer_of m).id (peer_of n).id ≡ t → (at nodes (peer_of n).id ≡ Some old → map f (replaced n nodes) ≡ map f nodes) → map f (cond t n m ∷ replaced n nodes) ≡ map f (m ∷ nodes)
     by true tied later =
         let same = same_id (peer_of m).id (peer_of n).id tied in
         let is : m ≡ old = some_same m old (sym (at_here m nodes (peer_of n).id same) ∙ e) in
-        λ i. (s ∙ ap shape (sym is)) i ∷ map shape (none_replaced nodes n m same apart.0 i)
+        λ i. (s ∙ ap f (sym is)) i ∷ map f (none_replaced nodes n m same apart.0 i)
     by false tied later =
         let d : (peer_of m).id ≡ (peer_of n).id → ⊥ = λ x. let t = ties (peer_of m).id (peer_of n).id x in cc in
-        ap (λ (l : List Shape). shape m ∷ l) (later (sym (at_later m nodes (peer_of n).id d) ∙ e))
+        ap (λ (l : List X). f m ∷ l) (later (sym (at_later m nodes (peer_of n).id d) ∙ e))
 
 -- ---- what nodes know
 

@@ -1,15 +1,14 @@
 -- The live nodes in the order of their places: they ascend, and they are those that live.
-use Rattle.std.proofs.Common.{◌≡◌, ◌⊎◌, inl, inr, ⊎_elim, ℕ, ◌<◌, ◌≤◌, Bool, true, false, cond, List, [], ◌∷◌, map, filter, fold, refl, sym, ap, ◌∙◌, subst, Option, Some, None, arith, nat_eq, nat_lt, ltb}
+use Rattle.std.proofs.Common.{◌≡◌, ◌⊎◌, inl, inr, ⊎_elim, ℕ, ◌<◌, ◌≤◌, Bool, true, false, cond, List, [], ◌∷◌, map, filter, fold, refl, sym, ap, ◌∙◌, subst, Some, arith, nat_eq, nat_lt}
 use Rattle.std.specs.List.{AllByRecursion}
 use Rattle.std.specs.Ordering.{eq_by_cmp}
-use Rattle.std.proofs.lemmas.Bool.{cond-true, cond-false, eqb-true, eq-eqb, ltb-true, ltb-false, cases_Bool}
-use Rattle.ivy_base.specs.declared.key.Key.{Key}
+use Rattle.std.proofs.lemmas.Bool.{cond-true, cond-false, eqb-true, eq-eqb, ltb-true, ltb-false}
 use Rattle.ivy_base.specs.Naming.{key_cmp}
 use Rattle.ring_model.specs.Members.{IsAmong, IsAscending}
-use Rattle.ring_model.proofs.Lists.{all-among, among_filter, filter_gives, all_from, none_some, some_same}
+use Rattle.ring_model.proofs.Lists.{all-among, among_filter, all_from}
 use Rattle.dht_ids.specs.declared.peer.Peer.{Peer}
 use Rattle.dht_ids.specs.Peers.{place}
-use Rattle.world_model.specs.Ring.{in_ring_order, with_peer}
+use Rattle.world_model.specs.Ring.{with_peer}
 use Rattle.round_laws.specs.RingOf.{AreApart}
 use Rattle.round_laws.proofs.Nodes.{Shape, lives_by, made_by, not_tied, order_by, own_shape, same_id, same_peer, same_place, shape_at, ties}
 
@@ -71,7 +70,7 @@ ascending_fold : (qs ps : List Peer) → IsAscending place qs → AreApart ps �
 ascending_fold qs [] a apart d = a
 ascending_fold qs (p ∷ ps) a apart d =
     ascending_fold (with_peer qs p) ps (ascending_with qs p a (λ q i. d q p i (inl refl))) apart.1
-        (λ q x i j. ⊎_elim (λ e s. all-among (λ z. place p ≡ place z → ⊥) x ps apart.0 j (ap place e ∙ s)) (λ k. d q x k (inr j)) (with_among q qs p i))
+    (λ q x i j. ⊎_elim (λ e s. all-among (λ z. place p ≡ place z → ⊥) x ps apart.0 j (ap place e ∙ s)) (λ k. d q x k (inr j)) (with_among q qs p i))
 
 -- lists that ascend and have the same members are one
 pub same_lists : (xs ys : List Peer) → IsAscending place xs → IsAscending place ys → ((m : Peer) → IsAmong m xs → IsAmong m ys) → ((m : Peer) → IsAmong m ys → IsAmong m xs) → xs ≡ ys

@@ -1,13 +1,13 @@
 -- The owners that a put asks, where each that is asked answers.
-use Rattle.std.proofs.Common.{◌≡◌, ◌⊎◌, inl, inr, ⊎_elim, ℕ, zero, suc, ◌+◌, ◌*◌, ◌<◌, ◌≤◌, Bool, true, false, cond, List, [], ◌∷◌, ◌++◌, length, take, map, filter, refl, sym, ap, ◌∙◌, subst, Option, Some, None, arith, MatchBool, min, nat_le, nat_lt, length-take, take-take}
+use Rattle.std.proofs.Common.{◌≡◌, ◌⊎◌, inl, inr, ⊎_elim, ℕ, zero, suc, ◌*◌, ◌<◌, ◌≤◌, Bool, true, false, cond, List, [], ◌∷◌, ◌++◌, length, take, filter, refl, sym, ap, ◌∙◌, subst, arith, MatchBool, min, nat_le, nat_lt, length-take, take-take}
 use Rattle.std.specs.List.{AllByRecursion}
-use Rattle.std.proofs.lemmas.Bool.{le-ltb, ltb-true, leb-true, cond-true, cond-false, cases_Bool}
+use Rattle.std.proofs.lemmas.Bool.{ltb-true, leb-true}
 use Rattle.std.proofs.lemmas.List.{take_all}
 use Rattle.std.proofs.lemmas.List.Sums.{length-filter}
-use Rattle.ring_model.specs.Gets.{AreAsks, AreFirsts, IsAcknowledged, IsPut, answered_in, nodes}
+use Rattle.ring_model.specs.Gets.{AreAsks, AreFirsts, IsPut, answered_in, nodes}
 use Rattle.ring_model.specs.Gets.AreFirsts.{none as no_more, again as seen_again, new as not_seen}
 use Rattle.ring_model.specs.Members.{IsAmong, IsAscending, from_place}
-use Rattle.ring_model.proofs.Lists.{all-among, among-cases, among-left, among-right, among_filter, among_filtered, among_take, all_from, filter_all, filter_gives}
+use Rattle.ring_model.proofs.Lists.{all-among, among-cases, among_filtered, among_take, all_from, filter_all, filter_gives}
 use Rattle.ring_model.proofs.Members.{ascending_filter}
 use Rattle.dht_ids.specs.declared.ask.Answer.{Answer}
 use Rattle.dht_ids.specs.declared.ask.Answer.TheVariants as answer
@@ -40,7 +40,7 @@ distinct_both : (xs ys : List Peer) → AreDistinct xs → AreDistinct ys → ((
 distinct_both [] ys d e apart = e
 distinct_both (x ∷ xs) ys d e apart = (λ i. ⊎_elim (λ j. d.0 j) (λ j. apart x (inl refl) j) (among-cases x xs ys i), distinct_both xs ys d.1 e (λ m i j. apart m (inr i) j))
 
-distinct_ascending : (xs : List Peer) → IsAscending place xs → AreDistinct xs
+pub distinct_ascending : (xs : List Peer) → IsAscending place xs → AreDistinct xs
 distinct_ascending [] a = tt
 distinct_ascending (x ∷ xs) a = (λ i. let l : place x < place x = all-among (λ z. place x < place z) x xs a.0 i in absurd (omega (arith, l)), distinct_ascending xs a.1)
 
@@ -50,9 +50,9 @@ passes t m l i = all-among (λ y. t y ≡ true) m (filter t l) (filter_gives t (
 pub distinct_from_place : (live : List Peer) (key : ℕ) → IsAscending place live → AreDistinct (from_place place live key)
 distinct_from_place live key a =
     distinct_both (filter (λ m. nat_le key (place m)) live) (filter (λ m. nat_lt (place m) key) live)
-        (distinct_ascending (filter (λ m. nat_le key (place m)) live) (ascending_filter place (λ m. nat_le key (place m)) live a))
-        (distinct_ascending (filter (λ m. nat_lt (place m) key) live) (ascending_filter place (λ m. nat_lt (place m) key) live a))
-        (λ m i j. let l = leb-true key (place m) (passes (λ m. nat_le key (place m)) m live i) in let g = ltb-true (place m) key (passes (λ m. nat_lt (place m) key) m live j) in absurd (omega (arith, l, g)))
+    (distinct_ascending (filter (λ m. nat_le key (place m)) live) (ascending_filter place (λ m. nat_le key (place m)) live a))
+    (distinct_ascending (filter (λ m. nat_lt (place m) key) live) (ascending_filter place (λ m. nat_lt (place m) key) live a))
+    (λ m i j. let l = leb-true key (place m) (passes (λ m. nat_le key (place m)) m live i) in let g = ltb-true (place m) key (passes (λ m. nat_lt (place m) key) m live j) in absurd (omega (arith, l, g)))
 
 firsts_same : (seen ps qs : List Peer) → AreFirsts seen ps qs → AreDistinct ps → ((p : Peer) → IsAmong p ps → IsAmong p seen → ⊥) → qs ≡ ps
 firsts_same seen [] qs no_more d apart = refl

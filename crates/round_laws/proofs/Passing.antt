@@ -1,7 +1,7 @@
 -- The second part of a round: the passes.
-use Rattle.std.proofs.Common.{◌≡◌, ◌⊎◌, inl, inr, ⊎_elim, ℕ, zero, suc, ◌<◌, ◌≤◌, Bool, true, false, cond, List, [], ◌∷◌, refl, sym, ap, ◌∙◌, subst, Option, Some, None, IfSome, arith, le_refl, find}
+use Rattle.std.proofs.Common.{◌≡◌, ◌⊎◌, inl, inr, ⊎_elim, ℕ, zero, suc, ◌≤◌, Bool, true, false, List, [], ◌∷◌, refl, sym, ap, ◌∙◌, subst, Option, Some, IfSome, arith, le_refl, find}
 use Rattle.std.specs.List.{AllByRecursion}
-use Rattle.std.proofs.lemmas.Bool.{cond-true, cond-false}
+use Rattle.std.proofs.lemmas.Bool.{cond-true}
 use Rattle.ivy_base.specs.declared.key.Key.{Key}
 use Rattle.ring_model.specs.Members.{IsAmong, first}
 use Rattle.ring_model.specs.Ring.{Links}
@@ -11,27 +11,26 @@ use Rattle.ring_model.specs.Pass.ArePasses.{none as no_passes, again as pass}
 use Rattle.ring_model.proofs.Lists.{none_some, some_same}
 use Rattle.dht_ids.specs.declared.ask.Answer.{Answer}
 use Rattle.dht_ids.specs.declared.ask.Answer.TheVariants as answer
-use Rattle.dht_ids.specs.declared.ask.Ask.{Ask}
 use Rattle.dht_ids.specs.declared.ask.Ask.TheVariants as ask
 use Rattle.dht_ids.specs.declared.judge.Judged.{Judged}
 use Rattle.dht_ids.specs.declared.peer.Peer.{Peer}
 use Rattle.dht_ids.specs.Peers.{place}
 use Rattle.chord_core.specs.State.{State, stabilised}
-use Rattle.world_model.specs.Nodes.{Node, answered}
+use Rattle.world_model.specs.Nodes.{Node}
 use Rattle.world_model.specs.World.{World, node_at, with_node}
-use Rattle.world_model.specs.Fates.{FateOf, counted}
+use Rattle.world_model.specs.Fates.{counted}
 use Rattle.world_model.specs.Rounds.{EachDoes, ManyDo, Notifies, Stabilises, listing_now}
 use Rattle.world_model.specs.Rounds.EachDoes.{done, next as then_does}
 use Rattle.world_model.specs.Rounds.ManyDo.{none as not_once, again as once_more}
 use Rattle.world_model.specs.Rounds.Notifies.{nobody, notifies}
 use Rattle.world_model.specs.Rounds.Stabilises.{alone, drops, hears}
-use Rattle.round_laws.specs.RingOf.{KnowsOnly, links_in}
-use Rattle.round_laws.proofs.Nodes.{Shape, at_id, lives_by, made_by}
+use Rattle.round_laws.specs.RingOf.{links_in}
+use Rattle.round_laws.proofs.Nodes.{Shape, lives_by, made_by}
 use Rattle.round_laws.proofs.Order.{lives_made}
 use Rattle.round_laws.proofs.Standing.{AfterAsk, Fated, IsBase, IsWithin, Relinks, counted_within, fate_grows, fated, relinked, stands, still_asked}
 use Rattle.round_laws.proofs.Standing.Fated.{silence, heard as was_heard}
 use Rattle.round_laws.proofs.Forgetting.{asked_lives, each, near_keeps, near_silent}
-use Rattle.round_laws.proofs.Renewing.{DropsFirst, Living, all_renewed, all_some, first_renewed, living_kept, some_nearest, stabilised_dropped}
+use Rattle.round_laws.proofs.Renewing.{Living, all_renewed, all_some, first_renewed, living_kept, some_nearest, stabilised_dropped}
 
 module _ (judged : Key → List ℕ → Option Judged) (r : ℕ) (base : List Shape) (planned : List ℕ) (start end : ℕ) (b : IsBase r base planned start end) where
   -- ---- the first of the new list is notified
@@ -157,7 +156,7 @@ module _ (judged : Key → List ℕ → Option Judged) (r : ℕ) (base : List Sh
       let step = stabilise p (with_node mid (listing_now m rest)) next c.within made later in
       let fate_first = fate_grows judged w mid f ask.Near answer.Silent fate in
       let same : (q : Peer) → (links_in (with_node mid (listing_now m rest)) q).before ≡ (links_in w q).before =
-          each (λ q. (links_in (with_node mid (listing_now m rest)) q).before ≡ (links_in w q).before) p (λ i. (c.at i).before) (λ q d i. (c.others q d i).before) in
+      each (λ q. (links_in (with_node mid (listing_now m rest)) q).before ≡ (links_in w q).before) p (λ i. (c.at i).before) (λ q d i. (c.others q d i).before) in
       record {
         within = step.within;
         grows = omega (arith, fate_first, step.grows);
@@ -182,7 +181,7 @@ module _ (judged : Key → List ℕ → Option Judged) (r : ℕ) (base : List Sh
       let near = near_of w mid f given h all.0 d t in
       let is = list_is w p f rest m.ring given s2.replicas s2.me near.is in
       let made_list : AllByRecursion (λ q. IsAmong q (made_by base)) (stabilised m.ring (f ∷ rest) given) =
-          subst (AllByRecursion (λ q. IsAmong q (made_by base))) (sym is) (all_renewed (λ q. IsAmong q (made_by base)) r p f (links_in w f).before (links_in w f).list all.0 near.before near.list) in
+      subst (AllByRecursion (λ q. IsAmong q (made_by base))) (sym is) (all_renewed (λ q. IsAmong q (made_by base)) r p f (links_in w f).before (links_in w f).list all.0 near.before near.list) in
       let c = relisted w mid p m (stabilised m.ring (f ∷ rest) given) a made e2 made_list in
       let told = noticed (with_node mid (listing_now m (stabilised m.ring (f ∷ rest) given))) next p (stabilised m.ring (f ∷ rest) given) c.within made made_list notice in
       let fate_first = fate_grows judged w mid f ask.Near given fate in

@@ -1,9 +1,9 @@
 -- A part in a pass, on the links alone: what a renewed list hangs on, and what it does to predecessors.
 use Rattle.std.proofs.Common.{◌≡◌, ◌⊎◌, inl, inr, ⊎_elim, ℕ, zero, suc, ◌*◌, Bool, true, false, cond, List, [], ◌∷◌, ◌++◌, take, refl, sym, ap, ◌∙◌, subst, Option, Some, None, IfSome, nat_eq, find}
 use Rattle.std.specs.List.{AllByRecursion}
-use Rattle.std.proofs.lemmas.Bool.{cond-true, cond-false, eqb-true, eq-eqb, cases_Bool}
+use Rattle.std.proofs.lemmas.Bool.{cond-true, cond-false, eq-eqb}
 use Rattle.ring_model.specs.Arc.{is_inside}
-use Rattle.ring_model.specs.Members.{IsAmong, first}
+use Rattle.ring_model.specs.Members.{first}
 use Rattle.ring_model.specs.Ring.{Links}
 use Rattle.ring_model.specs.Pass.{IsStabilised, between_them, heard, list_after, nearest_before, notified, renewed, some_list, until}
 use Rattle.ring_model.proofs.Lists.{all-both, none_some, some_same}

@@ -1,7 +1,6 @@
 -- The fourth part of a round changes nothing that nodes know of each other.
-use Rattle.std.proofs.Common.{◌≡◌, ◌⊎◌, inl, inr, ⊎_elim, ℕ, ◌<◌, ◌≤◌, Bool, true, false, List, [], ◌∷◌, filter, refl, sym, ap, ◌∙◌, subst, Option, Some, None, arith, le_refl}
+use Rattle.std.proofs.Common.{◌≡◌, ℕ, ◌≤◌, Bool, true, false, List, [], ◌∷◌, filter, refl, sym, ◌∙◌, subst, Option, Some, None, arith, le_refl}
 use Rattle.ivy_base.specs.declared.key.Key.{Key}
-use Rattle.ring_model.specs.Members.{IsAmong}
 use Rattle.dht_ids.specs.declared.ask.Answer.{Answer}
 use Rattle.dht_ids.specs.declared.ask.Ask.{Ask}
 use Rattle.dht_ids.specs.declared.ask.Ask.TheVariants as ask
@@ -12,9 +11,9 @@ use Rattle.dhash_client.specs.Course.{Told}
 use Rattle.node_store.specs.Stores.{Block, Blocks, content, content_fault, head, head_fault}
 use Rattle.node_store.specs.declared.kind.Kind.{Kind}
 use Rattle.node_store.specs.declared.kind.Kind.TheVariants.{Content, Head}
-use Rattle.world_model.specs.Nodes.{Node, answered, stored}
+use Rattle.world_model.specs.Nodes.{Node, stored}
 use Rattle.world_model.specs.World.{World, node_at, peer_of, with_node}
-use Rattle.world_model.specs.Fates.{FateOf, Fates, asking}
+use Rattle.world_model.specs.Fates.{Fates, asking}
 use Rattle.world_model.specs.Ring.{LooksUp}
 use Rattle.world_model.specs.Rounds.{EachDoes, PutsAll, PutsAround, Repairs, is_other_peer, question_as}
 use Rattle.world_model.specs.Rounds.EachDoes.{done, next as then_does}
@@ -22,7 +21,7 @@ use Rattle.world_model.specs.Rounds.PutsAround.{no_route, puts}
 use Rattle.world_model.specs.Rounds.PutsAll.{done as all_put, keeps, drops}
 use Rattle.round_laws.specs.RingOf.{links_in}
 use Rattle.round_laws.proofs.Nodes.{Shape, at, at_id, made_by}
-use Rattle.round_laws.proofs.Standing.{AfterAsk, Fated, IsBase, IsWithin, KeepsRing, fate_grows, fated, from_knows, links_ring, set_within, still_asked, to_knows}
+use Rattle.round_laws.proofs.Standing.{IsBase, IsWithin, KeepsRing, fate_grows, fated, from_knows, links_ring, set_within, still_asked, to_knows}
 use Rattle.round_laws.proofs.Fixing.{fates_first, fates_none, route_keeps}
 
 stored_keeps : (n : Node) (key : Key) (block : Block) (fault : Option StoreFault) → ((stored n key block fault).1.ring ≡ n.ring) × ((stored n key block fault).1.is_live ≡ n.is_live)
@@ -52,7 +51,7 @@ module _ (judged : Key → List ℕ → Option Judged) (r : ℕ) (base : List Sh
       let one = fates_first judged w next asks s.0 question s.1 (asking question told) e fates in
       let a = still_asked judged r base planned start end b w one.mid s.0 question s.1 h keep (fated judged r base planned start end b w one.mid s.0 question s.1 h one.fate) in
       kept_both w one.mid next (record { within = a.within; grows = fate_grows judged w one.mid s.0 question s.1 one.fate; links = a.links })
-          (kept_asks question keep told (asking question told) one.mid next a.within refl one.others)
+      (kept_asks question keep told (asking question told) one.mid next a.within refl one.others)
 
   pub kept_look_up : (key : Key) (entries : List Peer) (found : Option (List Peer)) (w next : World) → IsWithin base planned start w → LooksUp judged w key entries found next → Kept w next
   kept_look_up key entries found w next h l = kept_asks (ask.Route key) (route_keeps judged key) l.looks (asking (ask.Route key) l.looks) w next h refl l.fates
@@ -62,7 +61,7 @@ module _ (judged : Key → List ℕ → Option Judged) (r : ℕ) (base : List Sh
   kept_put p key block w next dropped h (puts q qs asks mid last acknowledged dropping looks is_put own fates goes) =
       let l = kept_look_up key (p ∷ []) (Some (q ∷ qs)) w mid h looks in
       kept_both w mid next l (kept_asks (question_as block.kind key block.bytes) (put_keeps judged block.kind key block.bytes) (filter (λ s. is_other_peer judged p s.0) asks)
-          (asking (question_as block.kind key block.bytes) (filter (λ s. is_other_peer judged p s.0) asks)) mid next l.within refl fates)
+      (asking (question_as block.kind key block.bytes) (filter (λ s. is_other_peer judged p s.0) asks)) mid next l.within refl fates)
 
   pub kept_puts : (p : Peer) (blocks : Blocks) (w next : World) (dropped : List Key) → IsWithin base planned start w → PutsAll judged p r blocks w dropped next → Kept w next
   kept_puts p [] w next dropped h all_put = kept w h

@@ -1,14 +1,12 @@
 -- A whole round, and the laws.
-use Rattle.std.proofs.Common.{◌≡◌, ◌⊎◌, inl, inr, ⊎_elim, ℕ, suc, ◌*◌, ◌<◌, ◌≤◌, Bool, true, false, List, [], ◌∷◌, map, filter, length, refl, sym, ap, ◌∙◌, subst, Option, Some, None, IfSome, Contains, arith, le_refl}
+use Rattle.std.proofs.Common.{◌≡◌, inl, inr, ℕ, suc, ◌*◌, ◌<◌, ◌≤◌, Bool, true, List, [], ◌∷◌, map, filter, refl, sym, ap, ◌∙◌, subst, Option, Some, None, Contains, arith, le_refl}
 use Rattle.std.specs.List.{AllByRecursion}
-use Rattle.std.specs.Ordering.{eq_by_cmp}
 use Rattle.ivy_base.specs.declared.key.Key.{Key}
 use Rattle.ring_model.specs.Members.{IsAmong, IsAscending}
 use Rattle.ring_model.specs.Ring.{Links, IsSettledRing}
-use Rattle.ring_model.specs.Round.{AreFingersFixed, AreListsRenewed, IsForgotten, IsRound}
+use Rattle.ring_model.specs.Round.{AreFingersFixed, IsForgotten, IsRound}
 use Rattle.ring_model.specs.Pass.{ArePasses}
-use Rattle.ring_model.specs.Change.{AreFewStops, IsJoin}
-use Rattle.ring_model.proofs.Lists.{all-among, all_from, all_weaker, among_filter, among_filtered, filter_gives}
+use Rattle.ring_model.proofs.Lists.{all-among, all_from, among_filter, filter_gives}
 use Rattle.ring_model.proofs.Members.{ascending_filter}
 use Rattle.ring_model.proofs.Rounds.{living_is}
 use Rattle.ring_model.proofs.Settled.{join_mended, stops_mended}
@@ -16,10 +14,10 @@ use Rattle.dht_ids.specs.declared.judge.Judged.{Judged}
 use Rattle.dht_ids.specs.declared.peer.Peer.{Peer}
 use Rattle.dht_ids.specs.Peers.{place}
 use Rattle.world_model.specs.Nodes.{Node}
-use Rattle.world_model.specs.World.{World, node_at, peer_of}
+use Rattle.world_model.specs.World.{World, peer_of}
 use Rattle.world_model.specs.Ring.{live_in_order}
-use Rattle.world_model.specs.Rounds.{EachDoes, FixesFrom, Forgets, IsRoundOf, ManyDo, Stabilises}
-use Rattle.round_laws.specs.RingOf.{AreApart, AreNodes, BeforesLive, IsSettledIn, KnowsOnly, LosesNone, links_in, lives_in}
+use Rattle.world_model.specs.Rounds.{IsRoundOf}
+use Rattle.round_laws.specs.RingOf.{AreApart, AreNodes, BeforesLive, IsSettledIn, KnowsOnly, links_in, lives_in}
 use Rattle.round_laws.specs.Laws.{FingersAreFixed, FirstPartForgets, PassesArePasses, RoundIsRound, RoundLeavesTheRest, RoundLeavesWhoLives, RoundMendsJoin, RoundMendsStops}
 use Rattle.round_laws.proofs.Nodes.{Shape, at, at_among, at_here, at_later, lives_by, made_by, made_shape, order_by, order_shape, same_place, shape}
 use Rattle.round_laws.proofs.Order.{lives_made, lives_order, order_ascends, order_lives, same_lists}
@@ -27,7 +25,7 @@ use Rattle.round_laws.proofs.Standing.{IsBase, IsWithin, lives_are}
 use Rattle.round_laws.proofs.Forgetting.{all_forgot, is_forgotten}
 use Rattle.round_laws.proofs.Renewing.{Living}
 use Rattle.round_laws.proofs.Passing.{many_passed}
-use Rattle.round_laws.proofs.Fixing.{all_turns, are_fingers_fixed, each_fixed}
+use Rattle.round_laws.proofs.Fixing.{are_fingers_fixed, each_fixed}
 use Rattle.round_laws.proofs.Repairing.{kept_all}
 use Rattle.round_laws.proofs.Growing.{round_grows}
 
@@ -55,7 +53,7 @@ within_of r w h = record {
   asked = le_refl w.asked;
 }
 
-at_own : (nodes : List Node) (n : Node) → AreApart (map peer_of nodes) → IsAmong n nodes → at nodes (peer_of n).id ≡ Some n
+pub at_own : (nodes : List Node) (n : Node) → AreApart (map peer_of nodes) → IsAmong n nodes → at nodes (peer_of n).id ≡ Some n
 at_own [] n apart h = elim h [ ]
 at_own (m ∷ nodes) n apart (inl e) = at_here m nodes (peer_of n).id (ap (λ (x : Node). (peer_of x).id) e) ∙ ap (λ (x : Node). Some x) e
 at_own (m ∷ nodes) n apart (inr h) = at_later m nodes (peer_of n).id (λ s. far nodes apart.0 h (same_place (peer_of m) (peer_of n) s)) ∙ at_own nodes n apart.1 h
@@ -89,7 +87,7 @@ first_part judged r w next h parts quiet =
     let all : (p : Peer) → lives_by (shapes_of w) p ≡ true → IsAmong p (live_in_order w) = λ p l. subst (IsAmong p) (sym (order_shape w)) (lives_order (shapes_of w) p l) in
     let f = all_forgot judged r (shapes_of w) w.lost w.asked next.asked b w next (live_in_order w) i (λ p j. lives_made (shapes_of w) p (only p j)) parts in
     subst (λ l. IsForgotten l (links_in w) (links_in next)) (sym (lives_are judged r (shapes_of w) w.lost w.asked next.asked b w i))
-        (is_forgotten judged r (shapes_of w) w.lost w.asked next.asked b w next (live_in_order w) f (le_refl next.asked) all only)
+    (is_forgotten judged r (shapes_of w) w.lost w.asked next.asked b w next (live_in_order w) f (le_refl next.asked) all only)
 
 pub second_part : PassesArePasses
 second_part judged r w next ps k h living lives parts quiet =
@@ -148,8 +146,8 @@ pub rounded_from : (judged : Key → List ℕ → Option Judged) (r : ℕ) (w ne
 rounded_from judged r w next end h quiet x =
     let b = base_of r w end h quiet in
     rounded judged r (shapes_of w) w.lost w.asked end b w next (within_of r w h)
-        (λ p j. order_lives (shapes_of w) p b.apart (subst (IsAmong p) (order_shape w) j))
-        (λ p l. subst (IsAmong p) (sym (order_shape w)) (lives_order (shapes_of w) p l)) x
+    (λ p j. order_lives (shapes_of w) p b.apart (subst (IsAmong p) (order_shape w) j))
+    (λ p l. subst (IsAmong p) (sym (order_shape w)) (lives_order (shapes_of w) p l)) x
 
 pub leaves_the_rest : RoundLeavesTheRest
 leaves_the_rest judged r w next x = round_grows judged r w next x
@@ -178,12 +176,12 @@ in_order r w p h i =
     let b = base_of r w w.asked h (λ k l m c. omega (arith, l, m)) in
     (λ t. lives_are (λ k bytes. None) r (shapes_of w) w.lost w.asked w.asked b w (within_of r w h) t p) ∙ order_lives (shapes_of w) p b.apart (subst (IsAmong p) (order_shape w) i)
 
-order_in : (r : ℕ) (w : World) (p : Peer) → AreNodes r w → lives_in w p ≡ true → IsAmong p (live_in_order w)
+pub order_in : (r : ℕ) (w : World) (p : Peer) → AreNodes r w → lives_in w p ≡ true → IsAmong p (live_in_order w)
 order_in r w p h l =
     let b = base_of r w w.asked h (λ k l m c. omega (arith, l, m)) in
     subst (IsAmong p) (sym (order_shape w)) (lives_order (shapes_of w) p (sym (λ t. lives_are (λ k bytes. None) r (shapes_of w) w.lost w.asked w.asked b w (within_of r w h) t p) ∙ l))
 
-order_ascending : (r : ℕ) (w : World) → AreNodes r w → IsAscending place (live_in_order w)
+pub order_ascending : (r : ℕ) (w : World) → AreNodes r w → IsAscending place (live_in_order w)
 order_ascending r w h = subst (IsAscending place) (sym (order_shape w)) (order_ascends (shapes_of w) (subst AreApart (made_shape w.nodes) h.apart))
 
 -- a ring that is settled with the members in another list
@@ -199,12 +197,12 @@ round_mends_stops judged r w next before h few many x quiet =
     let live : List Peer = filter (lives_in w) before in
     let asc = ascending_filter place (lives_in w) before few.settled.ascending in
     let lives : (m : Peer) → IsAmong m live → lives_in w m ≡ true =
-        λ m i. all-among (λ y. lives_in w y ≡ true) m live (filter_gives (lives_in w) (λ y. lives_in w y ≡ true) before (all_from (λ y. lives_in w y ≡ true → lives_in w y ≡ true) before (λ y j t. t))) i in
+    λ m i. all-among (λ y. lives_in w y ≡ true) m live (filter_gives (lives_in w) (λ y. lives_in w y ≡ true) before (all_from (λ y. lives_in w y ≡ true → lives_in w y ≡ true) before (λ y j t. t))) i in
     let all : (m : Peer) → lives_in w m ≡ true → IsAmong m live = λ m l. among_filter (lives_in w) m before (few.members m l) l in
     settled_in judged r w next live h x asc lives all
-        (stops_mended place r 160 before (lives_in w) (live_in_order w) (links_in w) (links_in next) few many (λ m i. all m (in_order r w m h i)) (λ m i. order_in r w m h (lives m i)) (round_is_round judged r w next h x quiet))
+    (stops_mended place r 160 before (lives_in w) (live_in_order w) (links_in w) (links_in next) few many (λ m i. all m (in_order r w m h i)) (λ m i. order_in r w m h (lives m i)) (round_is_round judged r w next h x quiet))
 
 pub round_mends_join : RoundMendsJoin
 round_mends_join judged r w next live x h joined many round quiet =
     settled_in judged r w next live h round joined.ascending joined.lives_all joined.living
-        (join_mended place r 160 live (lives_in w) x (live_in_order w) (links_in w) (links_in next) joined many (λ m i. joined.living m (in_order r w m h i)) (λ m i. order_in r w m h (joined.lives_all m i)) (round_is_round judged r w next h round quiet))
+    (join_mended place r 160 live (lives_in w) x (live_in_order w) (links_in w) (links_in next) joined many (λ m i. joined.living m (in_order r w m h i)) (λ m i. order_in r w m h (joined.lives_all m i)) (round_is_round judged r w next h round quiet))

@@ -1,5 +1,5 @@
 -- The laws of blocks.
-use Rattle.std.proofs.Common.{◌≡◌, ℕ, ◌<◌, ◌≤◌, Bool, true, false, ◌&&◌, T, List, [], ◌∷◌, length, map, refl, sym, ap, ◌∙◌, subst, Option, Some, suc, arith, le_refl, option_map}
+use Rattle.std.proofs.Common.{◌≡◌, ℕ, Bool, true, false, ◌&&◌, T, List, [], ◌∷◌, length, map, refl, sym, ap, ◌∙◌, subst, Option, suc, arith, le_refl, option_map}
 use Rattle.std.specs.List.{AllByRecursion}
 use Rattle.std.specs.List.Sorted.{IsStrictlySortedBy}
 use Rattle.std.specs.Map.{keys_of}
@@ -13,23 +13,21 @@ use Rattle.ring_model.specs.Circle.{number}
 use Rattle.ring_model.specs.Members.{IsAmong, owners}
 use Rattle.ring_model.specs.Ring.{Links, IsSettledRing}
 use Rattle.ring_model.proofs.Lists.{all-among}
-use Rattle.dht_ids.specs.declared.judge.Judged.{Judged}
 use Rattle.dht_ids.specs.declared.peer.Peer.{Peer}
 use Rattle.dht_ids.specs.Peers.{place}
 use Rattle.node_store.specs.Stores.{Block, Blocks}
 use Rattle.world_model.specs.Nodes.{Node}
-use Rattle.world_model.specs.World.{World, node_at, peer_of}
+use Rattle.world_model.specs.World.{World}
 use Rattle.world_model.specs.Ring.{live_in_order}
-use Rattle.round_laws.specs.RingOf.{AreNodes, IsSettledIn, links_in, lives_in}
+use Rattle.round_laws.specs.RingOf.{IsSettledIn, links_in, lives_in}
 use Rattle.round_laws.specs.Holding.{AreStores, Tells, rank, rank_in}
 use Rattle.round_laws.specs.Laws.{BlocksMove, RoundMovesBlocks}
-use Rattle.round_laws.proofs.Nodes.{Shape, at_among, lives_by, made_by, order_by, order_shape, shape}
+use Rattle.round_laws.proofs.Nodes.{at_among, lives_by, made_by, order_by, order_shape, shape}
 use Rattle.round_laws.proofs.Order.{order_lives}
-use Rattle.round_laws.proofs.Standing.{IsBase, IsWithin, lives_are}
+use Rattle.round_laws.proofs.Standing.{IsBase, lives_are}
 use Rattle.round_laws.proofs.Rounding.{base_of, leaves_who_lives, rounded_from, shapes_of, within_of}
-use Rattle.round_laws.proofs.Growing.{round_grows}
 use Rattle.round_laws.proofs.Holding.{AreSorted}
-use Rattle.round_laws.proofs.Moving.{IsRepairing, all_moved}
+use Rattle.round_laws.proofs.Moving.{all_moved}
 use Rattle.round_laws.proofs.Untouched.{held_untouched, parts_untouched, sorted_untouched}
 
 both : (a b : Bool) → T a → T b → T (a && b)
@@ -71,7 +69,7 @@ blocks_move judged r w next h few stores settled parts taken quiet key owns tell
     let ring = settled_by r w (order_by (shapes_of w)) (lives_by (shapes_of w)) (links_in w) (order_shape w) lives refl settled in
     let size = length_made w.nodes in
     all_moved judged r (shapes_of w) w.lost w.asked next.asked b (links_in w) ring (omega (arith, few, size)) key owns (tells_by r w key owns tells) w next (live_in_order w)
-        (record { within = i; linked = refl; kinds = stores.kinds; sorted = stores_sorted w stores }) (lives_in_order r w next.asked b) parts taken (le_refl next.asked)
+    (record { within = i; linked = refl; kinds = stores.kinds; sorted = stores_sorted w stores }) (lives_in_order r w next.asked b) parts taken (le_refl next.asked)
 
 pub round_moves_blocks : RoundMovesBlocks
 round_moves_blocks judged r w next h few stores settled x taken quiet key owns tells =
@@ -85,12 +83,12 @@ round_moves_blocks judged r w next h few stores settled x taken quiet key owns t
     let untouched = parts_untouched judged r w next x in
     let same = held_untouched w x.three untouched in
     let moved = all_moved judged r (shapes_of w) w.lost w.asked next.asked b (links_in x.three) ring (omega (arith, few, size)) key owns (tells_by r w key owns tells) x.three next (live_in_order w)
-        (record {
-          within = round.within_three;
-          linked = refl;
-          kinds = λ k p q c d e f. stores.kinds k p q c d (sym (same k p) ∙ e) (sym (same k q) ∙ f);
-          sorted = sorted_untouched w x.three untouched (stores_sorted w stores);
-        }) (lives_in_order r w next.asked b) x.repairs taken (le_refl next.asked) in
+    (record {
+      within = round.within_three;
+      linked = refl;
+      kinds = λ k p q c d e f. stores.kinds k p q c d (sym (same k p) ∙ e) (sym (same k q) ∙ f);
+      sorted = sorted_untouched w x.three untouched (stores_sorted w stores);
+    }) (lives_in_order r w next.asked b) x.repairs taken (le_refl next.asked) in
     subst (λ f. AreMoved owns (live_in_order w) f (rank_in judged next key)) (λ t p. ranks (same key p) t) moved
   where
     ranks : {o q : Option Block} → o ≡ q → option_map (rank judged key) o ≡ option_map (rank judged key) q

@@ -2,11 +2,11 @@
 use Rattle.std.proofs.Common.{◌≡◌, ◌⊎◌, inl, inr, ⊎_elim, ℕ, ◌+◌, ◌<◌, ◌≤◌, Bool, true, false, cond, List, [], ◌∷◌, map, refl, sym, ap, ◌∙◌, subst, Option, Some, None, IfSome, Contains, arith, nat_eq}
 use Rattle.std.specs.List.{AllByRecursion}
 use Rattle.std.specs.Option.{option_map_or}
-use Rattle.std.proofs.lemmas.Bool.{eqb-true, eq-eqb, cond-true, cases_Bool}
+use Rattle.std.proofs.lemmas.Bool.{eqb-true, eq-eqb, cond-true}
 use Rattle.ivy_base.specs.declared.key.Key.{Key}
 use Rattle.ring_model.specs.Members.{IsAmong}
 use Rattle.ring_model.specs.Ring.{Links}
-use Rattle.ring_model.proofs.Lists.{some_same, none_some, all-among}
+use Rattle.ring_model.proofs.Lists.{some_same, all-among}
 use Rattle.dht_ids.specs.declared.ask.Answer.{Answer}
 use Rattle.dht_ids.specs.declared.ask.Answer.TheVariants.{Silent}
 use Rattle.dht_ids.specs.declared.ask.Ask.{Ask}
@@ -15,10 +15,10 @@ use Rattle.dht_ids.specs.declared.peer.Peer.{Peer}
 use Rattle.chord_core.specs.State.{State, with_links}
 use Rattle.world_model.specs.Nodes.{Node, answered}
 use Rattle.world_model.specs.World.{World, node_at, peer_of, with_node}
-use Rattle.world_model.specs.Fates.{FateOf, IsLost, counted}
+use Rattle.world_model.specs.Fates.{FateOf, counted}
 use Rattle.world_model.specs.Fates.FateOf.{lost as was_lost, stopped as was_stopped, answers as was_answered}
 use Rattle.round_laws.specs.RingOf.{AreApart, KnowsOnly, links_in, lives_in, no_links, own_node}
-use Rattle.round_laws.proofs.Nodes.{Shape, at, at_among, at_id, at_made, at_other, at_same, links_at, links_other, lives_by, lives_shape, made_by, made_shape, replaced, same_or_not, same_peer, shape, shapes_kept}
+use Rattle.round_laws.proofs.Nodes.{Shape, at, at_among, at_id, at_made, at_other, at_same, links_at, links_other, lives_by, lives_shape, made_by, made_shape, replaced, same_or_not, same_peer, shape, mapped_kept}
 
 pub peer_or_not : (p q : Peer) → (p ≡ q) ⊎ (p ≡ q → ⊥)
 peer_or_not p q = ⊎_elim (λ i. by i (nat_eq p.number q.number) refl) (λ d. inr (λ s. d (ap (λ (x : Peer). x.id) s))) (same_or_not p.id q.id)
@@ -52,7 +52,7 @@ pub record Stands (r : ℕ) (base : List Shape) (w : World) (p : Peer) (n : Node
   pub live : lives_by base p ≡ n.is_live
 
 -- what a node knows hangs on its part of the ring alone
-abbrev knows_of : List Peer → Links Peer → Type 0
+abbrev pub knows_of : List Peer → Links Peer → Type 0
 knows_of made links = AllByRecursion (λ q. IsAmong q made) links.list × AllByRecursion (λ q. IsAmong q made) links.fingers × IfSome links.before (λ q. IsAmong q made)
 
 pub to_knows : (made : List Peer) (n : Node) → KnowsOnly made n → knows_of made n.ring.links
@@ -134,7 +134,7 @@ module _ (judged : Key → List ℕ → Option Judged) (r : ℕ) (base : List Sh
 
   pub set_within : (w : World) (n old : Node) → IsWithin base planned start w → node_at w (peer_of n).id ≡ Some old → shape n ≡ shape old → KnowsOnly (made_by base) n → IsWithin base planned start (with_node w n)
   set_within w n old h e s k = record {
-    shapes = shapes_kept w.nodes n old (apart_in w h) e s ∙ h.shapes;
+    shapes = mapped_kept shape w.nodes n old (apart_in w h) e s ∙ h.shapes;
     known = λ id m f. ⊎_elim
         (λ same. subst (KnowsOnly (made_by base)) (some_same n m (sym (subst (λ x. at (replaced n w.nodes) x ≡ Some n) same (at_same w.nodes n old e)) ∙ f)) k)
         (λ other. h.known id m (sym (at_other w.nodes n id other) ∙ f))

@@ -1,20 +1,18 @@
 -- A put at one node that holds the block then, or a newer head.
-use Rattle.std.proofs.Common.{◌≡◌, ◌⊎◌, inl, inr, ⊎_elim, ℕ, ◌<◌, ◌≤◌, Bool, true, false, cond, List, [], ◌∷◌, refl, sym, ap, ◌∙◌, subst, Option, Some, None, arith, nat_lt, nat_le, option_map, option_and_then}
+use Rattle.std.proofs.Common.{◌≡◌, ◌⊎◌, ⊎_elim, ℕ, ◌<◌, Bool, true, false, cond, List, refl, sym, ap, ◌∙◌, subst, Option, Some, None, arith, nat_lt, nat_le, option_map, option_and_then}
 use Rattle.std.specs.Option.{option_map_or, option_or}
-use Rattle.std.specs.Cmp.{IsTotalOrder}
 use Rattle.std.specs.Ordering.{eq_by_cmp}
 use Rattle.std.specs.FinMap.Entries.{find as value_at, find-put, put}
 use Rattle.std.proofs.lemmas.Bool.{cond-true, cond-false, le-ltb, lt-ltb, leb-true, leb-false}
 use Rattle.ivy_base.specs.declared.key.Key.{Key}
 use Rattle.ivy_base.specs.Naming.{key_cmp, name}
 use Rattle.ring_model.specs.Blocks.{raised}
-use Rattle.dht_ids.specs.declared.ask.Answer.{Answer}
 use Rattle.dht_ids.specs.declared.ask.Answer.TheVariants as answer
 use Rattle.dht_ids.specs.declared.ask.StoreFault.{StoreFault}
-use Rattle.dht_ids.specs.declared.ask.StoreFault.TheVariants.{WrongName, NotJudged, Older, Full}
+use Rattle.dht_ids.specs.declared.ask.StoreFault.TheVariants.{WrongName, Older, Full}
 use Rattle.dht_ids.specs.declared.judge.Judged.{Judged}
 use Rattle.dhash_client.specs.Puts.{holds}
-use Rattle.node_store.specs.Stores.{Block, Blocks, content, content_fault, full, head, head_fault, not_judged, number_at, number_of, older, wrong_name}
+use Rattle.node_store.specs.Stores.{Block, Blocks, content, content_fault, full, head, head_fault, not_judged, number_at, number_of, older}
 use Rattle.node_store.specs.declared.kind.Kind.{Kind}
 use Rattle.node_store.specs.declared.kind.Kind.TheVariants.{Content, Head}
 use Rattle.node_store.proofs.Maps.{keys_total}

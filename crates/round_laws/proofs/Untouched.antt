@@ -1,5 +1,5 @@
 -- The first three parts of a round touch no block.
-use Rattle.std.proofs.Common.{◌≡◌, ◌⊎◌, inl, inr, ⊎_elim, ℕ, zero, suc, Bool, true, false, cond, List, [], ◌∷◌, refl, sym, ap, ◌∙◌, subst, Option, Some, None, T, nat_eq, option_map, option_and_then}
+use Rattle.std.proofs.Common.{◌≡◌, ⊎_elim, ℕ, zero, suc, Bool, true, false, cond, List, [], ◌∷◌, refl, sym, ap, ◌∙◌, subst, Option, Some, None, T, nat_eq, option_map, option_and_then}
 use Rattle.std.specs.FinMap.Entries.{find as value_at, is_sorted}
 use Rattle.ivy_base.specs.declared.key.Key.{Key}
 use Rattle.ivy_base.specs.Naming.{key_cmp}
@@ -83,7 +83,7 @@ module _ (judged : Key → List ℕ → Option Judged) where
   of_finger p k w next x =
       let now : Node = record x.node { ring = with_links x.node.ring (with_finger k x.found x.node.ring.links) } in
       both w x.mid next (of_routes x.key x.looks.looks (asking (ask.Route x.key) x.looks.looks) w x.mid refl x.looks.fates)
-          (subst (Untouched x.mid) (sym x.fixed) (of_node x.mid p.id x.node now x.is_node refl))
+      (subst (Untouched x.mid) (sym x.fixed) (of_node x.mid p.id x.node now x.is_node refl))
 
   of_fingers : (p : Peer) (k count : ℕ) (w next : World) → FixesFrom judged p k count w next → Untouched w next
   of_fingers p k zero w next no_more = λ id. refl

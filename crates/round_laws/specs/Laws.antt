@@ -1,21 +1,22 @@
 -- Laws of the rounds of a world's ring: where no ask is lost they are the rounds of the definitions of rings.
-use Rattle.std.specs.Prelude.{◌≡◌, ℕ, suc, ◌*◌, ◌<◌, ◌≤◌, Bool, true, not, List, length, filter, Option, Some}
+use Rattle.std.specs.Prelude.{◌≡◌, ℕ, ◌<◌, ◌≤◌, Bool, true, false, not, List, length, filter, Option, Some}
 use Rattle.ivy_base.specs.declared.key.Key.{Key}
 use Rattle.ring_model.specs.Blocks.{AreMoved}
 use Rattle.ring_model.specs.Circle.{number}
 use Rattle.ring_model.specs.Members.{IsAmong, owners}
-use Rattle.ring_model.specs.Ring.{IsSettledRing}
 use Rattle.ring_model.specs.Pass.{ArePasses}
 use Rattle.ring_model.specs.Round.{IsForgotten, AreFingersFixed, IsRound}
 use Rattle.ring_model.specs.Change.{AreFewStops, IsJoin}
 use Rattle.dht_ids.specs.declared.judge.Judged.{Judged}
 use Rattle.dht_ids.specs.declared.peer.Peer.{Peer}
 use Rattle.dht_ids.specs.Peers.{place}
-use Rattle.world_model.specs.World.{World}
-use Rattle.world_model.specs.Ring.{live_in_order}
+use Rattle.script_driver.specs.Run.{Goes}
+use Rattle.world_model.specs.Nodes.{Node}
+use Rattle.world_model.specs.World.{World, peer_of}
+use Rattle.world_model.specs.Ring.{live_in_order, stop_line}
 use Rattle.world_model.specs.Rounds.{EachDoes, ManyDo, Forgets, Stabilises, FixesFrom, IsRoundOf, Repairs}
 use Rattle.round_laws.specs.Holding.{AreStores, EachTaken, Tells, rank_in}
-use Rattle.round_laws.specs.RingOf.{AreNodes, BeforesLive, IsSettledIn, LosesNone, links_in, lives_in}
+use Rattle.round_laws.specs.RingOf.{AreNodes, BeforesLive, IsSettledIn, LosesNone, Stop, links_in, lives_in}
 
 -- ---- whatever is lost
 
@@ -28,6 +29,11 @@ RoundLeavesTheRest = (judged : Key → List ℕ → Option Judged) (r : ℕ) (w 
 abbrev pub RoundLeavesWhoLives : Type 0
 RoundLeavesWhoLives = (judged : Key → List ℕ → Option Judged) (r : ℕ) (w next : World) → AreNodes r w → IsRoundOf judged r w next
     → AreNodes r next × (lives_in next ≡ lives_in w) × (live_in_order next ≡ live_in_order w)
+
+-- A line that stops a node changes nothing that nodes know, nor whether another one lives.
+abbrev pub StopLineStops : Type 0
+StopLineStops = (r : ℕ) (w next : World) (n : Node) (output : List ℕ) → AreNodes r w → IsAmong n w.nodes → stop_line w (Some n) ≡ Goes next output
+    → AreNodes r next × (links_in next ≡ links_in w) × (lives_in w (peer_of n) ≡ true) × (lives_in next (peer_of n) ≡ false) × ((q : Peer) → (q ≡ peer_of n → ⊥) → lives_in next q ≡ lives_in w q)
 
 -- ---- where nothing is lost
 
@@ -57,6 +63,16 @@ RoundIsRound = (judged : Key → List ℕ → Option Judged) (r : ℕ) (w next :
 abbrev pub RoundMendsStops : Type 0
 RoundMendsStops = (judged : Key → List ℕ → Option Judged) (r : ℕ) (w next : World) (before : List Peer) → AreNodes r w → AreFewStops place r 160 before (lives_in w) (links_in w) → length before ≤ 512
     → IsRoundOf judged r w next → LosesNone w next → IsSettledIn next r
+
+-- So it does where the ring of v was settled, all that nodes know is as there, and nobody lives but who lived then.
+abbrev pub RoundMendsSince : Type 0
+RoundMendsSince = (judged : Key → List ℕ → Option Judged) (r : ℕ) (v w next : World) → IsSettledIn v r → AreNodes r w → links_in w ≡ links_in v → ((m : Peer) → lives_in w m ≡ true → lives_in v m ≡ true)
+    → length (filter (λ m. not (lives_in w m)) (live_in_order v)) < r → length (live_in_order v) ≤ 512 → IsRoundOf judged r w next → LosesNone w next → IsSettledIn next r
+
+-- So it does after fewer than r lines that stop nodes.
+abbrev pub RoundMendsStopLines : Type 0
+RoundMendsStopLines = (judged : Key → List ℕ → Option Judged) (r k : ℕ) (v w next : World) → IsSettledIn v r → AreNodes r v → length (live_in_order v) ≤ 512 → Stop v k w → k < r
+    → IsRoundOf judged r w next → LosesNone w next → IsSettledIn next r × AreNodes r next
 
 -- And where all that happened since is that x joined.
 abbrev pub RoundMendsJoin : Type 0

@@ -1,5 +1,5 @@
 -- The ring of a world: who lives and what each node knows, as the definitions of rings take them, and what holds of the nodes of each world of a script.
-use Rattle.std.specs.Prelude.{◌≡◌, ℕ, ◌<◌, ◌≤◌, nat_eq, Bool, true, false, List, [], ◌∷◌, map, Contains, Option, Some, None, IfSome, ⊤, if◌then◌else◌}
+use Rattle.std.specs.Prelude.{◌≡◌, ℕ, suc, ◌<◌, ◌≤◌, nat_eq, Bool, true, false, List, [], ◌∷◌, map, Contains, Option, Some, None, IfSome, ⊤, if◌then◌else◌}
 use Rattle.std.specs.List.{AllByRecursion}
 use Rattle.std.specs.Option.{option_map_or}
 use Rattle.ring_model.specs.Members.{IsAmong}
@@ -8,7 +8,8 @@ use Rattle.dht_ids.specs.declared.peer.Peer.{Peer}
 use Rattle.dht_ids.specs.Peers.{place}
 use Rattle.world_model.specs.Nodes.{Node}
 use Rattle.world_model.specs.World.{World, node_at, peer_of}
-use Rattle.world_model.specs.Ring.{live_in_order}
+use Rattle.script_driver.specs.Run.{Goes}
+use Rattle.world_model.specs.Ring.{live_in_order, stop_line}
 
 -- the node that the peer itself is: a peer of its identifier and another number has none
 abbrev pub own_node : Peer → Option Node → Option Node
@@ -56,3 +57,8 @@ LosesNone w next = (k : ℕ) → w.asked < k → k ≤ next.asked → Contains w
 -- the predecessors that live nodes know live
 abbrev pub BeforesLive : World → Type 0
 BeforesLive w = (p b : Peer) → lives_in w p ≡ true → (links_in w p).before ≡ Some b → lives_in w b ≡ true
+
+-- so many nodes stopped, one after the other, and nothing else happened
+pub data Stop : World → ℕ → World → Type 0 where
+  none : {w : World} → Stop w 0 w
+  one_more : {w mid next : World} {k : ℕ} {output : List ℕ} (n : Node) → Stop w k mid → IsAmong n mid.nodes → stop_line mid (Some n) ≡ Goes next output → Stop w (suc k) next

@@ -10,7 +10,7 @@
 //! hold, and when puts are taken); the laws: `specs/Laws.antt`.
 #![tactic(auto)]
 
-ghost use Rattle.round_laws.specs.Laws.{BlocksMove, FingersAreFixed, FirstPartForgets, PassesArePasses, RoundIsRound, RoundLeavesTheRest, RoundLeavesWhoLives, RoundMendsJoin, RoundMendsStops, RoundMovesBlocks};
+ghost use Rattle.round_laws.specs.Laws.{BlocksMove, FingersAreFixed, FirstPartForgets, PassesArePasses, RoundIsRound, RoundLeavesTheRest, RoundLeavesWhoLives, RoundMendsJoin, RoundMendsSince, RoundMendsStopLines, RoundMendsStops, RoundMovesBlocks, StopLineStops};
 
 /// Laws and no code: whatever is lost, a round changes nothing but nodes and the count of asks; who lives, who stands
 /// where, and that nodes know of made nodes alone stay.
@@ -28,10 +28,18 @@ pub fn rounds_are_rounds()
     ensures whole { RoundIsRound }
 {}
 
+/// A law and no code: a line that stops a node changes nothing that nodes know, nor whether another one lives.
+pub fn stop_lines_stop()
+    ensures { StopLineStops }
+{}
+
 /// Laws and no code: a ring that was settled is settled again after a round without losses, where fewer than r of its
-/// nodes stopped since, or one joined.
+/// nodes stopped since (by the ring's words, by a world in which it was settled, by the lines that stopped them), or one
+/// joined.
 pub fn rounds_settle()
     ensures stops { RoundMendsStops }
+    ensures since { RoundMendsSince }
+    ensures lines { RoundMendsStopLines }
     ensures join { RoundMendsJoin }
 {}
 
