@@ -15,3 +15,4 @@ pub mod Moving
 pub mod Untouched
 pub mod Settling
 pub mod Stopping
+pub mod Ringing

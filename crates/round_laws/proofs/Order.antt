@@ -36,14 +36,14 @@ with_among x (q ∷ qs) p h = by (nat_lt (place p) (place q)) h (λ i. with_amon
     by false (inl e) rest = inr (inl e)
     by false (inr i) rest = ⊎_elim (λ e. inl e) (λ j. inr (inr j)) (rest i)
 
-among_fold : (x : Peer) (qs ps : List Peer) → IsAmong x qs ⊎ IsAmong x ps → IsAmong x (fold with_peer qs ps)
+pub among_fold : (x : Peer) (qs ps : List Peer) → IsAmong x qs ⊎ IsAmong x ps → IsAmong x (fold with_peer qs ps)
 among_fold x qs [] (inl h) = h
 among_fold x qs [] (inr h) = elim h [ ]
 among_fold x qs (p ∷ ps) (inl h) = among_fold x (with_peer qs p) ps (inl (among_with x qs p (inr h)))
 among_fold x qs (p ∷ ps) (inr (inl e)) = among_fold x (with_peer qs p) ps (inl (among_with x qs p (inl e)))
 among_fold x qs (p ∷ ps) (inr (inr h)) = among_fold x (with_peer qs p) ps (inr h)
 
-fold_among : (x : Peer) (qs ps : List Peer) → IsAmong x (fold with_peer qs ps) → IsAmong x qs ⊎ IsAmong x ps
+pub fold_among : (x : Peer) (qs ps : List Peer) → IsAmong x (fold with_peer qs ps) → IsAmong x qs ⊎ IsAmong x ps
 fold_among x qs [] h = inl h
 fold_among x qs (p ∷ ps) h = ⊎_elim (λ i. ⊎_elim (λ e. inr (inl e)) (λ j. inl j) (with_among x qs p i)) (λ i. inr (inr i)) (fold_among x (with_peer qs p) ps h)
 

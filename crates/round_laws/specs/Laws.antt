@@ -13,7 +13,7 @@ use Rattle.dht_ids.specs.Peers.{place}
 use Rattle.script_driver.specs.Run.{Goes}
 use Rattle.world_model.specs.Nodes.{Node}
 use Rattle.world_model.specs.World.{World, peer_of}
-use Rattle.world_model.specs.Ring.{live_in_order, stop_line}
+use Rattle.world_model.specs.Ring.{RingLine, live_in_order, stop_line}
 use Rattle.world_model.specs.Rounds.{EachDoes, ManyDo, Forgets, Stabilises, FixesFrom, IsRoundOf, Repairs}
 use Rattle.round_laws.specs.Holding.{AreStores, EachTaken, Tells, rank_in}
 use Rattle.round_laws.specs.RingOf.{AreNodes, BeforesLive, IsSettledIn, LosesNone, Stop, links_in, lives_in}
@@ -29,6 +29,10 @@ RoundLeavesTheRest = (judged : Key → List ℕ → Option Judged) (r : ℕ) (w 
 abbrev pub RoundLeavesWhoLives : Type 0
 RoundLeavesWhoLives = (judged : Key → List ℕ → Option Judged) (r : ℕ) (w next : World) → AreNodes r w → IsRoundOf judged r w next
     → AreNodes r next × (lives_in next ≡ lives_in w) × (live_in_order next ≡ live_in_order w)
+
+-- The line that makes a ring makes a settled one, of at most 256 nodes that hold nothing: places tell them apart, since names have 20 bytes.
+abbrev pub RingLineSettles : Type 0
+RingLineSettles = (w next : World) (count r : ℕ) (output : List ℕ) → RingLine w count r (Goes next output) → AreNodes r next × IsSettledIn next r × (length next.nodes ≤ 256) × AreStores next
 
 -- A line that stops a node changes nothing that nodes know, nor whether another one lives.
 abbrev pub StopLineStops : Type 0

@@ -10,7 +10,7 @@
 //! hold, and when puts are taken); the laws: `specs/Laws.antt`.
 #![tactic(auto)]
 
-ghost use Rattle.round_laws.specs.Laws.{BlocksMove, FingersAreFixed, FirstPartForgets, PassesArePasses, RoundIsRound, RoundLeavesTheRest, RoundLeavesWhoLives, RoundMendsJoin, RoundMendsSince, RoundMendsStopLines, RoundMendsStops, RoundMovesBlocks, StopLineStops};
+ghost use Rattle.round_laws.specs.Laws.{BlocksMove, FingersAreFixed, FirstPartForgets, PassesArePasses, RingLineSettles, RoundIsRound, RoundLeavesTheRest, RoundLeavesWhoLives, RoundMendsJoin, RoundMendsSince, RoundMendsStopLines, RoundMendsStops, RoundMovesBlocks, StopLineStops};
 
 /// Laws and no code: whatever is lost, a round changes nothing but nodes and the count of asks; who lives, who stands
 /// where, and that nodes know of made nodes alone stay.
@@ -26,6 +26,11 @@ pub fn rounds_are_rounds()
     ensures passes { PassesArePasses }
     ensures fingers { FingersAreFixed }
     ensures whole { RoundIsRound }
+{}
+
+/// A law and no code: the line that makes a ring makes a settled one, of at most 256 nodes that hold nothing.
+pub fn ring_lines_settle()
+    ensures { RingLineSettles }
 {}
 
 /// A law and no code: a line that stops a node changes nothing that nodes know, nor whether another one lives.
