@@ -1,0 +1,3 @@
+pub mod RingOf
+pub mod Holding
+pub mod Laws
