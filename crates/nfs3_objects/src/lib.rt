@@ -14,8 +14,6 @@ pub mod fattr;
 pub mod names;
 pub mod object;
 pub mod permission;
-#[cfg(test)]
-mod tests;
 
 pub use fattr::{attributes, attributes_at, before_at, cache_data, leading_number, no_cache_data};
 pub use names::{is_dot, is_dot_dot, name_fault};

@@ -18,7 +18,5 @@ mod entries;
 mod listing;
 mod measure;
 pub mod page;
-#[cfg(test)]
-mod tests;
 
 pub use page::{PageStart, read_directory, read_directory_plus};

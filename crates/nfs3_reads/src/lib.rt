@@ -18,7 +18,5 @@ mod finding;
 mod numbers;
 mod refusal;
 mod rights;
-#[cfg(test)]
-mod tests;
 
 pub use answering::answer;

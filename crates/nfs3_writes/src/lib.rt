@@ -25,8 +25,6 @@ pub mod planning;
 pub mod plans;
 mod refusals;
 mod setting;
-#[cfg(test)]
-mod tests;
 mod times;
 
 pub use finishing::finish;
