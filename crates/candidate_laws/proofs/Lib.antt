@@ -1,3 +1,5 @@
+mod RecordReading
+mod SomeChain
 pub mod OneChain
 pub mod OneCandidate
 pub mod Taken

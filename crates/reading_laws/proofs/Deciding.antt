@@ -247,7 +247,7 @@ reads_either left right made_left made_right parts one other bytes = elim (one b
 ]
 
 -- the same, where the second one's bounds depend on the first
-reads_then_by : {A B : Type 0} {F : A → Type 0} (G : A → B → Type 0) {first : A → List ℕ} {second : B → List ℕ}
+pub reads_then_by : {A B : Type 0} {F : A → Type 0} (G : A → B → Type 0) {first : A → List ℕ} {second : B → List ℕ}
     → IsReadable F first → ((x : A) → Reads (G x) second) → Reads {A = A × B} (λ p. F p.0 × G p.0 p.1) (λ p. first p.0 ++ second p.1)
 reads_then_by G {first} {second} a b bytes = elim (a.1 bytes) [
   | inr none ↦ inr (λ z. none (record { value = z.value.0; rest = second z.value.1 ++ z.rest; fits = z.fits.0; spelled = z.spelled ∙ append_assoc (first z.value.0) (second z.value.1) z.rest }))
