@@ -94,10 +94,13 @@ element_known x (y ∷ xs) = elim (cases_eq y x) [
 -- ---- parts of a record
 
 a_block : (count : ℕ) → IsReadable (IsBlock count) (λ bytes. bytes)
-a_block count = (one_block count, reads_fewer (a_raw count) (λ b f. f.size) (λ b size. elim (truth_known _) [
-  | inl each ↦ inl (record { size = size; each = each })
-  | inr none ↦ inr (λ f. none f.each)
-]))
+a_block count = (
+  one_block count,
+  reads_fewer (a_raw count) (λ b f. f.size) (λ b size. elim (truth_known _) [
+    | inl each ↦ inl (record { size = size; each = each })
+    | inr none ↦ inr (λ f. none f.each)
+  ]),
+)
 
 a_key : IsReadable IsKey key_bytes
 a_key = (one_key, reads_parts {written = key_bytes} (λ (b : List ℕ). record { 0 = b }) (λ b f. (f, refl)) (λ k f. record { part = k.0; fits = f; spelled = refl }) (a_block 20).1)
@@ -109,10 +112,13 @@ a_size : IsReadable (IsAtMost 16777216) double_word
 a_size = (one_size, reads_fewer a_double_word (λ n f. omega (arith, f)) (λ n f. at_most_known n 16777216))
 
 a_record_moment : IsReadable IsMoment moment
-a_record_moment = (one_record_moment, reads_fewer a_moment (λ m f. (f.sec, omega (arith, f.nsec))) (λ m f. elim (cases_lt m.nsec 1000000000) [
-  | inl few ↦ inl (record { sec = f.0; nsec = few })
-  | inr many ↦ inr (λ g. absurd (omega (arith, many, g.nsec)))
-]))
+a_record_moment = (
+  one_record_moment,
+  reads_fewer a_moment (λ m f. (f.sec, omega (arith, f.nsec))) (λ m f. elim (cases_lt m.nsec 1000000000) [
+    | inl few ↦ inl (record { sec = f.0; nsec = few })
+    | inr many ↦ inr (λ g. absurd (omega (arith, many, g.nsec)))
+  ]),
+)
 
 -- kinds
 abbrev IsNoFile : Kind → Type 0
