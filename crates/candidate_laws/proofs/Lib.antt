@@ -1,3 +1,7 @@
+pub mod RecordReading
+mod SomeChain
+pub mod SomeCandidate
+pub mod SomePart
 pub mod OneChain
 pub mod OneCandidate
 pub mod Taken

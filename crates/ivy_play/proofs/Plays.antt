@@ -4,12 +4,18 @@ use Rattle.std.specs.Prelude.{IfSome}
 use Rattle.ivy_base.specs.Naming.{NamesTellApart}
 use Rattle.ivy_io.specs.Known.{then}
 use Rattle.script_driver.specs.Lines.{lines_of}
-use Rattle.script_driver.specs.Run.{Ran, Ending, behind}
+use Rattle.script_driver.specs.Run.{Ran, Ending, WithLaw}
 use Rattle.script_driver.specs.Told.{run_of, ran_of, TellsAll, TellsFront, TellsLess, StopsShort}
+use Rattle.script_driver.proofs.RunLaws.{obeys_with_law}
+use Rattle.script_driver.proofs.SeenRuns.{stops_weaker}
 use Rattle.log_model.proofs.Lists.{in_nothing}
 use Rattle.play_model.specs.World.{empty_world}
 use Rattle.play_model.specs.Step.{IvyStep}
+use Rattle.play_replies.specs.Headline.{Headline}
 use Rattle.play_replies.specs.Laws.{EmptyIsValid}
+use Rattle.play_replies.specs.Valid.{IsValid}
+use Rattle.play_replies.proofs.KeptWorlds.{line_keeps}
+use Rattle.play_replies.proofs.Served.{replies_are_served}
 use Rattle.play_replies.proofs.Runs.{each_reply_is_on_replay}
 use Rattle.play_runs.proofs.Runs.{full_runs_are_one, want_is_shown}
 use Rattle.ivy_play.specs.Status.{status_of}
@@ -34,16 +40,10 @@ told_front left held holds t = record { told = t.told; untold = t.untold; ending
 pub told_less : (left held holds : Option (List ℕ)) → TellsLess (run_of IvyStep empty_world left) held holds → TellsLess (ivy_runs left) held holds
 told_less left held holds t = record { front = told_front left held holds t.front; less = t.less }
 
-pub stops_short : (start left held holds : Option (List ℕ)) → StopsShort (λ _. Unit {0}) IvyStep (run_of IvyStep empty_world start) left held holds → StopsShort (λ _. Unit {0}) IvyStep (ivy_runs start) left held holds
-stops_short start left held holds t = record {
-  world = t.world;
-  kept = t.kept;
-  number = t.number;
-  partial = t.partial;
-  budget = t.budget;
-  no_newline = t.no_newline;
-  way = record { told = t.way.told; run = λ ran now. with_headline start (behind t.way.told ran) (t.way.run ran now); sink = t.way.sink };
-}
+pub stops_short : (before left held holds : Option (List ℕ)) → StopsShort IvyStep empty_world before left held holds → StopsShort (WithLaw IvyStep Headline) empty_world before left held holds
+stops_short before left held holds =
+    stops_weaker IvyStep (WithLaw IvyStep Headline) empty_world before left held holds
+    (λ last lines text. obeys_with_law IvyStep Headline IsValid replies_are_served line_keeps empty_world last lines text empty_is_valid)
 
 -- what was told is the one full run, or a call lacked memory
 pub played : (ending : Ending) (left held holds : Option (List ℕ)) (A B : Type 0) → TellsAll ending (run_of IvyStep empty_world left) held holds

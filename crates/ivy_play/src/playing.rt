@@ -2,9 +2,11 @@
 
 ghost use Rattle.std.specs.Prelude.{◌≡◌, ◌⊎◌, ◌≤◌, ℕ, List, IfSome};
 ghost use Rattle.ivy_io.specs.Causes.{Rose};
-ghost use Rattle.script_driver.specs.Run.{Ran, Ending, Ended, RefusedAt, LimitAt};
+ghost use Rattle.script_driver.specs.Run.{Ran, Ending, Ended, RefusedAt, LimitAt, WithLaw};
 ghost use Rattle.script_driver.specs.Told.{TellsAll, TellsFront, TellsLess, StopsShort};
 ghost use Rattle.play_model.specs.Step.{IvyStep};
+ghost use Rattle.play_model.specs.World.{empty_world};
+ghost use Rattle.play_replies.specs.Headline.{Headline};
 ghost use Rattle.ivy_play.specs.Playing.{ivy_runs, IsFullRun, IsPlayed};
 ghost use Rattle.ivy_play.specs.Status.{status_of};
 
@@ -49,9 +51,10 @@ pub fn play<Q: Source, W: Sink>(alloc: Global, source: &mut Q, sink: &mut W) -> 
         (ivy_runs (Q.left source.old)) (W.contents sink.old) (W.contents sink.new) }
     ensures less { result ≡ 5 → TellsLess
         (ivy_runs (Q.left source.old)) (W.contents sink.old) (W.contents sink.new) }
-    // After a read fault the run isn't over: all whole lines that were read were obeyed.
-    ensures waits { result ≡ 4 → StopsShort (λ _. Unit {0}) IvyStep
-        (ivy_runs (Q.left source.old)) (Q.left source.new) (W.contents sink.old) (W.contents sink.new) }
+    // After a read fault the run isn't over: the bytes that were read are whole lines, each of which was obeyed and went on, and
+    // a part of a line, and what was written is what the lines show.
+    ensures waits { result ≡ 4 → StopsShort (WithLaw IvyStep Headline) empty_world
+        (Q.left source.old) (Q.left source.new) (W.contents sink.old) (W.contents sink.new) }
 
     // Where neither count rose and each run ends alike, the status is that of the run, unless memory was wanting.
     ensures alike { (ending : Ending) → ((ran : Ran) → ivy_runs (Q.left source.old) ran → ran.ending ≡ ending) →

@@ -22,7 +22,7 @@ use Rattle.play_model.specs.Script.{command_of, command_of_words, words_of, is_c
 use Rattle.play_model.specs.World.{World, Participant, participant, view_named, goes_if, ring_line, log_line, view_line, view_by, keys_of, use_line, entering, at_line, order_line, order_text, showing_order}
 use Rattle.play_model.specs.Calls.{Sending, sending_of, IsByMessage, no_call, other_version, no_program, no_version, no_procedure, no_caller, no_arguments, null, Asks, Refreshes, Answers, by_message, by_turn, out_of_memory, agent_of, nothing_given, reply_line, shown_reply, replied, counted, answered}
 use Rattle.play_model.specs.Step.{Does, MayDo, WithinLimit, MayDoFirst, most_bytes, IvyStep, HasMemory, LacksShown}
-use Rattle.play_runs.proofs.Reading.{call_or_not, other_or_not}
+use Rattle.reading_laws.proofs.Calls.{call_or_not, other_or_not}
 use Rattle.play_runs.proofs.Replies.{one_reply, reply_or_turn, one_asked}
 
 -- ---- each line does something
@@ -136,7 +136,7 @@ other_status : (output : List ℕ) (digit : ℕ) → get_or output 53 0 ≡ digi
 other_status output digit is other lacks = other (sym is ∙ ap (λ (text : List ℕ). get_or text 53 0) lacks.1 ∙ status_shown lacks.0)
 
 -- a reply by the message alone doesn't say that memory was wanting
-by_message_has : (message : List ℕ) (given : Option (List ℕ)) → IsByMessage message given → LacksShown (shown_reply given) → ⊥
+pub by_message_has : (message : List ℕ) (given : Option (List ℕ)) → IsByMessage message given → LacksShown (shown_reply given) → ⊥
 unfolding encode_with
 by_message_has message _ (no_call none other) = other_word (shown_reply None) 110 refl (λ e. omega (arith, e))
 by_message_has message _ (other_version xid other) = other_status (reply_line (reply xid RpcMismatch)) 50 refl (λ e. omega (arith, e))
@@ -148,7 +148,7 @@ by_message_has message _ (no_arguments c who is_c is caller none) = other_status
 by_message_has message _ (null c who is_c is caller has) = other_status (reply_line (reply c.xid (Success []))) 48 refl (λ e. omega (arith, e))
 
 -- nor does the reply of a turn
-by_turn_has : (xid : ℕ) (result : List ℕ) → LacksShown (reply_line (reply xid (Success result))) → ⊥
+pub by_turn_has : (xid : ℕ) (result : List ℕ) → LacksShown (reply_line (reply xid (Success result))) → ⊥
 unfolding encode_with
 by_turn_has xid result = other_status (reply_line (reply xid (Success result))) 48 refl (λ e. omega (arith, e))
 

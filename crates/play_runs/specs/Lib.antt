@@ -1,2 +1,4 @@
 pub mod Runs
 pub mod Others
+pub mod Messages
+pub mod FullRuns
