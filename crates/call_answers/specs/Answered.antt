@@ -9,9 +9,9 @@ use Rattle.turn_model.specs.Candidates.{AreCandidates}
 use Rattle.turn_model.specs.Turn.{Asked, Candidate, Turned, IsTurn, own_seq}
 use Rattle.wire_model.specs.Rpc.{CallMessage, IsCall, Success, SystemError, reply}
 use Rattle.play_model.specs.Blocks.{Heads, heads_at, newest_stamp}
-use Rattle.play_model.specs.Calls.{IsByMessage, Asks, agent_of, own_beyond, given_of, nothing_given}
+use Rattle.play_model.specs.Calls.{IsByMessage, Asks, agent_of, given_of, having_turned, written_by, nothing_given}
 use Rattle.play_model.specs.World.{Participant}
-use Rattle.log_agent.specs.Turns.{stamp_of}
+use Rattle.block_map.specs.Heads.{next_head}
 use Rattle.call_answers.specs.declared.answering.Answered.{Answered}
 
 -- the call is answered by its message alone, and the participant is as it was
@@ -19,10 +19,10 @@ pub record IsAnsweredAlone (message : List ℕ) (old new : Participant) (given :
   pub by : IsByMessage message given.reply
   pub left : given.left ≡ nothing_given
   pub none_written : given.blocks.items ≡ []
-  pub no_head : given.newest ≡ None
+  pub no_head : given.head ≡ None
   pub same : new ≡ old
 
--- by a turn: the reply message, what it leaves to later lines, and the blocks of what was written
+-- by a turn: the reply message, what it leaves to later lines, the blocks of what was written, and the head over it
 pub record IsAnsweredByTurn (blocks : List (List ℕ)) (heads : Heads) (view : View) (now : Moment) (message : List ℕ) (old new : Participant) (given : Answered) : Type 0 where
   pub xid : ℕ
   pub asked : Asked
@@ -31,11 +31,11 @@ pub record IsAnsweredByTurn (blocks : List (List ℕ)) (heads : Heads) (view : V
   pub asks : Asks message xid asked
   pub are : AreCandidates (heads_at heads) blocks view old.own (front old.known) old.known candidates
   pub is_turn : IsTurn (agent_of old view) old.known candidates asked now turned
-  pub after : new ≡ record old { known = turned.set; held = turned.set }
+  pub after : new ≡ having_turned old turned.set
   pub reply_is : given.reply ≡ Some (reply xid (Success (result turned.reply)))
   pub left : given.left ≡ given_of turned.reply
-  pub blocks_are : given.blocks.items ≡ blocks_of (own_beyond old.own (own_seq old.own old.known) turned.set)
-  pub newest : option_map stamp_of given.newest ≡ newest_stamp (own_beyond old.own (own_seq old.own old.known) turned.set)
+  pub blocks_are : given.blocks.items ≡ blocks_of (written_by old turned.set)
+  pub head : given.head ≡ option_map (next_head old.signer) (newest_stamp (written_by old turned.set))
 
 -- memory was wanting for the call, and the participant is as it was
 pub record LacksMemory (message : List ℕ) (old new : Participant) (given : Answered) : Type 0 where
@@ -44,7 +44,7 @@ pub record LacksMemory (message : List ℕ) (old new : Participant) (given : Ans
   pub reply_is : given.reply ≡ Some (reply call.xid SystemError)
   pub left : given.left ≡ nothing_given
   pub none_written : given.blocks.items ≡ []
-  pub no_head : given.newest ≡ None
+  pub no_head : given.head ≡ None
   pub same : new ≡ old
 
 -- one of the three

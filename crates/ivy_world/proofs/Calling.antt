@@ -1,25 +1,22 @@
 -- What is answered to a call, and the world then.
 use Rattle.std.proofs.Common.{◌≡◌, ℕ, List, [], ◌∷◌, ◌++◌, Option, Some, None, refl, sym, ap, ◌∙◌, subst}
-use Rattle.std.specs.Prelude.{IfSome, MatchOption, option_map, slice_get, slice_set}
-use Rattle.ivy_base.specs.declared.key.PubKey.{PubKey}
+use Rattle.std.specs.Prelude.{IfSome, MatchOption, slice_get, slice_set}
 use Rattle.ivy_base.specs.declared.operation.Moment.{Moment}
 use Rattle.log_model.specs.Record.{Record}
-use Rattle.log_model.specs.Vector.{Stamp}
 use Rattle.log_model.specs.View.{View}
 use Rattle.nfs_model.specs.Results.{result}
-use Rattle.turn_model.specs.Turn.{own_seq}
 use Rattle.wire_model.specs.Rpc.{Success, SystemError, reply}
 use Rattle.script_driver.specs.Run.{Outcome, Goes, Refuses}
 use Rattle.play_model.specs.declared.command.Given.{Given}
 use Rattle.play_model.specs.declared.command.Piece.{Piece}
 use Rattle.play_model.specs.Blocks.{Heads}
-use Rattle.play_model.specs.Calls.{Sending, Answers, by_message, by_turn, out_of_memory, CallLine, sending_of, answered, counted, given_of, nothing_given, own_beyond, replied, reply_line, shown_reply}
+use Rattle.play_model.specs.Calls.{Sending, Answers, by_message, by_turn, out_of_memory, CallLine, sending_of, answered, counted, given_of, having_turned, nothing_given, replied, reply_line, shown_reply, written_by}
 use Rattle.play_model.specs.World.{World, Participant, with_participant}
 use Rattle.play_replies.specs.Valid.{AreApart}
 use Rattle.play_replies.proofs.Elements.{some_is}
 use Rattle.play_replies.proofs.Sendings.{names_in}
 use Rattle.view_refresh.specs.Refreshed.{OthersStand}
-use Rattle.log_agent.specs.Turns.{stamp_of}
+use Rattle.block_map.specs.Heads.{Head}
 use Rattle.call_answers.specs.declared.answering.Answered.{Answered}
 use Rattle.call_answers.specs.Answered.{IsAnswered, alone, by_turn as turned_by, lacks_memory}
 use Rattle.ivy_world.specs.Sendings.{Sends}
@@ -36,35 +33,35 @@ name_stays blocks heads view now message p q given (lacks_memory l) = ap (λ (r 
 
 module _ (w : World) (place : ℕ) (s : Sending) where
   -- the world with these participants, once these blocks and that head were published and that reply, which left that, was counted
-  abbrev pub then_is : List Participant → List (List ℕ) → Option Stamp → Option (List ℕ) → Given → World
-  then_is ps blocks newest message left = counted (with_published (record w { participants = ps }) s.by.own blocks newest) message left
+  abbrev pub then_is : List Participant → List (List ℕ) → Option Head → Option (List ℕ) → Given → World
+  then_is ps blocks head message left = counted (with_published (record w { participants = ps }) blocks head) message left
 
-  unchanged : (q : Participant) (blocks : List (List ℕ)) (newest : Option Stamp) (message : Option (List ℕ)) (left : Given) → slice_get w.participants place ≡ Some s.by
-      → q ≡ s.by → blocks ≡ [] → newest ≡ None → left ≡ nothing_given → then_is (slice_set w.participants place q) blocks newest message left ≡ counted w message nothing_given
-  unchanged q blocks newest message left at same none no_head nothing =
+  unchanged : (q : Participant) (blocks : List (List ℕ)) (head : Option Head) (message : Option (List ℕ)) (left : Given) → slice_get w.participants place ≡ Some s.by
+      → q ≡ s.by → blocks ≡ [] → head ≡ None → left ≡ nothing_given → then_is (slice_set w.participants place q) blocks head message left ≡ counted w message nothing_given
+  unchanged q blocks head message left at same none no_head nothing =
       let ps : slice_set w.participants place q ≡ w.participants = ap (λ (r : Participant). slice_set w.participants place r) same ∙ set_back w.participants place s.by at in
       λ i. then_is (ps i) (none i) (no_head i) message (nothing i)
 
   pub answers_are : (q : Participant) (given : Answered) → AreApart (names_in w.participants) → slice_get w.participants place ≡ Some s.by
       → IsAnswered w.blocks.found w.heads s.view w.now s.message s.by q given
-      → Answers w s (Goes (then_is (slice_set w.participants place q) given.blocks.items (option_map stamp_of given.newest) given.reply given.left) (shown_reply given.reply))
+      → Answers w s (Goes (then_is (slice_set w.participants place q) given.blocks.items given.head given.reply given.left) (shown_reply given.reply))
   answers_are q given apart at (alone a) =
       subst (λ (v : World). Answers w s (Goes v (shown_reply given.reply)))
-      (sym (unchanged q given.blocks.items (option_map stamp_of given.newest) given.reply given.left at a.same a.none_written (ap (option_map stamp_of) a.no_head) a.left))
+      (sym (unchanged q given.blocks.items given.head given.reply given.left at a.same a.none_written a.no_head a.left))
       (by_message given.reply a.by)
   answers_are q given apart at (turned_by t) =
-      let new : Participant = record s.by { known = t.turned.set; held = t.turned.set } in
-      let records : List Record = own_beyond s.by.own (own_seq s.by.own s.by.known) t.turned.set in
+      let new : Participant = having_turned s.by t.turned.set in
+      let records : List Record = written_by s.by t.turned.set in
       let ps = ap (λ (r : Participant). slice_set w.participants place r) t.after ∙ put_at new w.participants place s.by apart at refl in
-      let published = published_is (with_participant w new) s.by.own records given.blocks.items (option_map stamp_of given.newest) t.blocks_are t.newest in
-      let same : Goes (then_is (slice_set w.participants place q) given.blocks.items (option_map stamp_of given.newest) given.reply given.left) (shown_reply given.reply) ≡ answered w s.by t.xid t.turned =
-      (λ i. Goes (then_is (ps i) given.blocks.items (option_map stamp_of given.newest) (t.reply_is i) (t.left i)) (shown_reply (t.reply_is i)))
+      let published = published_is (with_participant w new) s.by.signer records given.blocks.items given.head t.blocks_are t.head in
+      let same : Goes (then_is (slice_set w.participants place q) given.blocks.items given.head given.reply given.left) (shown_reply given.reply) ≡ answered w s.by t.xid t.turned =
+      (λ i. Goes (then_is (ps i) given.blocks.items given.head (t.reply_is i) (t.left i)) (shown_reply (t.reply_is i)))
       ∙ (λ i. Goes (replied (published i) (given_of t.turned.reply)) (reply_line (reply t.xid (Success (result t.turned.reply))))) in
       subst (λ (o : Outcome World). Answers w s o) (sym same) (by_turn t.xid t.asked t.candidates t.turned t.asks t.are t.is_turn)
   answers_are q given apart at (lacks_memory l) =
-      let same : Goes (then_is (slice_set w.participants place q) given.blocks.items (option_map stamp_of given.newest) given.reply given.left) (shown_reply given.reply)
+      let same : Goes (then_is (slice_set w.participants place q) given.blocks.items given.head given.reply given.left) (shown_reply given.reply)
       ≡ Goes (replied w nothing_given) (reply_line (reply l.call.xid SystemError)) =
-      (λ i. Goes (unchanged q given.blocks.items (option_map stamp_of given.newest) given.reply given.left at l.same l.none_written (ap (option_map stamp_of) l.no_head) l.left i) (shown_reply given.reply))
+      (λ i. Goes (unchanged q given.blocks.items given.head given.reply given.left at l.same l.none_written l.no_head l.left i) (shown_reply given.reply))
       ∙ (λ i. Goes (counted w (l.reply_is i) nothing_given) (shown_reply (l.reply_is i))) in
       subst (λ (o : Outcome World). Answers w s o) (sym same) (out_of_memory l.call l.is_call)
 
@@ -91,10 +88,10 @@ module _ (x w : World) (same : x ≡ w) (name : List ℕ) (pieces : List Piece) 
       replaced x place p q ok at (name_stays found heads sends.view now sent p q given answers_under)
       (subst (λ (f : List (List ℕ)). OthersStand f q.own q.known) found_is stands)
 
-  pub call_answered : (u v : World) (own : PubKey) (text : List ℕ) → heads ≡ x.heads → now ≡ x.now → sent ≡ message → own ≡ p.own
-      → u ≡ with_published (record x { participants = slice_set x.participants place q }) own given.blocks.items (option_map stamp_of given.newest)
+  pub call_answered : (u v : World) (text : List ℕ) → heads ≡ x.heads → now ≡ x.now → sent ≡ message
+      → u ≡ with_published (record x { participants = slice_set x.participants place q }) given.blocks.items given.head
       → v ≡ counted u given.reply given.left → text ≡ shown_reply given.reply → CallLine w name pieces (Goes v text)
-  call_answered u v own text heads_is now_is sent_is own_is u_is v_is text_is =
+  call_answered u v text heads_is now_is sent_is u_is v_is text_is =
       let s : Sending = record { by = p; view = sends.view; message = message } in
       let is_sent : sending_of x name pieces ≡ Some s =
       ap (λ (y : World). sending_of y name pieces) same ∙ sends.sends ∙ (λ i. Some (record { by = sym is_by i; view = sends.view; message = message })) in
@@ -103,10 +100,9 @@ module _ (x w : World) (same : x ≡ w) (name : List ℕ) (pieces : List Piece) 
       (subst (λ (h : Heads). IsAnswered found h sends.view x.now message p q given) heads_is
       (subst (λ (n : Moment). IsAnswered found heads sends.view n message p q given) now_is
       (subst (λ (m : List ℕ). IsAnswered found heads sends.view now m p q given) sent_is answers_under))) in
-      let u_here = u_is ∙ ap (λ (k : PubKey). with_published (record x { participants = slice_set x.participants place q }) k given.blocks.items (option_map stamp_of given.newest)) own_is in
-      let v_here = v_is ∙ ap (λ (y : World). counted y given.reply given.left) u_here in
+      let v_here = v_is ∙ ap (λ (y : World). counted y given.reply given.left) u_is in
       let outcome : Goes v text
-      ≡ Goes (then_is x place s (slice_set x.participants place q) given.blocks.items (option_map stamp_of given.newest) given.reply given.left) (shown_reply given.reply) =
+      ≡ Goes (then_is x place s (slice_set x.participants place q) given.blocks.items given.head given.reply given.left) (shown_reply given.reply) =
       λ i. Goes (v_here i) (text_is i) in
       subst (λ (y : World). CallLine y name pieces (Goes v text)) same
       (line_answered x name pieces s (Goes v text) is_sent

@@ -12,6 +12,7 @@ use Rattle.log_model.specs.View.{View, have_own_head_keys, view_block}
 use Rattle.log_model.proofs.Lists.{each_append, who_passes}
 use Rattle.log_model.proofs.Opening.{same_owner}
 use Rattle.script_driver.specs.Run.{Outcome, Goes, Refuses, Exceeds}
+use Rattle.hss_keys.specs.Signer.{Signer}
 use Rattle.play_model.specs.declared.command.Piece.{Piece}
 use Rattle.play_model.specs.Blocks.{Met, meets}
 use Rattle.play_model.specs.Calls.{Sending, sending_of}
@@ -79,12 +80,12 @@ module _ (w : World) (name : List ℕ) (pieces : List Piece) where
 
 -- ---- a new log
 
-pub joined : (w : World) (name : List ℕ) (own : PubKey) (p : Participant) → IsWorld w → participant w name ≡ None → p ≡ newcomer name own w.now
+pub joined : (w : World) (name : List ℕ) (signer : Signer) (p : Participant) → IsWorld w → participant w name ≡ None → p ≡ newcomer name signer w.now
     → IsWorld (record w { participants = w.participants ++ p ∷ [] })
-joined w name own p ok free is = subst (λ (q : Participant). IsWorld (record w { participants = w.participants ++ q ∷ [] })) (sym is) (record {
+joined w name signer p ok free is = subst (λ (q : Participant). IsWorld (record w { participants = w.participants ++ q ∷ [] })) (sym is) (record {
   moment = ok.moment;
-  apart = apart_with w.participants (newcomer name own w.now) ok.apart (unknown_name w name free);
-  stand = each_append (λ q. OthersStand w.blocks.found q.own q.known) w.participants (newcomer name own w.now ∷ []) ok.stand (((λ other. absurd (other refl)), tt), tt);
+  apart = apart_with w.participants (newcomer name signer w.now) ok.apart (unknown_name w name free);
+  stand = each_append (λ q. OthersStand w.blocks.found q.own q.known) w.participants (newcomer name signer w.now ∷ []) ok.stand (((λ other. absurd (other refl)), tt), tt);
 })
 
 -- ---- a view that is entered

@@ -91,6 +91,11 @@ names_set [] i p q e same = cc e
 names_set (r ∷ ps) zero p q e same = ap (λ (n : List ℕ). n ∷ names_in ps) (same ∙ ap (λ (s : Participant). s.name) (sym (some_is e)))
 names_set (r ∷ ps) (suc i) p q e same = ap (λ (l : List (List ℕ)). r.name ∷ l) (names_set ps i p q e same)
 
+-- the world with the same one in its place
+pub put_back : (w : World) (i : ℕ) (p q : Participant) → IsWorld w → slice_get w.participants i ≡ Some p → q ≡ p → IsWorld (record w { participants = slice_set w.participants i q })
+put_back w i p q ok at same =
+    subst (λ (ps : List Participant). IsWorld (record w { participants = ps })) (sym (ap (λ (r : Participant). slice_set w.participants i r) same ∙ set_back w.participants i p at)) ok
+
 -- the world with another of the same name in the place of one
 pub replaced : (w : World) (i : ℕ) (p q : Participant) → IsWorld w → slice_get w.participants i ≡ Some p → q.name ≡ p.name → OthersStand w.blocks.found q.own q.known
     → IsWorld (record w { participants = slice_set w.participants i q })

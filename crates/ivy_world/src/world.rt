@@ -4,7 +4,7 @@ ghost use Rattle.std.specs.Prelude.{◌≡◌, IfOk, Some};
 ghost use Rattle.script_driver.specs.Machine.{outcome_told};
 ghost use Rattle.play_model.specs.Step.{Does, IvyStep, MayDoFirst};
 ghost use Rattle.play_model.specs.World.{empty_world, ring_line, at_line};
-ghost use Rattle.play_replies.proofs.Commands.{HasMembers};
+ghost use Rattle.play_replies.proofs.Commands.{HasParts};
 ghost use Rattle.play_runs.proofs.Steps.{some_outcome as some_step, long_stops as stops};
 
 mod calls;
@@ -95,7 +95,7 @@ impl World {
     /// Obeys a line's command, and refuses a line that is none. The end ends the run; any other line meets the limit where too
     /// much was met. The error is want of memory.
     fn take_command(&mut self, alloc: Global, command: Option<Command>) -> Result<Taken, Memory>
-        requires { HasMembers command }
+        requires { HasParts command }
         ensures { IfOk result (λ taken. MayDoFirst self.old command (outcome_told taken self.new)) }
     {
         if let Some(Command::End) = &command {
@@ -112,12 +112,17 @@ impl World {
 
     /// Obeys a command. The error is want of memory.
     fn obey(&mut self, alloc: Global, command: Command) -> Result<Taken, Memory>
-        requires { HasMembers (Some command) }
+        requires { HasParts (Some command) }
         ensures { IfOk result (λ taken. Does self.old command (outcome_told taken self.new)) }
     {
         match command {
             Command::Ring { nodes, replicas } => Ok(self.make_ring(alloc, nodes, replicas)),
-            Command::Log { log, id, seed } => self.make_log(alloc, log, &id, &seed),
+            Command::Log {
+                log,
+                id,
+                seed,
+                sets,
+            } => self.make_log(alloc, log, &id, &seed, sets.as_slice()),
             Command::View {
                 view,
                 members,

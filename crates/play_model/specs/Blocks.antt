@@ -4,16 +4,16 @@ use Rattle.std.specs.FinMap.Entries.{find as value_at, put}
 use Rattle.std.specs.List.{filter_map, list_any}
 use Rattle.std.specs.Str.{bytes_eq}
 use Rattle.ivy_base.specs.declared.key.Key.{Key}
-use Rattle.ivy_base.specs.declared.key.PubKey.{PubKey}
 use Rattle.ivy_base.specs.Naming.{name, key_cmp, head_key_of}
 use Rattle.tree_model.specs.Tree.{same_key}
 use Rattle.log_model.specs.Record.{Record}
 use Rattle.log_model.specs.Rank.{own_entry}
-use Rattle.log_model.specs.Spelling.{head_block}
 use Rattle.log_model.specs.Vector.{Entry, Stamp, reach}
 use Rattle.log_model.specs.Standing.{blocks_of}
 use Rattle.dht_ids.specs.declared.judge.Judged.{Judged}
-use Rattle.log_records.specs.Heads.{stamp, owner_in, plain_judged}
+use Rattle.log_records.specs.Heads.{stamp, owner_in}
+use Rattle.hss_keys.specs.Signer.{Signer}
+use Rattle.play_model.specs.Keys.{key_of, signed_head, judged}
 
 -- a block of that name was met
 abbrev pub is_met : List (List ℕ) → Key → Bool
@@ -55,14 +55,14 @@ meets_all m blocks = fold meets m blocks
 abbrev pub Heads : Type 0
 Heads = List (Key × List ℕ)
 
--- what a block says as a head under the key, where it is judged: its signature is empty
+-- what a judged block says of its log's newest record
 abbrev pub judged_stamp : Option Judged → Option Stamp
 judged_stamp None = None
 judged_stamp (Some j) = Some (stamp j.seq j.name)
 
 abbrev pub head_in : Key → Option (List ℕ) → Option Stamp
 head_in key None = None
-head_in key (Some block) = judged_stamp (plain_judged key block)
+head_in key (Some block) = judged_stamp (judged key block)
 
 -- the newest head of the log
 abbrev pub head_at : Heads → Key → Option Stamp
@@ -75,11 +75,11 @@ heads_at heads key = listed (head_at heads key)
     listed None = []
     listed (Some t) = t ∷ []
 
--- the heads with the owner's, which takes the place of one of a smaller number
-abbrev pub with_head : Heads → PubKey → Stamp → Heads
-with_head heads owner newest =
-    if nat_lt (reach (head_at heads (head_key_of owner))) newest.seq
-    then put key_cmp (head_key_of owner) (head_block owner newest []) heads else heads
+-- the heads with the one that the key signs next over that record, which takes the place of one of a smaller number
+abbrev pub with_head : Heads → Signer → Stamp → Heads
+with_head heads signer newest =
+    if nat_lt (reach (head_at heads (head_key_of (key_of signer)))) newest.seq
+    then put key_cmp (head_key_of (key_of signer)) (signed_head signer newest) heads else heads
 
 -- the heads among the blocks, each as a log and its newest record
 abbrev pub entry_with : Key → Option Stamp → Option Entry
@@ -87,7 +87,7 @@ entry_with key None = None
 entry_with key (Some t) = Some (key, t)
 
 abbrev pub entry_of_head : List ℕ → Option Entry
-entry_of_head block = entry_with (head_key_of (owner_in block)) (judged_stamp (plain_judged (head_key_of (owner_in block)) block))
+entry_of_head block = entry_with (head_key_of (owner_in block)) (judged_stamp (judged (head_key_of (owner_in block)) block))
 
 abbrev pub heads_among : List (List ℕ) → List Entry
 heads_among blocks = filter_map entry_of_head blocks
@@ -100,15 +100,15 @@ newest_stamp [] = None
 newest_stamp (r ∷ []) = Some (own_entry r).1
 newest_stamp (r ∷ q ∷ rs) = newest_stamp (q ∷ rs)
 
--- the blocks of the records, and of the head over the last one
-abbrev pub published_blocks : PubKey → List Record → List (List ℕ)
-published_blocks owner records = blocks_of records ++ head_blocks (newest_stamp records)
+-- the blocks of the records, and of the head over the last one, which the key signs next
+abbrev pub published_blocks : Signer → List Record → List (List ℕ)
+published_blocks signer records = blocks_of records ++ head_blocks (newest_stamp records)
   where
     head_blocks : Option Stamp → List (List ℕ)
     head_blocks None = []
-    head_blocks (Some t) = head_block owner t [] ∷ []
+    head_blocks (Some t) = signed_head signer t ∷ []
 
 -- and the heads then
-abbrev pub published_heads : Heads → PubKey → Option Stamp → Heads
-published_heads heads owner None = heads
-published_heads heads owner (Some t) = with_head heads owner t
+abbrev pub published_heads : Heads → Signer → Option Stamp → Heads
+published_heads heads signer None = heads
+published_heads heads signer (Some t) = with_head heads signer t

@@ -14,12 +14,14 @@ use Rattle.nfs_model.specs.declared.replies.Reply.{Reply}
 use Rattle.nfs_model.specs.declared.replies.Reply.TheVariants.{Found, Made, Directory, DirectoryPlus}
 use Rattle.nfs_model.specs.Arguments.{AreArguments, nfs_program}
 use Rattle.nfs_model.specs.Results.{result}
+use Rattle.hss_keys.specs.Signer.{left_of}
 use Rattle.turn_model.specs.Candidates.{AreCandidates}
 use Rattle.turn_model.specs.Turn.{Agent, Asked, Candidate, Turned, IsTurn, own_seq}
 use Rattle.script_driver.specs.Run.{Outcome, Goes, Refuses}
 use Rattle.play_model.specs.declared.command.Given.{Given}
 use Rattle.play_model.specs.declared.command.Piece.{Piece}
-use Rattle.play_model.specs.Blocks.{heads_at}
+use Rattle.play_model.specs.Blocks.{heads_at, newest_stamp}
+use Rattle.play_model.specs.Keys.{having_signed}
 use Rattle.play_model.specs.Messages.{message_of}
 use Rattle.play_model.specs.Script.{◌>>=◌}
 use Rattle.play_model.specs.World.{World, Participant, participant, with_participant, publishing}
@@ -74,9 +76,9 @@ pub record Asks (message : List ℕ) (xid : ℕ) (asked : Asked) : Type 0 where
 
 -- ---- answers by a turn
 
--- what of the participant a turn goes by: each key has a leaf left, and no save has failed
+-- what of the participant a turn goes by: the signatures that its key has left; nothing is saved, so no save has failed
 abbrev pub agent_of : Participant → View → Agent
-agent_of p view = record { view = view; own = p.own; leaves = 1; has_failed = false }
+agent_of p view = record { view = view; own = p.own; leaves = left_of p.signer; has_failed = false }
 
 -- The candidates of a refresh: of each member's log but the own one the chain up to its newest head, where that goes on from what
 -- is known and its blocks are found by their names; else what is known.
@@ -123,10 +125,18 @@ abbrev pub counted : World → Option (List ℕ) → Given → World
 counted w None given = w
 counted w (Some message) given = replied w given
 
--- the world once a turn has answered: the participant knows and holds the set, and has published what it wrote
+-- what a turn wrote: the own records of its set that weren't known
+abbrev pub written_by : Participant → List Record → List Record
+written_by p set = own_beyond p.own (own_seq p.own p.known) set
+
+-- the participant after a turn: it knows and holds the set, and has signed a head over the newest record that it wrote
+abbrev pub having_turned : Participant → List Record → Participant
+having_turned p set = record p { signer = having_signed p.signer (newest_stamp (written_by p set)); known = set; held = set }
+
+-- the world once a turn has answered, and what it wrote is published
 abbrev pub answered : World → Participant → ℕ → Turned → Outcome World
 answered w p xid turned = Goes
-    (replied (publishing (with_participant w (record p { known = turned.set; held = turned.set })) p.own (own_beyond p.own (own_seq p.own p.known) turned.set)) (given_of turned.reply))
+    (replied (publishing (with_participant w (having_turned p turned.set)) p.signer (written_by p turned.set)) (given_of turned.reply))
     (reply_line (reply xid (Success (result turned.reply))))
 
 -- What is answered to what was sent. Where memory is wanting the call is refused as a whole.

@@ -1,4 +1,5 @@
 pub mod Script
+pub mod Keys
 pub mod Blocks
 pub mod World
 pub mod Kept

@@ -5,6 +5,9 @@ use Rattle.std.specs.List.{slice_split, list_all, starts_with}
 use Rattle.std.specs.Str.{bytes_eq}
 use Rattle.std.specs.Char.{is_ascii_digit}
 use Rattle.hex.specs.Hex.{decode_of}
+use Rattle.hash_signature_model.specs.declared.set.Set.{Set}
+use Rattle.hash_signature_model.specs.declared.set.Width.TheVariants.{W4, W8}
+use Rattle.hash_signature_model.specs.declared.set.Height.TheVariants.{H5, H10}
 use Rattle.script_driver.specs.Run.{line_limit}
 use Rattle.play_model.specs.declared.command.Piece.{Piece}
 use Rattle.play_model.specs.declared.command.Piece.TheVariants as piece
@@ -55,11 +58,23 @@ hex_bytes count word =
     then ok_value (decode_of (replicate (2 * count - length word) 48 ++ word)) else None
 
 -- the parameter sets of a key: one to three, the top level first
-abbrev pub is_set : List ℕ → Bool
-is_set word = bytes_eq word (codes "w4h5") || bytes_eq word (codes "w4h10") || bytes_eq word (codes "w8h5") || bytes_eq word (codes "w8h10")
+abbrev pub set_of : List ℕ → Option Set
+set_of word =
+    if bytes_eq word (codes "w4h5") then Some (record { w = W4; h = H5 })
+    else if bytes_eq word (codes "w4h10") then Some (record { w = W4; h = H10 })
+    else if bytes_eq word (codes "w8h5") then Some (record { w = W8; h = H5 })
+    else if bytes_eq word (codes "w8h10") then Some (record { w = W8; h = H10 })
+    else None
 
-abbrev pub are_sets : List ℕ → Bool
-are_sets word = (let sets = slice_split (λ b. b == 44) word in nat_le (length sets) 3 && list_all is_set sets)
+abbrev pub each_set : List (List ℕ) → Option (List Set)
+each_set [] = Some []
+each_set (word ∷ words) = do
+  set ← set_of word
+  sets ← each_set words
+  Some (set ∷ sets)
+
+abbrev pub sets_of : List ℕ → Option (List Set)
+sets_of word = (let words = slice_split (λ b. b == 44) word in if nat_le (length words) 3 then each_set words else None)
 
 -- ---- pieces of a message
 
@@ -158,11 +173,12 @@ ring_of (n ∷ r ∷ []) = do
 ring_of _ = None
 
 abbrev pub log_of : List (List ℕ) → Option Command
-log_of (p ∷ i ∷ s ∷ sets ∷ []) = do
+log_of (p ∷ i ∷ s ∷ w ∷ []) = do
   log ← name_of p
   id ← hex_bytes 16 i
   seed ← hex_bytes 32 s
-  if are_sets sets then Some (command.Log log id seed) else None
+  sets ← sets_of w
+  Some (command.Log log id seed sets)
 log_of _ = None
 
 -- the names of logs, joined by commas

@@ -12,7 +12,7 @@ use Rattle.play_model.specs.World.{World, ring_line, log_line, view_line, use_li
 -- what a command may do
 abbrev pub Does : World → Command → Outcome World → Type 0
 Does w (Ring nodes replicas) outcome = outcome ≡ ring_line w nodes replicas
-Does w (Log log id seed) outcome = outcome ≡ log_line w log id seed
+Does w (Log log id seed sets) outcome = outcome ≡ log_line w log id seed sets
 Does w (View view members former) outcome = outcome ≡ view_line w view members former
 Does w (Use log view) outcome = outcome ≡ use_line w log view
 Does w (At sec nsec) outcome = outcome ≡ at_line w sec nsec

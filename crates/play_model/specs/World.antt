@@ -1,5 +1,5 @@
 -- The world of a script, and the lines that change it but for calls.
-use Rattle.std.specs.Prelude.{ℕ, ◌+◌, ◌++◌, ◌==◌, nat_lt, Bool, true, false, ◌&&◌, ◌||◌, not, List, [], ◌∷◌, codes, fold, map, find, length, replicate, Option, Some, None, is_some, is_none, option_map, if◌then◌else◌}
+use Rattle.std.specs.Prelude.{ℕ, ◌+◌, ◌++◌, ◌==◌, nat_lt, Bool, true, false, ◌&&◌, ◌||◌, not, List, [], ◌∷◌, codes, fold, map, find, length, Option, Some, None, is_some, is_none, option_map, if◌then◌else◌}
 use Rattle.std.specs.Fmt.{decimal}
 use Rattle.std.specs.FinMap.Entries.{by_order}
 use Rattle.std.specs.List.{flat_map}
@@ -14,16 +14,20 @@ use Rattle.log_model.specs.Record.{Record}
 use Rattle.log_model.specs.Rank.{weight}
 use Rattle.log_model.specs.Chain.{opening}
 use Rattle.log_model.specs.View.{View, have_own_head_keys, is_member, view_block, most_members, most_former}
+use Rattle.hash_signature_model.specs.declared.set.Set.{Set}
+use Rattle.hss_keys.specs.Signer.{Signer, one_more_made}
 use Rattle.script_driver.specs.Run.{Outcome, Goes, Refuses, Exceeds}
 use Rattle.play_model.specs.Blocks.{Heads, Met, nothing_met, meets, meets_all, newest_stamp, published_blocks, published_heads}
 use Rattle.play_model.specs.declared.command.Given.{Given}
+use Rattle.play_model.specs.Keys.{fresh_signer, key_of}
 use Rattle.play_model.specs.Script.{◌>>=◌}
 
--- who writes a log: its name in the script, its public key, the view that it entered, the records that it knows, and those
--- of them that it holds since it entered the view
+-- who writes a log: its name in the script, its public key, the key that signs its heads, the view that it entered, the
+-- records that it knows, and those of them that it holds since it entered the view
 pub record Participant : Type 0 where
   pub name : List ℕ
   pub own : PubKey
+  pub signer : Signer
   pub view : Option View
   pub known : List Record
   pub held : List Record
@@ -58,9 +62,9 @@ view_named w name = option_map (λ v. v.view) (find (λ v. bytes_eq v.name name)
 abbrev pub with_participant : World → Participant → World
 with_participant w p = record w { participants = map (λ q. if bytes_eq q.name p.name then p else q) w.participants }
 
--- the world once the owner published these records
-abbrev pub publishing : World → PubKey → List Record → World
-publishing w owner records = record w { blocks = meets_all w.blocks (published_blocks owner records); heads = published_heads w.heads owner (newest_stamp records) }
+-- the world once these records were published, with a head that the key signed next
+abbrev pub publishing : World → Signer → List Record → World
+publishing w signer records = record w { blocks = meets_all w.blocks (published_blocks signer records); heads = published_heads w.heads signer (newest_stamp records) }
 
 -- where the test holds the world goes on to the next one, and shows nothing
 abbrev pub goes_if : Bool → World → Outcome World
@@ -71,19 +75,16 @@ ring_line w nodes replicas = goes_if (not w.has_ring && nodes == 1 && replicas =
 
 -- ---- logs
 
--- the public key of an identifier and a seed, until keys are those of a signature scheme
-abbrev pub plain_key : List ℕ → List ℕ → PubKey
-plain_key id seed = record { 0 = id ++ seed ++ replicate 12 0 }
+-- a participant who has written the opening record, at that moment, and signed a head over it
+abbrev pub newcomer : List ℕ → Signer → Moment → Participant
+newcomer name signer now = record { name = name; own = key_of signer; signer = one_more_made signer; view = None; known = opening (key_of signer) now ∷ []; held = [] }
 
--- a participant who has written the opening record, at that moment
-abbrev pub newcomer : List ℕ → PubKey → Moment → Participant
-newcomer name own now = record { name = name; own = own; view = None; known = opening own now ∷ []; held = [] }
-
--- a log begins with its opening record, at the present moment; two logs may have one key
-abbrev pub log_line : World → List ℕ → List ℕ → List ℕ → Outcome World
-log_line w name id seed = goes_if (w.has_ring && is_none (participant w name))
-    (let own = plain_key id seed in
-    publishing (record w { participants = w.participants ++ newcomer name own w.now ∷ [] }) own (opening own w.now ∷ []))
+-- A log begins with its opening record, at the present moment. Two logs may have one key: each signs with the same leaves then,
+-- and nothing is promised of that.
+abbrev pub log_line : World → List ℕ → List ℕ → List ℕ → List Set → Outcome World
+log_line w name id seed sets = goes_if (w.has_ring && is_none (participant w name))
+    (let signer = fresh_signer id seed sets in
+    publishing (record w { participants = w.participants ++ newcomer name signer w.now ∷ [] }) signer (opening (key_of signer) w.now ∷ []))
 
 -- ---- views
 

@@ -2,6 +2,7 @@
 
 ghost use Rattle.std.specs.Prelude.{◌≡◌};
 
+use hash_signature_model::Set;
 use ivy_base::Bytes;
 use std::marker::Model;
 
@@ -123,6 +124,37 @@ impl Names {
     }
 }
 
+/// The sets of a key's levels, from the top down, which contracts see as a list.
+#[derive(Drop)]
+pub struct Sets {
+    sets: Vec<Set>,
+}
+
+impl Model for Sets {
+    ghost use Rattle.std.specs.Prelude.{List};
+    ghost use Rattle.hash_signature_model.specs.declared.set.Set.{Set};
+
+    ghost Value = { List Set };
+
+    ghost view = { λ s. s.sets.items };
+}
+
+impl Sets {
+    /// The sets of a vector, which is not copied.
+    pub fn of(sets: Vec<Set>) -> Sets
+        ensures { result ≡ sets.items }
+    {
+        Sets { sets }
+    }
+
+    /// The sets as a slice.
+    pub fn as_slice(&self) -> &[Set]
+        ensures { result.now ≡ self.now }
+    {
+        self.sets.as_slice()
+    }
+}
+
 /// What a line of a script asks for.
 #[derive(Drop)]
 pub enum Command {
@@ -131,11 +163,12 @@ pub enum Command {
         nodes: u64,
         replicas: u64,
     },
-    /// `log P ID SEED SETS`: makes a log of that name, of the key that the identifier and the seed give.
+    /// `log P ID SEED SETS`: makes a log of that name, of the key that the identifier, the seed and the sets give.
     Log {
         log: Bytes,
         id: [u8; 16],
         seed: [u8; 32],
+        sets: Sets,
     },
     /// `view V M` and `view V M F`: makes a view of that name, of the logs M, and where they are given the former logs
     /// F, whose names are joined by commas.

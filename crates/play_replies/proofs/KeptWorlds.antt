@@ -12,32 +12,35 @@ use Rattle.ivy_base.specs.Naming.{owner_cmp, head_key_of}
 use Rattle.tree_model.proofs.Keys.{same_key_itself}
 use Rattle.tree_model.proofs.Sound.{both_true, both_false}
 use Rattle.log_model.specs.Chain.{opening}
-use Rattle.log_model.specs.Closed.{IsClosed}
-use Rattle.log_model.specs.Rank.{own_entry}
+use Rattle.log_model.specs.Closed.{IsClosed, log_of}
+use Rattle.log_model.specs.Rank.{front, own_entry}
 use Rattle.log_model.specs.Record.{Record}
 use Rattle.log_model.specs.Spelling.{HasSpelling, IsMoment}
-use Rattle.log_model.specs.Vector.{reach}
+use Rattle.log_model.specs.Vector.{Entry, reach}
 use Rattle.log_model.specs.View.{View, IsView, have_own_head_keys, view_block}
 use Rattle.log_model.proofs.Lists.{here, in_nothing, each, each_append, in_filter}
 use Rattle.log_model.proofs.Opening.{same_owner, opening_has_spelling, opening_is_closed}
 use Rattle.log_model.proofs.Owners.{owner_itself}
-use Rattle.turn_model.specs.Turn.{own_seq}
+use Rattle.hash_signature_model.specs.declared.set.Set.{Set}
+use Rattle.hss_keys.specs.Signer.{Signer}
+use Rattle.play_model.specs.Keys.{fresh_signer, key_of}
+use Rattle.turn_model.specs.Known.{IsBacked}
 use Rattle.script_driver.specs.Run.{Outcome, Goes, Refuses, Exceeds}
 use Rattle.play_model.specs.declared.command.Command.{Command}
 use Rattle.play_model.specs.declared.command.Command.TheVariants as command
 use Rattle.play_model.specs.declared.command.Piece.{Piece}
-use Rattle.play_model.specs.Blocks.{all_of, bytes_met, meets, published_blocks}
+use Rattle.play_model.specs.Blocks.{all_of, bytes_met, heads_among, meets, published_blocks}
 use Rattle.play_model.specs.declared.command.Given.{Given}
-use Rattle.play_model.specs.Calls.{Sending, sending_of, Answers, by_message, by_turn, out_of_memory, own_beyond, given_of, nothing_given, replied, counted}
+use Rattle.play_model.specs.Calls.{Sending, sending_of, Answers, by_message, by_turn, out_of_memory, written_by, having_turned, given_of, nothing_given, replied, counted}
 use Rattle.play_model.specs.Kept.{KnowsUnder, IsKeptWell}
 use Rattle.play_model.specs.Script.{◌>>=◌, command_of}
 use Rattle.play_model.specs.Step.{Does, MayDo, WithinLimit, MayDoFirst, IvyStep, most_bytes}
-use Rattle.play_model.specs.World.{World, Participant, NamedView, participant, view_named, with_participant, publishing, goes_if, ring_line, plain_key, newcomer, log_line, keys_of, view_of_keys, view_with, view_by, view_line, entering, at_line, order_text, showing_order}
+use Rattle.play_model.specs.World.{World, Participant, NamedView, participant, view_named, with_participant, publishing, goes_if, ring_line, newcomer, log_line, keys_of, view_of_keys, view_with, view_by, view_line, entering, at_line, order_text, showing_order}
 use Rattle.play_replies.specs.Valid.{IsSound, AreApart, IsValid}
 use Rattle.play_replies.proofs.Elements.{some_is, bind_some, none_is, found_in, each_weaker}
 use Rattle.play_replies.proofs.MetBlocks.{Grows, grows_not, meets_grows, meets_all_grows, more_met, published_met}
 use Rattle.play_replies.proofs.MadeViews.{made_view_is_view}
-use Rattle.play_replies.proofs.Commands.{HasMembers, command_has}
+use Rattle.play_replies.proofs.Commands.{HasParts, command_has}
 use Rattle.play_replies.proofs.Sendings.{found_by_name, each_put_for, names_put_for, unknown_name, apart_with, IsSender, sender_is}
 use Rattle.play_replies.proofs.Sound.{still_sound, set_sound}
 use Rattle.play_replies.proofs.Served.{within_limit}
@@ -87,33 +90,41 @@ module _ (w next : World) (output : List ℕ) (ok : IsValid w) where
 
   -- ---- a new log
 
-  newcomer_sound : (v : World) (name : List ℕ) (own : PubKey) (now : Moment) → IsMoment now → IsSound v (newcomer name own now)
-  newcomer_sound v name own now fits = record {
+  -- a log whose opening alone is written is begun
+  opening_begun : (own : PubKey) (now : Moment) → log_of own (opening own now ∷ []) ≢ []
+  opening_begun own now empty = in_nothing (opening own now) (subst (λ (l : List Record). Contains l (opening own now)) empty
+      (in_filter (λ (r : Record). eq_by_cmp owner_cmp own r.owner) (opening own now ∷ []) (opening own now) (here (opening own now) []) (owner_itself own)))
+
+  opening_backed : (blocks : List (List ℕ)) (own : PubKey) (heads : List Entry) (now : Moment) → AllByRecursion (IsBacked blocks own (front (opening own now ∷ [])) heads) (opening own now ∷ [])
+  opening_backed blocks own heads now = (inl (refl, subst (λ b. 1 ≤ reach (cond b (Some (own_entry (opening own now)).1) None)) (sym (same_key_itself (head_key_of own))) (omega arith)), tt)
+
+  newcomer_sound : (v : World) (name : List ℕ) (signer : Signer) (now : Moment) → IsMoment now → IsSound v (newcomer name signer now)
+  newcomer_sound v name signer now fits = record {
     kept = record {
+      owned = refl;
       knows = (now, refl);
-      begun = λ empty. in_nothing (opening own now) (subst (λ (l : List Record). Contains l (opening own now)) empty
-          (in_filter (λ (r : Record). eq_by_cmp owner_cmp own r.owner) (opening own now ∷ []) (opening own now) (here (opening own now) []) (owner_itself own)));
+      begun = opening_begun (key_of signer) now;
       ascending = (tt, tt);
-      spelled = (opening_has_spelling own now fits, tt);
+      spelled = (opening_has_spelling (key_of signer) now fits, tt);
       holds = inl refl;
     };
-    backed = (inl (refl, subst (λ b. 1 ≤ reach (cond b (Some (own_entry (opening own now)).1) None)) (sym (same_key_itself (head_key_of own))) (omega arith)), tt);
+    backed = opening_backed v.blocks.found (key_of signer) (heads_among (all_of v.blocks)) now;
   }
 
-  log_keeps : (name id seed : List ℕ) → Goes next output ≡ log_line w name id seed → IsValid next
-  log_keeps name id seed does =
-      let own : PubKey = plain_key id seed in
-      let one : Participant = newcomer name own w.now in
-      let records : List Record = opening own w.now ∷ [] in
-      let v : World = publishing (record w { participants = w.participants ++ one ∷ [] }) own records in
+  log_keeps : (name id seed : List ℕ) (sets : List Set) → Goes next output ≡ log_line w name id seed sets → IsValid next
+  log_keeps name id seed sets does =
+      let signer : Signer = fresh_signer id seed sets in
+      let one : Participant = newcomer name signer w.now in
+      let records : List Record = opening (key_of signer) w.now ∷ [] in
+      let v : World = publishing (record w { participants = w.participants ++ one ∷ [] }) signer records in
       let goes = goes_if_goes (w.has_ring && is_none (participant w name)) v next output does in
       let free = none_is (participant w name) (both_true w.has_ring (is_none (participant w name)) goes.0).1 in
       subst IsValid goes.1 (record {
         participants = each_append (IsSound v) w.participants (one ∷ [])
-            (all_still_sound w v (meets_all_grows w.blocks (published_blocks own records)) w.participants ok.participants) (newcomer_sound v name own w.now ok.moment, tt);
+            (all_still_sound w v (meets_all_grows w.blocks (published_blocks signer records)) w.participants ok.participants) (newcomer_sound v name signer w.now ok.moment, tt);
         apart = apart_with w.participants one ok.apart (unknown_name w name free);
         views = ok.views;
-        heads = published_met w.blocks w.heads own records ok.heads;
+        heads = published_met w.blocks w.heads signer records ok.heads;
         moment = ok.moment;
       })
 
@@ -192,6 +203,7 @@ module _ (w next : World) (output : List ℕ) (ok : IsValid w) where
       let fine = named_is_view name view (find (λ v. bytes_eq v.name name) w.views) refl named in
       let sound : IsSound w p = each (IsSound w) w.participants p ok.participants (found_by_name w log p found).0 in
       let kept : IsKeptWell new = record {
+        owned = sound.kept.owned;
         knows = (fine, member, opening_stays p view sound.kept (none_is p.view both.0) member);
         begun = sound.kept.begun;
         ascending = sound.kept.ascending;
@@ -233,16 +245,16 @@ module _ (w next : World) (output : List ℕ) (ok : IsValid w) where
   answers_keep : (s : Sending) (o : Outcome World) → IsSender w s → Answers w s o → o ≡ Goes next output → IsValid next
   answers_keep s o sender (by_message given by) e = counted_keeps given _ e
   answers_keep s o sender (by_turn xid asked candidates turned asks refreshes turn) e =
-      let new : Participant = record s.by { known = turned.set; held = turned.set } in
-      let records : List Record = own_beyond s.by.own (own_seq s.by.own s.by.known) turned.set in
-      let v : World = replied (publishing (with_participant w new) s.by.own records) (given_of turned.reply) in
-      let grows = meets_all_grows w.blocks (published_blocks s.by.own records) in
+      let new : Participant = having_turned s.by turned.set in
+      let records : List Record = written_by s.by turned.set in
+      let v : World = replied (publishing (with_participant w new) s.by.signer records) (given_of turned.reply) in
+      let grows = meets_all_grows w.blocks (published_blocks s.by.signer records) in
       subst IsValid (goes_to v _ e) (record {
         participants = each_put_for new (IsSound v) w.participants (all_still_sound w v grows w.participants ok.participants)
             (set_sound w s ok sender xid asked candidates turned asks refreshes turn v grows);
         apart = subst AreApart (sym (names_put_for new w.participants)) ok.apart;
         views = ok.views;
-        heads = published_met w.blocks w.heads s.by.own records ok.heads;
+        heads = published_met w.blocks w.heads s.by.signer records ok.heads;
         moment = ok.moment;
       })
   answers_keep s o sender (out_of_memory c is_call) e = replied_keeps nothing_given _ e
@@ -253,9 +265,9 @@ module _ (w next : World) (output : List ℕ) (ok : IsValid w) where
 
   -- ---- a line
 
-  command_keeps : (c : Command) → HasMembers (Some c) → Does w c (Goes next output) → IsValid next
+  command_keeps : (c : Command) → HasParts (Some c) → Does w c (Goes next output) → IsValid next
   command_keeps (command.Ring nodes replicas) has does = ring_keeps nodes replicas does
-  command_keeps (command.Log log id seed) has does = log_keeps log id seed does
+  command_keeps (command.Log log id seed sets) has does = log_keeps log id seed sets does
   command_keeps (command.View view members former) has does = view_keeps view members former has does
   command_keeps (command.Use log view) has does = use_by_keeps log view (participant w log) (view_named w view) refl refl does
   command_keeps (command.At sec nsec) has does = at_keeps sec nsec does
@@ -264,17 +276,17 @@ module _ (w next : World) (output : List ℕ) (ok : IsValid w) where
   command_keeps command.Nothing has does = shows true [] does
   command_keeps command.End has does = cc does
 
-  may_keeps : (c : Option Command) → HasMembers c → MayDo w c (Goes next output) → IsValid next
+  may_keeps : (c : Option Command) → HasParts c → MayDo w c (Goes next output) → IsValid next
   may_keeps None has does = cc does
   may_keeps (Some c) has does = command_keeps c has does
 
-  limit_keeps : (c : Option Command) → HasMembers c → WithinLimit w c (Goes next output) → IsValid next
+  limit_keeps : (c : Option Command) → HasParts c → WithinLimit w c (Goes next output) → IsValid next
   limit_keeps c has does = may_keeps c has (within_limit (nat_lt most_bytes (bytes_met (all_of w.blocks))) (Goes next output) (MayDo w c (Goes next output)) next output refl does)
 
-  first_keeps : (c : Option Command) → HasMembers c → MayDoFirst w c (Goes next output) → IsValid next
+  first_keeps : (c : Option Command) → HasParts c → MayDoFirst w c (Goes next output) → IsValid next
   first_keeps None has does = limit_keeps None has does
   first_keeps (Some (command.Ring nodes replicas)) has does = limit_keeps (Some (command.Ring nodes replicas)) has does
-  first_keeps (Some (command.Log log id seed)) has does = limit_keeps (Some (command.Log log id seed)) has does
+  first_keeps (Some (command.Log log id seed sets)) has does = limit_keeps (Some (command.Log log id seed sets)) has does
   first_keeps (Some (command.View view members former)) has does = limit_keeps (Some (command.View view members former)) has does
   first_keeps (Some (command.Use log view)) has does = limit_keeps (Some (command.Use log view)) has does
   first_keeps (Some (command.At sec nsec)) has does = limit_keeps (Some (command.At sec nsec)) has does

@@ -8,15 +8,18 @@ use Rattle.std.proofs.lemmas.List.Elements.{Contains-append_left, Contains-appen
 use Rattle.std.proofs.lemmas.Option.{cond_some}
 use Rattle.std.proofs.lemmas.Slice.Eq.{bytes_eq-Decides}
 use Rattle.ivy_base.specs.declared.key.Key.{Key}
-use Rattle.ivy_base.specs.declared.key.PubKey.{PubKey}
 use Rattle.ivy_base.specs.Naming.{name, key_cmp, head_key_of}
 use Rattle.log_model.specs.Record.{Record}
-use Rattle.log_model.specs.Spelling.{head_block}
+use Rattle.log_model.specs.Spelling.{head_message}
 use Rattle.log_model.specs.Vector.{Stamp, reach}
 use Rattle.log_model.proofs.Lists.{here, in_cons, in_nothing, who_passes}
 use Rattle.dht_ids.specs.declared.judge.Judged.{Judged}
-use Rattle.log_records.specs.Heads.{owner_in, seq_in, name_in, is_plain, is_plain_head, plain_judged}
+use Rattle.log_records.specs.Heads.{stamp, owner_in, seq_in, name_in}
+use Rattle.hss_keys.specs.Reading.{hss_verdict}
+use Rattle.hss_keys.specs.Signer.{Signer}
+use Rattle.log_heads.specs.Signed.{is_head, is_yes, is_signed_head, signature_in}
 use Rattle.candidate_laws.specs.Verified.{AreAmong, WereReceived}
+use Rattle.play_model.specs.Keys.{key_of, signed_head, judged}
 use Rattle.play_model.specs.Blocks.{Met, all_of, is_met, meets, meets_all, Heads, judged_stamp, head_in, head_at, heads_at, with_head, entry_with, entry_of_head, heads_among, newest_stamp, published_blocks, published_heads}
 use Rattle.play_replies.proofs.Elements.{in_filter_map, from_filter_map, each_value, each_put}
 
@@ -87,20 +90,25 @@ in_heads : (heads : Heads) (log : Key) (t : Stamp) (o : Option Stamp) → head_a
 in_heads heads log t None e c = absurd (in_nothing t (rw e at c))
 in_heads heads log t (Some s) e c = ⊎_elim (λ same. e ∙ ap (λ (u : Stamp). Some u) same) (λ d. absurd (in_nothing t d)) (in_cons s [] t (rw e at c))
 
-second : (a b : Bool) → (a && b) ≡ true → b ≡ true
-second true b h = h
-second false b h = cc h
+-- the second of three tests
+second : (a b c : Bool) → (a && b && c) ≡ true → b ≡ true
+second true true c h = refl
+second true false c h = cc h
+second false b c h = cc h
+
+same_key_of : (log key : Key) → bytes_eq log.0 key.0 ≡ true → log ≡ key
+same_key_of log key e = ap (λ (bytes : List ℕ). record { 0 = bytes }) ((bytes_eq-Decides log.0 key.0).0 e)
 
 -- what is judged under a key names its owner's
-judged_key : (log : Key) (block : List ℕ) (t : Stamp) (o : Option Judged) → plain_judged log block ≡ o → judged_stamp o ≡ Some t → log ≡ head_key_of (owner_in block)
+judged_key : (log : Key) (block : List ℕ) (t : Stamp) (o : Option Judged) → judged log block ≡ o → judged_stamp o ≡ Some t → log ≡ head_key_of (owner_in block)
 judged_key log block t None e f = cc f
 judged_key log block t (Some j) e f =
-    let tested : is_plain log block (owner_in block) (seq_in block) (name_in block) ≡ true =
-    (cond_some (is_plain_head log block) (record { seq = seq_in block; name = name_in block }) j e).0 in
-    ap (λ (bytes : List ℕ). record { 0 = bytes })
-    ((bytes_eq-Decides log.0 (head_key_of (owner_in block)).0).0 (second _ (bytes_eq log.0 (head_key_of (owner_in block)).0) tested))
+    same_key_of log (head_key_of (owner_in block))
+    (second (is_head block (owner_in block) (seq_in block) (name_in block) (signature_in block)) (bytes_eq log.0 (head_key_of (owner_in block)).0)
+    (is_yes (hss_verdict (owner_in block).0 (head_message (owner_in block) (stamp (seq_in block) (name_in block))) (signature_in block)))
+    (cond_some (is_signed_head log block) (record { seq = seq_in block; name = name_in block }) j e).0)
 
-head_is : (log : Key) (o : Option (List ℕ)) (t : Stamp) → head_in log o ≡ Some t → (block : List ℕ) × (o ≡ Some block) × (judged_stamp (plain_judged log block) ≡ Some t)
+head_is : (log : Key) (o : Option (List ℕ)) (t : Stamp) → head_in log o ≡ Some t → (block : List ℕ) × (o ≡ Some block) × (judged_stamp (judged log block) ≡ Some t)
 head_is log None t e = cc e
 head_is log (Some block) t e = (block, refl, e)
 
@@ -108,38 +116,38 @@ pub were_received : (blocks : List (List ℕ)) (heads : Heads) → AreMet blocks
 were_received blocks heads met log t c =
     let at = in_heads heads log t (head_at heads log) refl c in
     let is = head_is log (value_at key_cmp log heads) t at in
-    let key = judged_key log is.0 t (plain_judged log is.0) refl is.2 in
+    let key = judged_key log is.0 t (judged log is.0) refl is.2 in
     let within = each_value (λ (b : List ℕ). Contains blocks b) log heads is.0 met is.1 in
     let entry : entry_of_head is.0 ≡ Some (log, t) =
-    subst (λ (k : Key). entry_with k (judged_stamp (plain_judged k is.0)) ≡ Some (log, t)) key (ap (entry_with log) is.2) in
+    subst (λ (k : Key). entry_with k (judged_stamp (judged k is.0)) ≡ Some (log, t)) key (ap (entry_with log) is.2) in
     in_filter_map entry_of_head blocks is.0 (log, t) within entry
 
 -- ---- what is published
 
-head_there : (owner : PubKey) (records : List Record) (t : Stamp) → newest_stamp records ≡ Some t → Contains (published_blocks owner records) (head_block owner t [])
-head_there owner records t e = rw e (Contains-append_right _ (head_block owner t [] ∷ []) (head_block owner t []) (here (head_block owner t []) []))
+head_there : (signer : Signer) (records : List Record) (t : Stamp) → newest_stamp records ≡ Some t → Contains (published_blocks signer records) (signed_head signer t)
+head_there signer records t e = rw e (Contains-append_right _ (signed_head signer t ∷ []) (signed_head signer t) (here (signed_head signer t) []))
 
-with_head_met : (blocks : List (List ℕ)) (heads : Heads) (owner : PubKey) (t : Stamp) → AreMet blocks heads → Contains blocks (head_block owner t []) → AreMet blocks (with_head heads owner t)
-with_head_met blocks heads owner t met new = by (nat_lt (reach (head_at heads (head_key_of owner))) t.seq)
+with_head_met : (blocks : List (List ℕ)) (heads : Heads) (signer : Signer) (t : Stamp) → AreMet blocks heads → Contains blocks (signed_head signer t) → AreMet blocks (with_head heads signer t)
+with_head_met blocks heads signer t met new = by (nat_lt (reach (head_at heads (head_key_of (key_of signer)))) t.seq)
   where
-    by : (b : Bool) → AreMet blocks (cond b (put key_cmp (head_key_of owner) (head_block owner t []) heads) heads)
-    by true = each_put (λ (x : List ℕ). Contains blocks x) (head_key_of owner) (head_block owner t []) heads met new
+    by : (b : Bool) → AreMet blocks (cond b (put key_cmp (head_key_of (key_of signer)) (signed_head signer t) heads) heads)
+    by true = each_put (λ (x : List ℕ). Contains blocks x) (head_key_of (key_of signer)) (signed_head signer t) heads met new
     by false = met
 
-heads_met : (blocks : List (List ℕ)) (heads : Heads) (owner : PubKey) (o : Option Stamp) → AreMet blocks heads → ((t : Stamp) → o ≡ Some t → Contains blocks (head_block owner t []))
-    → AreMet blocks (published_heads heads owner o)
-heads_met blocks heads owner None met new = met
-heads_met blocks heads owner (Some t) met new = with_head_met blocks heads owner t met (new t refl)
+heads_met : (blocks : List (List ℕ)) (heads : Heads) (signer : Signer) (o : Option Stamp) → AreMet blocks heads → ((t : Stamp) → o ≡ Some t → Contains blocks (signed_head signer t))
+    → AreMet blocks (published_heads heads signer o)
+heads_met blocks heads signer None met new = met
+heads_met blocks heads signer (Some t) met new = with_head_met blocks heads signer t met (new t refl)
 
 pub more_met : (blocks more : List (List ℕ)) (heads : Heads) → AreAmong blocks more → AreMet blocks heads → AreMet more heads
 more_met blocks more [] within h = tt
 more_met blocks more (e ∷ heads) within h = (within e.1 h.0, more_met blocks more heads within h.1)
 
--- once an owner published records, the head over them was met too
-pub published_met : (m : Met) (heads : Heads) (owner : PubKey) (records : List Record) → AreMet (all_of m) heads
-    → AreMet (all_of (meets_all m (published_blocks owner records))) (published_heads heads owner (newest_stamp records))
-published_met m heads owner records met =
-    let blocks = published_blocks owner records in
-    heads_met (all_of (meets_all m blocks)) heads owner (newest_stamp records)
+-- once records were published, the head over them was met too
+pub published_met : (m : Met) (heads : Heads) (signer : Signer) (records : List Record) → AreMet (all_of m) heads
+    → AreMet (all_of (meets_all m (published_blocks signer records))) (published_heads heads signer (newest_stamp records))
+published_met m heads signer records met =
+    let blocks = published_blocks signer records in
+    heads_met (all_of (meets_all m blocks)) heads signer (newest_stamp records)
     (more_met (all_of m) (all_of (meets_all m blocks)) heads (meets_all_grows m blocks).all met)
-    (λ t e. meets_all_has m blocks (head_block owner t []) (head_there owner records t e))
+    (λ t e. meets_all_has m blocks (signed_head signer t) (head_there signer records t e))

@@ -1,5 +1,5 @@
 -- Each call is answered by its message alone, or on the replay of a closed set of verified records, or memory was wanting.
-use Rattle.std.proofs.Common.{◌≡◌, ◌⊎◌, inl, inr, ℕ, ◌+◌, ◌<◌, ◌≤◌, Bool, true, false, List, length, Option, Some, refl, sym, ◌∙◌, subst, lit<}
+use Rattle.std.proofs.Common.{◌≡◌, ◌⊎◌, inl, inr, ℕ, zero, suc, ◌+◌, ◌<◌, ◌≤◌, Bool, true, false, List, length, Option, Some, refl, sym, ◌∙◌, subst, arith}
 use Rattle.std.specs.Prelude.{nat_lt, MatchBool, MatchOption}
 use Rattle.std.proofs.lemmas.Bool.{ltb-true, ltb-false}
 use Rattle.ivy_base.specs.declared.operation.Moment.{Moment}
@@ -9,13 +9,14 @@ use Rattle.log_model.specs.Replay.{replay}
 use Rattle.log_model.specs.View.{View}
 use Rattle.log_model.specs.Spelling.{most_records}
 use Rattle.nfs_model.specs.Changing.{is_changing, Plan, Refuse, Nothing, Operations, plan}
+use Rattle.hss_keys.specs.Signer.{left_of}
 use Rattle.turn_model.specs.Turn.{Asked, Turned, own_seq, turn_on}
-use Rattle.turn_model.proofs.Turns.{turn-reading, turn-refused, turn-nothing, turn-too_many, turn-written}
+use Rattle.turn_model.proofs.Turns.{turn-reading, turn-refused, turn-nothing, turn-no_leaf, turn-too_many, turn-written}
 use Rattle.candidate_laws.proofs.Taken.{own_log_is_known}
 use Rattle.script_driver.specs.Run.{Outcome, Goes, Refuses, Exceeds}
 use Rattle.play_model.specs.declared.command.Command.{Command}
 use Rattle.play_model.specs.Blocks.{all_of, bytes_met, heads_at}
-use Rattle.play_model.specs.Calls.{Sending, Answers, by_message, by_turn, out_of_memory, agent_of, CallLine}
+use Rattle.play_model.specs.Calls.{Sending, Answers, by_message, by_turn, out_of_memory, agent_of, having_turned, CallLine}
 use Rattle.play_model.specs.Step.{MayDoFirst, IvyStep, most_bytes}
 use Rattle.play_model.specs.World.{World, Participant, participant}
 use Rattle.play_replies.specs.Headline.{IsOnReplay, read, refused, unchanged, full, wrote, IsServed, IsAnsweredAlone, LacksMemory, Headline}
@@ -28,23 +29,27 @@ module _ (p : Participant) (view : View) (asked : Asked) (now : Moment) (taken :
   Stands : Turned → Type 0
   Stands t = IsOnReplay p view asked now taken t.reply t.set
 
-  written : (b : Bool) (ops : List Op) → is_changing asked.args ≡ true
+  -- by how many signatures are left, and whether the numbers end before the last operation's
+  written : (left : ℕ) (b : Bool) (ops : List Op) → is_changing asked.args ≡ true
       → plan (replay taken) view asked.caller asked.args now p.own (own_seq p.own taken + 1) ≡ Operations ops
-      → nat_lt most_records (own_seq p.own taken + length ops) ≡ b → Stands (turn_on (agent_of p view) taken asked now)
+      → left_of p.signer ≡ left → nat_lt most_records (own_seq p.own taken + length ops) ≡ b → Stands (turn_on (agent_of p view) taken asked now)
   unfolding Stands
-  written true ops changing planned many =
+  written zero b ops changing planned none many =
+      rw (turn-no_leaf (agent_of p view) taken asked now ops changing planned none) (full ops changing planned (inl none))
+  written (suc left) true ops changing planned some many =
       let beyond : most_records < own_seq p.own taken + length ops = ltb-true _ _ many in
-      rw (turn-too_many (agent_of p view) taken asked now ops changing planned beyond) (full ops changing planned beyond)
-  written false ops changing planned few =
+      rw (turn-too_many (agent_of p view) taken asked now ops changing planned beyond) (full ops changing planned (inr beyond))
+  written (suc left) false ops changing planned some few =
       let within : own_seq p.own taken + length ops ≤ most_records = ltb-false _ _ few in
-      rw (turn-written (agent_of p view) taken asked now ops changing planned (lit< tt) within refl) (wrote ops changing planned within)
+      let signs : 0 < left_of p.signer = omega (arith, some) in
+      rw (turn-written (agent_of p view) taken asked now ops changing planned signs within refl) (wrote ops changing planned signs within)
 
   planned_so : (q : Plan) → is_changing asked.args ≡ true
       → plan (replay taken) view asked.caller asked.args now p.own (own_seq p.own taken + 1) ≡ q → Stands (turn_on (agent_of p view) taken asked now)
   unfolding Stands
   planned_so (Refuse r) changing planned = rw (turn-refused (agent_of p view) taken asked now r changing planned) (refused changing planned)
   planned_so (Nothing r) changing planned = rw (turn-nothing (agent_of p view) taken asked now r changing planned) (unchanged changing planned)
-  planned_so (Operations ops) changing planned = written (nat_lt most_records (own_seq p.own taken + length ops)) ops changing planned refl
+  planned_so (Operations ops) changing planned = written (left_of p.signer) (nat_lt most_records (own_seq p.own taken + length ops)) ops changing planned refl refl
 
   changes : (b : Bool) → is_changing asked.args ≡ b → Stands (turn_on (agent_of p view) taken asked now)
   unfolding Stands
@@ -82,8 +87,8 @@ call_is_served w s next output o ok sender (by_turn xid asked candidates turned 
       on_replay = turn_on_replay s.by s.view asked w.now turn.taken turned turn.by_set;
       set_is_closed = set_closed w s ok sender xid asked candidates turned asks refreshes turn;
       shown = sym goes.1;
-      known = subst (λ (v : World). participant v s.by.name ≡ Some (record s.by { known = turned.set; held = turned.set })) goes.0
-          (found_put_for (record s.by { known = turned.set; held = turned.set }) w.participants s.by sender.found);
+      known = subst (λ (v : World). participant v s.by.name ≡ Some (having_turned s.by turned.set)) goes.0
+          (found_put_for (having_turned s.by turned.set) w.participants s.by sender.found);
     })
 call_is_served w s next output o ok sender (out_of_memory c is_call) e =
     let goes = goes_to e in

@@ -1,5 +1,5 @@
 -- Participants stay sound as more is met, and one that took a turn is sound again.
-use Rattle.std.proofs.Common.{◌≡◌, ◌≢◌, inl, inr, ℕ, List, [], ◌∷◌, Option, Some, refl, sym, subst, arith, lit<, Contains}
+use Rattle.std.proofs.Common.{◌≡◌, ◌≢◌, inl, inr, ℕ, List, [], ◌∷◌, Option, Some, None, refl, sym, ◌∙◌, subst, arith, lit<, Contains}
 use Rattle.std.specs.List.{AllByRecursion}
 use Rattle.std.specs.Ordering.{eq_by_cmp}
 use Rattle.ivy_base.specs.declared.key.PubKey.{PubKey}
@@ -10,7 +10,7 @@ use Rattle.log_model.specs.Rank.{front}
 use Rattle.log_model.specs.Record.{Record}
 use Rattle.log_model.specs.Spelling.{HasSpelling}
 use Rattle.log_model.proofs.Standing.{stands_among_more}
-use Rattle.log_model.specs.Vector.{Entry, Vector}
+use Rattle.log_model.specs.Vector.{Entry, Stamp, Vector}
 use Rattle.log_model.specs.View.{View}
 use Rattle.log_model.proofs.Later.{good_of}
 use Rattle.log_model.proofs.Lists.{here, in_nothing, each, each_from, in_filter, from_filter}
@@ -22,8 +22,10 @@ use Rattle.turn_laws.proofs.Turns.{turn_set_is_closed}
 use Rattle.candidate_laws.specs.Verified.{AreAmong}
 use Rattle.candidate_laws.proofs.Taken.{taken_is_verified}
 use Rattle.candidate_laws.proofs.Backed.{known_stays_backed}
-use Rattle.play_model.specs.Blocks.{all_of, heads_at, heads_among}
-use Rattle.play_model.specs.Calls.{Sending, Asks, Refreshes, agent_of}
+use Rattle.hss_keys.specs.Signer.{Signer}
+use Rattle.play_model.specs.Blocks.{all_of, heads_at, heads_among, newest_stamp}
+use Rattle.play_model.specs.Keys.{key_of, having_signed}
+use Rattle.play_model.specs.Calls.{Sending, Asks, Refreshes, agent_of, written_by, having_turned}
 use Rattle.play_model.specs.Kept.{KnowsUnder, IsKeptWell}
 use Rattle.play_model.specs.World.{World, Participant}
 use Rattle.play_replies.specs.Valid.{IsSound, IsValid}
@@ -70,6 +72,11 @@ still_begun own known more (r ∷ log) e within some empty =
     let first = from_filter (λ (x : Record). eq_by_cmp owner_cmp own x.owner) known r (subst (λ (l : List Record). Contains l r) (sym e) (here r log)) in
     in_nothing r (subst (λ (l : List Record). Contains l r) empty (in_filter (λ (x : Record). eq_by_cmp owner_cmp own x.owner) more r (within r first.0) first.1))
 
+-- a key that has signed is of the same public key
+key_stays : (signer : Signer) (o : Option Stamp) → key_of (having_signed signer o) ≡ key_of signer
+key_stays signer None = refl
+key_stays signer (Some t) = refl
+
 caller_is_identity : (credential : Auth) (who : Identity) → IsCaller credential who → IsIdentity who
 caller_is_identity _ _ none = record { uid = lit< tt; gid = lit< tt; few = omega arith; groups = tt }
 caller_is_identity _ _ (system stamp machine small short fits) = fits
@@ -91,9 +98,10 @@ module _ (w : World) (s : Sending) (ok : IsValid w) (sender : IsSender w s) wher
     taken_verified = taken_is_verified (heads_at w.heads) w.blocks.found s.view s.by.own s.by.known candidates (heads_among (all_of w.blocks)) turn.taken
         refreshes (were_received (all_of w.blocks) w.heads ok.heads) sender_knows.2 sender_sound.backed turn.largest
 
-    set_kept : IsKeptWell (record s.by { known = turned.set; held = turned.set })
+    set_kept : IsKeptWell (having_turned s.by turned.set)
     set_kept = record {
-      knows = subst (λ (v : Option View). KnowsUnder (record s.by { known = turned.set; held = turned.set }) v) (sym sender.entered) (sender_knows.0, sender_knows.1, set_closed);
+      owned = sender_sound.kept.owned ∙ sym (key_stays s.by.signer (newest_stamp (written_by s.by turned.set)));
+      knows = subst (λ (v : Option View). KnowsUnder (having_turned s.by turned.set) v) (sym sender.entered) (sender_knows.0, sender_knows.1, set_closed);
       begun = still_begun s.by.own s.by.known turned.set (log_of s.by.own s.by.known) refl
           (λ r c. turn_keeps (agent_of s.by s.view) s.by.known candidates asked w.now turned sender_knows.2 turn r c) sender_sound.kept.begun;
       ascending = set_closed.ascending;
@@ -101,7 +109,7 @@ module _ (w : World) (s : Sending) (ok : IsValid w) (sender : IsSender w s) wher
       holds = inr refl;
     }
 
-    pub set_sound : (v : World) → Grows w.blocks v.blocks → IsSound v (record s.by { known = turned.set; held = turned.set })
+    pub set_sound : (v : World) → Grows w.blocks v.blocks → IsSound v (having_turned s.by turned.set)
     set_sound v grows = record {
       kept = set_kept;
       backed = subst (λ (t : Turned). AllByRecursion (IsBacked v.blocks.found s.by.own (front t.set) (heads_among (all_of v.blocks))) t.set) (sym turn.by_set)

@@ -1,5 +1,5 @@
 -- What holds of each reply: it is the file system's answer on the from-scratch replay of one causally closed set of verified records.
-use Rattle.std.specs.Prelude.{◌≡◌, ◌⊎◌, ℕ, ◌+◌, ◌<◌, ◌≤◌, false, true, List, length, Contains, Option, Some, None}
+use Rattle.std.specs.Prelude.{◌≡◌, ◌⊎◌, ℕ, ◌+◌, ◌<◌, ◌≤◌, false, true, List, length, Contains, Option, Some}
 use Rattle.ivy_base.specs.declared.operation.Moment.{Moment}
 use Rattle.ivy_base.specs.declared.operation.Op.{Op}
 use Rattle.wire_model.specs.Rpc.{CallMessage, IsCall, Success, SystemError, reply}
@@ -15,13 +15,14 @@ use Rattle.nfs_model.specs.declared.replies.Reply.TheVariants.{Refused}
 use Rattle.nfs_model.specs.Changing.{is_changing, Refuse, Nothing, Operations, plan, finish}
 use Rattle.nfs_model.specs.Reading.{answer}
 use Rattle.nfs_model.specs.Results.{result}
+use Rattle.hss_keys.specs.Signer.{left_of}
 use Rattle.turn_model.specs.Known.{IsVerified}
 use Rattle.turn_model.specs.Turn.{Asked, Candidate, IsAtHand, bare_tail, own_seq, appended}
 use Rattle.script_driver.specs.Run.{Outcome, Goes}
 use Rattle.play_model.specs.declared.command.Piece.{Piece}
 use Rattle.play_model.specs.declared.command.Command.TheVariants.{As}
 use Rattle.play_model.specs.Blocks.{all_of, heads_among}
-use Rattle.play_model.specs.Calls.{Sending, sending_of, Asks, IsByMessage, Refreshes, reply_line, shown_reply, replied, counted, nothing_given}
+use Rattle.play_model.specs.Calls.{Sending, sending_of, Asks, IsByMessage, Refreshes, reply_line, shown_reply, replied, counted, nothing_given, having_turned}
 use Rattle.play_model.specs.Script.{command_of}
 use Rattle.play_model.specs.World.{World, Participant, participant}
 
@@ -34,14 +35,14 @@ pub data IsOnReplay (p : Participant) (view : View) (asked : Asked) (now : Momen
       → plan (replay taken) view asked.caller asked.args now p.own (own_seq p.own taken + 1) ≡ Refuse r → IsOnReplay p view asked now taken r taken
   unchanged : {r : Reply} → is_changing asked.args ≡ true
       → plan (replay taken) view asked.caller asked.args now p.own (own_seq p.own taken + 1) ≡ Nothing r → IsOnReplay p view asked now taken r taken
-  -- the log has no numbers left for what is planned
+  -- no signature or no number is left to the log for what is planned
   full : (ops : List Op) → is_changing asked.args ≡ true
       → plan (replay taken) view asked.caller asked.args now p.own (own_seq p.own taken + 1) ≡ Operations ops
-      → most_records < own_seq p.own taken + length ops → IsOnReplay p view asked now taken (Refused RoFs (bare_tail asked.args)) taken
-  -- what is planned is written, and the reply is given on the replays before and after
+      → (left_of p.signer ≡ 0) ⊎ (most_records < own_seq p.own taken + length ops) → IsOnReplay p view asked now taken (Refused RoFs (bare_tail asked.args)) taken
+  -- else what is planned is written, and the reply is given on the replays before and after
   wrote : (ops : List Op) → is_changing asked.args ≡ true
       → plan (replay taken) view asked.caller asked.args now p.own (own_seq p.own taken + 1) ≡ Operations ops
-      → own_seq p.own taken + length ops ≤ most_records
+      → 0 < left_of p.signer → own_seq p.own taken + length ops ≤ most_records
       → IsOnReplay p view asked now taken (finish (replay taken) (replay (appended p.own now taken ops)) view asked.caller asked.args ops) (appended p.own now taken ops)
 
 -- A call's output, and the world after it.
@@ -62,11 +63,11 @@ pub record IsServed (w : World) (s : Sending) (next : World) (output : List ℕ)
   pub own_log_is_known : log_of s.by.own taken ≡ log_of s.by.own s.by.known
   -- of each member's log they are the beginning of a chain, and each of another log stands at or under a judged head that was met
   pub is_verified : IsVerified w.blocks.found s.view s.by.own (front s.by.known) (heads_among (all_of w.blocks)) taken
-  -- the reply is on their replay; and what the participant then knows is closed again
+  -- the reply is on their replay; and what the participant then knows, its key having signed what it wrote, is closed again
   pub on_replay : IsOnReplay s.by s.view asked w.now taken reply_given set
   pub set_is_closed : IsClosed s.view set
   pub shown : output ≡ reply_line (reply xid (Success (result reply_given)))
-  pub known : participant next s.by.name ≡ Some (record s.by { known = set; held = set })
+  pub known : participant next s.by.name ≡ Some (having_turned s.by set)
 
 -- the message is answered without a turn, and nothing changes but that there was a reply; what is no reply isn't counted
 pub record IsAnsweredAlone (w : World) (s : Sending) (next : World) (output : List ℕ) : Type 0 where

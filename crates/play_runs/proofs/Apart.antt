@@ -13,14 +13,15 @@ use Rattle.log_model.specs.Chain.{opening}
 use Rattle.log_model.specs.Record.{Record}
 use Rattle.log_model.specs.View.{View, have_own_head_keys, view_block}
 use Rattle.log_model.proofs.Lists.{some_passes}
+use Rattle.hss_keys.specs.Signer.{Signer}
 use Rattle.script_driver.specs.Run.{Outcome, Goes, Ends, Refuses, Exceeds}
 use Rattle.play_model.specs.declared.command.Command.{Command}
 use Rattle.play_model.specs.declared.command.Command.TheVariants as command
 use Rattle.play_model.specs.Blocks.{Met, is_met, all_of, meets, meets_all, published_blocks}
+use Rattle.play_model.specs.Keys.{fresh_signer, key_of}
 use Rattle.play_model.specs.Script.{command_of}
-use Rattle.play_model.specs.World.{World, Participant, publishing, goes_if, plain_key, keys_of, view_by, view_named, view_of_keys, participant, entering, order_text, showing_order}
-use Rattle.play_model.specs.Calls.{Sending, sending_of, Answers, by_message, by_turn, out_of_memory, own_beyond, nothing_given, counted}
-use Rattle.turn_model.specs.Turn.{own_seq}
+use Rattle.play_model.specs.World.{World, Participant, publishing, goes_if, keys_of, view_by, view_named, view_of_keys, participant, entering, order_text, showing_order}
+use Rattle.play_model.specs.Calls.{Sending, sending_of, Answers, by_message, by_turn, out_of_memory, written_by, nothing_given, counted}
 use Rattle.play_model.specs.Step.{Does, MayDo, IvyStep}
 use Rattle.play_runs.proofs.Steps.{Cases, cases_of}
 
@@ -65,8 +66,8 @@ if_apart : (allowed : Bool) (next : World) → NamesTellApart next.blocks.found 
 if_apart true next apart = apart
 if_apart false next apart = tt
 
-published_apart : (w : World) (owner : PubKey) (records : List Record) → NamesTellApart w.blocks.found → NamesTellApart (publishing w owner records).blocks.found
-published_apart w owner records apart = all_apart (published_blocks owner records) w.blocks apart
+published_apart : (w : World) (signer : Signer) (records : List Record) → NamesTellApart w.blocks.found → NamesTellApart (publishing w signer records).blocks.found
+published_apart w signer records apart = all_apart (published_blocks signer records) w.blocks apart
 
 -- a choice whose parts each leave it so
 either_apart : (b : Bool) (x y : Outcome World) → IsApart x → IsApart y → IsApart (cond b x y)
@@ -96,7 +97,7 @@ module _ (w : World) (apart : NamesTellApart w.blocks.found) where
 
   of_call : (s : Sending) (o : Outcome World) → Answers w s o → IsApart o
   of_call s _ (by_message given is) = of_count given
-  of_call s _ (by_turn xid asked candidates turned asks has takes) = published_apart w s.by.own (own_beyond s.by.own (own_seq s.by.own s.by.known) turned.set) apart
+  of_call s _ (by_turn xid asked candidates turned asks has takes) = published_apart w s.by.signer (written_by s.by turned.set) apart
   of_call s _ (out_of_memory c is_c) = apart
 
   of_sent : (sent : Option Sending) (o : Outcome World) → MatchOption sent (o ≡ Refuses) (λ s. Answers w s o) → IsApart o
@@ -105,7 +106,8 @@ module _ (w : World) (apart : NamesTellApart w.blocks.found) where
 
   of_command : (c : Command) (o : Outcome World) → Does w c o → IsApart o
   of_command (command.Ring nodes replicas) o does = subst IsApart (sym does) (if_apart _ _ apart)
-  of_command (command.Log log id seed) o does = subst IsApart (sym does) (if_apart _ _ (all_apart (published_blocks (plain_key id seed) (opening (plain_key id seed) w.now ∷ [])) w.blocks apart))
+  of_command (command.Log log id seed sets) o does = subst IsApart (sym does)
+      (if_apart _ _ (published_apart w (fresh_signer id seed sets) (opening (key_of (fresh_signer id seed sets)) w.now ∷ []) apart))
   of_command (command.View view members former) o does =
       subst IsApart (sym does) (either_apart (is_some (view_named w view)) Refuses (view_by w view (keys_of w members) (keys_of w former)) tt (of_keys view (keys_of w members) (keys_of w former)))
   of_command (command.Use log view) o does = subst IsApart (sym does) (of_entering (participant w log) (view_named w view))

@@ -45,7 +45,7 @@ some_call w (Some s) = some_answer w s
 
 some_command : (w : World) (c : Command) → (outcome : Outcome World) × Does w c outcome
 some_command w (command.Ring nodes replicas) = (ring_line w nodes replicas, refl)
-some_command w (command.Log log id seed) = (log_line w log id seed, refl)
+some_command w (command.Log log id seed sets) = (log_line w log id seed sets, refl)
 some_command w (command.View view members former) = (view_line w view members former, refl)
 some_command w (command.Use log view) = (use_line w log view, refl)
 some_command w (command.At sec nsec) = (at_line w sec nsec, refl)
@@ -69,7 +69,7 @@ some_within w c = some_of_both (nat_lt most_bytes (bytes_met (all_of w.blocks)))
 some_first : (w : World) (c : Option Command) → (outcome : Outcome World) × MayDoFirst w c outcome
 some_first w None = some_within w None
 some_first w (Some (command.Ring nodes replicas)) = some_within w (Some (command.Ring nodes replicas))
-some_first w (Some (command.Log log id seed)) = some_within w (Some (command.Log log id seed))
+some_first w (Some (command.Log log id seed sets)) = some_within w (Some (command.Log log id seed sets))
 some_first w (Some (command.View view members former)) = some_within w (Some (command.View view members former))
 some_first w (Some (command.Use log view)) = some_within w (Some (command.Use log view))
 some_first w (Some (command.At sec nsec)) = some_within w (Some (command.At sec nsec))
@@ -97,7 +97,7 @@ cases_within w c outcome does = cases_of_both w c outcome (nat_lt most_bytes (by
 pub cases_of : (w : World) (c : Option Command) (outcome : Outcome World) → MayDoFirst w c outcome → Cases w c outcome
 cases_of w None outcome does = cases_within w None outcome does
 cases_of w (Some (command.Ring nodes replicas)) outcome does = cases_within w (Some (command.Ring nodes replicas)) outcome does
-cases_of w (Some (command.Log log id seed)) outcome does = cases_within w (Some (command.Log log id seed)) outcome does
+cases_of w (Some (command.Log log id seed sets)) outcome does = cases_within w (Some (command.Log log id seed sets)) outcome does
 cases_of w (Some (command.View view members former)) outcome does = cases_within w (Some (command.View view members former)) outcome does
 cases_of w (Some (command.Use log view)) outcome does = cases_within w (Some (command.Use log view)) outcome does
 cases_of w (Some (command.At sec nsec)) outcome does = cases_within w (Some (command.At sec nsec)) outcome does
@@ -192,7 +192,7 @@ module _ (w : World) (line : List ℕ) where
 
   told_command : (c : Command) (o : Outcome World) → Does w c o → IsTold o
   told_command (command.Ring nodes replicas) o does = subst IsTold (sym does) (told_if _ _)
-  told_command (command.Log log id seed) o does = subst IsTold (sym does) (told_if _ _)
+  told_command (command.Log log id seed sets) o does = subst IsTold (sym does) (told_if _ _)
   told_command (command.View view members former) o does =
       subst IsTold (sym does) (told_either (is_some (view_named w view)) Refuses (view_by w view (keys_of w members) (keys_of w former)) (inl tt) (told_of_keys view (keys_of w members) (keys_of w former)))
   told_command (command.Use log view) o does = subst IsTold (sym does) (told_entering (participant w log) (view_named w view))
@@ -249,7 +249,7 @@ module _ (w : World) (apart : NamesTellApart w.blocks.found) (line : List ℕ) w
 
   same_command : (c : Command) (o p : Outcome World) → Does w c o → Does w c p → HasMemory w line o → HasMemory w line p → o ≡ p
   same_command (command.Ring nodes replicas) o p does does_p enough enough_p = does ∙ sym does_p
-  same_command (command.Log log id seed) o p does does_p enough enough_p = does ∙ sym does_p
+  same_command (command.Log log id seed sets) o p does does_p enough enough_p = does ∙ sym does_p
   same_command (command.View view members former) o p does does_p enough enough_p = does ∙ sym does_p
   same_command (command.Use log view) o p does does_p enough enough_p = does ∙ sym does_p
   same_command (command.At sec nsec) o p does does_p enough enough_p = does ∙ sym does_p
@@ -273,7 +273,7 @@ module _ (w : World) (apart : NamesTellApart w.blocks.found) (line : List ℕ) w
   same_first : (c : Option Command) (o p : Outcome World) → MayDoFirst w c o → MayDoFirst w c p → HasMemory w line o → HasMemory w line p → o ≡ p
   same_first None o p does does_p enough enough_p = same_within None o p does does_p enough enough_p
   same_first (Some (command.Ring nodes replicas)) o p does does_p enough enough_p = same_within (Some (command.Ring nodes replicas)) o p does does_p enough enough_p
-  same_first (Some (command.Log log id seed)) o p does does_p enough enough_p = same_within (Some (command.Log log id seed)) o p does does_p enough enough_p
+  same_first (Some (command.Log log id seed sets)) o p does does_p enough enough_p = same_within (Some (command.Log log id seed sets)) o p does does_p enough enough_p
   same_first (Some (command.View view members former)) o p does does_p enough enough_p = same_within (Some (command.View view members former)) o p does does_p enough enough_p
   same_first (Some (command.Use log view)) o p does does_p enough enough_p = same_within (Some (command.Use log view)) o p does does_p enough enough_p
   same_first (Some (command.At sec nsec)) o p does does_p enough enough_p = same_within (Some (command.At sec nsec)) o p does does_p enough enough_p

@@ -1,6 +1,8 @@
 -- Lines and what they are, computed from the definition.
 use Rattle.std.proofs.Common.{◌≡◌, [], ◌∷◌, ◌++◌, replicate, codes, Some, None, refl}
 use Rattle.hex.proofs.OnLiterals.{hex_on_literals}
+use Rattle.hash_signature_model.specs.declared.set.Width.TheVariants.{W4, W8}
+use Rattle.hash_signature_model.specs.declared.set.Height.TheVariants.{H5, H10}
 use Rattle.play_model.specs.Script.{command_of}
 use Rattle.play_model.specs.declared.command.Piece.TheVariants.{Call, Root, HandleOf, VerifierOf, Text, Opaque, Mode, Word, DoubleWord, Raw}
 use Rattle.play_model.specs.declared.command.Command.TheVariants as command
@@ -9,9 +11,18 @@ ring : command_of (codes "ring 1 1") ≡ Some (command.Ring 1 1)
 unfolding command_of
 ring = refl
 
-log : command_of (codes "log a 1 aa w4h5") ≡ Some (command.Log (codes "a") (replicate 15 0 ++ 1 ∷ []) (replicate 31 0 ++ 170 ∷ []))
+log : command_of (codes "log a 1 aa w4h5") ≡ Some (command.Log (codes "a") (replicate 15 0 ++ 1 ∷ []) (replicate 31 0 ++ 170 ∷ []) (record { w = W4; h = H5 } ∷ []))
 unfolding command_of hex_on_literals
 log = refl
+
+log_of_three : command_of (codes "log a 1 aa w8h10,w4h10,w8h5")
+    ≡ Some (command.Log (codes "a") (replicate 15 0 ++ 1 ∷ []) (replicate 31 0 ++ 170 ∷ []) (record { w = W8; h = H10 } ∷ record { w = W4; h = H10 } ∷ record { w = W8; h = H5 } ∷ []))
+unfolding command_of hex_on_literals
+log_of_three = refl
+
+no_log_of_four : command_of (codes "log a 1 aa w4h5,w4h5,w4h5,w4h5") ≡ None
+unfolding command_of hex_on_literals
+no_log_of_four = refl
 
 view : command_of (codes "view v a") ≡ Some (command.View (codes "v") (codes "a" ∷ []) [])
 unfolding command_of

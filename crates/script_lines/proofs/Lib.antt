@@ -6,4 +6,5 @@ pub mod LineLemmas
 mod NameLemmas
 pub mod NumberLaws
 mod PieceLemmas
+mod SetLemmas
 pub mod WordLaws

@@ -7,7 +7,7 @@ use crate::hex_digits::{identifier, seed};
 use crate::names::{name, names};
 use crate::numbers::number_u64;
 use crate::pieces::pieces;
-use crate::sets::names_sets;
+use crate::sets::key_sets;
 use crate::words::parts;
 use ivy_base::{Bytes, Memory};
 use play_model::{Command, Names};
@@ -39,11 +39,15 @@ fn log(alloc: Global, words: &[&[u8]]) -> Result<Option<Command>, Memory>
     let (Some(log), Some(id), Some(seed)) = (name(log), identifier(id), seed(key_seed)) else {
         return Ok(None);
     };
-    if !names_sets(alloc, sets)? {
+    let Some(sets) = key_sets(alloc, sets)? else {
         return Ok(None);
-    }
-    let log = Bytes::copy_of(alloc, log)?;
-    Ok(Some(Command::Log { log, id, seed }))
+    };
+    Ok(Some(Command::Log {
+        log: Bytes::copy_of(alloc, log)?,
+        id,
+        seed,
+        sets,
+    }))
 }
 
 /// `view V M` and `view V M F`, of the words behind the first. The error is want of memory.

@@ -1,37 +1,57 @@
 //! The parameter sets of a key.
 
 ghost use Rattle.std.specs.Prelude.{◌≡◌, IfOk, map};
-ghost use Rattle.std.specs.List.{list_all};
-ghost use Rattle.play_model.specs.Script.{is_set, are_sets};
+ghost use Rattle.play_model.specs.Script.{set_of, each_set, sets_of};
 
 use crate::words::parts;
+use hash_signature_model::{Height, Set, Width};
 use ivy_base::Memory;
+use play_model::Sets;
 use std::alloc::Global;
 
 /// The most levels of a key.
 const LEVEL_LIMIT: usize = 3;
 
-/// Whether the word names a parameter set.
-fn names_set(word: &[u8]) -> bool
-    ensures { result ≡ is_set word.now }
+/// The parameter set that the word names, if it names one.
+fn named_set(word: &[u8]) -> Option<Set>
+    ensures { result ≡ set_of word.now }
 {
-    word == b"w4h5".as_slice()
-        || word == b"w4h10".as_slice()
-        || word == b"w8h5".as_slice()
-        || word == b"w8h10".as_slice()
+    let (w, h) = if word == b"w4h5".as_slice() {
+        (Width::W4, Height::H5)
+    } else if word == b"w4h10".as_slice() {
+        (Width::W4, Height::H10)
+    } else if word == b"w8h5".as_slice() {
+        (Width::W8, Height::H5)
+    } else if word == b"w8h10".as_slice() {
+        (Width::W8, Height::H10)
+    } else {
+        return None;
+    };
+    Some(Set { w, h })
 }
 
-/// Whether each of the words names a parameter set.
-fn all_name_sets(words: &[&[u8]]) -> bool
-    ensures { result ≡ list_all is_set (map (λ word. word.now) words.now) }
+/// The sets that these words name, if each names one. The error is want of memory.
+fn all_sets(alloc: Global, words: &[&[u8]]) -> Result<Option<Sets>, Memory>
+    ensures { IfOk result (λ sets. sets ≡ each_set (map (λ word. word.now) words.now)) }
 {
-    words.iter().all(|word| names_set(word))
+    let mut sets = Vec::new(alloc);
+    for word in words {
+        let Some(set) = named_set(word) else {
+            return Ok(None);
+        };
+        sets.push(set)?;
+    }
+    Ok(Some(Sets::of(sets)))
 }
 
-/// Whether the word names one to three parameter sets, joined by commas. The error is want of memory.
-pub fn names_sets(alloc: Global, word: &[u8]) -> Result<bool, Memory>
-    ensures { IfOk result (λ answer. answer ≡ are_sets word.now) }
+/// The sets that a word names, the top level's first, if it is one to three names of sets joined by commas. The error is
+/// want of memory.
+pub fn key_sets(alloc: Global, word: &[u8]) -> Result<Option<Sets>, Memory>
+    ensures { IfOk result (λ sets. sets ≡ sets_of word.now) }
 {
-    let sets = parts(alloc, word, b',')?;
-    Ok(sets.len() <= LEVEL_LIMIT && all_name_sets(&sets))
+    let words = parts(alloc, word, b',')?;
+    if words.len() > LEVEL_LIMIT {
+        return Ok(None);
+    }
+    all_sets(alloc, &words)
 }

@@ -45,29 +45,20 @@ impl World {
         let Some((place, message)) = self.sending(alloc, log, pieces)? else {
             return Ok(Taken::Refused);
         };
-        let own = *self.agents[place].own();
-        let answered = answer_message(
+        let Answered {
+            reply,
+            left,
+            blocks,
+            head,
+        } = answer_message(
             alloc,
             &mut self.agents[place],
             self.blocks.found(),
             &self.heads,
             message.as_slice(),
             self.now,
-        );
-        let Answered {
-            reply,
-            left,
-            blocks,
-            newest,
-        } = match answered {
-            Ok(answered) => answered,
-            Err(memory) => {
-                // The participant is of no more use after it, and neither is the world.
-                self.agents.clear();
-                return Err(memory);
-            }
-        };
-        self.publish(alloc, &own, blocks, newest)?;
+        )?;
+        self.publish(alloc, blocks, head)?;
         self.count(&reply, left)?;
         Ok(Taken::Went(shown_reply(alloc, reply)?))
     }

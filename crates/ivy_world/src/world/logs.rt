@@ -5,25 +5,16 @@ ghost use Rattle.std.specs.Ordering.{eq_by_cmp};
 ghost use Rattle.std.specs.Str.{bytes_eq};
 ghost use Rattle.ivy_base.specs.Naming.{owner_cmp};
 ghost use Rattle.script_driver.specs.Machine.{outcome_told};
-ghost use Rattle.play_model.specs.World.{log_line, participant, plain_key};
+ghost use Rattle.hss_keys.specs.Saved.{AreLevels};
+ghost use Rattle.play_model.specs.World.{log_line, participant};
 
 use super::World;
+use hash_signature_model::Set;
+use hss_keys::Hss;
 use ivy_base::{Bytes, Memory, PubKey};
-use log_agent::Agent;
+use log_agent::{Agent, Opened};
 use script_driver::Taken;
 use std::alloc::Global;
-use turn_records::Before;
-
-/// The plain public key of an identifier and a seed, until keys are those of a signature scheme: the 16 and the 32
-/// bytes, and twelve zeros.
-fn plain_key(id: &[u8; 16], seed: &[u8; 32]) -> PubKey
-    ensures { result ≡ plain_key id.now seed.now }
-{
-    let mut key = [0; 60];
-    key[..16].copy_from_slice(id);
-    key[16..48].copy_from_slice(seed);
-    PubKey(key)
-}
 
 /// Whether the keys are one.
 pub(super) fn is_same(a: &PubKey, b: &PubKey) -> bool
@@ -47,28 +38,26 @@ impl World {
         self.agents.iter().position(|agent| agent.name() == name)
     }
 
-    /// `log P ID SEED SETS`: a log, whose owner publishes its opening record. The error is want of memory.
+    /// `log P ID SEED SETS`: a log of the key that these give, whose opening record is published. The error is want of memory.
     pub(super) fn make_log(
         &mut self,
         alloc: Global,
         name: Bytes,
         id: &[u8; 16],
         seed: &[u8; 32],
+        sets: &[Set],
     ) -> Result<Taken, Memory>
-        ensures { IfOk result (λ taken. outcome_told taken self.new ≡ log_line self.old name id.now seed.now) }
+        requires { AreLevels sets.now }
+        ensures { IfOk result (λ taken. outcome_told taken self.new ≡ log_line self.old name id.now seed.now sets.now) }
     {
         if !self.has_ring || self.participant(name.as_slice()).is_some() {
             return Ok(Taken::Refused);
         }
-        let own = plain_key(id, seed);
-        let (agent, opening) = Agent::create(alloc, name, own, self.now)?;
-        let newest = Before {
-            seq: 1,
-            name: opening.name(),
-        };
-        let blocks = vec![in alloc; opening]?;
+        let signer = Hss::grow(alloc, id, seed, sets)?;
+        let Opened { agent, block, head } = Agent::create(alloc, name, signer, self.now)?;
+        let blocks = vec![in alloc; block]?;
         self.agents.push(agent)?;
-        self.publish(alloc, &own, blocks, Some(newest))?;
+        self.publish(alloc, blocks, Some(head))?;
         Ok(Taken::Went(Vec::new(alloc)))
     }
 }

@@ -1,17 +1,14 @@
 //! What participants publish.
 
-ghost use Rattle.std.specs.Prelude.{◌≡◌, OnOk, option_map};
+ghost use Rattle.std.specs.Prelude.{◌≡◌, OnOk};
 ghost use Rattle.candidate_laws.specs.Verified.{AreAmong};
-ghost use Rattle.log_agent.specs.Turns.{stamp_of};
 ghost use Rattle.play_model.specs.Blocks.{meets_all};
 ghost use Rattle.ivy_world.specs.Worlds.{with_published};
 
 use super::World;
-use block_map::{Block, Met};
-use ivy_base::{Bytes, Memory, PubKey};
-use log_records::plain_head;
+use block_map::{Block, Met, SignedHead};
+use ivy_base::{Bytes, Memory};
 use std::alloc::Global;
-use turn_records::Before;
 
 /// Meets each of the blocks, in their order. The error is want of memory, and then some of them may have been met.
 fn meet_all(met: &mut Met, blocks: Vec<Block>) -> Result<(), Memory>
@@ -25,23 +22,22 @@ fn meet_all(met: &mut Met, blocks: Vec<Block>) -> Result<(), Memory>
 }
 
 impl World {
-    /// The owner publishes the blocks of records that it wrote, and its head over the newest of them. The error is want of
-    /// memory, and then some of this may be done.
+    /// Publishes the blocks of records, and the head over the newest of them. The error is want of memory, and then some of
+    /// this may be done.
     pub(super) fn publish(
         &mut self,
         alloc: Global,
-        owner: &PubKey,
         blocks: Vec<Block>,
-        newest: Option<Before>,
+        head: Option<SignedHead>,
     ) -> Result<(), Memory>
-        ensures { OnOk result (self.new ≡ with_published self.old owner.now blocks.items (option_map stamp_of newest)) }
+        ensures { OnOk result (self.new ≡ with_published self.old blocks.items head) }
     {
         meet_all(&mut self.blocks, blocks)?;
-        let Some(newest) = newest else {
+        let Some(head) = head else {
             return Ok(());
         };
-        let head = Block::of(plain_head(alloc, owner, newest.seq, &newest.name)?);
-        self.blocks.meet(head)?;
-        self.heads.put(alloc, owner, newest.seq, &newest.name)
+        let block = Bytes::copy_of(alloc, head.block())?;
+        self.blocks.meet(Block::of(block))?;
+        self.heads.put(head)
     }
 }

@@ -15,7 +15,6 @@ pub returns : goal.returns
 returns c =
     let sends = rw c.in-Some.is at c.in_ok-place.ensures in
     let at = found_at _ _ _ _ _ c.self.view_is sends.at c.index_mut.ensures.value in
-    let before = found_at _ _ _ _ _ c.self.view_is sends.at c.index.ensures in
     call_answered _ _ c.self.view_is _ _ _ _ _ _ _ _ _ _ _ c.self.invariant sends at c.found.ensures.found c.in-Ok.ensures.ok
-    _ _ c.own.result.now c.in_ok-shown_reply.field-0.items refl refl c.as_slice.ensures (c.own.ensures ∙ ap (λ (p : Participant). p.own) (some_is (sym before ∙ at)))
+    _ _ c.in_ok-shown_reply.field-0.items refl refl c.as_slice.ensures
     c.in_ok-publish.ensures c.in_ok-count.ensures c.in_ok-shown_reply.ensures
