@@ -1,7 +1,7 @@
 mod Answered
 mod Known
 mod NewlyKnown
-mod Opened
+mod Opening
 mod Seen
 mod Taken
 mod Turning
