@@ -16,7 +16,7 @@ use Rattle.world_model.specs.World.{World, peer_of}
 use Rattle.world_model.specs.Ring.{RingLine, live_in_order, stop_line}
 use Rattle.world_model.specs.Rounds.{EachDoes, ManyDo, Forgets, Stabilises, FixesFrom, IsRoundOf, Repairs}
 use Rattle.round_laws.specs.Holding.{AreStores, EachTaken, Tells, rank_in}
-use Rattle.round_laws.specs.RingOf.{AreNodes, BeforesLive, IsSettledIn, LosesNone, Stop, links_in, lives_in}
+use Rattle.round_laws.specs.RingOf.{AreNodes, BeforesLive, IsCoveredIn, IsSettledIn, LosesNone, Stop, links_in, lives_in}
 
 -- ---- whatever is lost
 
@@ -38,6 +38,10 @@ RingLineSettles = (w next : World) (count r : ℕ) (output : List ℕ) → RingL
 abbrev pub StopLineStops : Type 0
 StopLineStops = (r : ℕ) (w next : World) (n : Node) (output : List ℕ) → AreNodes r w → IsAmong n w.nodes → stop_line w (Some n) ≡ Goes next output
     → AreNodes r next × (links_in next ≡ links_in w) × (lives_in w (peer_of n) ≡ true) × (lives_in next (peer_of n) ≡ false) × ((q : Peer) → (q ≡ peer_of n → ⊥) → lives_in next q ≡ lives_in w q)
+
+-- After fewer than r lines that stop nodes a settled ring is covered.
+abbrev pub StopLinesLeaveCovered : Type 0
+StopLinesLeaveCovered = (r k : ℕ) (v w : World) → IsSettledIn v r → AreNodes r v → Stop v k w → k < r → IsCoveredIn w r × AreNodes r w
 
 -- ---- where nothing is lost
 

@@ -10,7 +10,7 @@
 //! hold, and when puts are taken); the laws: `specs/Laws.antt`.
 #![tactic(auto)]
 
-ghost use Rattle.round_laws.specs.Laws.{BlocksMove, FingersAreFixed, FirstPartForgets, PassesArePasses, RingLineSettles, RoundIsRound, RoundLeavesTheRest, RoundLeavesWhoLives, RoundMendsJoin, RoundMendsSince, RoundMendsStopLines, RoundMendsStops, RoundMovesBlocks, StopLineStops};
+ghost use Rattle.round_laws.specs.Laws.{BlocksMove, FingersAreFixed, FirstPartForgets, PassesArePasses, RingLineSettles, RoundIsRound, RoundLeavesTheRest, RoundLeavesWhoLives, RoundMendsJoin, RoundMendsSince, RoundMendsStopLines, RoundMendsStops, RoundMovesBlocks, StopLineStops, StopLinesLeaveCovered};
 
 /// Laws and no code: whatever is lost, a round changes nothing but nodes and the count of asks; who lives, who stands
 /// where, and that nodes know of made nodes alone stay.
@@ -33,9 +33,11 @@ pub fn ring_lines_settle()
     ensures { RingLineSettles }
 {}
 
-/// A law and no code: a line that stops a node changes nothing that nodes know, nor whether another one lives.
+/// Laws and no code: a line that stops a node changes nothing that nodes know, nor whether another one lives; and after
+/// fewer than r of them a settled ring is covered.
 pub fn stop_lines_stop()
-    ensures { StopLineStops }
+    ensures line { StopLineStops }
+    ensures covered { StopLinesLeaveCovered }
 {}
 
 /// Laws and no code: a ring that was settled is settled again after a round without losses, where fewer than r of its
