@@ -74,25 +74,25 @@ one_number (x ∷ xs) (y ∷ ys) l a b e =
     λ i. d.0 i ∷ one_number xs ys size (λ j. a (suc j)) (λ j. b (suc j)) d.1 i
 
 -- the peer has the identifier of its number
-abbrev IsNamed : Peer → Type 0
+abbrev pub IsNamed : Peer → Type 0
 IsNamed p = p.id ≡ node_id_of p.number
 
 bytes_of : (p : Peer) → IsNamed p → AreBytes p.id.0 × (length p.id.0 ≡ 20)
 bytes_of p e = subst (λ (k : Key). AreBytes k.0 × (length k.0 ≡ 20)) (sym e) (byte_of_name (codes "node-" ++ decimal p.number), length-name (codes "node-" ++ decimal p.number))
 
-one_id : (p q : Peer) → IsNamed p → IsNamed q → place p ≡ place q → p.id ≡ q.id
+pub one_id : (p q : Peer) → IsNamed p → IsNamed q → place p ≡ place q → p.id ≡ q.id
 one_id p q e f s =
     let a = bytes_of p e in
     let c = bytes_of q f in
     let same = one_number p.id.0 q.id.0 (a.1 ∙ sym c.1) a.0 c.0 s in
     λ i. record { 0 = same i }
 
-within_turn : (p : Peer) → IsNamed p → place p < 2 ^ 160
+pub within_turn : (p : Peer) → IsNamed p → place p < 2 ^ 160
 within_turn p e = let a = bytes_of p e in let l = be_number_below p.id.0 a.0 in subst (λ n. place p < 256 ^ n) a.1 l
 
 -- ---- the first peers
 
-is_known : (peers : List Peer) (p q : Peer) → is_known_id peers p ≡ false → IsAmong q peers → q.id ≡ p.id → ⊥
+pub is_known : (peers : List Peer) (p q : Peer) → is_known_id peers p ≡ false → IsAmong q peers → q.id ≡ p.id → ⊥
 is_known [] p q k i e = elim i [ ]
 is_known (x ∷ peers) p q k (inl s) e = let t = ties x.id p.id (ap (λ (y : Peer). y.id) s ∙ e) in first_fails (eq_by_cmp key_cmp x.id p.id) (is_known_id peers p) t k
   where
@@ -113,7 +113,7 @@ all_named (suc n) q i = by (is_known_id (first_peers n) (peer_numbered n)) i (λ
     by true i earlier = earlier i
     by false i earlier = ⊎_elim (λ j. earlier j) (λ j. ⊎_elim (λ e. subst IsNamed e refl) (λ n. elim n [ ]) j) (among-cases q (first_peers n) (peer_numbered n ∷ []) i)
 
-apart_with : (ps : List Peer) (p : Peer) → AreApart ps → ((q : Peer) → IsAmong q ps → place q ≡ place p → ⊥) → AreApart (ps ++ p ∷ [])
+pub apart_with : (ps : List Peer) (p : Peer) → AreApart ps → ((q : Peer) → IsAmong q ps → place q ≡ place p → ⊥) → AreApart (ps ++ p ∷ [])
 apart_with [] p a d = (tt, tt)
 apart_with (q ∷ ps) p a d = (all_from (λ z. place q ≡ place z → ⊥) (ps ++ p ∷ []) (λ z i. ⊎_elim (λ j. all-among (λ z. place q ≡ place z → ⊥) z ps a.0 j) (λ j. ⊎_elim (λ e s. d q (inl refl) (s ∙ ap place (sym e))) (λ n. elim n [ ]) j) (among-cases z ps (p ∷ []) i)), apart_with ps p a.1 (λ z i. d z (inr i)))
 
@@ -267,7 +267,7 @@ ring_line_settles w next count r output line =
     let m = made_by_line w next count r output (Goes next output) line refl in
     let size : length (map peer_of next.nodes) ≤ count = subst (λ l. length l ≤ count) (sym (peers w next count r m)) (few_peers count) in
     let same = length_map next.nodes in
-    (nodes_are w next count r m, is_settled w next count r m, omega (arith, size, same, m.few), holds_nothing w next count r m)
+    (nodes_are w next count r m, is_settled w next count r m, omega (arith, size, same, m.few), holds_nothing w next count r m, all_from (λ p. p.id ≡ node_id_of p.number) (map peer_of next.nodes) (λ p i. all_named count p (subst (IsAmong p) (peers w next count r m) i)))
   where
     length_map : (nodes : List Node) → length (map peer_of nodes) ≡ length nodes
     length_map [] = refl

@@ -160,6 +160,7 @@ leaves_who_lives judged r w next h x =
       nodes_of r (shapes_of w) w.lost w.asked w.asked next b f.within,
       lives_are judged r (shapes_of w) w.lost w.asked w.asked b next f.within ∙ sym (lives_are judged r (shapes_of w) w.lost w.asked w.asked b w (within_of r w h)),
       order_shape next ∙ ap order_by f.within.shapes ∙ sym (order_shape w),
+      made_shape next.nodes ∙ ap made_by f.within.shapes ∙ sym (made_shape w.nodes),
     )
 
 pub round_is_round : RoundIsRound

@@ -88,6 +88,7 @@ stop_line_stops r w next n output h i e =
       ap (λ (o : Option Node). option_map_or (λ m. m.is_live) o false) (node_is w (peer_of n) n here refl) ∙ s.0,
       ap (λ (v : World). lives_in v (peer_of n)) s.1 ∙ ap (λ (o : Option Node). option_map_or (λ m. m.is_live) o false) (node_here w (peer_of n) n now here refl),
       λ q d. ap (λ (v : World). lives_in v q) s.1 ∙ ap (λ (o : Option Node). option_map_or (λ m. m.is_live) o false) (node_other w (peer_of n) q n now here refl refl d),
+      peers_by next.nodes ∙ ap (map (λ (s : State). s.me)) rings ∙ sym (peers_by w.nodes),
     )
 
 -- ---- several
