@@ -10,7 +10,7 @@ use Rattle.ring_model.specs.Members.{IsAmong, IsAscending, following, is_other}
 use Rattle.ring_model.specs.Ring.{Links, IsSettledRing}
 use Rattle.ring_model.specs.Lookup.{AreNames}
 use Rattle.ring_model.specs.Change.{IsJoin}
-use Rattle.ring_model.proofs.Lists.{all-among, all-both, all_from, all_weaker, among-cases, among-left, among-right, among_filter, among_filtered, filter_all, none_some, some_same}
+use Rattle.ring_model.proofs.Lists.{all-among, all-both, all_from, all_weaker, among-cases, among-left, among-right, among_filter, among_filtered, among_take, filter_all, none_some, some_same}
 use Rattle.ring_model.proofs.Members.{among_live, ascending_filter}
 use Rattle.ring_model.proofs.Settled.{join_finds}
 use Rattle.dht_ids.specs.Asked.{routes}
@@ -24,8 +24,8 @@ use Rattle.world_model.specs.Nodes.{Node}
 use Rattle.world_model.specs.World.{World, live_peers, node_at, peer_of}
 use Rattle.world_model.specs.Ring.{JoinLine, LooksUp, empty_node, is_known_id, joined_node, least, live_in_order, peer_numbered, with_new_node}
 use Rattle.round_laws.specs.RingOf.{AreApart, AreNamed, AreNodes, IsSettledIn, KnowsOnly, LosesNone, links_in, lives_in}
-use Rattle.round_laws.proofs.Nodes.{at, at_here, at_later, links_at, made_shape, same_or_not, same_place, shape}
-use Rattle.round_laws.proofs.Order.{same_lists}
+use Rattle.round_laws.proofs.Nodes.{at, at_here, at_later, links_at, lives_shape, made_shape, same_or_not, same_place, shape}
+use Rattle.round_laws.proofs.Order.{among_fold, lives_made, same_lists}
 use Rattle.round_laws.proofs.Standing.{IsBase, IsWithin}
 use Rattle.round_laws.proofs.Ringing.{IsNamed, apart_with, is_known, one_id, within_turn}
 use Rattle.round_laws.proofs.Owning.{passes}
@@ -120,3 +120,91 @@ module _ (r : ℕ) (w next : World) (x : Peer) (n : Node) (a : Added r w next x 
 
   old_lives : (p : Peer) → IsAmong p (map peer_of w.nodes) → lives_in next p ≡ lives_in w p
   old_lives p i = let o = old p i in live_of next p o.node (old_at p o.node o.at) o.me ∙ sym (live_of w p o.node o.at o.me)
+
+  made_if : (v : World) (p : Peer) → lives_in v p ≡ true → IsAmong p (map peer_of v.nodes)
+  made_if v p l = subst (IsAmong p) (sym (made_shape v.nodes)) (lives_made (map shape v.nodes) p (sym (λ i. lives_shape v i p) ∙ l))
+
+  elsewhere : (m : Peer) → (place m ≡ place x → ⊥) → is_other place x m ≡ true
+  elsewhere m d = by (nat_eq (place m) (place x)) refl
+    where
+      by : (t : Bool) → nat_eq (place m) (place x) ≡ t → not (nat_eq (place m) (place x)) ≡ true
+      by true e = absurd (d (eqb-true (place m) (place x) e))
+      by false e = ap not e
+
+  away : (m : Peer) → is_other place x m ≡ true → place m ≡ place x → ⊥
+  away m t s = by (nat_eq (place m) (place x)) (eq-eqb (place m) (place x) s) t
+    where
+      by : (u : Bool) → u ≡ true → not u ≡ true → ⊥
+      by true e f = cc
+      by false e f = cc
+
+  others_are : filter (is_other place x) (live_in_order next) ≡ live_in_order w
+  others_are = same_lists (filter (is_other place x) (live_in_order next)) (live_in_order w) (ascending_filter place (is_other place x) (live_in_order next) (order_ascending r next nodes_then)) (order_ascending r w a.nodes)
+      (λ m i.
+      let l = in_order r next m nodes_then (among_filtered (is_other place x) m (live_in_order next) i) in
+      let d = away m (passes (is_other place x) m (live_in_order next) i) in
+      ⊎_elim
+      (λ j. order_in r w m a.nodes (sym (old_lives m j) ∙ l))
+      (λ j. ⊎_elim (λ e. absurd (d (ap place (sym e)))) (λ n. elim n [ ]) j)
+      (among-cases m (map peer_of w.nodes) (x ∷ []) (subst (IsAmong m) peers (made_if next m l))))
+      (λ m i.
+      let l = in_order r w m a.nodes i in
+      let j = made_if w m l in
+      among_filter (is_other place x) m (live_in_order next) (order_in r next m nodes_then (old_lives m j ∙ l)) (elsewhere m (a.free m j)))
+
+  joined : IsSettledIn w r → n.ring.links.list ≡ take (2 * r) (following place (live_in_order next) x) → n.ring.links.fingers ≡ replicate 160 x → IsJoin place r 160 (live_in_order next) (lives_in next) x (links_in next)
+  joined s list fingers =
+      let new_links : links_in next x ≡ n.ring.links = links_at next x n new_at a.me in
+      let member : IsAmong x (live_in_order next) = order_in r next x nodes_then (live_of next x n new_at a.me ∙ a.live) in
+      let old_of : (m : Peer) → IsAmong m (live_in_order w) → links_in next m ≡ links_in w m = λ m i. old_links m (made_if w m (in_order r w m a.nodes i)) in
+      let before : IsSettledRing place r 160 (live_in_order w) (lives_in w) (links_in next) = record {
+        positive = s.positive;
+        ascending = s.ascending;
+        within = s.within;
+        living = s.living;
+        lives_all = s.lives_all;
+        lists = λ m i. (λ j. (old_of m i j).list) ∙ s.lists m i;
+        sized = λ m i. (λ j. length (old_of m i j).fingers) ∙ s.sized m i;
+        fingers = λ m k i l. (λ j. Some (get_or (old_of m i j).fingers k m)) ∙ s.fingers m k i l;
+      } in
+      record {
+        lived = lives_in w;
+        settled = subst (λ l. IsSettledRing place r 160 l (lives_in w) (links_in next)) (sym others_are) before;
+        ascending = order_ascending r next nodes_then;
+        living = λ m l. order_in r next m nodes_then l;
+        lives_all = λ m i. in_order r next m nodes_then i;
+        member = member;
+        within = within_turn x a.name;
+        list = (λ i. (new_links i).list) ∙ list;
+        sized = (λ i. length (new_links i).fingers) ∙ ap length fingers ∙ length_replicated x 160;
+        fingers = λ m i. all-among (λ q. IsAmong q (live_in_order next)) m (links_in next x).fingers
+            (subst (AllByRecursion (λ q. IsAmong q (live_in_order next))) (sym ((λ j. (new_links j).fingers) ∙ fingers)) (all_replicated (λ q. IsAmong q (live_in_order next)) x 160 member)) i;
+      }
+
+  -- what the new node adopts of the members behind it
+  adopts : take (2 * r) (filter (is_other place x) (take (2 * r) (following place (live_in_order next) x))) ≡ take (2 * r) (following place (live_in_order next) x)
+  adopts =
+      let all : List Peer = take (2 * r) (following place (live_in_order next) x) in
+      ap (take (2 * r)) (filter_all (is_other place x) all (all_from (λ m. is_other place x m ≡ true) all (λ m i. elsewhere m (behind m (among_take (2 * r) m (following place (live_in_order next) x) i)))))
+      ∙ take-take (2 * r) (2 * r) (following place (live_in_order next) x) (le_refl (2 * r))
+    where
+      behind : (m : Peer) → IsAmong m (following place (live_in_order next) x) → place m ≡ place x → ⊥
+      behind m i s = ⊎_elim
+          (λ j. let l = ltb-true (place x) (place m) (passes (λ y. nat_lt (place x) (place y)) m (live_in_order next) j) in absurd (omega (arith, l, s)))
+          (λ j. let l = ltb-true (place m) (place x) (passes (λ y. nat_lt (place y) (place x)) m (live_in_order next) j) in absurd (omega (arith, l, s)))
+          (among-cases m (filter (λ y. nat_lt (place x) (place y)) (live_in_order next)) (filter (λ y. nat_lt (place y) (place x)) (live_in_order next)) i)
+
+  -- nobody lived before
+  nobody_behind : live_in_order w ≡ [] → following place (live_in_order next) x ≡ []
+  nobody_behind e = empty (following place (live_in_order next) x) (λ m i.
+      subst (IsAmong m) (others_are ∙ e) (among_filter (is_other place x) m (live_in_order next) (among_live place (live_in_order next) x m i) (elsewhere m (apart m i))))
+    where
+      empty : (l : List Peer) → ((m : Peer) → IsAmong m l → ⊥) → l ≡ []
+      empty [] h = refl
+      empty (m ∷ l) h = absurd (h m (inl refl))
+
+      apart : (m : Peer) → IsAmong m (following place (live_in_order next) x) → place m ≡ place x → ⊥
+      apart m i s = ⊎_elim
+          (λ j. let l = ltb-true (place x) (place m) (passes (λ y. nat_lt (place x) (place y)) m (live_in_order next) j) in absurd (omega (arith, l, s)))
+          (λ j. let l = ltb-true (place m) (place x) (passes (λ y. nat_lt (place y) (place x)) m (live_in_order next) j) in absurd (omega (arith, l, s)))
+          (among-cases m (filter (λ y. nat_lt (place x) (place y)) (live_in_order next)) (filter (λ y. nat_lt (place y) (place x)) (live_in_order next)) i)
