@@ -22,7 +22,7 @@ use Rattle.chord_core.specs.State.{adopted, alone_node}
 use Rattle.script_driver.specs.Run.{Outcome, Goes, Ends, Refuses, Exceeds}
 use Rattle.world_model.specs.Nodes.{Node}
 use Rattle.world_model.specs.World.{World, live_peers, node_at, peer_of}
-use Rattle.world_model.specs.Ring.{JoinLine, LooksUp, empty_node, is_known_id, joined_node, least, live_in_order, peer_numbered, with_new_node}
+use Rattle.world_model.specs.Ring.{JoinLine, LooksUp, empty_node, in_ring_order, is_known_id, joined_node, least, live_in_order, peer_numbered, with_new_node}
 use Rattle.round_laws.specs.RingOf.{AreApart, AreNamed, AreNodes, IsSettledIn, KnowsOnly, LosesNone, links_in, lives_in}
 use Rattle.round_laws.proofs.Nodes.{at, at_here, at_later, links_at, lives_shape, made_shape, same_or_not, same_place, shape}
 use Rattle.round_laws.proofs.Order.{among_fold, lives_made, same_lists}
@@ -181,30 +181,95 @@ module _ (r : ℕ) (w next : World) (x : Peer) (n : Node) (a : Added r w next x 
             (subst (AllByRecursion (λ q. IsAmong q (live_in_order next))) (sym ((λ j. (new_links j).fingers) ∙ fingers)) (all_replicated (λ q. IsAmong q (live_in_order next)) x 160 member)) i;
       }
 
+  -- those behind it stand elsewhere
+  behind : (m : Peer) → IsAmong m (following place (live_in_order next) x) → place m ≡ place x → ⊥
+  behind m i s = ⊎_elim
+      (λ j. let l = ltb-true (place x) (place m) (passes (λ y. nat_lt (place x) (place y)) m (live_in_order next) j) in absurd (omega (arith, l, s)))
+      (λ j. let l = ltb-true (place m) (place x) (passes (λ y. nat_lt (place y) (place x)) m (live_in_order next) j) in absurd (omega (arith, l, s)))
+      (among-cases m (filter (λ y. nat_lt (place x) (place y)) (live_in_order next)) (filter (λ y. nat_lt (place y) (place x)) (live_in_order next)) i)
+
   -- what the new node adopts of the members behind it
   adopts : take (2 * r) (filter (is_other place x) (take (2 * r) (following place (live_in_order next) x))) ≡ take (2 * r) (following place (live_in_order next) x)
   adopts =
       let all : List Peer = take (2 * r) (following place (live_in_order next) x) in
       ap (take (2 * r)) (filter_all (is_other place x) all (all_from (λ m. is_other place x m ≡ true) all (λ m i. elsewhere m (behind m (among_take (2 * r) m (following place (live_in_order next) x) i)))))
       ∙ take-take (2 * r) (2 * r) (following place (live_in_order next) x) (le_refl (2 * r))
-    where
-      behind : (m : Peer) → IsAmong m (following place (live_in_order next) x) → place m ≡ place x → ⊥
-      behind m i s = ⊎_elim
-          (λ j. let l = ltb-true (place x) (place m) (passes (λ y. nat_lt (place x) (place y)) m (live_in_order next) j) in absurd (omega (arith, l, s)))
-          (λ j. let l = ltb-true (place m) (place x) (passes (λ y. nat_lt (place y) (place x)) m (live_in_order next) j) in absurd (omega (arith, l, s)))
-          (among-cases m (filter (λ y. nat_lt (place x) (place y)) (live_in_order next)) (filter (λ y. nat_lt (place y) (place x)) (live_in_order next)) i)
 
   -- nobody lived before
   nobody_behind : live_in_order w ≡ [] → following place (live_in_order next) x ≡ []
   nobody_behind e = empty (following place (live_in_order next) x) (λ m i.
-      subst (IsAmong m) (others_are ∙ e) (among_filter (is_other place x) m (live_in_order next) (among_live place (live_in_order next) x m i) (elsewhere m (apart m i))))
+      subst (IsAmong m) (others_are ∙ e) (among_filter (is_other place x) m (live_in_order next) (among_live place (live_in_order next) x m i) (elsewhere m (behind m i))))
     where
       empty : (l : List Peer) → ((m : Peer) → IsAmong m l → ⊥) → l ≡ []
       empty [] h = refl
       empty (m ∷ l) h = absurd (h m (inl refl))
 
-      apart : (m : Peer) → IsAmong m (following place (live_in_order next) x) → place m ≡ place x → ⊥
-      apart m i s = ⊎_elim
-          (λ j. let l = ltb-true (place x) (place m) (passes (λ y. nat_lt (place x) (place y)) m (live_in_order next) j) in absurd (omega (arith, l, s)))
-          (λ j. let l = ltb-true (place m) (place x) (passes (λ y. nat_lt (place y) (place x)) m (live_in_order next) j) in absurd (omega (arith, l, s)))
-          (among-cases m (filter (λ y. nat_lt (place x) (place y)) (live_in_order next)) (filter (λ y. nat_lt (place y) (place x)) (live_in_order next)) i)
+-- ---- the line
+
+-- the least of some is one of them
+least_among : (ps : List Peer) (t : Peer) → least ps ≡ Some t → IsAmong t ps
+least_among [] t e = absurd (none_some t e)
+least_among (p ∷ ps) t e = subst (λ x. IsAmong x (p ∷ ps)) (some_same (fold smaller p ps) t e) (among_all p ps)
+  where
+    smaller : Peer → Peer → Peer
+    smaller q r = cond (nat_lt r.number q.number) r q
+
+    among_all : (q : Peer) (l : List Peer) → IsAmong (fold smaller q l) (q ∷ l)
+    among_all q [] = inl refl
+    among_all q (y ∷ l) = by (nat_lt y.number q.number) (λ z. among_all z l)
+      where
+        by : (t : Bool) → ((z : Peer) → IsAmong (fold smaller z l) (z ∷ l)) → IsAmong (fold smaller (cond t y q) l) (q ∷ y ∷ l)
+        by true f = inr (f y)
+        by false f = ⊎_elim (λ e. inl e) (λ i. inr (inr i)) (f q)
+
+none_least : (ps : List Peer) → least ps ≡ None → ps ≡ []
+none_least [] e = refl
+none_least (p ∷ ps) e = absurd cc
+
+goes_to : Outcome World → List Node
+goes_to (Goes v text) = v.nodes
+goes_to Ends = []
+goes_to Refuses = []
+goes_to Exceeds = []
+
+lost_to : Outcome World → ℕ
+lost_to (Goes v text) = v.asked
+lost_to Ends = 0
+lost_to Refuses = 0
+lost_to Exceeds = 0
+
+-- the place of a peer whose identifier isn't known is free
+is_free : (w : World) (x : Peer) → AreNamed (map peer_of w.nodes) → IsNamed x → is_known_id (map peer_of w.nodes) x ≡ false → (q : Peer) → IsAmong q (map peer_of w.nodes) → place q ≡ place x → ⊥
+is_free w x named name unknown q i s = is_known (map peer_of w.nodes) x q unknown i (one_id q x (all-among (λ (p : Peer). p.id ≡ node_id_of p.number) q (map peer_of w.nodes) named i) name s)
+
+pub record HasJoined (r number : ℕ) (next : World) : Type 0 where
+  pub join : IsJoin place r 160 (live_in_order next) (lives_in next) (peer_numbered number) (links_in next)
+  pub nodes : AreNodes r next
+  pub named : AreNamed (map peer_of next.nodes)
+
+join_alone : (r number : ℕ) (w next : World) → AreNodes r w → AreNamed (map peer_of w.nodes) → IsSettledIn w r → is_known_id (map peer_of w.nodes) (peer_numbered number) ≡ false → least (live_peers w) ≡ None
+    → next.nodes ≡ w.nodes ++ empty_node (alone_node (peer_numbered number) r) ∷ [] → HasJoined r number next
+join_alone r number w next h named settled unknown nobody is =
+    let x = peer_numbered number in
+    let n : Node = empty_node (alone_node x r) in
+    let a : Added r w next x n = record {
+      nodes = h;
+      named = named;
+      is = is;
+      me = refl;
+      live = refl;
+      replicas = refl;
+      free = is_free w x named refl unknown;
+      name = refl;
+      knows = record { list = tt; fingers = all_replicated (λ q. IsAmong q (map peer_of w.nodes ++ x ∷ [])) x 160 (among-right x (map peer_of w.nodes) (x ∷ []) (inl refl)); before = tt };
+    } in
+    let none = nobody_behind r w next x n a (ap in_ring_order (none_least (live_peers w) nobody)) in
+    record {
+      join = joined r w next x n a settled (sym (ap (take (2 * r)) none ∙ take_nothing (2 * r))) refl;
+      nodes = nodes_then r w next x n a;
+      named = named_then r w next x n a;
+    }
+  where
+    take_nothing : (k : ℕ) → take {A = Peer} k [] ≡ []
+    take_nothing zero = refl
+    take_nothing (suc k) = refl
