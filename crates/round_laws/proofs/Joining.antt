@@ -3,14 +3,14 @@ use Rattle.std.proofs.Common.{◌≡◌, ◌⊎◌, inl, inr, ⊎_elim, ℕ, zer
 use Rattle.std.specs.List.{AllByRecursion}
 use Rattle.std.specs.Option.{option_map_or}
 use Rattle.std.specs.Ordering.{eq_by_cmp}
-use Rattle.std.proofs.lemmas.Bool.{cond-false, eqb-true, eq-eqb, ltb-true}
+use Rattle.std.proofs.lemmas.Bool.{cases_lt, eqb-true, eq-eqb, lt-ltb, ltb-true}
 use Rattle.ivy_base.specs.declared.key.Key.{Key}
 use Rattle.ivy_base.specs.Naming.{key_cmp}
 use Rattle.ring_model.specs.Members.{IsAmong, IsAscending, following, is_other}
 use Rattle.ring_model.specs.Ring.{Links, IsSettledRing}
 use Rattle.ring_model.specs.Lookup.{AreNames}
 use Rattle.ring_model.specs.Change.{IsJoin}
-use Rattle.ring_model.proofs.Lists.{all-among, all-both, all_from, all_weaker, among-cases, among-left, among-right, among_filter, among_filtered, among_take, filter_all, none_some, some_same}
+use Rattle.ring_model.proofs.Lists.{all-among, all-both, all_from, all_weaker, among-cases, among-left, among-right, among_filter, among_filtered, among_take, filter_all, none_some, some_same, take_first}
 use Rattle.ring_model.proofs.Members.{among_live, ascending_filter}
 use Rattle.ring_model.proofs.Settled.{join_finds}
 use Rattle.dht_ids.specs.Asked.{routes}
@@ -22,14 +22,17 @@ use Rattle.chord_core.specs.State.{adopted, alone_node}
 use Rattle.script_driver.specs.Run.{Outcome, Goes, Ends, Refuses, Exceeds}
 use Rattle.world_model.specs.Nodes.{Node}
 use Rattle.world_model.specs.World.{World, live_peers, node_at, peer_of}
-use Rattle.world_model.specs.Ring.{JoinLine, LooksUp, empty_node, in_ring_order, is_known_id, joined_node, least, live_in_order, peer_numbered, with_new_node}
+use Rattle.world_model.specs.Ring.{FindsNobody, JoinLine, LooksUp, empty_node, in_ring_order, is_known_id, joined_node, least, live_in_order, peer_numbered, with_new_node}
 use Rattle.round_laws.specs.RingOf.{AreApart, AreNamed, AreNodes, IsSettledIn, KnowsOnly, LosesNone, links_in, lives_in}
-use Rattle.round_laws.proofs.Nodes.{at, at_here, at_later, links_at, lives_shape, made_shape, same_or_not, same_place, shape}
-use Rattle.round_laws.proofs.Order.{among_fold, lives_made, same_lists}
-use Rattle.round_laws.proofs.Standing.{IsBase, IsWithin}
+use Rattle.round_laws.proofs.Nodes.{Shape, at, at_here, at_later, links_at, lives_by, lives_shape, made_by, made_shape, order_by, order_shape, same_or_not, same_place, shape}
+use Rattle.round_laws.proofs.Order.{among_fold, lives_made, order_lives, same_lists}
+use Rattle.round_laws.proofs.Standing.{IsBase, IsWithin, lives_are, node_made, stands}
 use Rattle.round_laws.proofs.Ringing.{IsNamed, apart_with, is_known, one_id, within_turn}
 use Rattle.round_laws.proofs.Owning.{passes}
-use Rattle.round_laws.proofs.Rounding.{at_own, in_order, order_ascending, order_in}
+use Rattle.round_laws.proofs.Rounding.{at_own, base_of, in_order, nodes_of, order_ascending, order_in, within_of}
+use Rattle.round_laws.proofs.Settling.{length_made, settled_by}
+use Rattle.round_laws.proofs.Fixing.{Looked, look_up}
+use Rattle.round_laws.proofs.Renewing.{all_take}
 use Rattle.round_laws.proofs.Holding.{node_is}
 
 -- ---- one node more
@@ -273,3 +276,123 @@ join_alone r number w next h named settled unknown nobody is =
     take_nothing : (k : ℕ) → take {A = Peer} k [] ≡ []
     take_nothing zero = refl
     take_nothing (suc k) = refl
+
+-- the look-up of a node that joins through a live one
+module _ (judged : Key → List ℕ → Option Judged) (r number : ℕ) (w mid : World) (h : AreNodes r w) (named : AreNamed (map peer_of w.nodes)) (few : length w.nodes ≤ 512) (settled : IsSettledIn w r)
+    (unknown : is_known_id (map peer_of w.nodes) (peer_numbered number) ≡ false) (through : Peer) (is_least : least (live_peers w) ≡ Some through) (found : Option (List Peer)) (looks : LooksUp judged w (peer_numbered number).id (through ∷ []) found mid)
+    (quiet : LosesNone w mid) where
+  is_base : IsBase r (map shape w.nodes) w.lost w.asked mid.asked
+  is_base = base_of r w mid.asked h quiet
+
+  lives_through : lives_by (map shape w.nodes) through ≡ true
+  lives_through = order_lives (map shape w.nodes) through is_base.apart (subst (IsAmong through) (order_shape w) (among_fold through [] (live_peers w) (inr (least_among (live_peers w) through is_least))))
+
+  looked : Looked judged r (map shape w.nodes) w.lost w.asked mid.asked is_base (peer_numbered number).id (routes looks.looks) found w mid
+  looked = look_up judged r (map shape w.nodes) w.lost w.asked mid.asked is_base (peer_numbered number).id through found w mid (within_of r w h) (lives_made (map shape w.nodes) through lives_through) looks
+
+  mid_nodes : AreNodes r mid
+  mid_nodes = nodes_of r (map shape w.nodes) w.lost w.asked mid.asked mid is_base looked.within
+
+  mid_peers : map peer_of mid.nodes ≡ map peer_of w.nodes
+  mid_peers = made_shape mid.nodes ∙ ap made_by looked.within.shapes ∙ sym (made_shape w.nodes)
+
+  w_lives : lives_in w ≡ lives_by (map shape w.nodes)
+  w_lives = lives_are judged r (map shape w.nodes) w.lost w.asked mid.asked is_base w (within_of r w h)
+
+  mid_lives : lives_in mid ≡ lives_in w
+  mid_lives = lives_are judged r (map shape w.nodes) w.lost w.asked mid.asked is_base mid looked.within ∙ sym w_lives
+
+  mid_order : live_in_order mid ≡ live_in_order w
+  mid_order = order_shape mid ∙ ap order_by looked.within.shapes ∙ sym (order_shape w)
+
+  mid_settled : IsSettledIn mid r
+  mid_settled = settled_by r w (live_in_order mid) (lives_in mid) (links_in mid) (sym mid_order) (sym mid_lives) (sym looked.links) settled
+
+  mid_free : (q : Peer) → IsAmong q (map peer_of mid.nodes) → place q ≡ place (peer_numbered number) → ⊥
+  mid_free q i s = is_free w (peer_numbered number) named refl unknown q (subst (IsAmong q) mid_peers i) s
+
+  finds : (next : World) (n : Node) → Added r mid next (peer_numbered number) n → found ≡ Some (take (2 * r) (following place (live_in_order next) (peer_numbered number)))
+  finds next n a =
+      let others = others_are r mid next (peer_numbered number) n a ∙ mid_order in
+      join_finds place r 160 (live_in_order next) (lives_by (map shape w.nodes)) (peer_numbered number) (links_in w) (through ∷ []) (made_by (map shape w.nodes)) (routes looks.looks) found
+          (settled_by r w (filter (is_other place (peer_numbered number)) (live_in_order next)) (lives_by (map shape w.nodes)) (links_in w) (sym others) w_lives refl settled)
+          (record {
+            few = few_made;
+            first = λ m i. ⊎_elim (λ e. subst (λ x. IsAmong x (made_by (map shape w.nodes))) e (lives_made (map shape w.nodes) through lives_through)) (λ n. elim n [ ]) i;
+            linked = λ p m i j. known p m (subst (IsAmong p) others i) j;
+          })
+          (looked.fates (le_refl mid.asked)) through lives_through (inl refl) looks.lookup
+    where
+      few_made : length (made_by (map shape w.nodes)) ≤ 512
+      few_made = let size = length_made w.nodes in omega (arith, size, few)
+
+      known : (p m : Peer) → IsAmong p (live_in_order w) → IsAmong m ((links_in w p).list ++ (links_in w p).fingers) → IsAmong m (made_by (map shape w.nodes))
+      known p m i j =
+          let made = lives_made (map shape w.nodes) p (order_lives (map shape w.nodes) p is_base.apart (subst (IsAmong p) (order_shape w) i)) in
+          let node = node_made judged r (map shape w.nodes) w.lost w.asked mid.asked is_base w p (within_of r w h) made in
+          let s = stands judged r (map shape w.nodes) w.lost w.asked mid.asked is_base w p node.0 (within_of r w h) made node.1 in
+          let k = (within_of r w h).known p.id node.0 node.1 in
+          all-among (λ x. IsAmong x (made_by (map shape w.nodes))) m ((links_in w p).list ++ (links_in w p).fingers)
+              (subst (λ (x : Links Peer). AllByRecursion (λ y. IsAmong y (made_by (map shape w.nodes))) (x.list ++ x.fingers)) (sym s.links) (all-both (λ x. IsAmong x (made_by (map shape w.nodes))) node.0.ring.links.list node.0.ring.links.fingers k.list k.fingers)) j
+
+  -- the new node, whatever list of made peers was found
+  added : (next : World) (l : List Peer) → AllByRecursion (λ q. IsAmong q (made_by (map shape w.nodes))) l → next.nodes ≡ mid.nodes ++ joined_node (peer_numbered number) r l ∷ [] → Added r mid next (peer_numbered number) (joined_node (peer_numbered number) r l)
+  added next l all is = record {
+    nodes = mid_nodes;
+    named = subst AreNamed (sym mid_peers) named;
+    is = is;
+    me = refl;
+    live = refl;
+    replicas = refl;
+    free = mid_free;
+    name = refl;
+    knows = record {
+      list = all_take (λ q. IsAmong q (map peer_of mid.nodes ++ peer_numbered number ∷ [])) (2 * r) (filter (is_other place (peer_numbered number)) l) (all_from (λ q. IsAmong q (map peer_of mid.nodes ++ peer_numbered number ∷ [])) (filter (is_other place (peer_numbered number)) l)
+          (λ m i. among-left m (map peer_of mid.nodes) (peer_numbered number ∷ []) (subst (IsAmong m) (sym (mid_peers ∙ made_shape w.nodes)) (all-among (λ q. IsAmong q (made_by (map shape w.nodes))) m l all (among_filtered (is_other place (peer_numbered number)) m l i)))));
+      fingers = all_replicated (λ q. IsAmong q (map peer_of mid.nodes ++ peer_numbered number ∷ [])) (peer_numbered number) 160 (among-right (peer_numbered number) (map peer_of mid.nodes) (peer_numbered number ∷ []) (inl refl));
+      before = tt;
+    };
+  }
+
+  join_found : (next : World) (l : List Peer) → found ≡ Some l → next.nodes ≡ mid.nodes ++ joined_node (peer_numbered number) r l ∷ [] → HasJoined r number next
+  join_found next l e is =
+      let all : AllByRecursion (λ q. IsAmong q (made_by (map shape w.nodes))) l = subst (λ (o : Option (List Peer)). IfSome o (λ x. AllByRecursion (λ q. IsAmong q (made_by (map shape w.nodes))) x)) e looked.made in
+      let a = added next l all is in
+      let x = peer_numbered number in
+      let right : l ≡ take (2 * r) (following place (live_in_order next) x) = some_same l (take (2 * r) (following place (live_in_order next) x)) (sym e ∙ finds next (joined_node x r l) a) in
+      record {
+        join = joined r mid next x (joined_node x r l) a mid_settled (ap (λ (y : List Peer). take (2 * r) (filter (is_other place x) y)) right ∙ adopts r mid next x (joined_node x r l) a) refl;
+        nodes = nodes_then r mid next x (joined_node x r l) a;
+        named = named_then r mid next x (joined_node x r l) a;
+      }
+
+  -- it finds somebody
+  not_nobody : FindsNobody found → ⊥
+  not_nobody nobody =
+      let x = peer_numbered number in
+      let next : World = with_new_node mid (joined_node x r []) in
+      let a = added next [] tt refl in
+      let e = finds next (joined_node x r []) a in
+      let behind : IsAmong through (following place (live_in_order next) x) = one_behind next (joined_node x r []) a in
+      some_found (following place (live_in_order next) x) behind e nobody
+    where
+      one_behind : (next : World) (n : Node) → Added r mid next (peer_numbered number) n → IsAmong through (following place (live_in_order next) (peer_numbered number))
+      one_behind next n a =
+          let x = peer_numbered number in
+          let old : IsAmong through (live_in_order mid) = subst (IsAmong through) (sym mid_order) (among_fold through [] (live_peers w) (inr (least_among (live_peers w) through is_least))) in
+          let is_in : IsAmong through (live_in_order next) = among_filtered (is_other place x) through (live_in_order next) (subst (IsAmong through) (sym (others_are r mid next x n a)) old) in
+          let away : place through ≡ place x → ⊥ = mid_free through (made_if r mid next x n a mid through (in_order r mid through mid_nodes old)) in
+          ⊎_elim
+          (λ l. among-right through (filter (λ y. nat_lt (place x) (place y)) (live_in_order next)) (filter (λ y. nat_lt (place y) (place x)) (live_in_order next)) (among_filter (λ y. nat_lt (place y) (place x)) through (live_in_order next) is_in (lt-ltb (place through) (place x) l)))
+          (λ l. among-left through (filter (λ y. nat_lt (place x) (place y)) (live_in_order next)) (filter (λ y. nat_lt (place y) (place x)) (live_in_order next)) (among_filter (λ y. nat_lt (place x) (place y)) through (live_in_order next) is_in (lt-ltb (place x) (place through) (above (place x) (place through) l away))))
+          (cases_lt (place through) (place x))
+        where
+          above : (m n : ℕ) → m ≤ n → (n ≡ m → ⊥) → m < n
+          above m n l d = omega (arith, l, d)
+
+      some_found : (all : List Peer) → IsAmong through all → found ≡ Some (take (2 * r) all) → FindsNobody found → ⊥
+      some_found [] i e nobody = elim i [ ]
+      some_found (p ∷ all) i e nobody = subst (λ (o : Option (List Peer)). FindsNobody o → ⊥) (sym (e ∙ ap (λ l. Some l) (take_first (2 * r) p all (positive settled.positive)))) (λ n. n) nobody
+        where
+          positive : 1 ≤ r → 0 < 2 * r
+          positive l = omega (arith, l)

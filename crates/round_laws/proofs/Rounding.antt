@@ -64,7 +64,7 @@ at_own (m ∷ nodes) n apart (inr h) = at_later m nodes (peer_of n).id (λ s. fa
     far (k ∷ l) a (inr h) e = far l a.1 h e
 
 -- what a round leaves is such a world again
-nodes_of : (r : ℕ) (base : List Shape) (planned : List ℕ) (start end : ℕ) (w : World) → IsBase r base planned start end → IsWithin base planned start w → AreNodes r w
+pub nodes_of : (r : ℕ) (base : List Shape) (planned : List ℕ) (start end : ℕ) (w : World) → IsBase r base planned start end → IsWithin base planned start w → AreNodes r w
 nodes_of r base planned start end w b h =
     let made : map peer_of w.nodes ≡ made_by base = made_shape w.nodes ∙ ap made_by h.shapes in
     let apart : AreApart (map peer_of w.nodes) = subst AreApart (sym made) b.apart in
