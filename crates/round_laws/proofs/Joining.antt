@@ -1,14 +1,11 @@
 -- The line at which a node joins.
-use Rattle.std.proofs.Common.{◌≡◌, ◌⊎◌, inl, inr, ⊎_elim, ℕ, zero, suc, ◌*◌, ◌^◌, ◌<◌, ◌≤◌, Bool, true, false, cond, not, nat_lt, nat_eq, List, [], ◌∷◌, ◌++◌, length, map, filter, find, fold, get_or, take, replicate, refl, sym, ap, ◌∙◌, subst, Option, Some, None, IfSome, arith, le_refl, take-take}
+use Rattle.std.proofs.Common.{◌≡◌, inl, inr, ⊎_elim, ℕ, zero, suc, ◌*◌, ◌<◌, ◌≤◌, Bool, true, false, cond, not, nat_lt, nat_eq, List, [], ◌∷◌, ◌++◌, length, map, filter, fold, get_or, take, replicate, refl, sym, ap, ◌∙◌, subst, Option, Some, None, IfSome, arith, le_refl, take-take}
 use Rattle.std.specs.List.{AllByRecursion}
 use Rattle.std.specs.Option.{option_map_or}
-use Rattle.std.specs.Ordering.{eq_by_cmp}
 use Rattle.std.proofs.lemmas.Bool.{cases_lt, eqb-true, eq-eqb, lt-ltb, ltb-true}
 use Rattle.ivy_base.specs.declared.key.Key.{Key}
-use Rattle.ivy_base.specs.Naming.{key_cmp}
-use Rattle.ring_model.specs.Members.{IsAmong, IsAscending, following, is_other}
+use Rattle.ring_model.specs.Members.{IsAmong, following, is_other}
 use Rattle.ring_model.specs.Ring.{Links, IsSettledRing}
-use Rattle.ring_model.specs.Lookup.{AreNames}
 use Rattle.ring_model.specs.Change.{IsJoin}
 use Rattle.ring_model.proofs.Lists.{all-among, all-both, all_from, all_weaker, among-cases, among-left, among-right, among_filter, among_filtered, among_take, filter_all, none_some, some_same, take_first}
 use Rattle.ring_model.proofs.Members.{among_live, ascending_filter}
@@ -18,15 +15,17 @@ use Rattle.dht_ids.specs.NodeIds.{node_id_of}
 use Rattle.dht_ids.specs.declared.judge.Judged.{Judged}
 use Rattle.dht_ids.specs.declared.peer.Peer.{Peer}
 use Rattle.dht_ids.specs.Peers.{place}
-use Rattle.chord_core.specs.State.{adopted, alone_node}
+use Rattle.chord_core.specs.State.{alone_node}
 use Rattle.script_driver.specs.Run.{Outcome, Goes, Ends, Refuses, Exceeds}
 use Rattle.world_model.specs.Nodes.{Node}
 use Rattle.world_model.specs.World.{World, live_peers, node_at, peer_of}
-use Rattle.world_model.specs.Ring.{FindsNobody, JoinLine, LooksUp, empty_node, in_ring_order, is_known_id, joined_node, least, live_in_order, peer_numbered, with_new_node}
+use Rattle.world_model.specs.Ring.{FindsNobody, JoinLine, LooksUp, empty_node, failed_join_text, in_ring_order, is_known_id, joined_node, least, live_in_order, peer_numbered, with_new_node}
+use Rattle.world_model.specs.Ring.JoinLine.{before_ring, known as is_met, exceeds, alone, joins, fails}
+use Rattle.round_laws.specs.Laws.{JoinLineJoins}
 use Rattle.round_laws.specs.RingOf.{AreApart, AreNamed, AreNodes, IsSettledIn, KnowsOnly, LosesNone, links_in, lives_in}
-use Rattle.round_laws.proofs.Nodes.{Shape, at, at_here, at_later, links_at, lives_by, lives_shape, made_by, made_shape, order_by, order_shape, same_or_not, same_place, shape}
+use Rattle.round_laws.proofs.Nodes.{at, at_here, at_later, links_at, lives_by, lives_shape, made_by, made_shape, order_by, order_shape, same_or_not, shape}
 use Rattle.round_laws.proofs.Order.{among_fold, lives_made, order_lives, same_lists}
-use Rattle.round_laws.proofs.Standing.{IsBase, IsWithin, lives_are, node_made, stands}
+use Rattle.round_laws.proofs.Standing.{IsBase, lives_are, node_made, stands}
 use Rattle.round_laws.proofs.Ringing.{IsNamed, apart_with, is_known, one_id, within_turn}
 use Rattle.round_laws.proofs.Owning.{passes}
 use Rattle.round_laws.proofs.Rounding.{at_own, base_of, in_order, nodes_of, order_ascending, order_in, within_of}
@@ -315,13 +314,13 @@ module _ (judged : Key → List ℕ → Option Judged) (r number : ℕ) (w mid :
   finds next n a =
       let others = others_are r mid next (peer_numbered number) n a ∙ mid_order in
       join_finds place r 160 (live_in_order next) (lives_by (map shape w.nodes)) (peer_numbered number) (links_in w) (through ∷ []) (made_by (map shape w.nodes)) (routes looks.looks) found
-          (settled_by r w (filter (is_other place (peer_numbered number)) (live_in_order next)) (lives_by (map shape w.nodes)) (links_in w) (sym others) w_lives refl settled)
-          (record {
-            few = few_made;
-            first = λ m i. ⊎_elim (λ e. subst (λ x. IsAmong x (made_by (map shape w.nodes))) e (lives_made (map shape w.nodes) through lives_through)) (λ n. elim n [ ]) i;
-            linked = λ p m i j. known p m (subst (IsAmong p) others i) j;
-          })
-          (looked.fates (le_refl mid.asked)) through lives_through (inl refl) looks.lookup
+      (settled_by r w (filter (is_other place (peer_numbered number)) (live_in_order next)) (lives_by (map shape w.nodes)) (links_in w) (sym others) w_lives refl settled)
+      (record {
+        few = few_made;
+        first = λ m i. ⊎_elim (λ e. subst (λ x. IsAmong x (made_by (map shape w.nodes))) e (lives_made (map shape w.nodes) through lives_through)) (λ n. elim n [ ]) i;
+        linked = λ p m i j. known p m (subst (IsAmong p) others i) j;
+      })
+      (looked.fates (le_refl mid.asked)) through lives_through (inl refl) looks.lookup
     where
       few_made : length (made_by (map shape w.nodes)) ≤ 512
       few_made = let size = length_made w.nodes in omega (arith, size, few)
@@ -333,7 +332,7 @@ module _ (judged : Key → List ℕ → Option Judged) (r number : ℕ) (w mid :
           let s = stands judged r (map shape w.nodes) w.lost w.asked mid.asked is_base w p node.0 (within_of r w h) made node.1 in
           let k = (within_of r w h).known p.id node.0 node.1 in
           all-among (λ x. IsAmong x (made_by (map shape w.nodes))) m ((links_in w p).list ++ (links_in w p).fingers)
-              (subst (λ (x : Links Peer). AllByRecursion (λ y. IsAmong y (made_by (map shape w.nodes))) (x.list ++ x.fingers)) (sym s.links) (all-both (λ x. IsAmong x (made_by (map shape w.nodes))) node.0.ring.links.list node.0.ring.links.fingers k.list k.fingers)) j
+          (subst (λ (x : Links Peer). AllByRecursion (λ y. IsAmong y (made_by (map shape w.nodes))) (x.list ++ x.fingers)) (sym s.links) (all-both (λ x. IsAmong x (made_by (map shape w.nodes))) node.0.ring.links.list node.0.ring.links.fingers k.list k.fingers)) j
 
   -- the new node, whatever list of made peers was found
   added : (next : World) (l : List Peer) → AllByRecursion (λ q. IsAmong q (made_by (map shape w.nodes))) l → next.nodes ≡ mid.nodes ++ joined_node (peer_numbered number) r l ∷ [] → Added r mid next (peer_numbered number) (joined_node (peer_numbered number) r l)
@@ -396,3 +395,35 @@ module _ (judged : Key → List ℕ → Option Judged) (r number : ℕ) (w mid :
         where
           positive : 1 ≤ r → 0 < 2 * r
           positive l = omega (arith, l)
+
+-- where a line goes on, it goes to that world
+same_world : (v next : World) (text output : List ℕ) → Goes v text ≡ Goes next output → v ≡ next
+same_world v next text output e = ap after e
+  where
+    after : Outcome World → World
+    after (Goes u words) = u
+    after Ends = v
+    after Refuses = v
+    after Exceeds = v
+
+joins_by : (judged : Key → List ℕ → Option Judged) (r number : ℕ) (w next : World) (output : List ℕ) → AreNodes r w → AreNamed (map peer_of w.nodes) → length w.nodes ≤ 512 → IsSettledIn w r → LosesNone w next → (o : Option ℕ) (out : Outcome World)
+    → JoinLine judged w number o out → o ≡ Some r → out ≡ Goes next output → HasJoined r number next
+joins_by judged r number w next output h named few settled quiet o out before_ring s e = absurd (none_some r s)
+joins_by judged r number w next output h named few settled quiet o out (is_met k t) s e = absurd cc
+joins_by judged r number w next output h named few settled quiet o out (exceeds k t f) s e = absurd cc
+joins_by judged r number w next output h named few settled quiet o out (alone k t f none) s e =
+    let same : k ≡ r = some_same k r s in
+    let is : with_new_node w (empty_node (alone_node (peer_numbered number) k)) ≡ next = same_world (with_new_node w (empty_node (alone_node (peer_numbered number) k))) next [] output e in
+    join_alone r number w next h named settled t none (ap (λ (v : World). v.nodes) (sym is) ∙ ap (λ x. w.nodes ++ empty_node (alone_node (peer_numbered number) x) ∷ []) same)
+joins_by judged r number w next output h named few settled quiet o out (joins k through p ps mid t f l looks) s e =
+    let same : k ≡ r = some_same k r s in
+    let n : Node = joined_node (peer_numbered number) k (p ∷ ps) in
+    let is : with_new_node mid n ≡ next = same_world (with_new_node mid n) next [] output e in
+    let calm : LosesNone w mid = subst (LosesNone w) (sym is) quiet in
+    join_found judged r number w mid h named few settled t through l (Some (p ∷ ps)) looks calm next (p ∷ ps) refl (ap (λ (v : World). v.nodes) (sym is) ∙ ap (λ x. mid.nodes ++ joined_node (peer_numbered number) x (p ∷ ps) ∷ []) same)
+joins_by judged r number w next output h named few settled quiet o out (fails k through found last t f l looks nobody) s e =
+    let calm : LosesNone w last = subst (LosesNone w) (sym (same_world last next (failed_join_text number) output e)) quiet in
+    absurd (not_nobody judged r number w last h named few settled t through l found looks calm nobody)
+
+pub join_line_joins : JoinLineJoins
+join_line_joins judged r number w next output h named few settled line quiet = let j = joins_by judged r number w next output h named few settled quiet (Some r) (Goes next output) line refl refl in (j.join, j.nodes, j.named)

@@ -1,6 +1,6 @@
 -- The line that makes a ring.
-use Rattle.std.proofs.Common.{◌≡◌, ◌⊎◌, inl, inr, ⊎_elim, ℕ, zero, suc, ◌+◌, ◌*◌, ◌^◌, ◌<◌, ◌≤◌, Bool, true, false, cond, not, ◌&&◌, ◌||◌, ◌==◌, is_some, nat_eq, nat_le, List, [], ◌∷◌, ◌++◌, length, map, filter, fold, get_or, take, refl, sym, ap, ◌∙◌, subst, Option, Some, None, IfSome, arith, mul-le-mul_right, suc-mul, decimal, codes}
-use Rattle.std.specs.List.{AllByRecursion, last_or, list_any}
+use Rattle.std.proofs.Common.{◌≡◌, ◌⊎◌, inl, inr, ⊎_elim, ℕ, zero, suc, ◌+◌, ◌*◌, ◌^◌, ◌<◌, ◌≤◌, Bool, true, false, cond, not, ◌&&◌, ◌||◌, ◌==◌, is_some, nat_eq, nat_le, List, [], ◌∷◌, ◌++◌, length, map, filter, get_or, take, refl, sym, ap, ◌∙◌, subst, Option, Some, None, IfSome, arith, mul-le-mul_right, suc-mul, decimal, codes}
+use Rattle.std.specs.List.{AllByRecursion, last_or}
 use Rattle.std.specs.Ordering.{eq_by_cmp}
 use Rattle.std.specs.List.Sorted.{IsStrictlySortedBy}
 use Rattle.std.specs.Map.{keys_of}
@@ -11,26 +11,24 @@ use Rattle.ivy_base.specs.Naming.{key_cmp}
 use Rattle.ivy_base.proofs.NameLemmas.{byte_of_name, length-name}
 use Rattle.ring_model.specs.Circle.{be_number}
 use Rattle.ring_model.specs.Members.{IsAmong, following, from_place}
-use Rattle.ring_model.specs.Ring.{IsSettledRing}
-use Rattle.ring_model.proofs.Lists.{all-among, all_from, among-cases, among-left, among-right, among_take, first_among, index_among, none_some}
+use Rattle.ring_model.proofs.Lists.{all-among, all_from, among-cases, among_take, first_among, none_some}
 use Rattle.ring_model.proofs.Members.{among_live, from_place_live}
 use Rattle.dht_ids.specs.NodeIds.{node_id_of}
 use Rattle.dht_ids.specs.declared.peer.Peer.{Peer}
 use Rattle.dht_ids.specs.Peers.{place}
 use Rattle.dht_ids.proofs.Numbers.{AreBytes, be_number_below}
-use Rattle.chord_core.specs.State.{State}
-use Rattle.chord_core.specs.Settled.{AreFingers, IsSettledNode}
+use Rattle.chord_core.specs.Settled.{IsSettledNode}
 use Rattle.script_driver.specs.Run.{Outcome, Goes, Ends, Refuses, Exceeds}
 use Rattle.world_model.specs.Nodes.{Node}
 use Rattle.world_model.specs.World.{World, node_at, peer_of}
-use Rattle.world_model.specs.Ring.{AreSettled, RingLine, empty_node, first_peers, in_ring_order, is_known_id, is_refused_ring, live_in_order, peer_numbered}
+use Rattle.world_model.specs.Ring.{AreSettled, RingLine, first_peers, in_ring_order, is_known_id, live_in_order, peer_numbered}
 use Rattle.world_model.specs.Ring.AreSettled.{none as nobody, more as one_more}
 use Rattle.world_model.specs.Ring.RingLine.{refused, exceeds, makes}
 use Rattle.round_laws.specs.RingOf.{AreApart, AreNodes, IsSettledIn, KnowsOnly, links_in, own_node}
 use Rattle.round_laws.specs.Holding.{AreStores, held_in}
 use Rattle.round_laws.specs.Laws.{RingLineSettles}
 use Rattle.round_laws.proofs.Nodes.{at_among, links_at, ties}
-use Rattle.round_laws.proofs.Order.{among_fold, fold_among}
+use Rattle.round_laws.proofs.Order.{fold_among}
 use Rattle.round_laws.proofs.Rounding.{at_own, in_order, order_ascending, order_in}
 use Rattle.round_laws.proofs.Holding.{held_at}
 
