@@ -16,3 +16,4 @@ pub mod Untouched
 pub mod Settling
 pub mod Stopping
 pub mod Ringing
+pub mod Joining

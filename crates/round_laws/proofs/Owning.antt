@@ -44,7 +44,7 @@ pub distinct_ascending : (xs : List Peer) → IsAscending place xs → AreDistin
 distinct_ascending [] a = tt
 distinct_ascending (x ∷ xs) a = (λ i. let l : place x < place x = all-among (λ z. place x < place z) x xs a.0 i in absurd (omega (arith, l)), distinct_ascending xs a.1)
 
-passes : (t : Peer → Bool) (m : Peer) (l : List Peer) → IsAmong m (filter t l) → t m ≡ true
+pub passes : (t : Peer → Bool) (m : Peer) (l : List Peer) → IsAmong m (filter t l) → t m ≡ true
 passes t m l i = all-among (λ y. t y ≡ true) m (filter t l) (filter_gives t (λ y. t y ≡ true) l (all_from (λ y. t y ≡ true → t y ≡ true) l (λ y j e. e))) i
 
 pub distinct_from_place : (live : List Peer) (key : ℕ) → IsAscending place live → AreDistinct (from_place place live key)

@@ -1,6 +1,6 @@
 -- The line that makes a ring.
-use Rattle.std.proofs.Common.{◌≡◌, ◌⊎◌, inl, inr, ⊎_elim, ℕ, zero, suc, ◌+◌, ◌*◌, ◌^◌, ◌<◌, ◌≤◌, Bool, true, false, cond, not, ◌&&◌, ◌||◌, ◌==◌, is_some, nat_eq, nat_le, List, [], ◌∷◌, ◌++◌, length, map, filter, fold, get_or, take, refl, sym, ap, ◌∙◌, subst, Option, Some, None, IfSome, arith, mul-le-mul_right, suc-mul, decimal, codes}
-use Rattle.std.specs.List.{AllByRecursion, last_or, list_any}
+use Rattle.std.proofs.Common.{◌≡◌, ◌⊎◌, inl, inr, ⊎_elim, ℕ, zero, suc, ◌+◌, ◌*◌, ◌^◌, ◌<◌, ◌≤◌, Bool, true, false, cond, not, ◌&&◌, ◌||◌, ◌==◌, is_some, nat_eq, nat_le, List, [], ◌∷◌, ◌++◌, length, map, filter, get_or, take, refl, sym, ap, ◌∙◌, subst, Option, Some, None, IfSome, arith, mul-le-mul_right, suc-mul, decimal, codes}
+use Rattle.std.specs.List.{AllByRecursion, last_or}
 use Rattle.std.specs.Ordering.{eq_by_cmp}
 use Rattle.std.specs.List.Sorted.{IsStrictlySortedBy}
 use Rattle.std.specs.Map.{keys_of}
@@ -11,26 +11,24 @@ use Rattle.ivy_base.specs.Naming.{key_cmp}
 use Rattle.ivy_base.proofs.NameLemmas.{byte_of_name, length-name}
 use Rattle.ring_model.specs.Circle.{be_number}
 use Rattle.ring_model.specs.Members.{IsAmong, following, from_place}
-use Rattle.ring_model.specs.Ring.{IsSettledRing}
-use Rattle.ring_model.proofs.Lists.{all-among, all_from, among-cases, among-left, among-right, among_take, first_among, index_among, none_some}
+use Rattle.ring_model.proofs.Lists.{all-among, all_from, among-cases, among_take, first_among, none_some}
 use Rattle.ring_model.proofs.Members.{among_live, from_place_live}
 use Rattle.dht_ids.specs.NodeIds.{node_id_of}
 use Rattle.dht_ids.specs.declared.peer.Peer.{Peer}
 use Rattle.dht_ids.specs.Peers.{place}
 use Rattle.dht_ids.proofs.Numbers.{AreBytes, be_number_below}
-use Rattle.chord_core.specs.State.{State}
-use Rattle.chord_core.specs.Settled.{AreFingers, IsSettledNode}
+use Rattle.chord_core.specs.Settled.{IsSettledNode}
 use Rattle.script_driver.specs.Run.{Outcome, Goes, Ends, Refuses, Exceeds}
 use Rattle.world_model.specs.Nodes.{Node}
 use Rattle.world_model.specs.World.{World, node_at, peer_of}
-use Rattle.world_model.specs.Ring.{AreSettled, RingLine, empty_node, first_peers, in_ring_order, is_known_id, is_refused_ring, live_in_order, peer_numbered}
+use Rattle.world_model.specs.Ring.{AreSettled, RingLine, first_peers, in_ring_order, is_known_id, live_in_order, peer_numbered}
 use Rattle.world_model.specs.Ring.AreSettled.{none as nobody, more as one_more}
 use Rattle.world_model.specs.Ring.RingLine.{refused, exceeds, makes}
 use Rattle.round_laws.specs.RingOf.{AreApart, AreNodes, IsSettledIn, KnowsOnly, links_in, own_node}
 use Rattle.round_laws.specs.Holding.{AreStores, held_in}
 use Rattle.round_laws.specs.Laws.{RingLineSettles}
 use Rattle.round_laws.proofs.Nodes.{at_among, links_at, ties}
-use Rattle.round_laws.proofs.Order.{among_fold, fold_among}
+use Rattle.round_laws.proofs.Order.{fold_among}
 use Rattle.round_laws.proofs.Rounding.{at_own, in_order, order_ascending, order_in}
 use Rattle.round_laws.proofs.Holding.{held_at}
 
@@ -74,25 +72,25 @@ one_number (x ∷ xs) (y ∷ ys) l a b e =
     λ i. d.0 i ∷ one_number xs ys size (λ j. a (suc j)) (λ j. b (suc j)) d.1 i
 
 -- the peer has the identifier of its number
-abbrev IsNamed : Peer → Type 0
+abbrev pub IsNamed : Peer → Type 0
 IsNamed p = p.id ≡ node_id_of p.number
 
 bytes_of : (p : Peer) → IsNamed p → AreBytes p.id.0 × (length p.id.0 ≡ 20)
 bytes_of p e = subst (λ (k : Key). AreBytes k.0 × (length k.0 ≡ 20)) (sym e) (byte_of_name (codes "node-" ++ decimal p.number), length-name (codes "node-" ++ decimal p.number))
 
-one_id : (p q : Peer) → IsNamed p → IsNamed q → place p ≡ place q → p.id ≡ q.id
+pub one_id : (p q : Peer) → IsNamed p → IsNamed q → place p ≡ place q → p.id ≡ q.id
 one_id p q e f s =
     let a = bytes_of p e in
     let c = bytes_of q f in
     let same = one_number p.id.0 q.id.0 (a.1 ∙ sym c.1) a.0 c.0 s in
     λ i. record { 0 = same i }
 
-within_turn : (p : Peer) → IsNamed p → place p < 2 ^ 160
+pub within_turn : (p : Peer) → IsNamed p → place p < 2 ^ 160
 within_turn p e = let a = bytes_of p e in let l = be_number_below p.id.0 a.0 in subst (λ n. place p < 256 ^ n) a.1 l
 
 -- ---- the first peers
 
-is_known : (peers : List Peer) (p q : Peer) → is_known_id peers p ≡ false → IsAmong q peers → q.id ≡ p.id → ⊥
+pub is_known : (peers : List Peer) (p q : Peer) → is_known_id peers p ≡ false → IsAmong q peers → q.id ≡ p.id → ⊥
 is_known [] p q k i e = elim i [ ]
 is_known (x ∷ peers) p q k (inl s) e = let t = ties x.id p.id (ap (λ (y : Peer). y.id) s ∙ e) in first_fails (eq_by_cmp key_cmp x.id p.id) (is_known_id peers p) t k
   where
@@ -113,7 +111,7 @@ all_named (suc n) q i = by (is_known_id (first_peers n) (peer_numbered n)) i (λ
     by true i earlier = earlier i
     by false i earlier = ⊎_elim (λ j. earlier j) (λ j. ⊎_elim (λ e. subst IsNamed e refl) (λ n. elim n [ ]) j) (among-cases q (first_peers n) (peer_numbered n ∷ []) i)
 
-apart_with : (ps : List Peer) (p : Peer) → AreApart ps → ((q : Peer) → IsAmong q ps → place q ≡ place p → ⊥) → AreApart (ps ++ p ∷ [])
+pub apart_with : (ps : List Peer) (p : Peer) → AreApart ps → ((q : Peer) → IsAmong q ps → place q ≡ place p → ⊥) → AreApart (ps ++ p ∷ [])
 apart_with [] p a d = (tt, tt)
 apart_with (q ∷ ps) p a d = (all_from (λ z. place q ≡ place z → ⊥) (ps ++ p ∷ []) (λ z i. ⊎_elim (λ j. all-among (λ z. place q ≡ place z → ⊥) z ps a.0 j) (λ j. ⊎_elim (λ e s. d q (inl refl) (s ∙ ap place (sym e))) (λ n. elim n [ ]) j) (among-cases z ps (p ∷ []) i)), apart_with ps p a.1 (λ z i. d z (inr i)))
 
@@ -267,7 +265,7 @@ ring_line_settles w next count r output line =
     let m = made_by_line w next count r output (Goes next output) line refl in
     let size : length (map peer_of next.nodes) ≤ count = subst (λ l. length l ≤ count) (sym (peers w next count r m)) (few_peers count) in
     let same = length_map next.nodes in
-    (nodes_are w next count r m, is_settled w next count r m, omega (arith, size, same, m.few), holds_nothing w next count r m)
+    (nodes_are w next count r m, is_settled w next count r m, omega (arith, size, same, m.few), holds_nothing w next count r m, all_from (λ p. p.id ≡ node_id_of p.number) (map peer_of next.nodes) (λ p i. all_named count p (subst (IsAmong p) (peers w next count r m) i)))
   where
     length_map : (nodes : List Node) → length (map peer_of nodes) ≡ length nodes
     length_map [] = refl

@@ -64,7 +64,7 @@ at_own (m ∷ nodes) n apart (inr h) = at_later m nodes (peer_of n).id (λ s. fa
     far (k ∷ l) a (inr h) e = far l a.1 h e
 
 -- what a round leaves is such a world again
-nodes_of : (r : ℕ) (base : List Shape) (planned : List ℕ) (start end : ℕ) (w : World) → IsBase r base planned start end → IsWithin base planned start w → AreNodes r w
+pub nodes_of : (r : ℕ) (base : List Shape) (planned : List ℕ) (start end : ℕ) (w : World) → IsBase r base planned start end → IsWithin base planned start w → AreNodes r w
 nodes_of r base planned start end w b h =
     let made : map peer_of w.nodes ≡ made_by base = made_shape w.nodes ∙ ap made_by h.shapes in
     let apart : AreApart (map peer_of w.nodes) = subst AreApart (sym made) b.apart in
@@ -160,6 +160,7 @@ leaves_who_lives judged r w next h x =
       nodes_of r (shapes_of w) w.lost w.asked w.asked next b f.within,
       lives_are judged r (shapes_of w) w.lost w.asked w.asked b next f.within ∙ sym (lives_are judged r (shapes_of w) w.lost w.asked w.asked b w (within_of r w h)),
       order_shape next ∙ ap order_by f.within.shapes ∙ sym (order_shape w),
+      made_shape next.nodes ∙ ap made_by f.within.shapes ∙ sym (made_shape w.nodes),
     )
 
 pub round_is_round : RoundIsRound

@@ -46,12 +46,12 @@ in_key_order (e ∷ es) a = both (below_all key_cmp e.0 es) (is_sorted key_cmp e
 stores_sorted : (w : World) → AreStores w → AreSorted w
 stores_sorted w h id n e = in_key_order n.blocks (all-among (λ (m : Node). IsStrictlySortedBy key_cmp (keys_of m.blocks)) n w.nodes h.sorted (at_among w.nodes id n e))
 
-length_made : (nodes : List Node) → length (made_by (map shape nodes)) ≡ length nodes
+pub length_made : (nodes : List Node) → length (made_by (map shape nodes)) ≡ length nodes
 length_made [] = refl
 length_made (n ∷ nodes) = ap (λ k. suc k) (length_made nodes)
 
 -- the ring is settled by what holds of shapes
-settled_by : (r : ℕ) (w : World) (order : List Peer) (lives : Peer → Bool) (links : Peer → Links Peer) → live_in_order w ≡ order → lives_in w ≡ lives → links_in w ≡ links → IsSettledIn w r → IsSettledRing place r 160 order lives links
+pub settled_by : (r : ℕ) (w : World) (order : List Peer) (lives : Peer → Bool) (links : Peer → Links Peer) → live_in_order w ≡ order → lives_in w ≡ lives → links_in w ≡ links → IsSettledIn w r → IsSettledRing place r 160 order lives links
 settled_by r w order lives links e f g s =
     subst (λ l. IsSettledRing place r 160 order lives l) g (subst (λ l. IsSettledRing place r 160 order l (links_in w)) f (subst (λ l. IsSettledRing place r 160 l (lives_in w) (links_in w)) e s))
 

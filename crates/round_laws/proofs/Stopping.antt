@@ -3,7 +3,11 @@ use Rattle.std.proofs.Common.{◌≡◌, inl, inr, ⊎_elim, ℕ, suc, ◌≤◌
 use Rattle.std.specs.List.{AllByRecursion}
 use Rattle.std.specs.Option.{option_map_or}
 use Rattle.ring_model.specs.Members.{IsAmong}
-use Rattle.ring_model.specs.Ring.{IsSettledRing}
+use Rattle.ring_model.specs.Ring.{IsCoveredRing, IsSettledRing}
+use Rattle.ring_model.proofs.Lists.{among_filter}
+use Rattle.ring_model.proofs.Members.{ascending_filter}
+use Rattle.ring_model.proofs.Settled.{few_stops_covered}
+use Rattle.round_laws.proofs.Order.{same_lists}
 use Rattle.ring_model.specs.Change.{AreFewStops}
 use Rattle.dht_ids.specs.declared.peer.Peer.{Peer}
 use Rattle.dht_ids.specs.Peers.{place}
@@ -14,12 +18,12 @@ use Rattle.world_model.specs.World.{World, node_at, peer_of, with_node}
 use Rattle.world_model.specs.Ring.{live_in_order, stop_line}
 use Rattle.round_laws.specs.RingOf.{AreApart, AreNodes, KnowsOnly, Stop, links_in, lives_in}
 use Rattle.round_laws.specs.RingOf.Stop.{none as nobody, one_more as stopped_more}
-use Rattle.round_laws.specs.Laws.{RoundMendsSince, RoundMendsStopLines, StopLineStops}
+use Rattle.round_laws.specs.Laws.{RoundMendsSince, RoundMendsStopLines, StopLineStops, StopLinesLeaveCovered}
 use Rattle.round_laws.proofs.Nodes.{mapped_kept}
 use Rattle.round_laws.proofs.Standing.{from_knows, knows_of, links_ring, peer_or_not, to_knows}
-use Rattle.round_laws.proofs.Owning.{AreDistinct, distinct_ascending}
+use Rattle.round_laws.proofs.Owning.{AreDistinct, distinct_ascending, passes}
 use Rattle.round_laws.proofs.Holding.{node_here, node_is, node_other}
-use Rattle.round_laws.proofs.Rounding.{at_own, leaves_who_lives, order_ascending, in_order, round_mends_stops}
+use Rattle.round_laws.proofs.Rounding.{at_own, order_in, leaves_who_lives, order_ascending, in_order, round_mends_stops}
 
 -- ---- what hangs on the nodes' parts of the ring alone
 
@@ -84,6 +88,7 @@ stop_line_stops r w next n output h i e =
       ap (λ (o : Option Node). option_map_or (λ m. m.is_live) o false) (node_is w (peer_of n) n here refl) ∙ s.0,
       ap (λ (v : World). lives_in v (peer_of n)) s.1 ∙ ap (λ (o : Option Node). option_map_or (λ m. m.is_live) o false) (node_here w (peer_of n) n now here refl),
       λ q d. ap (λ (v : World). lives_in v q) s.1 ∙ ap (λ (o : Option Node). option_map_or (λ m. m.is_live) o false) (node_other w (peer_of n) q n now here refl refl d),
+      peers_by next.nodes ∙ ap (map (λ (s : State). s.me)) rings ∙ sym (peers_by w.nodes),
     )
 
 -- ---- several
@@ -158,3 +163,19 @@ round_mends_stop_lines judged r k v w next settled h size stops l x quiet =
       round_mends_since judged r v w next settled s.nodes s.links s.lived (omega (arith, few, l)) size x quiet,
       (leaves_who_lives judged r w next s.nodes x).0,
     )
+
+pub stop_lines_leave_covered : StopLinesLeaveCovered
+stop_lines_leave_covered r k v w settled h stops l =
+    let s = stopped r k v w h stops in
+    let few = s.few in
+    let live : List Peer = filter (lives_in w) (live_in_order v) in
+    let lived : (m : Peer) → IsAmong m live → lives_in w m ≡ true = λ m i. passes (lives_in w) m (live_in_order v) i in
+    let all : (m : Peer) → lives_in w m ≡ true → IsAmong m live = λ m t. among_filter (lives_in w) m (live_in_order v) (settled.living m (s.lived m t)) t in
+    let same : live ≡ live_in_order w = same_lists live (live_in_order w) (ascending_filter place (lives_in w) (live_in_order v) settled.ascending) (order_ascending r w s.nodes) (λ m i. order_in r w m s.nodes (lived m i)) (λ m i. all m (in_order r w m s.nodes i)) in
+    let stops_are : AreFewStops place r 160 (live_in_order v) (lives_in w) (links_in w) = record {
+      lived = lives_in v;
+      settled = subst (λ x. IsSettledRing place r 160 (live_in_order v) (lives_in v) x) (sym s.links) settled;
+      members = λ m t. settled.living m (s.lived m t);
+      few = omega (arith, few, l);
+    } in
+    (subst (λ x. IsCoveredRing place r x (lives_in w) (links_in w)) same (few_stops_covered place r 160 (live_in_order v) (lives_in w) (links_in w) stops_are), s.nodes)

@@ -1,5 +1,5 @@
 -- Laws of the rounds of a world's ring: where no ask is lost they are the rounds of the definitions of rings.
-use Rattle.std.specs.Prelude.{◌≡◌, ℕ, ◌<◌, ◌≤◌, Bool, true, false, not, List, length, filter, Option, Some}
+use Rattle.std.specs.Prelude.{◌≡◌, ℕ, ◌<◌, ◌≤◌, Bool, true, false, not, List, length, map, filter, Option, Some}
 use Rattle.ivy_base.specs.declared.key.Key.{Key}
 use Rattle.ring_model.specs.Blocks.{AreMoved}
 use Rattle.ring_model.specs.Circle.{number}
@@ -13,10 +13,10 @@ use Rattle.dht_ids.specs.Peers.{place}
 use Rattle.script_driver.specs.Run.{Goes}
 use Rattle.world_model.specs.Nodes.{Node}
 use Rattle.world_model.specs.World.{World, peer_of}
-use Rattle.world_model.specs.Ring.{RingLine, live_in_order, stop_line}
+use Rattle.world_model.specs.Ring.{JoinLine, RingLine, live_in_order, peer_numbered, stop_line}
 use Rattle.world_model.specs.Rounds.{EachDoes, ManyDo, Forgets, Stabilises, FixesFrom, IsRoundOf, Repairs}
 use Rattle.round_laws.specs.Holding.{AreStores, EachTaken, Tells, rank_in}
-use Rattle.round_laws.specs.RingOf.{AreNodes, BeforesLive, IsSettledIn, LosesNone, Stop, links_in, lives_in}
+use Rattle.round_laws.specs.RingOf.{AreNamed, AreNodes, BeforesLive, IsCoveredIn, IsSettledIn, LosesNone, Stop, links_in, lives_in}
 
 -- ---- whatever is lost
 
@@ -28,16 +28,21 @@ RoundLeavesTheRest = (judged : Key → List ℕ → Option Judged) (r : ℕ) (w 
 -- Nobody stops, starts or changes its place in a round, and all that nodes know of are nodes still.
 abbrev pub RoundLeavesWhoLives : Type 0
 RoundLeavesWhoLives = (judged : Key → List ℕ → Option Judged) (r : ℕ) (w next : World) → AreNodes r w → IsRoundOf judged r w next
-    → AreNodes r next × (lives_in next ≡ lives_in w) × (live_in_order next ≡ live_in_order w)
+    → AreNodes r next × (lives_in next ≡ lives_in w) × (live_in_order next ≡ live_in_order w) × (map peer_of next.nodes ≡ map peer_of w.nodes)
 
 -- The line that makes a ring makes a settled one, of at most 256 nodes that hold nothing: places tell them apart, since names have 20 bytes.
 abbrev pub RingLineSettles : Type 0
-RingLineSettles = (w next : World) (count r : ℕ) (output : List ℕ) → RingLine w count r (Goes next output) → AreNodes r next × IsSettledIn next r × (length next.nodes ≤ 256) × AreStores next
+RingLineSettles = (w next : World) (count r : ℕ) (output : List ℕ) → RingLine w count r (Goes next output) → AreNodes r next × IsSettledIn next r × (length next.nodes ≤ 256) × AreStores next × AreNamed (map peer_of next.nodes)
 
 -- A line that stops a node changes nothing that nodes know, nor whether another one lives.
 abbrev pub StopLineStops : Type 0
 StopLineStops = (r : ℕ) (w next : World) (n : Node) (output : List ℕ) → AreNodes r w → IsAmong n w.nodes → stop_line w (Some n) ≡ Goes next output
     → AreNodes r next × (links_in next ≡ links_in w) × (lives_in w (peer_of n) ≡ true) × (lives_in next (peer_of n) ≡ false) × ((q : Peer) → (q ≡ peer_of n → ⊥) → lives_in next q ≡ lives_in w q)
+    × (map peer_of next.nodes ≡ map peer_of w.nodes)
+
+-- After fewer than r lines that stop nodes a settled ring is covered.
+abbrev pub StopLinesLeaveCovered : Type 0
+StopLinesLeaveCovered = (r k : ℕ) (v w : World) → IsSettledIn v r → AreNodes r v → Stop v k w → k < r → IsCoveredIn w r × AreNodes r w
 
 -- ---- where nothing is lost
 
@@ -82,6 +87,12 @@ RoundMendsStopLines = (judged : Key → List ℕ → Option Judged) (r k : ℕ) 
 abbrev pub RoundMendsJoin : Type 0
 RoundMendsJoin = (judged : Key → List ℕ → Option Judged) (r : ℕ) (w next : World) (live : List Peer) (x : Peer) → AreNodes r w → IsJoin place r 160 live (lives_in w) x (links_in w) → length live ≤ 512
     → IsRoundOf judged r w next → LosesNone w next → IsSettledIn next r
+
+-- A line at which a node joins a settled ring without losses makes a ring that it joined, whether or not others live.
+abbrev pub JoinLineJoins : Type 0
+JoinLineJoins = (judged : Key → List ℕ → Option Judged) (r number : ℕ) (w next : World) (output : List ℕ) → AreNodes r w → AreNamed (map peer_of w.nodes) → length w.nodes ≤ 512 → IsSettledIn w r
+    → JoinLine judged w number (Some r) (Goes next output) → LosesNone w next
+    → IsJoin place r 160 (live_in_order next) (lives_in next) (peer_numbered number) (links_in next) × AreNodes r next × AreNamed (map peer_of next.nodes)
 
 -- ---- blocks
 

@@ -3,8 +3,9 @@ use Rattle.std.specs.Prelude.{◌≡◌, ℕ, suc, ◌<◌, ◌≤◌, nat_eq, B
 use Rattle.std.specs.List.{AllByRecursion}
 use Rattle.std.specs.Option.{option_map_or}
 use Rattle.ring_model.specs.Members.{IsAmong}
-use Rattle.ring_model.specs.Ring.{Links, IsSettledRing}
+use Rattle.ring_model.specs.Ring.{Links, IsCoveredRing, IsSettledRing}
 use Rattle.dht_ids.specs.declared.peer.Peer.{Peer}
+use Rattle.dht_ids.specs.NodeIds.{node_id_of}
 use Rattle.dht_ids.specs.Peers.{place}
 use Rattle.world_model.specs.Nodes.{Node}
 use Rattle.world_model.specs.World.{World, node_at, peer_of}
@@ -33,10 +34,18 @@ lives_in w p = option_map_or (λ n. n.is_live) (node_of w p) false
 abbrev pub IsSettledIn : World → ℕ → Type 0
 IsSettledIn w r = IsSettledRing place r 160 (live_in_order w) (lives_in w) (links_in w)
 
+-- and so much of it is right that look-ups find owners
+abbrev pub IsCoveredIn : World → ℕ → Type 0
+IsCoveredIn w r = IsCoveredRing place r (live_in_order w) (lives_in w) (links_in w)
+
 -- no two of them stand at one place
 abbrev pub AreApart : List Peer → Type 0
 AreApart [] = ⊤
 AreApart (p ∷ ps) = AllByRecursion (λ q. place p ≡ place q → ⊥) ps × AreApart ps
+
+-- each has the identifier of its number
+abbrev pub AreNamed : List Peer → Type 0
+AreNamed = AllByRecursion (λ p. p.id ≡ node_id_of p.number)
 
 -- the node knows of these peers alone
 pub record KnowsOnly (made : List Peer) (n : Node) : Type 0 where

@@ -6,11 +6,13 @@
 //! ([`rounds_leave_the_rest`]). Where no ask of it is lost it is a round of the ring, part by part and as a whole
 //! ([`rounds_are_rounds`]); so it settles a ring again of which few nodes stopped, or that one joined
 //! ([`rounds_settle`]), and where each put is taken it moves each key's blocks to the owners ([`rounds_move_blocks`]).
+//! The lines round it: that which makes a ring makes a settled one ([`ring_lines_settle`]), at a join one node joins
+//! ([`join_lines_join`]), and after few stops the ring is covered ([`stop_lines_stop`]).
 //! Definitions: `specs/RingOf.antt` (the ring of a world, and what holds of its nodes), `specs/Holding.antt` (what nodes
 //! hold, and when puts are taken); the laws: `specs/Laws.antt`.
 #![tactic(auto)]
 
-ghost use Rattle.round_laws.specs.Laws.{BlocksMove, FingersAreFixed, FirstPartForgets, PassesArePasses, RingLineSettles, RoundIsRound, RoundLeavesTheRest, RoundLeavesWhoLives, RoundMendsJoin, RoundMendsSince, RoundMendsStopLines, RoundMendsStops, RoundMovesBlocks, StopLineStops};
+ghost use Rattle.round_laws.specs.Laws.{BlocksMove, FingersAreFixed, FirstPartForgets, JoinLineJoins, PassesArePasses, RingLineSettles, RoundIsRound, RoundLeavesTheRest, RoundLeavesWhoLives, RoundMendsJoin, RoundMendsSince, RoundMendsStopLines, RoundMendsStops, RoundMovesBlocks, StopLineStops, StopLinesLeaveCovered};
 
 /// Laws and no code: whatever is lost, a round changes nothing but nodes and the count of asks; who lives, who stands
 /// where, and that nodes know of made nodes alone stay.
@@ -33,9 +35,16 @@ pub fn ring_lines_settle()
     ensures { RingLineSettles }
 {}
 
-/// A law and no code: a line that stops a node changes nothing that nodes know, nor whether another one lives.
+/// A law and no code: a line at which a node joins a settled ring without losses makes a ring that it joined.
+pub fn join_lines_join()
+    ensures { JoinLineJoins }
+{}
+
+/// Laws and no code: a line that stops a node changes nothing that nodes know, nor whether another one lives; and after
+/// fewer than r of them a settled ring is covered.
 pub fn stop_lines_stop()
-    ensures { StopLineStops }
+    ensures line { StopLineStops }
+    ensures covered { StopLinesLeaveCovered }
 {}
 
 /// Laws and no code: a ring that was settled is settled again after a round without losses, where fewer than r of its
