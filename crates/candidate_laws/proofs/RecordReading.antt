@@ -1,8 +1,7 @@
 -- Of any bytes it is known whether they are a record of an owner's.
-use Rattle.std.proofs.Common.{◌≡◌, ◌≢◌, ◌⊎◌, inl, inr, ℕ, zero, suc, ◌+◌, ◌<◌, ◌≤◌, ◌^◌, Bool, true, false, List, [], ◌∷◌, ◌++◌, length, Option, Some, None, refl, sym, ap, ◌∙◌, subst, arith, append_assoc, Contains}
-use Rattle.std.specs.Prelude.{⊤, IfSome, IsTrue}
+use Rattle.std.proofs.Common.{◌≡◌, ◌⊎◌, inl, inr, ℕ, zero, suc, ◌+◌, ◌<◌, ◌≤◌, ◌^◌, Bool, true, false, List, [], ◌∷◌, ◌++◌, length, Option, Some, None, refl, ap, ◌∙◌, subst, arith, append_assoc, Contains}
+use Rattle.std.specs.Prelude.{⊤, IsTrue}
 use Rattle.std.specs.FinMap.Entries.{is_sorted}
-use Rattle.std.specs.List.{AllByRecursion}
 use Rattle.std.proofs.lemmas.Bool.{cases_lt, cases_eq}
 use Rattle.ivy_base.specs.declared.key.Key.{Key}
 use Rattle.ivy_base.specs.declared.key.PubKey.{PubKey}
@@ -15,22 +14,21 @@ use Rattle.ivy_base.specs.declared.operation.Op.TheVariants as op
 use Rattle.ivy_base.specs.Naming.{head_key_of, key_cmp, IsFileName}
 use Rattle.tree_model.specs.Tree.{same_key}
 use Rattle.tree_model.proofs.Keys.{same_key_is, same_key_itself}
-use Rattle.wire_model.specs.Xdr.{word, double_word, opaque, array, moment, IsAny, IsWord}
-use Rattle.wire_model.proofs.OneReading.{of_fewer, of_parts, one_word, ◌▷◌}
+use Rattle.wire_model.specs.Xdr.{word, double_word, opaque, array, moment, IsAny}
+use Rattle.wire_model.proofs.OneReading.{of_fewer, of_parts, one_word}
 use Rattle.log_model.specs.Vector.{Entry, Vector, Stamp, stamp_at}
 use Rattle.log_model.specs.Record.{Record}
-use Rattle.log_model.specs.Spelling.{HasSpelling, IsKey, IsBlock, IsMoment, IsMode, IsTarget, IsChange, IsEndOp, OperationFits, IsRecordOf, body, record_kind, record_tag, vector_entry, no_name}
-use Rattle.log_model.specs.View.{most_cited}
+use Rattle.log_model.specs.Spelling.{HasSpelling, IsKey, IsBlock, IsMoment, IsTarget, IsChange, IsEndOp, IsRecordOf, body, record_kind, record_tag, vector_entry, no_name}
 use Rattle.log_model.proofs.Lists.{here, there, in_cons, in_nothing}
 use Rattle.version_vectors.specs.Vectors.{EntryFits}
 use Rattle.log_records.specs.declared.frame.Frame.{Frame}
-use Rattle.log_records.specs.Frames.{IsCited, IsFrame, frame_block, AreParts, parts_block, IsWellPlaced, CitesNothing}
+use Rattle.log_records.specs.Frames.{IsCited, IsFrame, frame_block, AreParts, parts_block, IsWellPlaced}
 use Rattle.log_records.specs.Heads.{IsNumber}
 use Rattle.log_records.specs.Parts.{key_bytes, kind_word, IsAtMost, change_block, IsOfKind}
 use Rattle.log_records.proofs.Frames.{one_frame}
-use Rattle.log_records.proofs.OneBody.{one_block, one_key, one_at_most, one_record_moment, one_kind, one_name, one_size, ChangeParts, change_of_parts, change_parts, one_change, target_fits}
+use Rattle.log_records.proofs.OneBody.{one_block, one_key, one_at_most, one_record_moment, one_kind, one_name, one_size, change_of_parts, change_parts, one_change, target_fits}
 use Rattle.log_records.proofs.OneRecord.{one_of_parts, parts_in, record_with, is_record, misplaced}
-use Rattle.reading_laws.proofs.Deciding.{IsRead, Reads, IsReadable, HasParts, ◌then◌, a_word, a_double_word, a_moment, a_front, a_data, a_raw, an_array, an_optional, reads_then, reads_then_by, reads_fewer, reads_parts, reads_either, fronts, whole_or_not, same_or_not}
+use Rattle.reading_laws.proofs.Deciding.{Reads, IsReadable, HasParts, ◌then◌, a_word, a_double_word, a_moment, a_front, a_data, a_raw, an_array, an_optional, reads_then, reads_then_by, reads_fewer, reads_parts, reads_either, fronts, whole_or_not, same_or_not}
 
 -- ---- what is decided of a value
 

@@ -1,6 +1,5 @@
 -- Each member has a candidate.
 use Rattle.std.proofs.Common.{◌≡◌, ◌⊎◌, inl, inr, ℕ, ◌<◌, true, List, [], ◌∷◌, map, refl, sym, ap, ◌∙◌, subst, arith, Contains}
-use Rattle.std.specs.Prelude.{IsTrue}
 use Rattle.std.specs.Cmp.{tied_itself}
 use Rattle.std.specs.List.{AllByRecursion}
 use Rattle.std.specs.Ordering.{eq_by_cmp, is_lt}
@@ -19,7 +18,7 @@ use Rattle.log_model.proofs.Lists.{here, there, in_cons, in_nothing}
 use Rattle.log_model.proofs.Opening.{same_owner}
 use Rattle.log_model.proofs.Owners.{owner_itself}
 use Rattle.turn_model.specs.Turn.{Candidate}
-use Rattle.turn_model.specs.Candidates.{IsTriedBefore, IsTried, IsPassedOver, MakeChain, IsCandidate, own_log, newest, as_known, AreCandidates}
+use Rattle.turn_model.specs.Candidates.{IsTriedBefore, IsPassedOver, MakeChain, IsCandidate, own_log, newest, as_known}
 use Rattle.candidate_laws.specs.Some.{ThereAreCandidates}
 use Rattle.candidate_laws.proofs.RecordReading.{Known, both_known, number_known, truth_known}
 use Rattle.candidate_laws.proofs.SomeChain.{chain_or_not}

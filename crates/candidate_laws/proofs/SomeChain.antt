@@ -1,16 +1,14 @@
 -- Of each head it is known whether records among the blocks make the chain to it.
-use Rattle.std.proofs.Common.{◌≡◌, ◌≢◌, ◌⊎◌, inl, inr, ℕ, zero, suc, ◌+◌, ◌<◌, ◌≤◌, true, List, [], ◌∷◌, ◌++◌, length, Option, Some, None, refl, sym, ap, ◌∙◌, subst, arith, Contains, length-append}
+use Rattle.std.proofs.Common.{◌≡◌, ◌⊎◌, inl, inr, ℕ, zero, suc, ◌+◌, List, [], ◌∷◌, ◌++◌, length, Option, Some, None, refl, sym, ap, ◌∙◌, subst, arith, Contains, length-append}
 use Rattle.std.specs.Prelude.{IsTrue}
 use Rattle.std.specs.List.{AllByRecursion}
-use Rattle.std.proofs.lemmas.List.Elements.{Contains-append_right}
-use Rattle.ivy_base.specs.declared.key.Key.{Key}
 use Rattle.ivy_base.specs.declared.key.PubKey.{PubKey}
 use Rattle.ivy_base.specs.declared.operation.Op.{Op}
 use Rattle.ivy_base.specs.declared.operation.Op.TheVariants as op
 use Rattle.ivy_base.specs.Naming.{head_key_of, inode_number}
 use Rattle.wire_model.proofs.OneReading.{whole}
 use Rattle.log_model.specs.View.{View, is_named}
-use Rattle.log_model.specs.Vector.{Entry, Stamp, Vector, stamp_at, Dominates}
+use Rattle.log_model.specs.Vector.{Stamp, Vector, stamp_at, Dominates}
 use Rattle.log_model.specs.Record.{Record}
 use Rattle.log_model.specs.Rank.{own_entry, full_vector}
 use Rattle.log_model.specs.Spelling.{record_block, no_name, IsRecordOf}

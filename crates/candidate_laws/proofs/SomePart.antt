@@ -1,19 +1,18 @@
 -- Of what is known and of candidates there is a largest closed part.
-use Rattle.std.proofs.Common.{◌≡◌, ◌⊎◌, inl, inr, ℕ, ◌+◌, ◌<◌, ◌≤◌, Bool, true, false, cond, filter, List, [], ◌∷◌, ◌++◌, length, map, refl, sym, ap, ◌∙◌, subst, arith, Contains}
+use Rattle.std.proofs.Common.{◌≡◌, ◌⊎◌, inl, inr, ℕ, ◌+◌, ◌≤◌, Bool, true, false, cond, filter, List, [], ◌∷◌, ◌++◌, map, refl, sym, ap, ◌∙◌, subst, arith, Contains}
 use Rattle.std.specs.Prelude.{IsTrue}
 use Rattle.std.specs.Cmp.{ranked, tied_itself}
 use Rattle.std.specs.List.{AllByRecursion, list_all}
 use Rattle.std.specs.Ordering.{eq_by_cmp, is_lt, is_eq, nat_cmp, ordering_then}
 use Rattle.std.specs.declared.cmp.Ordering.{Ordering}
 use Rattle.std.specs.declared.cmp.Ordering.TheVariants.{Less, Equal, Greater}
-use Rattle.std.proofs.lemmas.List.Elements.{Contains-append_left, Contains-append_right, Contains-append_cases, filter-append}
-use Rattle.std.proofs.lemmas.List.{append-nil}
+use Rattle.std.proofs.lemmas.List.Elements.{Contains-append_left, Contains-append_right, Contains-append_cases}
 use Rattle.ivy_base.specs.declared.key.Key.{Key}
 use Rattle.ivy_base.specs.declared.key.PubKey.{PubKey}
 use Rattle.ivy_base.specs.Naming.{owner_cmp}
 use Rattle.tree_model.proofs.Sound.{both_true}
 use Rattle.wire_model.proofs.OneReading.{whole}
-use Rattle.log_model.specs.View.{View, IsView, ascend}
+use Rattle.log_model.specs.View.{View, ascend}
 use Rattle.log_model.specs.Vector.{Stamp, Vector}
 use Rattle.log_model.specs.Record.{Record}
 use Rattle.log_model.specs.Rank.{weight, record_cmp}
@@ -29,7 +28,7 @@ use Rattle.log_model.proofs.Part.{chain_good, numbered, Numbered, numbers_from, 
 use Rattle.log_model.proofs.Sets.{in_order_ascends, in_order_in, in_order_has, same_list, chain_ascends, IsBefore}
 use Rattle.log_records.proofs.OneRecord.{one_record}
 use Rattle.turn_model.specs.Turn.{Candidate, IsPrefixOf, IsAtHand}
-use Rattle.turn_model.specs.Candidates.{MakeChain, IsCandidate, own_log, newest, as_known, AreCandidates}
+use Rattle.turn_model.specs.Candidates.{IsCandidate, own_log, newest, as_known}
 use Rattle.reading_laws.proofs.Deciding.{same_or_not}
 use Rattle.candidate_laws.specs.Some.{ThereIsALargestPart}
 use Rattle.candidate_laws.proofs.RecordReading.{Known, both_known}

@@ -17,9 +17,10 @@ use Rattle.play_replies.specs.Valid.{IsValid}
 use Rattle.play_replies.proofs.KeptWorlds.{line_keeps}
 use Rattle.play_replies.proofs.Served.{replies_are_served}
 use Rattle.play_replies.proofs.Runs.{each_reply_is_on_replay}
+use Rattle.play_runs.proofs.FullRuns.{each_script_has_a_full_run}
 use Rattle.play_runs.proofs.Runs.{full_runs_are_one, want_is_shown}
 use Rattle.ivy_play.specs.Status.{status_of}
-use Rattle.ivy_play.specs.Playing.{ivy_runs, IsFullRun, IsPlayed}
+use Rattle.ivy_play.specs.Playing.{ivy_runs, IsTheFullRun, IsPlayed}
 
 empty_is_valid : EmptyIsValid
 empty_is_valid = record { participants = tt; apart = tt; views = tt; heads = tt; moment = record { sec = omega arith; nsec = omega arith } }
@@ -45,17 +46,33 @@ stops_short before left held holds =
     stops_weaker IvyStep (WithLaw IvyStep Headline) empty_world before left held holds
     (λ last lines text. obeys_with_law IvyStep Headline IsValid replies_are_served line_keeps empty_world last lines text empty_is_valid)
 
+-- there is one full run
+the_full_run : (script : List ℕ) → (ran : Ran) × IsTheFullRun script ran
+the_full_run script =
+    let lines = lines_of (take (2 ^ 40) script) in
+    let full = each_script_has_a_full_run empty_world 1 lines empty_is_valid in
+    (full.0, record { is = full.1; one = λ other is. full_runs_are_one empty_world 1 lines other full.0 nothing_is_apart is full.1 })
+
+-- what holds of each run holds of that one
+pub of_the_full_run : (left : Option (List ℕ)) (P : Ran → Type 0) → ((ran : Ran) → P ran) → IfSome left (λ script. (ran : Ran) × IsTheFullRun script ran × P ran)
+of_the_full_run None P each = tt
+of_the_full_run (Some script) P each = (let full = the_full_run script in (full.0, full.1, each full.0))
+
 -- what was told is the one full run, or a call lacked memory
 pub played : (ending : Ending) (left held holds : Option (List ℕ)) (A B : Type 0) → TellsAll ending (run_of IvyStep empty_world left) held holds
-    → IfSome left (λ script. (ran : Ran) → IsFullRun script ran → A → B → IsPlayed ran (status_of ending) held holds)
+    → IfSome left (λ script. (ran : Ran) × IsTheFullRun script ran × (A → B → IsPlayed ran (status_of ending) held holds))
 played ending None held holds A B t = tt
-played ending (Some script) held holds A B t = λ ran full a b.
-    elim (want_is_shown empty_world 1 (lines_of (take (2 ^ 40) script)) (ran_of t.told ending) t.run) [
-      | inl sure ↦
-          let same : ran_of t.told ending ≡ ran = full_runs_are_one empty_world 1 (lines_of (take (2 ^ 40) script)) (ran_of t.told ending) ran nothing_is_apart sure full in
-          inl (ap (λ (r : Ran). status_of r.ending) same, t.sink ∙ ap (λ (r : Ran). then held r.text) same)
-      | inr piece ↦ inr (inr (t.told, t.sink, piece))
-    ]
+played ending (Some script) held holds A B t =
+    let full = the_full_run script in (
+      full.0,
+      full.1,
+      λ a b. elim (want_is_shown empty_world 1 (lines_of (take (2 ^ 40) script)) (ran_of t.told ending) t.run) [
+        | inl sure ↦
+            let same : ran_of t.told ending ≡ full.0 = full.1.one (ran_of t.told ending) sure in
+            inl (ap (λ (r : Ran). status_of r.ending) same, t.sink ∙ ap (λ (r : Ran). then held r.text) same)
+        | inr piece ↦ inr (inr (t.told, t.sink, piece))
+      ],
+    )
 
 -- a run that was told whole ends as each run does
 pub ends_alike : (given : Ending) (left held holds : Option (List ℕ)) (A B : Type 0) → TellsAll given (run_of IvyStep empty_world left) held holds

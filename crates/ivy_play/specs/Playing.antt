@@ -13,9 +13,14 @@ use Rattle.ivy_play.specs.Status.{status_of}
 abbrev pub ivy_runs : Option (List ℕ) → Ran → Type 0
 ivy_runs left = run_of (WithLaw IvyStep Headline) empty_world left
 
--- a run of the script in which no call is refused for want of memory: there is one at most
+-- a run of the script in which no call is refused for want of memory
 abbrev pub IsFullRun : List ℕ → Ran → Type 0
 IsFullRun script ran = Runs (WithLaw IvyStep HasMemory) empty_world 1 (lines_of (take (2 ^ 40) script)) ran
+
+-- the only one
+pub record IsTheFullRun (script : List ℕ) (ran : Ran) : Type 0 where
+  pub is : IsFullRun script ran
+  pub one : (other : Ran) → IsFullRun script other → other ≡ ran
 
 -- The status and what was written are those of the run; or memory was wanting, to the player or to a call.
 abbrev pub IsPlayed : Ran → ℕ → Option (List ℕ) → Option (List ℕ) → Type 0

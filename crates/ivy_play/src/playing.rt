@@ -7,7 +7,7 @@ ghost use Rattle.script_driver.specs.Told.{TellsAll, TellsFront, TellsLess, Stop
 ghost use Rattle.play_model.specs.Step.{IvyStep};
 ghost use Rattle.play_model.specs.World.{empty_world};
 ghost use Rattle.play_replies.specs.Headline.{Headline};
-ghost use Rattle.ivy_play.specs.Playing.{ivy_runs, IsFullRun, IsPlayed};
+ghost use Rattle.ivy_play.specs.Playing.{ivy_runs, IsTheFullRun, IsPlayed};
 ghost use Rattle.ivy_play.specs.Status.{status_of};
 
 use ivy_io::{Sink, Source};
@@ -60,11 +60,11 @@ pub fn play<Q: Source, W: Sink>(alloc: Global, source: &mut Q, sink: &mut W) -> 
     ensures alike { (ending : Ending) → ((ran : Ran) → ivy_runs (Q.left source.old) ran → ran.ending ≡ ending) →
         ¬ Rose (Q.faults source.old) (Q.faults source.new) → ¬ Rose (W.faults sink.old) (W.faults sink.new) →
         (result ≡ status_of ending) ⊎ (result ≡ 6) }
-    // Where neither count rose, the status and what was written are those of the one run in which memory is never
-    // wanting, unless it was.
-    ensures complete { IfSome (Q.left source.old) (λ script. (ran : Ran) → IsFullRun script ran →
+    // There is one run in which memory is never wanting. Where neither count rose, the status and what was written are
+    // those of this run, unless memory was wanting.
+    ensures complete { IfSome (Q.left source.old) (λ script. (ran : Ran) × IsTheFullRun script ran × (
         ¬ Rose (Q.faults source.old) (Q.faults source.new) → ¬ Rose (W.faults sink.old) (W.faults sink.new) →
-        IsPlayed ran result (W.contents sink.old) (W.contents sink.new)) }
+        IsPlayed ran result (W.contents sink.old) (W.contents sink.new))) }
 
     ensures reads { Q.faults source.old ≤ Q.faults source.new }
     ensures writes { W.faults sink.old ≤ W.faults sink.new }

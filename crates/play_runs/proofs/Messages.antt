@@ -1,7 +1,7 @@
 -- Each message is one thing, and one thing becomes of it.
-use Rattle.std.proofs.Common.{◌≡◌, ◌≢◌, ◌⊎◌, inl, inr, ℕ, ◌<◌, ◌≤◌, List, [], Option, Some, None, refl, sym, subst, arith}
+use Rattle.std.proofs.Common.{◌≡◌, ◌≢◌, ◌⊎◌, inl, inr, ℕ, List, [], Option, Some, None, refl, sym, subst}
 use Rattle.std.proofs.lemmas.Bool.{cases_lt, cases_eq}
-use Rattle.wire_model.specs.Rpc.{CallMessage, Identity, IsCall, IsCaller, IsOtherVersion, Success, ProgramUnavailable, ProgramMismatch, ProcedureUnavailable, GarbageArguments, RpcMismatch, BadCredential, reply}
+use Rattle.wire_model.specs.Rpc.{CallMessage, Identity, IsCall, IsCaller, Success, ProgramUnavailable, ProgramMismatch, ProcedureUnavailable, GarbageArguments, RpcMismatch, BadCredential, reply}
 use Rattle.wire_model.proofs.OneReading.{one_call, no_other_version, one_other_version}
 use Rattle.nfs_model.specs.declared.arguments.Args.{Args}
 use Rattle.nfs_model.specs.declared.arguments.Args.TheVariants as call
@@ -11,7 +11,7 @@ use Rattle.reading_laws.proofs.Arguments.{arguments_or_not}
 use Rattle.reading_laws.proofs.Callers.{caller_or_not}
 use Rattle.reading_laws.proofs.Calls.{call_or_not, other_or_not, known_message}
 use Rattle.play_model.specs.Calls.{IsServed, IsByMessage, no_call, other_version, no_program, no_version, no_procedure, no_caller, no_arguments, null, Asks}
-use Rattle.play_runs.specs.Messages.{EachMessageIsOne, IsAnswered, IsAsked, EachMessageBecomesOne}
+use Rattle.play_runs.specs.Messages.{EachMessageIsOne, EachMessageBecomesOne}
 use Rattle.play_runs.proofs.Replies.{one_reply, reply_or_turn, one_asked}
 
 pub each_is_one : EachMessageIsOne

@@ -1,10 +1,9 @@
 -- Of any bytes it is known whether they are the arguments of a procedure of NFS.
-use Rattle.std.proofs.Common.{◌≡◌, ◌⊎◌, inl, inr, ℕ, zero, suc, ◌+◌, ◌<◌, ◌≤◌, ◌^◌, List, [], ◌++◌, length, Option, Some, None, refl, sym, ap, ◌∙◌, subst, arith}
+use Rattle.std.proofs.Common.{◌≡◌, ◌⊎◌, inl, inr, ℕ, zero, suc, ◌<◌, ◌≤◌, ◌^◌, List, [], ◌++◌, length, Option, refl, sym, ◌∙◌, arith}
 use Rattle.std.specs.Prelude.{⊤, IfSome}
 use Rattle.std.proofs.lemmas.Bool.{cases_lt, cases_eq}
 use Rattle.ivy_base.specs.declared.operation.Moment.{Moment}
 use Rattle.wire_model.specs.Xdr.{word, double_word, opaque, optional, moment, IsWordMoment}
-use Rattle.wire_model.specs.OneReading.{ReadsOne}
 use Rattle.wire_model.proofs.OneReading.{of_fewer, one_word, one_opaque}
 use Rattle.nfs_model.specs.declared.arguments.Args.{Args}
 use Rattle.nfs_model.specs.declared.arguments.Args.TheVariants as call
@@ -17,7 +16,7 @@ use Rattle.nfs_model.specs.declared.arguments.Node.{Node}
 use Rattle.nfs_model.specs.declared.arguments.Node.TheVariants.{Plain, Device, Other}
 use Rattle.nfs_model.specs.Arguments.{nfs_program, program_of, procedure_of, arguments, set_time, set_what, create_how, special_node, IsHandle, IsShortText, IsTime, IsSetWhat, IsVerifier, IsHow, IsPlainKind, IsDeviceKind, IsOtherKind, IsNode, ArgumentsFit, AreArguments}
 use Rattle.nfs_model.proofs.OneArguments.{one_set_time, one_set_what, one_how, one_node}
-use Rattle.reading_laws.proofs.Deciding.{Reads, IsReadable, ◌then◌, HasParts, IsSpelling, a_word, a_double_word, a_moment, a_front, a_data, a_raw, an_optional, reads_then, reads_fewer, reads_parts, reads_either, fronts, words, whole_or_not}
+use Rattle.reading_laws.proofs.Deciding.{Reads, IsReadable, ◌then◌, HasParts, a_word, a_double_word, a_moment, a_front, a_data, a_raw, an_optional, reads_then, reads_fewer, reads_parts, reads_either, fronts, whole_or_not}
 
 -- ---- parts
 

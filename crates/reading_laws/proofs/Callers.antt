@@ -1,9 +1,8 @@
 -- Of each credential it is known whose it is.
-use Rattle.std.proofs.Common.{◌≡◌, ◌⊎◌, inl, inr, ℕ, ◌<◌, ◌≤◌, ◌^◌, List, [], ◌++◌, length, refl, sym, ap, ◌∙◌, subst, arith}
+use Rattle.std.proofs.Common.{◌⊎◌, inl, inr, ℕ, List, sym, subst, arith}
 use Rattle.std.proofs.lemmas.Bool.{cases_eq}
-use Rattle.wire_model.specs.Xdr.{word, opaque, array}
-use Rattle.wire_model.specs.Rpc.{Auth, Identity, system_body, nobody, IsIdentity, IsCaller, none, system}
-use Rattle.wire_model.proofs.OneReading.{caller_cases, IsSystemCaller}
+use Rattle.wire_model.specs.Rpc.{Auth, Identity, nobody, IsCaller, none, system}
+use Rattle.wire_model.proofs.OneReading.{caller_cases}
 use Rattle.reading_laws.proofs.Deciding.{◌then◌, a_word, a_data, an_array, whole_or_not}
 
 abbrev HasCaller : Auth → Type 0

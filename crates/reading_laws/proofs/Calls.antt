@@ -1,8 +1,8 @@
 -- Of each message it is known whether it is a call, and of each credential whose it is.
-use Rattle.std.proofs.Common.{◌≡◌, ◌≢◌, ◌⊎◌, inl, inr, ℕ, ◌<◌, ◌≤◌, ◌^◌, List, [], ◌++◌, length, refl, sym, ap, ◌∙◌, arith, append_assoc}
+use Rattle.std.proofs.Common.{◌≡◌, ◌⊎◌, inl, inr, ℕ, List, ◌++◌, sym, ap, ◌∙◌, arith, append_assoc}
 use Rattle.std.proofs.lemmas.Bool.{cases_lt}
 use Rattle.wire_model.specs.Xdr.{word, opaque}
-use Rattle.wire_model.specs.Rpc.{Auth, CallMessage, IsCall, IsOtherVersion}
+use Rattle.wire_model.specs.Rpc.{CallMessage, IsCall, IsOtherVersion}
 use Rattle.reading_laws.specs.Laws.{EachMessageIsKnown}
 use Rattle.reading_laws.proofs.Deciding.{◌then◌, a_word, a_front, a_data}
 

@@ -1,7 +1,6 @@
 -- What was read and taken: lines that are obeyed one after the other, and the part of a line behind them.
 use Rattle.std.proofs.Common.{◌≡◌, ℕ, ◌+◌, ◌<◌, ◌≤◌, ◌^◌, List, [], ◌∷◌, ◌++◌, length, Option, Some, None, refl, sym, ap, ◌∙◌, append_assoc, arith, length-append}
 use Rattle.std.specs.Prelude.{IfNone}
-use Rattle.std.specs.Option.{option_map}
 use Rattle.std.specs.List.{AllByRecursion}
 use Rattle.std.proofs.lemmas.List.{append-nil, take_all}
 use Rattle.std.proofs.lemmas.Grind.{flat_map-append}
@@ -14,7 +13,7 @@ use Rattle.script_driver.specs.declared.script.Script.{Script}
 use Rattle.script_driver.specs.Lines.{HasNoNewline, with_newlines}
 use Rattle.script_driver.specs.Machine.{outcome_told}
 use Rattle.script_driver.specs.Run.{line_limit, shown, Outcome, Goes, Obeys}
-use Rattle.script_driver.specs.Script.{ahead, most_ahead, Takes, Waits}
+use Rattle.script_driver.specs.Script.{ahead, Takes, Waits}
 use Rattle.script_driver.specs.Told.{ObeysLines, Progresses, StopsShort, Spells, OnWent}
 
 onto-nil : (known : Option (List ℕ)) → onto [] known ≡ known

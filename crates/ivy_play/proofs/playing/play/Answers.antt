@@ -1,5 +1,6 @@
 use Rattle.script_driver.specs.Run.{Ended, RefusedAt, LimitAt}
-use Rattle.ivy_play.proofs.Plays.{told_all, told_front, told_less, stops_short, played, ends_alike}
+use Rattle.std.proofs.Common.{inl, inr, refl}
+use Rattle.ivy_play.proofs.Plays.{told_all, told_front, told_less, stops_short, of_the_full_run, played, ends_alike}
 use Rattle.ivy_play.proofs.playing.play.Goals as goal
 
 pub returns-in-Ok-Ended-clause-ended : goal.returns-in-Ok-Ended-clause-ended
@@ -26,14 +27,23 @@ returns-in-Err-Read-clause-front g c = told_front _ _ _ (rw c.new-world.ensures 
 pub returns-in-Err-Read-clause-waits : goal.returns-in-Err-Read-clause-waits
 returns-in-Err-Read-clause-waits g c = λ four. stops_short _ _ _ _ (rw (c.in-Err-Read.field-0-is, c.new-world.ensures) at c.in-Err-Read.ensures.waits)
 
+pub returns-in-Err-Read-clause-complete : goal.returns-in-Err-Read-clause-complete
+returns-in-Err-Read-clause-complete g c = of_the_full_run _ _ (λ ran no_read no_write. absurd (no_read (rw c.in-Err-Read.field-0-is at c.in-Err-Read.ensures.fails).1))
+
 pub returns-in-Err-Write-clause-front : goal.returns-in-Err-Write-clause-front
 returns-in-Err-Write-clause-front g c = told_front _ _ _ (rw c.new-world.ensures at c.run_script.ensures.front)
 
 pub returns-in-Err-Write-clause-less : goal.returns-in-Err-Write-clause-less
 returns-in-Err-Write-clause-less g c = λ five. told_less _ _ _ (rw (c.in-Err-Write.field-0-is, c.new-world.ensures) at c.in-Err-Write.ensures.fails).0
 
+pub returns-in-Err-Write-clause-complete : goal.returns-in-Err-Write-clause-complete
+returns-in-Err-Write-clause-complete g c = of_the_full_run _ _ (λ ran no_read no_write. absurd (no_write (rw c.in-Err-Write.field-0-is at c.in-Err-Write.ensures.fails).1))
+
 pub returns-in-Err-Memory-clause-front : goal.returns-in-Err-Memory-clause-front
 returns-in-Err-Memory-clause-front g c = told_front _ _ _ (rw c.new-world.ensures at c.run_script.ensures.front)
+
+pub returns-in-Err-Memory-clause-complete : goal.returns-in-Err-Memory-clause-complete
+returns-in-Err-Memory-clause-complete g c = of_the_full_run _ _ (λ ran no_read no_write. inr (inl refl))
 
 pub returns-in-Ok-Ended-clause-alike : goal.returns-in-Ok-Ended-clause-alike
 returns-in-Ok-Ended-clause-alike g c = ends_alike Ended _ _ _ _ _ (rw (c.in-Ok-Ended.field-0-is, c.new-world.ensures) at c.in-Ok-Ended.ensures.told)
