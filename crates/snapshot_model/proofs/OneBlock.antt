@@ -16,18 +16,10 @@ use Rattle.log_model.specs.Rank.{Rank}
 use Rattle.log_model.specs.Vector.{Entry, Vector}
 use Rattle.log_model.specs.Spelling.{IsBlock, IsKey, IsMode, IsMoment, IsTarget, kind_number, vector_entry}
 use Rattle.snapshot_model.specs.Blocks.{Listed, InodeBlock, RootBlock, listed_bytes, attributes_bytes, rank_bytes, entry_bytes, list_block, entries_block, inode_block, root_block, IsListed, AreAttributes, IsEntry, IsStamped, IsVectorSpelled, IsRankSpelled, AreNamed, AreEntries, IsInodeBlock, IsRootBlock, most_bytes, most_levels}
+use Rattle.snapshot_model.specs.Parts.{key_bytes, kind_word, list_tag, IsAtMost, HasInodeParts, FitsKind}
 use Rattle.snapshot_model.specs.Laws.{BlocksAreOne}
 
 -- ---- parts
-
-abbrev pub key_bytes : Key → List ℕ
-key_bytes k = k.0
-
-abbrev pub kind_word : Kind → List ℕ
-kind_word kind = word (kind_number kind)
-
-abbrev pub IsAtMost : ℕ → ℕ → Type 0
-IsAtMost most n = n ≤ most
 
 pub one_block : (count : ℕ) → ReadsOne (IsBlock count) (λ bytes. bytes)
 one_block count = of_fewer (λ bytes f. f.size) (one_raw count)
@@ -82,10 +74,6 @@ pub one_listed : (most : ℕ) → most < 2 ^ 32 → ReadsOne (IsListed most) lis
 one_listed most h = of_parts (λ (l : Listed). (l.level, l.top)) (λ l f. (f.few, f.top)) (λ l. refl) (λ l m e. ap (λ (p : ℕ × Key). record { level = p.0; top = p.1 }) e)
     (one_at_most most h ▷ one_key)
 
--- "IVL1" and the level
-abbrev pub list_tag : ℕ → List ℕ
-list_tag level = 73 ∷ 86 ∷ 76 ∷ 49 ∷ word level
-
 pub one_keys : ReadsOne (λ keys. (length keys < 2 ^ 32) × AllByRecursion IsKey keys) (array key_bytes)
 one_keys = one_array one_key
 
@@ -101,10 +89,14 @@ entries_tag = 73 ∷ 86 ∷ 69 ∷ 49 ∷ []
 pub one_entry : ReadsOne IsEntry entry_bytes
 one_entry = one_name ▷ one_key
 
-pub one_entries : ReadsOne AreEntries entries_block
-one_entries = of_parts (λ (entries : List (List ℕ × Key)). (tt, entries)) (λ entries f. (tt, (omega (arith, f.few), f.each))) (λ entries. refl)
+-- in any order, and so many
+pub one_of_entries : ReadsOne (λ entries. (length entries < 2 ^ 32) × AllByRecursion IsEntry entries) entries_block
+one_of_entries = of_parts (λ (entries : List (List ℕ × Key)). (tt, entries)) (λ entries f. (tt, f)) (λ entries. refl)
     (λ d e same. ap (λ (p : Unit {0} × List (List ℕ × Key)). p.1) same)
     (always entries_tag ▷ one_array one_entry)
+
+pub one_entries : ReadsOne AreEntries entries_block
+one_entries = of_fewer (λ entries f. (omega (arith, f.few), f.each)) one_of_entries
 
 -- ---- inodes
 
@@ -119,10 +111,6 @@ inode_parts b = ((((((tt, b.number), b.kind), b.attributes), b.size), b.target),
 
 abbrev pub of_inode_parts : InodeParts → InodeBlock
 of_inode_parts p = record { number = p.0.0.0.0.0.1; kind = p.0.0.0.0.1; attributes = p.0.0.0.1; size = p.0.0.1; target = p.0.1; items = p.1 }
-
--- the bounds of the parts, whatever the kind is
-abbrev pub HasInodeParts : InodeBlock → Type 0
-HasInodeParts b = (((((Unit {0} × IsKey b.number) × IsAny b.kind) × AreAttributes b.attributes) × IsAtMost 16777216 b.size) × (length b.target ≤ 1024)) × IsListed 3 b.items
 
 size_fits : (kind : Kind) (n : ℕ) → n ≤ most_bytes kind → n ≤ 16777216
 size_fits Reg n h = h
@@ -140,13 +128,26 @@ levels_fit Dir n h = h
 levels_fit Lnk n h = omega (arith, h)
 
 pub inode_parts_fit : (b : InodeBlock) → IsInodeBlock b → HasInodeParts b
-inode_parts_fit b f =
-    ((((((tt, f.number), tt), f.attributes), size_fits b.kind b.size f.size), target_fits b.kind b.target f.target),
-      record { few = levels_fit b.kind b.items.level f.items.few; top = f.items.top; none = f.items.none })
+inode_parts_fit b f = (
+  (((((tt, f.number), tt), f.attributes), size_fits b.kind b.size f.size), target_fits b.kind b.target f.target),
+  record { few = levels_fit b.kind b.items.level f.items.few; top = f.items.top; none = f.items.none },
+)
 
 pub one_of_inode_parts : ReadsOne HasInodeParts inode_block
 one_of_inode_parts = of_parts inode_parts (λ b f. f) (λ b. refl) (λ b c e. ap of_inode_parts e)
     (always inode_tag ▷ one_key ▷ one_kind ▷ one_attributes ▷ one_size ▷ one_short_opaque 1024 (omega arith) ▷ one_listed 3 (omega arith))
+
+pub of_its_kind : (b : InodeBlock) → IsInodeBlock b → FitsKind b.kind b.size b.target b.items.level
+of_its_kind b f = (f.size, f.target, f.items.few)
+
+pub with_kind : (b : InodeBlock) → HasInodeParts b → FitsKind b.kind b.size b.target b.items.level → IsInodeBlock b
+with_kind b f g = record {
+  number = f.0.0.0.0.0.1;
+  attributes = f.0.0.0.1;
+  size = g.0;
+  target = g.1;
+  items = record { few = g.2; top = f.1.top; none = f.1.none };
+}
 
 pub one_inode : ReadsOne IsInodeBlock inode_block
 one_inode = of_fewer inode_parts_fit one_of_inode_parts
