@@ -1,1 +1,4 @@
 pub mod OneBlock
+pub mod Pieces
+pub mod MadeLists
+pub mod MadeInodes

@@ -65,33 +65,34 @@ piece_made bytes = over bytes []
 abbrev pub entries_made : List (List ℕ × Key) → Made
 entries_made entries = over (entries_block entries) []
 
-abbrev pub items_of : Tree → Key → Inode → Kind → List Made
-items_of t number inode Reg = map piece_made (in_pieces 8192 inode.body)
-items_of t number inode Dir = map entries_made (in_pieces 32 (listing t number))
-items_of t number inode Lnk = []
+-- an inode's body and a directory's entries, in pieces
+abbrev pub items_of : List (List ℕ × Key) → List ℕ → Kind → List Made
+items_of entries body Reg = map piece_made (in_pieces 8192 body)
+items_of entries body Dir = map entries_made (in_pieces 32 entries)
+items_of entries body Lnk = []
 
-abbrev pub size_of : Inode → Kind → ℕ
-size_of inode Reg = length inode.body
-size_of inode Dir = 0
-size_of inode Lnk = 0
+abbrev pub size_of : List ℕ → Kind → ℕ
+size_of body Reg = length body
+size_of body Dir = 0
+size_of body Lnk = 0
 
-abbrev pub target_of : Inode → Kind → List ℕ
-target_of inode Lnk = inode.body
-target_of inode Reg = []
-target_of inode Dir = []
+abbrev pub target_of : List ℕ → Kind → List ℕ
+target_of body Lnk = body
+target_of body Reg = []
+target_of body Dir = []
 
 abbrev pub inode_over : Key → Inode → ℕ × List Made → Made
 inode_over number inode items = over (inode_block (record {
   number = number;
   kind = inode.kind;
   attributes = inode.attributes;
-  size = size_of inode inode.kind;
-  target = target_of inode inode.kind;
+  size = size_of inode.body inode.kind;
+  target = target_of inode.body inode.kind;
   items = named_by items;
 })) items.1
 
 abbrev pub inode_made : Tree → Key × Inode → Made
-inode_made t (number, inode) = inode_over number inode (list_of (items_of t number inode inode.kind))
+inode_made t (number, inode) = inode_over number inode (list_of (items_of (listing t number) inode.body inode.kind))
 
 -- ---- the whole
 
