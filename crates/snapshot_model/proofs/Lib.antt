@@ -2,3 +2,5 @@ pub mod OneBlock
 pub mod Pieces
 pub mod MadeLists
 pub mod MadeInodes
+pub mod SameNames
+pub mod Loaded
