@@ -1,4 +1,5 @@
 pub mod OneBlock
+pub mod OneNames
 pub mod Pieces
 pub mod MadeLists
 pub mod MadeInodes
