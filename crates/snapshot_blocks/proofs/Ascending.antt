@@ -7,11 +7,10 @@ use Rattle.std.specs.Ordering.{is_lt, nat_cmp}
 use Rattle.std.specs.declared.cmp.Ordering.{Ordering}
 use Rattle.std.specs.declared.cmp.Ordering.TheVariants.{Less, Equal, Greater}
 use Rattle.std.specs.FinMap.Entries.{is_sorted, below_all}
-use Rattle.ivy_base.specs.declared.key.Key.{Key}
 use Rattle.tree_model.proofs.Sound.{both_true}
 use Rattle.log_model.proofs.Lists.{both}
 use Rattle.snapshot_model.specs.Blocks.{Ascend}
-use Rattle.snapshot_blocks.specs.Parsed.{entry_of, entries_of}
+use Rattle.snapshot_blocks.specs.Parsed.{entries_of}
 use Rattle.snapshot_blocks.specs.declared.entries.Entry.{Entry}
 
 abbrev pub is_below : Entry → Entry → Bool

@@ -1,14 +1,14 @@
 -- Entries of a directory, read one by one.
-use Rattle.std.proofs.Common.{◌≡◌, ℕ, ◌^◌, ◌<◌, ◌≤◌, List, [], ◌∷◌, ◌++◌, length, refl, sym, ap, ◌∙◌, arith, append_assoc}
+use Rattle.std.proofs.Common.{◌≡◌, ℕ, ◌<◌, ◌≤◌, List, [], ◌∷◌, ◌++◌, length, refl, sym, ap, ◌∙◌, arith, append_assoc}
 use Rattle.std.specs.List.{AllByRecursion, flat_map}
 use Rattle.ivy_base.specs.declared.key.Key.{Key}
 use Rattle.ivy_base.specs.Naming.{IsFileName}
 use Rattle.wire_model.specs.Xdr.{word, opaque, array, IsAny, IsWord, AreSoMany}
 use Rattle.wire_model.specs.OneReading.{ReadsOne, IsFront, HasNoFront}
 use Rattle.wire_model.proofs.OneReading.{one_word, of_fewer}
-use Rattle.wire_model.proofs.Fronts.{both, no_first, no_second, none_of_fewer}
+use Rattle.wire_model.proofs.Fronts.{no_first, no_second, none_of_fewer}
 use Rattle.wire_model.proofs.Dependent.{PartsOf, none_of_some}
-use Rattle.wire_model.proofs.Arrays.{AreFew, no_items, more_items, no_next, no_count, too_many, no_counted}
+use Rattle.wire_model.proofs.Arrays.{AreFew, more_items, no_next, no_count, too_many, no_counted}
 use Rattle.log_model.specs.Spelling.{IsKey}
 use Rattle.snapshot_model.specs.Blocks.{AreEntries, IsEntry, entries_block, entry_bytes}
 use Rattle.snapshot_model.specs.Parts.{constant_bytes, key_bytes}

@@ -1,16 +1,16 @@
 -- Names in list blocks: as many as their count says, each of 20 bytes.
-use Rattle.std.proofs.Common.{◌≡◌, ◌≢◌, ℕ, zero, suc, ◌*◌, ◌^◌, ◌/◌, ◌%◌, ◌<◌, ◌≤◌, ◌⊎◌, inl, inr, true, nat_lt, Bool, List, [], ◌∷◌, ◌++◌, length, take, drop, refl, sym, ap, ◌∙◌, subst, arith, append_assoc, length-append, length-drop}
+use Rattle.std.proofs.Common.{◌≡◌, ◌≢◌, ℕ, zero, suc, ◌*◌, ◌^◌, ◌/◌, ◌%◌, ◌<◌, ◌≤◌, true, nat_lt, Bool, List, [], ◌∷◌, ◌++◌, length, take, drop, refl, sym, ap, ◌∙◌, arith, append_assoc, length-append, length-drop}
 use Rattle.std.specs.List.{AllByRecursion, list_all, flat_map}
 use Rattle.std.specs.Simd.{first_chunks}
 use Rattle.std.proofs.lemmas.List.{append-nil, append_cancel_left, take-append-drop, length-take-le}
 use Rattle.std.proofs.lemmas.List.Folds.{list_all-append}
 use Rattle.ivy_base.specs.declared.key.Key.{Key}
-use Rattle.wire_model.specs.Xdr.{word, padding, fixed, array, IsAny, IsWord, IsOfLength, AreSoMany}
+use Rattle.wire_model.specs.Xdr.{word, padding, fixed, array, IsAny, IsWord, IsOfLength}
 use Rattle.wire_model.specs.OneReading.{IsFront, HasNoFront}
 use Rattle.wire_model.proofs.OneReading.{one_word}
 use Rattle.wire_model.proofs.Fronts.{both, no_first, no_second, none_of_fewer}
 use Rattle.wire_model.proofs.Dependent.{PartsOf, none_of_some}
-use Rattle.wire_model.proofs.Arrays.{AreFew, no_count, too_many, no_counted, counted}
+use Rattle.wire_model.proofs.Arrays.{AreFew, no_count, too_many, no_counted}
 use Rattle.tree_model.proofs.Sound.{both_true}
 use Rattle.log_model.specs.Spelling.{IsKey}
 use Rattle.snapshot_model.specs.Blocks.{AreNamed, list_block}

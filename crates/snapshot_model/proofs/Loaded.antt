@@ -15,9 +15,9 @@ use Rattle.log_model.specs.Vector.{Vector}
 use Rattle.log_model.specs.Spelling.{IsKey}
 use Rattle.log_model.proofs.Lists.{each_from}
 use Rattle.turn_model.specs.Basis.{Basis}
-use Rattle.snapshot_model.specs.Blocks.{RootBlock, root_block, IsRootBlock}
-use Rattle.snapshot_model.specs.Spelling.{Made, items_of, inode_made, list_of, named_by, snapshot_named}
-use Rattle.snapshot_model.specs.Reading.{HasBounds, IsWholeTree, IsBasisSpelled, AreOf}
+use Rattle.snapshot_model.specs.Blocks.{RootBlock, IsRootBlock}
+use Rattle.snapshot_model.specs.Spelling.{items_of, inode_made, list_of, named_by, snapshot_named}
+use Rattle.snapshot_model.specs.Reading.{HasBounds, IsWholeTree, IsBasisSpelled}
 use Rattle.snapshot_model.specs.Laws.{LoadedIsMade}
 use Rattle.snapshot_model.proofs.OneBlock.{one_root}
 use Rattle.snapshot_model.proofs.MadeLists.{readings, is_listed, AllMet, one_listed_made}

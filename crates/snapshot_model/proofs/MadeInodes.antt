@@ -1,16 +1,15 @@
 -- Inodes by the names of their blocks.
-use Rattle.std.proofs.Common.{◌≡◌, ℕ, zero, suc, ◌+◌, ◌*◌, ◌^◌, ◌<◌, ◌≤◌, List, [], ◌∷◌, ◌++◌, length, map, refl, sym, ap, ◌∙◌, arith}
-use Rattle.std.specs.Prelude.{Contains}
+use Rattle.std.proofs.Common.{◌≡◌, ℕ, ◌^◌, ◌<◌, ◌≤◌, List, [], ◌∷◌, length, refl, sym, ap, ◌∙◌, arith}
 use Rattle.std.specs.List.{AllByRecursion}
 use Rattle.ivy_base.specs.declared.key.Key.{Key}
 use Rattle.ivy_base.specs.declared.operation.Kind.{Kind}
 use Rattle.ivy_base.specs.declared.operation.Kind.TheVariants.{Reg, Dir, Lnk}
-use Rattle.ivy_base.specs.Naming.{name, NamesTellApart}
+use Rattle.ivy_base.specs.Naming.{NamesTellApart}
 use Rattle.tree_model.specs.Tree.{Attributes, Inode}
 use Rattle.wire_model.proofs.OneReading.{whole}
 use Rattle.log_model.specs.Spelling.{IsKey, IsTarget}
-use Rattle.snapshot_model.specs.Blocks.{Listed, InodeBlock, inode_block, entries_block, IsEntry, IsInodeBlock, IsListed, most_bytes, most_levels}
-use Rattle.snapshot_model.specs.Spelling.{Made, list_of, named_by, in_pieces, pieces, piece_made, entries_made, items_of, size_of, target_of, inode_over}
+use Rattle.snapshot_model.specs.Blocks.{InodeBlock, entries_block, IsEntry, IsInodeBlock, IsListed, most_bytes, most_levels}
+use Rattle.snapshot_model.specs.Spelling.{Made, list_of, named_by, in_pieces, piece_made, entries_made, items_of, size_of, target_of, inode_over}
 use Rattle.snapshot_model.specs.Reading.{IsBodyOf, HasBounds}
 use Rattle.snapshot_model.proofs.OneBlock.{one_of_entries, one_inode}
 use Rattle.snapshot_model.proofs.Pieces.{same_pieces, few_pieces, short_pieces, each_joined}

@@ -1,19 +1,18 @@
 -- Lists of blocks by their names: those of which the top blocks have one name are equal.
-use Rattle.std.proofs.Common.{◌≡◌, ℕ, zero, suc, ◌+◌, ◌-◌, ◌*◌, ◌^◌, ◌<◌, ◌≤◌, Bool, true, false, List, [], ◌∷◌, ◌++◌, length, map, take, drop, refl, sym, ap, ◌∙◌, arith, subst}
+use Rattle.std.proofs.Common.{◌≡◌, ℕ, zero, suc, ◌+◌, ◌-◌, ◌*◌, ◌<◌, ◌≤◌, Bool, true, false, List, [], ◌∷◌, length, map, take, drop, refl, sym, ap, ◌∙◌, arith, subst}
 use Rattle.std.specs.Prelude.{nat_le, Contains, if◌then◌else◌}
 use Rattle.std.specs.List.{AllByRecursion, flat_map}
 use Rattle.std.proofs.lemmas.List.{length-map, length-take, take-append-drop}
 use Rattle.std.proofs.lemmas.Bool.{leb-true}
-use Rattle.ivy_base.specs.declared.key.Key.{Key}
 use Rattle.ivy_base.specs.Naming.{name, NamesTellApart}
 use Rattle.ivy_base.proofs.NameLemmas.{length-name, bytes-name}
 use Rattle.wire_model.proofs.OneReading.{whole}
 use Rattle.log_model.specs.Spelling.{IsKey, no_name}
 use Rattle.log_model.proofs.Lists.{each_left, each_right}
-use Rattle.snapshot_model.specs.Blocks.{Listed, list_block, AreNamed, IsListed}
+use Rattle.snapshot_model.specs.Blocks.{Listed, AreNamed, IsListed}
 use Rattle.snapshot_model.specs.Spelling.{Made, made_name, list_made, listed, list_of, named_by, in_pieces, pieces}
 use Rattle.snapshot_model.proofs.OneBlock.{one_list}
-use Rattle.snapshot_model.proofs.Pieces.{same_pieces, map-pieces, few_pieces, short_pieces, each_joined, some_pieces}
+use Rattle.snapshot_model.proofs.Pieces.{same_pieces, map-pieces, few_pieces, some_pieces}
 
 pub is_key : (block : List ℕ) → IsKey (name block)
 is_key block = record { size = length-name block; each = bytes-name block }
@@ -169,21 +168,26 @@ module _ (met : List (List ℕ)) (apart : NamesTellApart met) where
     where
       few_of : (zs : List X) → true ≡ nat_le (length (map f zs)) 512 → length zs ≤ 512
       few_of zs t = let s = length-map zs f in omega (arith, leb-true (length (map f zs)) 512 (sym t), s)
+
       many_of : (zs : List X) → false ≡ nat_le (length (map f zs)) 512 → 512 < length zs
       many_of zs t = not_few (length zs) (t ∙ ap (λ j. nat_le j 512) (length-map zs f))
+
       above : (zs : List X) → 1 ≤ length zs → length zs ≤ most_under (suc n) → false ≡ nat_le (length (map f zs)) 512 → level + 1 ≤ (named_by (by_size n level (map f zs) false)).level
       above zs nonempty long t =
           subst (λ items. level + 1 ≤ (named_by (listed n (level + 1) items)).level) (sym (regroup level f zs))
           (level_least n (level + 1) (over_each level f) (in_pieces 512 zs) (some_pieces 512 zs nonempty) (few_below n zs long (many_of zs t)))
+
       met_above : (zs : List X) → AllMet (readings (by_size n level (map f zs) false).1) → AllMet (readings (listed n (level + 1) (map (over_each level f) (in_pieces 512 zs))).1)
       met_above zs q = subst (λ items. AllMet (readings (listed n (level + 1) items).1)) (regroup level f zs) q
+
       named_above : (zs : List X) → named_by (listed n (level + 1) (map (over_each level f) (in_pieces 512 zs))) ≡ named_by (by_size n level (map f zs) false)
       named_above zs = ap (λ items. named_by (listed n (level + 1) items)) (sym (regroup level f zs))
+
       by : (b c : Bool) → b ≡ nat_le (length (map f (x ∷ xs))) 512 → c ≡ nat_le (length (map f (y ∷ ys))) 512
           → (length (in_pieces 512 (x ∷ xs)) ≤ most_under n → length (in_pieces 512 (y ∷ ys)) ≤ most_under n
-            → AllMet (readings (listed n (level + 1) (map (over_each level f) (in_pieces 512 (x ∷ xs)))).1) → AllMet (readings (listed n (level + 1) (map (over_each level f) (in_pieces 512 (y ∷ ys)))).1)
-            → named_by (listed n (level + 1) (map (over_each level f) (in_pieces 512 (x ∷ xs)))) ≡ named_by (listed n (level + 1) (map (over_each level f) (in_pieces 512 (y ∷ ys))))
-            → in_pieces 512 (x ∷ xs) ≡ in_pieces 512 (y ∷ ys))
+          → AllMet (readings (listed n (level + 1) (map (over_each level f) (in_pieces 512 (x ∷ xs)))).1) → AllMet (readings (listed n (level + 1) (map (over_each level f) (in_pieces 512 (y ∷ ys)))).1)
+          → named_by (listed n (level + 1) (map (over_each level f) (in_pieces 512 (x ∷ xs)))) ≡ named_by (listed n (level + 1) (map (over_each level f) (in_pieces 512 (y ∷ ys))))
+          → in_pieces 512 (x ∷ xs) ≡ in_pieces 512 (y ∷ ys))
           → AllMet (readings (by_size n level (map f (x ∷ xs)) b).1) → AllMet (readings (by_size n level (map f (y ∷ ys)) c).1)
           → named_by (by_size n level (map f (x ∷ xs)) b) ≡ named_by (by_size n level (map f (y ∷ ys)) c) → (x ∷ xs) ≡ (y ∷ ys)
       by true true t u below q r d =

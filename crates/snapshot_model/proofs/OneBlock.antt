@@ -1,20 +1,19 @@
 -- Each part of a snapshot's block is of one reading, and so is the block.
-use Rattle.std.proofs.Common.{◌≡◌, ℕ, ◌^◌, ◌<◌, ◌≤◌, List, [], ◌∷◌, ◌++◌, length, Option, refl, sym, ap, ◌∙◌, arith}
+use Rattle.std.proofs.Common.{◌≡◌, ℕ, ◌^◌, ◌<◌, ◌≤◌, List, [], ◌∷◌, ◌++◌, length, Option, refl, ap, arith}
 use Rattle.std.specs.Prelude.{IfSome}
 use Rattle.std.specs.List.{AllByRecursion}
 use Rattle.ivy_base.specs.declared.key.Key.{Key}
-use Rattle.ivy_base.specs.declared.key.PubKey.{PubKey}
 use Rattle.ivy_base.specs.declared.operation.Kind.{Kind}
 use Rattle.ivy_base.specs.declared.operation.Kind.TheVariants.{Reg, Dir, Lnk}
 use Rattle.ivy_base.specs.declared.operation.Moment.{Moment}
 use Rattle.ivy_base.specs.Naming.{IsFileName}
 use Rattle.tree_model.specs.Tree.{Attributes}
-use Rattle.wire_model.specs.Xdr.{word, double_word, opaque, optional, array, moment, IsWord, IsAny}
+use Rattle.wire_model.specs.Xdr.{word, double_word, opaque, optional, array, moment, IsAny}
 use Rattle.wire_model.specs.OneReading.{ReadsOne}
 use Rattle.wire_model.proofs.OneReading.{◌▷◌, always, of_fewer, of_parts, one_word, one_double_word, one_moment, one_raw, one_short_opaque, one_optional, one_array}
 use Rattle.log_model.specs.Rank.{Rank}
 use Rattle.log_model.specs.Vector.{Entry, Vector}
-use Rattle.log_model.specs.Spelling.{IsBlock, IsKey, IsMode, IsMoment, IsTarget, kind_number, vector_entry}
+use Rattle.log_model.specs.Spelling.{IsBlock, IsKey, IsMoment, IsTarget, vector_entry}
 use Rattle.snapshot_model.specs.Blocks.{Listed, InodeBlock, RootBlock, listed_bytes, attributes_bytes, rank_bytes, entry_bytes, list_block, entries_block, inode_block, root_block, IsListed, AreAttributes, IsEntry, IsStamped, IsVectorSpelled, IsRankSpelled, AreNamed, AreEntries, IsInodeBlock, IsRootBlock, most_bytes, most_levels}
 use Rattle.snapshot_model.specs.Parts.{key_bytes, kind_word, list_tag, IsAtMost, HasInodeParts, FitsKind}
 use Rattle.snapshot_model.specs.Laws.{BlocksAreOne}

@@ -1,10 +1,10 @@
 -- A block names one list of blocks.
-use Rattle.std.proofs.Common.{◌≡◌, ℕ, List, map, refl, sym, ap, ◌∙◌}
+use Rattle.std.proofs.Common.{◌≡◌, ℕ, List, map, sym, ap, ◌∙◌}
 use Rattle.ivy_base.specs.declared.key.Key.{Key}
 use Rattle.wire_model.specs.OneReading.{ReadsOne}
 use Rattle.wire_model.proofs.OneReading.{whole}
 use Rattle.snapshot_model.specs.Blocks.{InodeBlock, RootBlock, Says}
-use Rattle.snapshot_model.specs.Reading.{Part, Root, Listing, AnInode, Piece, Entries, Names, item_of, part_below, top_of}
+use Rattle.snapshot_model.specs.Reading.{Root, Listing, AnInode, Piece, Entries, item_of, part_below, top_of}
 use Rattle.snapshot_model.specs.Laws.{NamesAreOne}
 use Rattle.snapshot_model.proofs.OneBlock.{one_inode, one_list, one_root}
 

@@ -1,5 +1,5 @@
 -- Names of a tree by the listings of its directories.
-use Rattle.std.proofs.Common.{◌≡◌, ℕ, ◌≤◌, ◌⊎◌, inl, inr, Bool, true, false, List, [], ◌∷◌, length, map, refl, sym, ap, ◌∙◌, subst, Some, None}
+use Rattle.std.proofs.Common.{◌≡◌, ℕ, ◌⊎◌, inl, inr, Bool, true, false, List, [], ◌∷◌, refl, sym, ap, ◌∙◌, subst, Some, None}
 use Rattle.std.specs.Prelude.{IsTrue, if◌then◌else◌, cond}
 use Rattle.std.specs.List.{AllByRecursion, filter_map, cons_option}
 use Rattle.std.specs.Cmp.{tied_itself}
@@ -128,15 +128,19 @@ sorted_same (x ∷ xs) (y ∷ ys) s t f g =
   where
     after_x : (below_all place_cmp x.0 xs ≡ true) × (is_sorted place_cmp xs ≡ true)
     after_x = both_true (below_all place_cmp x.0 xs) (is_sorted place_cmp xs) s
+
     after_y : (below_all place_cmp y.0 ys ≡ true) × (is_sorted place_cmp ys ≡ true)
     after_y = both_true (below_all place_cmp y.0 ys) (is_sorted place_cmp ys) t
+
     heads : (x ≡ y) ⊎ Has ys x → (y ≡ x) ⊎ Has xs y → x ≡ y
     heads (inl q) b = q
     heads (inr a) (inl q) = sym q
     heads (inr a) (inr b) = absurd (never x.0 (places_total.trans x.0 y.0 x.0 (below_has x.0 xs y after_x.0 b) (below_has y.0 ys x after_y.0 a)))
+
     in_rest : (e : Place × Key) → Has xs e → (e ≡ y) ⊎ Has ys e → x ≡ y → Has ys e
     in_rest e h (inl q) first = absurd (never x.0 (subst (λ (c : Place × Key). place_cmp x.0 c.0 ≡ Less) (q ∙ sym first) (below_has x.0 xs e after_x.0 h)))
     in_rest e h (inr r) first = r
+
     in_other : (e : Place × Key) → Has ys e → (e ≡ x) ⊎ Has xs e → x ≡ y → Has xs e
     in_other e h (inl q) first = absurd (never y.0 (subst (λ (c : Place × Key). place_cmp y.0 c.0 ≡ Less) (q ∙ first) (below_has y.0 ys e after_y.0 h)))
     in_other e h (inr r) first = r

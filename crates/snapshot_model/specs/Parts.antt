@@ -1,5 +1,5 @@
 -- Parts of a snapshot's blocks, for their readers and writers.
-use Rattle.std.specs.Prelude.{ℕ, ◌≤◌, List, ◌∷◌, ◌++◌, length}
+use Rattle.std.specs.Prelude.{ℕ, ◌≤◌, List, ◌∷◌, length}
 use Rattle.ivy_base.specs.declared.key.Key.{Key}
 use Rattle.ivy_base.specs.declared.operation.Kind.{Kind}
 use Rattle.wire_model.specs.Xdr.{word, IsAny}

@@ -8,7 +8,7 @@ use Rattle.ivy_base.specs.Naming.{IsFileName, root_number}
 use Rattle.tree_model.specs.Tree.{Tree, IsInOrder, Inode, inode_at, has_name, is_directory, is_inside, name_count, listing}
 use Rattle.log_model.specs.Spelling.{IsKey, IsTarget}
 use Rattle.turn_model.specs.Basis.{Basis}
-use Rattle.snapshot_model.specs.Blocks.{Listed, InodeBlock, RootBlock, list_block, entries_block, inode_block, root_block, AreAttributes, IsVectorSpelled, IsRankSpelled, IsPiece, AreNamed, AreEntries, IsInodeBlock, IsRootBlock, Says}
+use Rattle.snapshot_model.specs.Blocks.{InodeBlock, RootBlock, list_block, entries_block, inode_block, root_block, AreAttributes, IsVectorSpelled, IsRankSpelled, IsPiece, AreNamed, AreEntries, IsInodeBlock, IsRootBlock, Says}
 use Rattle.snapshot_model.specs.Spelling.{snapshot_named}
 
 -- ---- what a block names

@@ -1,7 +1,7 @@
 use Rattle.std.proofs.Common.{arith, length-append}
 use Rattle.std.proofs.lemmas.List.{map-append}
 use Rattle.std.proofs.lemmas.Result.{err_from_is_err_and}
-use Rattle.snapshot_blocks.proofs.EntryReading.{no_next_entry, more_entries, so_many}
+use Rattle.snapshot_blocks.proofs.EntryReading.{no_next_entry, more_entries}
 use Rattle.snapshot_blocks.proofs.entries.read_each.Goals as goal
 
 pub returns-in_err-read_entry-clause-err : goal.returns-in_err-read_entry-clause-err

@@ -1,6 +1,6 @@
 use Rattle.std.proofs.lemmas.Result.{err_from_is_err_and}
 use Rattle.snapshot_blocks.proofs.Wholes.{refused}
-use Rattle.snapshot_blocks.proofs.EntryReading.{no_magic, no_count_of_entries, no_entries_behind, some_front}
+use Rattle.snapshot_blocks.proofs.EntryReading.{no_magic, no_count_of_entries, no_entries_behind}
 use Rattle.snapshot_blocks.proofs.entries.read_some.Goals as goal
 
 pub returns-in_err-read_constant-clause-err : goal.returns-in_err-read_constant-clause-err

@@ -1,6 +1,5 @@
-use Rattle.std.proofs.Common.{rules, arith}
 use Rattle.wire_model.proofs.Dependent.{on_err}
-use Rattle.snapshot_blocks.proofs.ListReading.{no_magic, no_level, other_level, tag_front}
+use Rattle.snapshot_blocks.proofs.ListReading.{no_magic}
 use Rattle.snapshot_blocks.proofs.list.read_tag.Goals as goal
 
 pub returns-in_err-read_constant-clause-err : goal.returns-in_err-read_constant-clause-err
