@@ -7,7 +7,7 @@ use Rattle.ivy_base.specs.Naming.{head_key_of, name}
 use Rattle.log_model.specs.View.{View, IsView, is_named, view_block}
 use Rattle.log_model.specs.Vector.{seq_of}
 use Rattle.log_model.specs.Spelling.{IsKey, most_records, vector_entry}
-use Rattle.snapshot_model.specs.Reading.{IsVectorSpelled}
+use Rattle.snapshot_model.specs.Blocks.{IsVectorSpelled}
 use Rattle.dht_ids.specs.declared.post.Post.{Post}
 use Rattle.dht_ids.specs.declared.post.PostKind.{PostKind}
 use Rattle.dht_ids.specs.declared.post.PostKind.TheVariants as kind

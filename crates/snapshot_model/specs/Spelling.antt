@@ -1,4 +1,4 @@
--- The blocks of a snapshot: a basis spelled as a tree of content blocks (this project's own form; numbers and opaque data as in XDR).
+-- The blocks of a snapshot as a whole: a basis spelled as a tree of content blocks.
 use Rattle.std.specs.Prelude.{ℕ, zero, suc, ◌+◌, nat_le, List, [], ◌∷◌, ◌++◌, length, map, flat_map, take, drop, fold, if◌then◌else◌}
 use Rattle.std.specs.List.{list_any}
 use Rattle.std.specs.Str.{bytes_eq}
@@ -7,11 +7,10 @@ use Rattle.ivy_base.specs.declared.operation.Kind.{Kind}
 use Rattle.ivy_base.specs.declared.operation.Kind.TheVariants.{Reg, Dir, Lnk}
 use Rattle.ivy_base.specs.Naming.{name}
 use Rattle.tree_model.specs.Tree.{Tree, Inode, listing}
-use Rattle.wire_model.specs.Xdr.{word, double_word, opaque, optional, array, moment}
-use Rattle.log_model.specs.Rank.{Rank}
-use Rattle.log_model.specs.Spelling.{kind_number, no_name, vector_entry}
+use Rattle.log_model.specs.Spelling.{no_name}
 use Rattle.log_model.specs.View.{View, view_name}
 use Rattle.turn_model.specs.Basis.{Basis}
+use Rattle.snapshot_model.specs.Blocks.{Listed, list_block, entries_block, inode_block, root_block}
 
 -- ---- blocks over blocks
 
@@ -25,8 +24,8 @@ pub record Made : Type 0 where
 abbrev pub over : List ℕ → List Made → Made
 over bytes below = record { bytes = bytes; reading = bytes ∷ flat_map (λ m. m.reading) below; putting = flat_map (λ m. m.putting) below ++ bytes ∷ [] }
 
-abbrev pub made_name : Made → List ℕ
-made_name m = (name m.bytes).0
+abbrev pub made_name : Made → Key
+made_name m = name m.bytes
 
 -- ---- lists
 
@@ -39,66 +38,69 @@ pieces (suc n) size (x ∷ xs) = take size (x ∷ xs) ∷ pieces n size (drop si
 abbrev pub in_pieces : {A : Type 0} → ℕ → List A → List (List A)
 in_pieces size xs = pieces (length xs) size xs
 
--- "IVL1", the level, and the names
-abbrev pub list_block : ℕ → List Made → Made
-list_block level items = over (73 ∷ 86 ∷ 76 ∷ 49 ∷ word level ++ word (length items) ++ flat_map made_name items) items
+abbrev pub list_made : ℕ → List Made → Made
+list_made level items = over (list_block level (map made_name items)) items
 
 -- list blocks of that level, and upwards until one is left; there are at most so many levels
 abbrev pub listed : ℕ → ℕ → List Made → ℕ × List Made
 listed levels level [] = (0, [])
 listed zero level (item ∷ items) = (level, [])
 listed (suc levels) level (item ∷ items) =
-    if nat_le (length (item ∷ items)) 512 then (level, list_block level (item ∷ items) ∷ [])
-    else listed levels (level + 1) (map (list_block level) (in_pieces 512 (item ∷ items)))
+    if nat_le (length (item ∷ items)) 512 then (level, list_made level (item ∷ items) ∷ [])
+    else listed levels (level + 1) (map (list_made level) (in_pieces 512 (item ∷ items)))
 
--- the least level that suffices, and the name of its block; of no items level 0 and no name
-abbrev pub list_bytes : ℕ × List Made → List ℕ
-list_bytes (level, []) = word 0 ++ no_name.0
-list_bytes (level, top ∷ tops) = word level ++ made_name top
-
+-- the least level that suffices, and its block; of no items level 0 and no block
 abbrev pub list_of : List Made → ℕ × List Made
 list_of items = listed 3 1 items
 
+abbrev pub named_by : ℕ × List Made → Listed
+named_by (level, []) = record { level = 0; top = no_name }
+named_by (level, top ∷ tops) = record { level = level; top = made_name top }
+
 -- ---- inodes
 
--- a piece of a file's bytes, and entries of a directory: "IVE1", and for each its name and number
-abbrev pub data_item : List ℕ → Made
-data_item bytes = over bytes []
+abbrev pub piece_made : List ℕ → Made
+piece_made bytes = over bytes []
 
-abbrev pub entries_item : List (List ℕ × Key) → Made
-entries_item entries = over (73 ∷ 86 ∷ 69 ∷ 49 ∷ array (λ e. opaque e.0 ++ e.1.0) entries) []
+abbrev pub entries_made : List (List ℕ × Key) → Made
+entries_made entries = over (entries_block entries) []
 
-abbrev pub items_of : Tree → Key → Inode → Kind → List Made
-items_of t number inode Reg = map data_item (in_pieces 8192 inode.body)
-items_of t number inode Dir = map entries_item (in_pieces 32 (listing t number))
-items_of t number inode Lnk = []
+-- an inode's body and a directory's entries, in pieces
+abbrev pub items_of : List (List ℕ × Key) → List ℕ → Kind → List Made
+items_of entries body Reg = map piece_made (in_pieces 8192 body)
+items_of entries body Dir = map entries_made (in_pieces 32 entries)
+items_of entries body Lnk = []
 
-abbrev pub size_of : Inode → Kind → ℕ
-size_of inode Reg = length inode.body
-size_of inode Dir = 0
-size_of inode Lnk = 0
+abbrev pub size_of : List ℕ → Kind → ℕ
+size_of body Reg = length body
+size_of body Dir = 0
+size_of body Lnk = 0
 
-abbrev pub target_of : Inode → Kind → List ℕ
-target_of inode Lnk = inode.body
-target_of inode Reg = []
-target_of inode Dir = []
+abbrev pub target_of : List ℕ → Kind → List ℕ
+target_of body Lnk = body
+target_of body Reg = []
+target_of body Dir = []
 
--- "IVI1", the number, the kind, the attributes, the size, a link's target, and the list of its items
-abbrev pub inode_block : Tree → Key × Inode → Made
-inode_block t (number, inode) = (let items = list_of (items_of t number inode inode.kind) in
-    over (73 ∷ 86 ∷ 73 ∷ 49 ∷ number.0 ++ word (kind_number inode.kind) ++ word inode.attributes.mode ++ word inode.attributes.uid ++ word inode.attributes.gid
-    ++ moment inode.attributes.atime ++ moment inode.attributes.mtime ++ moment inode.attributes.ctime
-    ++ double_word (size_of inode inode.kind) ++ opaque (target_of inode inode.kind) ++ list_bytes items) items.1)
+abbrev pub inode_over : Key → Inode → ℕ × List Made → Made
+inode_over number inode items = over (inode_block (record {
+  number = number;
+  kind = inode.kind;
+  attributes = inode.attributes;
+  size = size_of inode.body inode.kind;
+  target = target_of inode.body inode.kind;
+  items = named_by items;
+})) items.1
+
+abbrev pub inode_made : Tree → Key × Inode → Made
+inode_made t (number, inode) = inode_over number inode (list_of (items_of (listing t number) inode.body inode.kind))
 
 -- ---- the whole
 
-abbrev pub rank_bytes : Rank → List ℕ
-rank_bytes r = double_word r.weight ++ r.owner.0 ++ word r.seq
+abbrev pub root_over : Key → Basis → ℕ × List Made → Made
+root_over view b inodes = over (root_block (record { view = view; front = b.front; tide = b.tide; inodes = named_by inodes })) inodes.1
 
--- "IVS1", the view's name, the front, the tide, and the list of all inodes
 abbrev pub snapshot_named : Key → Basis → Made
-snapshot_named view b = (let items = list_of (map (inode_block b.tree) b.tree.inodes) in
-    over (73 ∷ 86 ∷ 83 ∷ 49 ∷ view.0 ++ array vector_entry b.front ++ optional rank_bytes b.tide ++ list_bytes items) items.1)
+snapshot_named view b = root_over view b (list_of (map (inode_made b.tree) b.tree.inodes))
 
 abbrev pub snapshot_of : View → Basis → Made
 snapshot_of view b = snapshot_named (view_name view) b

@@ -1,0 +1,10 @@
+pub mod Bytes
+pub mod Constants
+pub mod Wholes
+pub mod PartReading
+pub mod ListReading
+pub mod EntryReading
+pub mod Ascending
+pub mod InodeReading
+pub mod RootReading
+pub mod Appended

@@ -1,0 +1,85 @@
+//! Why blocks are not read.
+
+use std::alloc::{AllocError, AllocFailed};
+use thiserror::Error;
+use version_vectors::VectorFault;
+use xdr_codec::XdrFault;
+
+/// Why a block was not read.
+#[derive(Clone, Copy, Debug, PartialEq, Eq, Error)]
+pub enum BlockFault {
+    /// The bytes are no block of that form.
+    #[error("not such a block of a snapshot")]
+    Malformed,
+    /// Memory ran out. No clause ties this to a cause.
+    #[error("out of memory")]
+    Memory,
+}
+
+/// The bytes don't begin with what was to be read.
+#[derive(Clone, Copy)]
+pub struct Malformed;
+
+impl From<XdrFault> for Malformed {
+    fn from(_: XdrFault) -> Self {
+        Malformed
+    }
+}
+
+impl From<Malformed> for BlockFault {
+    ghost use Rattle.std.specs.Prelude.{◌≡◌};
+    ghost use Rattle.snapshot_blocks.specs.declared.fault.BlockFault.TheVariants.{Malformed};
+
+    ghost from_gives = { λ _ fault. fault ≡ Malformed };
+
+    fn from(_: Malformed) -> Self {
+        BlockFault::Malformed
+    }
+}
+
+impl From<XdrFault> for BlockFault {
+    ghost use Rattle.std.specs.Prelude.{◌≡◌};
+    ghost use Rattle.snapshot_blocks.specs.declared.fault.BlockFault.TheVariants.{Malformed};
+
+    ghost from_gives = { λ _ fault. fault ≡ Malformed };
+
+    fn from(_: XdrFault) -> Self {
+        BlockFault::Malformed
+    }
+}
+
+impl From<AllocError> for BlockFault {
+    ghost use Rattle.std.specs.Prelude.{◌≡◌};
+    ghost use Rattle.snapshot_blocks.specs.declared.fault.BlockFault.TheVariants.{Memory};
+
+    ghost from_gives = { λ _ fault. fault ≡ Memory };
+
+    fn from(_: AllocError) -> Self {
+        BlockFault::Memory
+    }
+}
+
+impl<T: Drop> From<AllocFailed<T>> for BlockFault {
+    ghost use Rattle.std.specs.Prelude.{◌≡◌};
+    ghost use Rattle.snapshot_blocks.specs.declared.fault.BlockFault.TheVariants.{Memory};
+
+    ghost from_gives = { λ _ fault. fault ≡ Memory };
+
+    fn from(_: AllocFailed<T>) -> Self {
+        BlockFault::Memory
+    }
+}
+
+impl From<VectorFault> for BlockFault {
+    ghost use Rattle.std.specs.Prelude.{◌≡◌};
+    ghost use Rattle.snapshot_blocks.specs.Refusals.{fault_of_vector};
+
+    ghost from_gives = { λ vector fault. fault ≡ fault_of_vector vector };
+
+    fn from(vector: VectorFault) -> Self {
+        match vector {
+            VectorFault::Malformed => BlockFault::Malformed,
+            VectorFault::Memory => BlockFault::Memory,
+        }
+    }
+}

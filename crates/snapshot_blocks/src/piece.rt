@@ -1,0 +1,11 @@
+//! Pieces of files.
+
+ghost use Rattle.std.specs.Prelude.{◌↔◌, IsTrue};
+ghost use Rattle.snapshot_model.specs.Blocks.{IsPiece};
+
+/// Whether the bytes may be a piece of a file: there are 1 to 8,192.
+pub fn is_piece(block: &[u8]) -> bool
+    ensures { IsTrue result ↔ IsPiece block.now }
+{
+    !block.is_empty() && block.len() <= 8192
+}
