@@ -1,0 +1,4 @@
+pub mod Forks
+pub mod Heights
+pub mod Rows
+pub mod Sides
