@@ -1,3 +1,4 @@
+pub mod Counts
 pub mod Forks
 pub mod Heights
 pub mod Rows

@@ -29,7 +29,7 @@ length_take (suc n) [] = omega arith
 length_take (suc n) (x ∷ xs) = omega (arith, length_take n xs)
 
 -- two further rows, one after the other
-pub take_two : {A : Type 0} (n : ℕ) (xs ys zs front back : List A) → front ≡ take n (xs ++ ys) → back ≡ take n (front ++ zs) → back ≡ take n (xs ++ ys ++ zs)
+pub take_two : {A : Type 0} (n : ℕ) (xs ys zs front back : List A) → front ≡ take n (xs ++ ys) → back ≡ take n (front ++ zs) → back ≡ take n (xs ++ (ys ++ zs))
 take_two n xs ys zs front back f b = b ∙ ap (λ l. take n (l ++ zs)) f ∙ take_again n (xs ++ ys) zs ∙ ap (take n) (append_assoc xs ys zs)
 
 -- the entries of two sides, with one between them

@@ -87,12 +87,14 @@ impl<K: Ord + Drop, V: Drop> SharedMap<K, V> {
         ensures ok { OnOk result (self.new ≡ put K.cmp key value self.old) }
         ensures err { OnErr result (self.new ≡ self.old) }
     {
-        let one_more = self.count.checked_add(1).ok_or(Memory)?;
+        if self.count == usize::MAX {
+            return Err(Memory);
+        }
         let old = self.shared(&key)?;
         let value = Arc::new(alloc, value)?;
         self.tree = self.tree.with(alloc, key, value)?;
         if old.is_none() {
-            self.count = one_more;
+            self.count += 1;
         }
         Ok(old)
     }
