@@ -1,0 +1,5 @@
+pub mod Counts
+pub mod Forks
+pub mod Heights
+pub mod Rows
+pub mod Sides
