@@ -1,0 +1,4 @@
+pub mod Walking
+pub mod Reading
+pub mod Trying
+pub mod Concluding
