@@ -1,3 +1,4 @@
 pub mod Places
 pub mod Further
 pub mod Lists
+pub mod Trying

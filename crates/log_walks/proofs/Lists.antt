@@ -1,10 +1,11 @@
 -- Lists turned round.
-use Rattle.std.proofs.Common.{◌≡◌, ℕ, zero, suc, ◌-◌, List, [], ◌∷◌, ◌++◌, map, reverse, Option, Some, None, refl, sym, ap, ◌∙◌, subst, arith}
+use Rattle.std.proofs.Common.{◌≡◌, ℕ, zero, suc, ◌-◌, Contains, ⊎_elim, List, [], ◌∷◌, ◌++◌, map, reverse, Option, Some, None, refl, sym, ap, ◌∙◌, subst, arith}
 use Rattle.std.specs.List.{AllByRecursion}
 use Rattle.std.proofs.lemmas.List.{map-append, reverse-append}
 use Rattle.ivy_base.specs.declared.key.PubKey.{PubKey}
 use Rattle.log_model.specs.Record.{Record}
-use Rattle.log_model.proofs.Lists.{each_append}
+use Rattle.log_model.proofs.Lists.{each_append, here, in_cons}
+use Rattle.std.proofs.lemmas.List.Elements.{Contains-append_left, Contains-append_right}
 use Rattle.log_records.specs.declared.record.Record as kept
 use Rattle.log_records.specs.Records.{record_of, records_of}
 use Rattle.log_walks.specs.Walking.{AreOwned, oldest_first}
@@ -30,3 +31,10 @@ turned_owned owner items other found e f owned =
 pub is_suc : (n m : ℕ) → n ≡ m → (m ≡ 0 → ⊥) → n ≡ suc (n - 1)
 is_suc n zero e some = absurd (some refl)
 is_suc n (suc m) e some = omega (arith, e)
+
+pub reversed_has : {X : Type 0} (xs : List X) (x : X) → Contains xs x → Contains (reverse xs) x
+reversed_has [] x h = h
+reversed_has {X = X} (y ∷ ys) x h = subst (λ (l : List X). Contains l x) (sym (reverse-append (y ∷ []) ys)) (⊎_elim
+    (λ e. Contains-append_right (reverse ys) (y ∷ []) x (subst (λ (z : X). Contains (y ∷ []) z) e (here y [])))
+    (λ i. Contains-append_left (reverse ys) (y ∷ []) x (reversed_has ys x i))
+    (in_cons y ys x h))

@@ -2,3 +2,4 @@ pub mod Walking
 pub mod Reading
 pub mod Trying
 pub mod Concluding
+pub mod Order

@@ -7,7 +7,7 @@ ghost use Rattle.log_records.specs.Batches.{owners_in};
 ghost use Rattle.log_records.specs.Heads.{stamp};
 ghost use Rattle.session_model.specs.Brought.{stamp_of};
 ghost use Rattle.log_walks.specs.Walking.{AreOwned, wanted_of, kept_of};
-ghost use Rattle.log_walks.specs.Trying.{IsBegunAt, IsTakenAs, HasBeenTold};
+ghost use Rattle.log_walks.specs.Trying.{IsBegunAt, IsTakenAs, HasBeenTold, or_fault};
 ghost use Rattle.log_walks.specs.Concluding.{ConcludesAs};
 
 use crate::walk::Walk;
@@ -92,7 +92,7 @@ impl Trial {
         match take(alloc, view, batch, &owner, self.head, self.walk.into_chain(), edge)? {
             None => Ok(Concluded::Over(self.fault)),
             Some(fault) => {
-                let first = self.fault.or(Some(fault));
+                let first = first_fault(self.fault, fault);
                 match next(alloc, owner, self.held, self.rest, first) {
                     Some(trial) => Ok(Concluded::Next(trial)),
                     None => Ok(Concluded::Over(first)),
@@ -100,6 +100,13 @@ impl Trial {
             }
         }
     }
+}
+
+/// The fault of the first head that was passed over, of one more.
+fn first_fault(before: Option<ChainFault>, fault: ChainFault) -> Option<ChainFault>
+    ensures { result ≡ or_fault before fault }
+{
+    before.or(Some(fault))
 }
 
 /// The first of these heads, behind one that was passed over with that fault, where there was one.
