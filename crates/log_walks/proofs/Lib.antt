@@ -2,3 +2,4 @@ pub mod Places
 pub mod Further
 pub mod Lists
 pub mod Trying
+pub mod Placing

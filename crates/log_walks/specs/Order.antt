@@ -1,5 +1,5 @@
 -- The heads of a log in the order in which they are tried.
-use Rattle.std.specs.Prelude.{◌≡◌, ◌⊎◌, ◌↔◌, ℕ, ◌≤◌, List, ◌∷◌, ◌++◌, length, take, Contains, Option}
+use Rattle.std.specs.Prelude.{◌≡◌, ◌⊎◌, ◌↔◌, ℕ, ◌≤◌, List, [], ◌∷◌, ◌++◌, length, take, drop, Contains, Option}
 use Rattle.std.specs.List.{AllByRecursion}
 use Rattle.log_model.specs.Vector.{Stamp, reach}
 use Rattle.turn_model.specs.Candidates.{IsTriedBefore}
@@ -12,11 +12,16 @@ AreToTry heads floor held all = (tried : List Stamp) × AreTried (reach floor) h
 
 -- ---- inside
 
+-- the first of them isn't tried before the head
+abbrev pub BeginsNotBefore : Stamp → List Stamp → Type 0
+BeginsNotBefore head [] = Unit {0}
+BeginsNotBefore head (t ∷ ts) = IsTriedBefore t head → ⊥
+
 -- so many of the first are tried before the head, and the next one isn't
 pub record IsBehind (tried : List Stamp) (head : Stamp) (place : ℕ) : Type 0 where
   pub within : place ≤ length tried
   pub before : AllByRecursion (λ t. IsTriedBefore t head) (take place tried)
-  pub next : (front rest : List Stamp) (t : Stamp) → tried ≡ front ++ t ∷ rest → length front ≡ place → IsTriedBefore t head → ⊥
+  pub behind : BeginsNotBefore head (drop place tried)
 
 -- the head is one of them
 pub record HasOneMore (old : List Stamp) (head : Stamp) (new : List Stamp) : Type 0 where

@@ -1,6 +1,6 @@
 //! The order in which the heads of a log are tried.
 
-ghost use Rattle.std.specs.Prelude.{◌≡◌, ◌⊎◌, ◌↔◌, ◌++◌, IsTrue, Contains, map, IfOk, OnOk};
+ghost use Rattle.std.specs.Prelude.{◌≡◌, ◌⊎◌, ◌↔◌, ◌++◌, IsTrue, ◌<◌, Contains, length, get_or, map, IfOk, OnOk};
 ghost use Rattle.log_model.specs.Vector.{stamp_at};
 ghost use Rattle.turn_model.specs.Candidates.{IsTriedBefore};
 ghost use Rattle.log_records.specs.Heads.{stamp};
@@ -49,9 +49,10 @@ fn take_in(tried: &mut Vec<Judged>, head: &Judged) -> Result<(), Memory>
     ensures { OnOk result (HasOneMore (map stamp_of tried.old.items) (stamp_of head.now) (map stamp_of tried.new.items)) }
 {
     let place = place_of(tried, head);
-    if tried.get(place) != Some(head) {
-        tried.insert(place, *head)?;
+    if place < tried.len() && stands_at(tried, place, head) {
+        return Ok(());
     }
+    tried.insert(place, *head)?;
     Ok(())
 }
 
@@ -60,15 +61,41 @@ fn place_of(tried: &[Judged], head: &Judged) -> usize
     ensures { IsBehind (map stamp_of tried.now) (stamp_of head.now) result }
 {
     let mut place = 0;
-    'before: while place < tried.len() && is_tried_before(&tried[place], head) {
+    'before: while place < tried.len() {
+        if !goes_before(tried, place, head) {
+            return place;
+        }
         place += 1;
     }
     place
+}
+
+/// Whether the head at that place is tried before the other.
+fn goes_before(tried: &[Judged], place: usize, head: &Judged) -> bool
+    requires { place < length tried.now }
+    ensures { IsTrue result ↔ IsTriedBefore (stamp_of (get_or tried.now place head.now)) (stamp_of head.now) }
+{
+    is_tried_before(&tried[place], head)
+}
+
+/// Whether the head stands at that place.
+fn stands_at(tried: &[Judged], place: usize, head: &Judged) -> bool
+    requires { place < length tried.now }
+    ensures { IsTrue result ↔ (get_or tried.now place head.now ≡ head.now) }
+{
+    is_one(&tried[place], head)
+}
+
+/// Whether the heads are one.
+fn is_one(head: &Judged, other: &Judged) -> bool
+    ensures { IsTrue result ↔ (head.now ≡ other.now) }
+{
+    head == other
 }
 
 /// Whether the first head is tried before the other.
 fn is_tried_before(first: &Judged, other: &Judged) -> bool
     ensures { IsTrue result ↔ IsTriedBefore (stamp_of first.now) (stamp_of other.now) }
 {
-    first.seq > other.seq || (first.seq == other.seq && first.name < other.name)
+    first.seq > other.seq || (first.seq == other.seq && first.name.cmp(&other.name).is_lt())
 }
