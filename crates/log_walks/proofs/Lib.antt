@@ -3,3 +3,4 @@ pub mod Further
 pub mod Lists
 pub mod Trying
 pub mod Placing
+pub mod Driven
