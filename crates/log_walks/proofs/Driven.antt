@@ -1,6 +1,6 @@
 -- What a driver of the heads of one log keeps: behind what it was brought so far, how far the heads have come. So it is at the start; `give` and `conclude` keep it; and
 -- by it the log wants a block, or stops where that can't be had.
-use Rattle.std.proofs.Common.{◌≡◌, ℕ, zero, suc, ◌-◌, List, [], ◌∷◌, ◌++◌, Option, Some, None, Ok, Err, refl, sym, ap, ◌∙◌, subst}
+use Rattle.std.proofs.Common.{◌≡◌, ℕ, zero, suc, ◌-◌, List, [], ◌∷◌, ◌++◌, Option, Some, None, Err, refl, sym, ap, ◌∙◌, subst}
 use Rattle.std.proofs.lemmas.List.{append-nil, append_assoc}
 use Rattle.ivy_base.specs.declared.key.Key.{Key}
 use Rattle.ivy_base.specs.declared.key.PubKey.{PubKey}
@@ -12,10 +12,10 @@ use Rattle.log_records.specs.declared.edge.Edge.{Edge}
 use Rattle.log_records.specs.declared.chain_fault.ChainFault.{ChainFault}
 use Rattle.dhash_client.specs.declared.miss.Miss.{Miss}
 use Rattle.session_model.specs.Brought.{Brought, BlockOf, Content}
-use Rattle.session_model.specs.Walks.{Walks, Tries, LogEnd, Lacks, Stops, Wants}
+use Rattle.session_model.specs.Walks.{Walks, Tries, Lacks, Stops, Wants}
 use Rattle.session_model.specs.Walks.Tries.{wants as head_wants, misses as head_misses}
-use Rattle.log_walks.specs.Walking.{Walking, HasCome, begun, wanted_at, wanted_of}
-use Rattle.log_walks.specs.Walking.HasCome.{wants as still_wants, garbled as ends_garbled, came as ends_whole}
+use Rattle.log_walks.specs.Walking.{Walking, HasCome, wanted_at, wanted_of}
+use Rattle.log_walks.specs.Walking.HasCome.{wants as still_wants}
 use Rattle.log_walks.specs.Trying.{Trying, HasTried, IsBegunAt, first_of}
 use Rattle.log_walks.proofs.Further.{is_missed}
 use Rattle.log_walks.proofs.Trying.{begins}

@@ -1,6 +1,5 @@
 -- A walk that is brought the block that it wants goes further, or ends.
-use Rattle.std.proofs.Common.{◌≡◌, ℕ, zero, suc, ◌+◌, ◌-◌, ◌<◌, ◌≤◌, List, [], ◌∷◌, ◌++◌, length, Contains, Option, Some, None, Ok, Err, refl, sym, ap, ◌∙◌, subst, arith, length-append}
-use Rattle.std.specs.Prelude.{◌≢◌}
+use Rattle.std.proofs.Common.{◌≡◌, ℕ, zero, suc, ◌+◌, ◌-◌, ◌<◌, List, [], ◌∷◌, ◌++◌, length, Option, Some, None, Ok, Err, refl, ap, subst, arith, length-append}
 use Rattle.std.proofs.lemmas.List.Elements.{Contains-append_left, Contains-append_right}
 use Rattle.ivy_base.specs.declared.key.Key.{Key}
 use Rattle.ivy_base.specs.declared.key.PubKey.{PubKey}
@@ -8,10 +7,9 @@ use Rattle.log_model.specs.Record.{Record}
 use Rattle.log_model.specs.Spelling.{IsRecordOf}
 use Rattle.log_model.specs.Chain.{HasMadeNumber}
 use Rattle.log_model.proofs.Lists.{here}
-use Rattle.log_records.specs.Records.{record_of, records_of}
 use Rattle.dhash_client.specs.declared.miss.Miss.{Miss}
 use Rattle.session_model.specs.Brought.{Brought, BlockOf}
-use Rattle.session_model.specs.Walks.{Walks, WalkEnd, Wants, Misses, Garbled, Came}
+use Rattle.session_model.specs.Walks.{Walks, WalkEnd, Wants, Misses, Garbled}
 use Rattle.session_model.specs.Walks.Walks.{came as all_came, wants as next_wanted, misses as one_misses, garbled as one_garbled, back as one_back}
 use Rattle.log_walks.specs.Walking.{Walking, Keeps, HasCome, HasBeenGiven, kept_with}
 use Rattle.log_walks.specs.Walking.HasCome.{wants as still_wants, garbled as ends_garbled, came as ends_whole}

@@ -1,5 +1,5 @@
 -- What comes of a head whose walk is over.
-use Rattle.std.proofs.Common.{◌≡◌, ◌==◌, Bool, false, ℕ, zero, suc, ◌+◌, ◌-◌, ◌<◌, List, [], ◌∷◌, ◌++◌, map, reverse, length, Contains, Option, Some, None, Ok, refl, sym, ap, ◌∙◌, subst, arith}
+use Rattle.std.proofs.Common.{◌≡◌, ◌==◌, false, ℕ, zero, suc, ◌-◌, ◌<◌, List, [], ◌∷◌, ◌++◌, reverse, length, Option, Some, None, refl, sym, ap, ◌∙◌, subst, arith}
 use Rattle.std.specs.Prelude.{◌≢◌}
 use Rattle.std.specs.List.{AllByRecursion}
 use Rattle.std.proofs.lemmas.Bool.{false≢true}
@@ -14,18 +14,18 @@ use Rattle.log_model.specs.Chain.{HasMadeNumber, GoesOn}
 use Rattle.log_model.proofs.Lists.{each}
 use Rattle.log_records.specs.declared.edge.Edge.{Edge}
 use Rattle.log_records.specs.declared.chain_fault.ChainFault.{ChainFault}
-use Rattle.log_records.specs.declared.chain_fault.ChainFault.TheVariants.{Bad, Memory}
+use Rattle.log_records.specs.declared.chain_fault.ChainFault.TheVariants.{Memory}
 use Rattle.log_records.specs.declared.record.Record as kept
 use Rattle.log_records.specs.Records.{records_of}
-use Rattle.log_records.specs.Batches.{Batch, AreOfOneOwner, owner_of, ChainFails, IsOnward, IsSound}
-use Rattle.session_model.specs.Brought.{Brought, BlockOf}
-use Rattle.session_model.specs.Walks.{Walks, Tries, LogEnd, Gives, GivesNone, Garbled, Came}
+use Rattle.log_records.specs.Batches.{Batch, AreOfOneOwner, ChainFails, IsOnward, IsSound}
+use Rattle.session_model.specs.Brought.{Brought}
+use Rattle.session_model.specs.Walks.{Tries, LogEnd, Gives, GivesNone}
 use Rattle.session_model.specs.Walks.Walks.{came as all_came, wants as next_wanted}
 use Rattle.session_model.specs.Walks.Tries.{none as none_left, gives as is_given, passes as is_passed, garbled as is_garbled}
 use Rattle.log_walks.specs.Walking.{Walking, Keeps, HasCome, IsAfter, begun, oldest_first}
 use Rattle.log_walks.specs.Walking.HasCome.{wants as still_wants, garbled as ends_garbled, came as ends_whole}
-use Rattle.log_walks.specs.Trying.{Trying, HasTried, IsBegunAt, FailsFor, IsTakenAs, GivesTo, EndsWith, GoesOnWith, first_of, or_fault}
-use Rattle.log_walks.proofs.Lists.{each_reverse, reversed_has}
+use Rattle.log_walks.specs.Trying.{Trying, HasTried, IsBegunAt, FailsFor, IsTakenAs, EndsWith, GoesOnWith, first_of, or_fault}
+use Rattle.log_walks.proofs.Lists.{reversed_has}
 
 -- ---- a walk at its beginning
 
@@ -146,10 +146,11 @@ module _ (view : View) (edge : Option Edge) (t : Trying) (old new : Batch) (chai
       (begins owner (next.head.seq - seq_of old.held (head_key_of owner)) next.head.name)
 
   pub goes_to_next : (fault : ChainFault) → IsTakenAs view old new t.head edge chain (Some fault) → (next : Trying) (first : Option ChainFault) → IsBegunAt t.walk.owner t.held t.rest first next → first ≡ or_fault t.fault fault
-      → (new ≡ old) × (length next.rest < length t.rest) × GoesOnWith view edge t old next
+      → (new ≡ old) × (length next.rest < length t.rest) × (next.walk.owner ≡ t.walk.owner) × GoesOnWith view edge t old next
   goes_to_next fault taken next first is first_is = (
     taken.0,
     subst (λ (l : List Stamp). length next.rest < length l) is.0 (omega arith),
+    ap (λ (w : Walking). w.owner) is.1,
     λ owner all brought h. record {
       passed = brought;
       walked = [];
@@ -162,3 +163,10 @@ module _ (view : View) (edge : Option Edge) (t : Trying) (old new : Batch) (chai
       walk_is = begun_is owner next (is.1 ∙ ap (λ (o : PubKey). begun o (next.head.seq - t.held) next.head.name) h.owner_is) all brought h;
     },
   )
+
+-- what a later head ends with, the heads end with
+pub ends_later : (view : View) (edge copy : Option Edge) (t u : Trying) (old mid new : Batch) (fault : Option ChainFault) → mid ≡ old → copy ≡ edge → GoesOnWith view edge t old u → EndsWith view copy u mid new fault
+    → EndsWith view edge t old new fault
+ends_later view edge copy t u old mid new fault same_batch same_edge on ends =
+    let there : EndsWith view edge u old new fault = subst (λ (b : Batch). EndsWith view edge u b new fault) same_batch (subst (λ (e : Option Edge). EndsWith view e u mid new fault) same_edge ends) in
+    λ owner all brought h. there owner all brought (on owner all brought h)

@@ -8,7 +8,7 @@ ghost use Rattle.log_records.specs.Heads.{stamp};
 ghost use Rattle.session_model.specs.Brought.{stamp_of};
 ghost use Rattle.log_walks.specs.Walking.{AreOwned, wanted_of, kept_of};
 ghost use Rattle.log_walks.specs.Trying.{IsBegunAt, IsTakenAs, HasBeenTold, or_fault};
-ghost use Rattle.log_walks.specs.Concluding.{ConcludesAs};
+ghost use Rattle.log_walks.specs.Concluding.{ConcludesAs, SettlesAs};
 
 use crate::walk::Walk;
 use dht_ids::Judged;
@@ -99,6 +99,50 @@ impl Trial {
                 }
             }
         }
+    }
+
+    /// Tests the walks that are over, one head after the other, until a block is wanted or the log is through. The error
+    /// is want of memory.
+    pub fn settle(
+        self,
+        alloc: Global,
+        view: &View,
+        edge: &Option<Edge>,
+        batch: &mut Batch,
+    ) -> Result<Settled, Memory>
+        requires new_log { Contains (owners_in batch.old.chains) self.walk.owner → ⊥ }
+        requires edge { IfSome edge.now (λ e. stamp_at e.vector (head_key_of self.walk.owner) ≡ None) }
+        ensures { IfOk result (SettlesAs view.now edge.now self batch.old batch.new) }
+    {
+        let mut trial = self;
+        'walks: while trial.wanted().is_none() {
+            match trial.conclude(alloc, view, copy_of(alloc, edge)?, batch)? {
+                Concluded::Next(next) => trial = next,
+                Concluded::Over(fault) => return Ok(Settled::Over(fault)),
+            }
+        }
+        Ok(Settled::Waits(trial))
+    }
+}
+
+/// How the heads of a log stand, after all walks that were over were tested.
+#[derive(Drop)]
+pub enum Settled {
+    /// A block is wanted.
+    Waits(Trial),
+    /// The log is through. The fault is that of the first head that was passed over.
+    Over(Option<ChainFault>),
+}
+
+/// A copy of what is known of a record. The error is want of memory.
+fn copy_of(alloc: Global, edge: &Option<Edge>) -> Result<Option<Edge>, Memory>
+    ensures { IfOk result (λ copy. copy ≡ edge.now) }
+{
+    match edge {
+        Some(edge) => Ok(Some(Edge {
+            vector: edge.vector.copy(alloc)?,
+        })),
+        None => Ok(None),
     }
 }
 

@@ -1,6 +1,4 @@
-use Rattle.std.proofs.Common.{List, map, take, ◌+◌, subst, sym, ap}
-use Rattle.dht_ids.specs.declared.judge.Judged.{Judged}
-use Rattle.log_model.specs.Vector.{Stamp}
+use Rattle.std.proofs.Common.{map, take, ◌+◌, subst, sym}
 use Rattle.session_model.specs.Brought.{stamp_of}
 use Rattle.session_model.specs.Walks.{AreTried}
 use Rattle.log_walks.proofs.Placing.{further_so_far, within_so_far}

@@ -1,6 +1,5 @@
 use Rattle.std.proofs.Common.{sym}
 use Rattle.log_records.specs.Records.{records_of}
-use Rattle.log_walks.specs.Walking.{AreOwned, kept_of}
 use Rattle.log_walks.proofs.Trying.{one_owner, some_records}
 use Rattle.log_walks.proofs.trial.take.Goals as goal
 
