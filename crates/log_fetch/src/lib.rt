@@ -1,13 +1,21 @@
-// A library with one function.
+//! What a refresh starts from, what it brings and what it notes.
+//!
+//! Layer: over `log_records`, whose batches carry the chains, `fs_tree`, `view_blocks`, `version_vectors`, `dht_ids`,
+//! `rpc_wire` and `nfs_model`; below agents, which give standings and take refreshes, and below sessions.
+//! For the layers above: a [`Standing`], a [`Refresh`] and an [`Asked`] are those of the definitions in `agent_model` and
+//! `turn_model`, and [`Notes`] are what `session_model` notes, and why a refresh failed (`specs/Standings.antt`).
+//! [`Edges`] always ascend by log, and none of them knows anything of its own log, so that a chain can be tested over
+//! each ([`Edges::at`]).
 #![tactic(auto)]
 
-ghost use Rattle.std.specs.Prelude.{◌≡◌};
-ghost use Rattle.log_fetch.specs.Echo.{echo_of};
+pub mod asked;
+pub mod edges;
+pub mod note;
+pub mod refresh;
+pub mod standing;
 
-// The `ensures` clause is the contract: what `echo` returns is `echo_of` of its argument, a definition
-// in `specs/Echo.antt`, which a caller's clause can cite too.
-pub fn echo(x: usize) -> usize
-    ensures { result ≡ echo_of x }
-{
-    x
-}
+pub use asked::Asked;
+pub use edges::{Edge, Edges};
+pub use note::{Note, Notes};
+pub use refresh::Refresh;
+pub use standing::Standing;

@@ -70,6 +70,6 @@ module _ (view : View) (owner : PubKey) (start floor : Vector) (edge : Option Ed
     log_stops miss = (
       h.faults ++ [],
       subst (λ (b : List Brought). Tries view owner start floor edge all b (h.faults ++ []) (Stops miss)) (sym (append_assoc h.passed h.walked (BlockOf key (Err miss) ∷ [])) ∙ ap (λ (b : List Brought). b ++ BlockOf key (Err miss) ∷ []) (sym h.brought_is))
-      (h.goes_on (head_misses (is_missed owner walks.1 miss))),
+          (h.goes_on (head_misses (is_missed owner walks.1 miss))),
       h.fault_is ∙ ap first_of (sym (append-nil h.faults)),
     )

@@ -27,8 +27,7 @@ at_place a p s m v b la lp =
     let four : 48 ≤ length (a ++ p ++ s ++ m) = omega (arith, three, length-append (a ++ p ++ s) m) in
     let five : 48 ≤ length (a ++ p ++ s ++ m ++ v) = omega (arith, four, length-append (a ++ p ++ s ++ m) v) in
     let behind : drop 28 (a ++ p) ≡ p = subst (λ (n : ℕ). drop n (a ++ p) ≡ p) la (drop-append_seam a p) in
-    let whole : take 20 p ≡ p = subst (λ (n : ℕ). take n p ≡ p) lp (take-length p) in
-    (
+    let whole : take 20 p ≡ p = subst (λ (n : ℕ). take n p ≡ p) lp (take-length p) in (
       trim (a ++ p ++ s ++ m ++ v) b five ∙ trim (a ++ p ++ s ++ m) v four ∙ trim (a ++ p ++ s) m three ∙ trim (a ++ p) s (omega (arith, two)) ∙ ap (take 20) behind ∙ whole,
       omega (arith, five, length-append (a ++ p ++ s ++ m ++ v) b),
     )

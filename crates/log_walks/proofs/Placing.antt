@@ -156,9 +156,9 @@ module _ (xs : List Judged) (head : Judged) (k : ℕ) where
         order =
             taken_in (take k (map stamp_of xs)) (stamp_of head) (drop k (map stamp_of xs)) (subst InTryingOrder (sym whole) order) is.before is.behind
             (λ rest e. ⊎_elim
-                (λ within. new within (one_judged (get_or xs k head) head (first_same _ _ _ _ (sym (rest_at xs k head within) ∙ e))))
-                (λ out. absurd (cons_none (stamp_of head) rest (sym (rest_none xs k out) ∙ e)))
-                (in_or_out k (length xs)));
+            (λ within. new within (one_judged (get_or xs k head) head (first_same _ _ _ _ (sym (rest_at xs k head within) ∙ e))))
+            (λ out. absurd (cons_none (stamp_of head) rest (sym (rest_none xs k out) ∙ e)))
+            (in_or_out k (length xs)));
       }))
 
 -- ---- all that are tried

@@ -106,8 +106,7 @@ module _ (view : View) (edge : Option Edge) (t : Trying) (old new : Batch) (chai
   pub ends_taken : IsTakenAs view old new t.head edge chain None → EndsWith view edge t old new t.fault
   ends_taken taken = λ owner all brought h.
       let tries : Tries view owner old.held old.floor edge (t.head ∷ t.rest) h.walked [] (Gives taken.0) =
-      is_taken view owner old.held old.floor edge t.head t.walk.next t.walk.found h.walked (come view owner old.held old.floor edge t all brought h over) taken.0 (sym chain_is ∙ taken.1) taken.2 taken.3 t.rest in
-      (
+      is_taken view owner old.held old.floor edge t.head t.walk.next t.walk.found h.walked (come view owner old.held old.floor edge t all brought h over) taken.0 (sym chain_is ∙ taken.1) taken.2 taken.3 t.rest in (
         h.faults ++ [],
         Gives taken.0,
         subst (λ (b : List Brought). Tries view owner old.held old.floor edge all b (h.faults ++ []) (Gives taken.0)) (sym h.brought_is) (h.goes_on tries),
@@ -130,8 +129,7 @@ module _ (view : View) (edge : Option Edge) (t : Trying) (old new : Batch) (chai
 
   pub ends_passed : (fault : ChainFault) → IsTakenAs view old new t.head edge chain (Some fault) → t.rest ≡ [] → (first : Option ChainFault) → first ≡ or_fault t.fault fault → EndsWith view edge t old new first
   ends_passed fault taken none first first_is = λ owner all brought h.
-      let p = passed fault taken owner all brought h (subst (λ (l : List Stamp). Tries view owner old.held old.floor edge l [] [] GivesNone) (sym none) none_left) in
-      (
+      let p = passed fault taken owner all brought h (subst (λ (l : List Stamp). Tries view owner old.held old.floor edge l [] [] GivesNone) (sym none) none_left) in (
         h.faults ++ fault ∷ [] ++ [],
         GivesNone,
         subst (λ (b : List Brought). Tries view owner old.held old.floor edge all b (h.faults ++ fault ∷ [] ++ []) GivesNone) (append-nil brought) p,

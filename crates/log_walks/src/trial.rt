@@ -89,7 +89,15 @@ impl Trial {
         ensures { IfOk result (ConcludesAs view.now edge self batch.old batch.new) }
     {
         let owner = *self.walk.owner();
-        match take(alloc, view, batch, &owner, self.head, self.walk.into_chain(), edge)? {
+        match take(
+            alloc,
+            view,
+            batch,
+            &owner,
+            self.head,
+            self.walk.into_chain(),
+            edge,
+        )? {
             None => Ok(Concluded::Over(self.fault)),
             Some(fault) => {
                 let first = first_fault(self.fault, fault);

@@ -14,8 +14,8 @@ returns-in_ok-keep-in-Good-clause-given c =
     let old = c.self.inside in
     let says = subst (λ (x : Reading). Says old.owner c.args.bytes.now x) c.in-Good.is c.in_ok-good.ensures in
     subst (λ (s : Walking). HasBeenGiven s (record { owner = old.owner; left = old.left - 1; next = c.in-Good.good.prev; found = kept_of c.keep.new.found }) c.args.bytes.now) c.self.view_is (
-      subst (λ (f : Option (List Record)). HasBeenGiven (record { owner = old.owner; left = old.left; next = old.next; found = kept_of old.found }) (record { owner = old.owner; left = old.left - 1; next = c.in-Good.good.prev; found = f }) c.args.bytes.now) (sym c.in_ok-keep-in-Good.ensures.kept)
-      (given_good old.owner old.next (kept_of old.found) c.args.bytes.now old.left (old.left - 1) (is_suc old.left c.args.self.now.left (ap (λ (w : Walking). w.left) c.self.view_is) c.requires) (record_of c.in-Good.good) says)
+    subst (λ (f : Option (List Record)). HasBeenGiven (record { owner = old.owner; left = old.left; next = old.next; found = kept_of old.found }) (record { owner = old.owner; left = old.left - 1; next = c.in-Good.good.prev; found = f }) c.args.bytes.now) (sym c.in_ok-keep-in-Good.ensures.kept)
+    (given_good old.owner old.next (kept_of old.found) c.args.bytes.now old.left (old.left - 1) (is_suc old.left c.args.self.now.left (ap (λ (w : Walking). w.left) c.self.view_is) c.requires) (record_of c.in-Good.good) says)
     )
 
 pub returns-in-Misnumbered-clause-given : goal.returns-in-Misnumbered-clause-given
