@@ -70,6 +70,7 @@ impl Trial {
         ensures told { IfOk result (λ _. HasBeenTold self.old self.new bytes.now) }
         ensures left { OnOk result (self.new.walk.left < self.old.walk.left) }
         ensures rest { OnOk result (self.new.rest ≡ self.old.rest) }
+        ensures owner { OnOk result (self.new.walk.owner ≡ self.old.walk.owner) }
     {
         self.walk.give(alloc, bytes)
     }
