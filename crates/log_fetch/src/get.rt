@@ -1,0 +1,85 @@
+//! One get of what a refresh wants: the heads of a log, or a content block.
+
+ghost use Rattle.std.specs.Prelude.{◌≡◌, ◌≢◌, ◌<◌, ◌≤◌, None, IfOk};
+ghost use Rattle.ivy_base.specs.Naming.{head_key_of};
+ghost use Rattle.dhash_client.specs.GetBlock.{block_begun};
+ghost use Rattle.dhash_client.specs.GetHead.{head_begun};
+ghost use Rattle.log_fetch.specs.Gets.{get_awaited, gets_left, GetIsWanted, GetHasHeard};
+
+use dhash_client::{GetBlock, GetHead, Miss};
+use dht_ids::{Answer, Heads, Judge, Peers, Want};
+use ivy_base::{Bytes, Key, Memory, PubKey, head_key};
+use std::alloc::Global;
+
+/// A get on its way.
+#[derive(Drop)]
+pub enum Get<J: Judge> {
+    /// Of the heads of an owner's log.
+    Heads(PubKey, GetHead<J>),
+    /// Of a content block.
+    Block(GetBlock),
+}
+
+/// What a get brought.
+#[derive(Drop)]
+pub enum Came {
+    /// The heads, or why there are none.
+    Heads(Result<Heads, Miss>),
+    /// The block, or why there is none.
+    Block(Result<Bytes, Miss>),
+}
+
+impl<J: Judge> Get<J> {
+    /// A get of the heads of the owner's log that begins its look-up at these nodes and is content with that many answers.
+    /// The error is want of memory.
+    pub fn heads(
+        alloc: Global,
+        judge: J,
+        owner: PubKey,
+        replicas: u32,
+        entries: &Peers,
+    ) -> Result<Get<J>, Memory>
+        ensures { IfOk result (λ get. get ≡ Get.Heads owner (head_begun judge (head_key_of owner) replicas entries.now)) }
+    {
+        let key = head_key(&owner);
+        Ok(Get::Heads(owner, GetHead::start(alloc, judge, key, replicas, entries)?))
+    }
+
+    /// A get of the content block of that name, likewise. The error is want of memory.
+    pub fn block(alloc: Global, key: Key, replicas: u32, entries: &Peers) -> Result<Get<J>, Memory>
+        ensures { IfOk result (λ get. get ≡ Get.Block (block_begun key replicas entries.now)) }
+    {
+        Ok(Get::Block(GetBlock::start(alloc, key, replicas, entries)?))
+    }
+
+    /// What the get wants next: an ask, or nothing more, since it has its result. The error is want of memory; the get
+    /// isn't used after it, nor after its result.
+    pub fn next(&mut self) -> Result<Want<Came>, Memory>
+        ensures wanted { IfOk result (λ want. GetIsWanted J.judges self.old self.new want) }
+        ensures left { IfOk result (λ _. gets_left self.new ≤ gets_left self.old) }
+    {
+        match self {
+            Get::Heads(_, get) => match get.next()? {
+                Want::Ask(node, question) => Ok(Want::Ask(node, question)),
+                Want::Done(heads) => Ok(Want::Done(Came::Heads(heads))),
+            },
+            Get::Block(get) => match get.next()? {
+                Want::Ask(node, question) => Ok(Want::Ask(node, question)),
+                Want::Done(block) => Ok(Want::Done(Came::Block(block))),
+            },
+        }
+    }
+
+    /// Hears what the node answered that was asked last. It is called once after each ask. The error is want of memory;
+    /// the get isn't used after it.
+    pub fn heard(&mut self, answer: Answer) -> Result<(), Memory>
+        requires { get_awaited self.old ≢ None }
+        ensures heard { IfOk result (λ _. GetHasHeard J.judges self.old self.new answer) }
+        ensures left { IfOk result (λ _. gets_left self.new < gets_left self.old) }
+    {
+        match self {
+            Get::Heads(_, get) => get.heard(answer),
+            Get::Block(get) => get.heard(answer),
+        }
+    }
+}

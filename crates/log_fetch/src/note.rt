@@ -1,0 +1,59 @@
+//! What a refresh notes.
+
+ghost use Rattle.std.specs.Prelude.{◌≡◌};
+
+use ivy_base::Key;
+use std::marker::Model;
+
+/// What a refresh notes of a log, or why it ended early; the key is that of the log's head, or of the block.
+#[derive(Clone, Copy, Debug, PartialEq, Eq)]
+pub enum Note {
+    /// The first of the log's heads that was passed over leads to records that break a rule of logs.
+    Bad(Key),
+    /// The first of the log's heads that was passed over leads to another history of its log.
+    Fork(Key),
+    /// No owner of the key was found, and the refresh ended.
+    NoRoute(Key),
+    /// No owner that was asked has the block, and the refresh ended.
+    Missing(Key),
+    /// An owner gave another block, none gave the right one, and the refresh ended.
+    Damaged(Key),
+}
+
+/// Notes in a row.
+#[derive(Debug, Drop)]
+pub struct Notes {
+    notes: Vec<Note>,
+}
+
+impl Model for Notes {
+    ghost use Rattle.std.specs.Prelude.{List};
+    ghost use Rattle.log_fetch.specs.declared.note.Note.{Note};
+
+    ghost Value = { List Note };
+
+    ghost view = { λ n. n.notes.items };
+}
+
+impl Notes {
+    /// The notes of a vector, which is not copied.
+    pub fn of(items: Vec<Note>) -> Notes
+        ensures { result ≡ items.items }
+    {
+        Notes { notes: items }
+    }
+
+    /// The notes as a vector, which is not copied.
+    pub fn into_vec(self) -> Vec<Note>
+        ensures { result.items ≡ self }
+    {
+        self.notes
+    }
+
+    /// The notes as a slice.
+    pub fn as_slice(&self) -> &[Note]
+        ensures { result.now ≡ self.now }
+    {
+        self.notes.as_slice()
+    }
+}
