@@ -1,5 +1,5 @@
 -- Scripts whose ring changes little, and what they may rely on: what was put stays (CFS, SOSP 2001, section 5.1).
-use Rattle.std.specs.Prelude.{◌≡◌, ◌≢◌, if◌then◌else◌, ℕ, ◌+◌, ◌<◌, ◌≤◌, Bool, true, false, List, [], ◌∷◌, ◌++◌, length, is_some, ◌↔◌, Contains, Option, Some, None, Result, Ok, option_map, option_and_then}
+use Rattle.std.specs.Prelude.{◌≡◌, ◌≢◌, if◌then◌else◌, ℕ, ◌+◌, ◌<◌, ◌≤◌, true, false, List, [], ◌∷◌, ◌++◌, length, is_some, ◌↔◌, Contains, Option, Some, None, Result, Ok}
 use Rattle.std.specs.List.{AllByRecursion}
 use Rattle.std.specs.Option.{option_map_or}
 use Rattle.ivy_base.specs.declared.key.Key.{Key}
@@ -7,7 +7,6 @@ use Rattle.ivy_base.specs.Naming.{NamesTellApart}
 use Rattle.ring_model.specs.Circle.{number}
 use Rattle.ring_model.specs.Blocks.{IsAtLeast}
 use Rattle.ring_model.specs.Members.{IsAmong, owners}
-use Rattle.ring_model.specs.Ring.{Links, IsCoveredRing, IsSettledRing}
 use Rattle.dht_ids.specs.Peers.{place}
 use Rattle.dht_ids.specs.declared.ask.Ask.TheVariants as ask
 use Rattle.dht_ids.specs.declared.judge.Judged.{Judged}
@@ -18,7 +17,6 @@ use Rattle.dhash_client.specs.GetHead.{IsGetOfHead}
 use Rattle.dhash_client.specs.Course.{Told, told_all}
 use Rattle.dhash_client.specs.declared.miss.Miss.{Miss}
 use Rattle.log_heads.specs.Signed.{hss_judged}
-use Rattle.node_store.specs.Stores.{bytes_at}
 use Rattle.script_driver.specs.Run.{Goes}
 use Rattle.script_model.specs.declared.command.Command.{Command}
 use Rattle.script_model.specs.declared.command.Command.TheVariants as command
@@ -33,30 +31,15 @@ use Rattle.world_model.specs.Agents.{own}
 use Rattle.session_model.specs.Sessions.{Said, Session}
 use Rattle.world_model.specs.Calls.{shown_end}
 use Rattle.world_model.specs.Rounds.{IsRoundOf}
-use Rattle.world_model.specs.World.{World, Participant, entries, participant, named_bytes, node_at, view_named}
+use Rattle.world_model.specs.World.{World, Participant, entries, participant, named_bytes, view_named}
 use Rattle.world_model.specs.Story.{HadTurn, empty_story, known_of}
 use Rattle.world_model.specs.Logs.{Played}
+use Rattle.round_laws.specs.Holding.{rank_in as rank_by}
+use Rattle.round_laws.specs.RingOf.{IsCoveredIn, IsSettledIn, lives_in}
 use Rattle.world_laws.specs.Headline.{IsOnReplay}
 use Rattle.world_model.specs.Fates.{Fates, asking}
 use Rattle.world_model.specs.Ring.{RingLine, live_in_order}
 use Rattle.world_model.specs.Step.{IvyStep}
-
--- ---- the ring of a world
-
-abbrev pub no_links : Links Peer
-no_links = record { list = []; before = None; fingers = [] }
-
-abbrev pub links_in : World → Peer → Links Peer
-links_in w p = option_map_or (λ n. n.ring.links) (node_at w p.id) no_links
-
-abbrev pub lives_in : World → Peer → Bool
-lives_in w p = option_map_or (λ n. n.is_live) (node_at w p.id) false
-
-abbrev pub IsSettledIn : World → ℕ → Type 0
-IsSettledIn w r = IsSettledRing place r 160 (live_in_order w) (lives_in w) (links_in w)
-
-abbrev pub IsCoveredIn : World → ℕ → Type 0
-IsCoveredIn w r = IsCoveredRing place r (live_in_order w) (lives_in w) (links_in w)
 
 -- ---- calm scripts
 
@@ -94,7 +77,7 @@ pub data Calmly (r : ℕ) : Played → Since → List (List ℕ) → Played → 
 
 -- the rank of what a node holds under a key: 0 for content, a head's number for a head
 abbrev pub rank_in : World → Key → Peer → Option ℕ
-rank_in w key p = option_and_then (λ n. option_map (λ bytes. option_map_or (λ j. j.seq) (hss_judged key bytes) 0) (bytes_at key n.blocks)) (node_at w p.id)
+rank_in w key p = rank_by hss_judged w key p
 
 -- the world was reached calmly from the line that made its ring; and no block that was met is a public key
 pub record IsCalmAt (r : ℕ) (w : Played) (since : Since) (lines : List (List ℕ)) : Type 0 where
