@@ -64,6 +64,13 @@ impl Trial {
         self.walk.wanted()
     }
 
+    /// The fault of the first head that was passed over, where one was.
+    pub fn fault(&self) -> Option<ChainFault>
+        ensures { result ≡ self.now.fault }
+    {
+        self.fault
+    }
+
     /// Takes the block that is wanted. The error is want of memory; the trial isn't used after it.
     pub fn give(&mut self, alloc: Global, bytes: &[u8]) -> Result<(), Memory>
         requires { self.old.walk.left ≢ 0 }
