@@ -1,14 +1,11 @@
 //! Fetching one log of a view.
 
-ghost use Rattle.std.specs.Prelude.{◌≡◌, ◌≢◌, [], ◌∷◌, ◌++◌, List, Contains, map, IfOk, Ok};
+ghost use Rattle.std.specs.Prelude.{◌≡◌, ◌≢◌, Contains, map, IfOk};
 ghost use Rattle.ivy_base.specs.Naming.{head_key_of};
-ghost use Rattle.log_model.specs.Vector.{Stamp, stamp_at, seq_of};
 ghost use Rattle.log_records.specs.Batches.{owners_in};
-ghost use Rattle.session_model.specs.Brought.{Brought, BlockOf, stamp_of};
-ghost use Rattle.log_walks.specs.Order.{AreToTry};
-ghost use Rattle.log_walks.specs.Trying.{HasTried};
+ghost use Rattle.session_model.specs.Brought.{stamp_of};
 ghost use Rattle.log_fetch.specs.Edges.{edge_in};
-ghost use Rattle.log_fetch.specs.Logs.{StandsAt, Opens, GoesOn};
+ghost use Rattle.log_fetch.specs.Logs.{Opens, GoesOn};
 
 use crate::edges::Edges;
 use dht_ids::Judged;

@@ -1,9 +1,8 @@
 //! The order in which the heads of a log are tried.
 
-ghost use Rattle.std.specs.Prelude.{◌≡◌, ◌⊎◌, ◌↔◌, ◌++◌, IsTrue, ◌<◌, Contains, length, get_or, map, IfOk, OnOk};
+ghost use Rattle.std.specs.Prelude.{◌≡◌, ◌↔◌, ◌<◌, IsTrue, length, get_or, map, IfOk, OnOk};
 ghost use Rattle.log_model.specs.Vector.{stamp_at};
 ghost use Rattle.turn_model.specs.Candidates.{IsTriedBefore};
-ghost use Rattle.log_records.specs.Heads.{stamp};
 ghost use Rattle.session_model.specs.Brought.{stamp_of};
 ghost use Rattle.session_model.specs.Walks.{InTryingOrder};
 ghost use Rattle.log_walks.specs.Order.{AreToTry, IsBehind, HasOneMore};

@@ -1,10 +1,9 @@
 //! The heads of one log, tried one after the other.
 
-ghost use Rattle.std.specs.Prelude.{◌≡◌, ◌≢◌, ◌<◌, ◌∷◌, [], Contains, None, Some, length, map, IfOk, IfSome, IfNone, OnOk};
+ghost use Rattle.std.specs.Prelude.{◌≡◌, ◌≢◌, ◌<◌, [], Contains, None, map, IfOk, IfSome, IfNone, OnOk};
 ghost use Rattle.ivy_base.specs.Naming.{head_key_of};
 ghost use Rattle.log_model.specs.Vector.{stamp_at};
 ghost use Rattle.log_records.specs.Batches.{owners_in};
-ghost use Rattle.log_records.specs.Heads.{stamp};
 ghost use Rattle.session_model.specs.Brought.{stamp_of};
 ghost use Rattle.log_walks.specs.Walking.{AreOwned, wanted_of, kept_of};
 ghost use Rattle.log_walks.specs.Trying.{IsBegunAt, IsTakenAs, HasBeenTold, or_fault};
@@ -62,6 +61,13 @@ impl Trial {
         ensures { result ≡ wanted_of self.now.walk }
     {
         self.walk.wanted()
+    }
+
+    /// The fault of the first head that was passed over, where one was.
+    pub fn fault(&self) -> Option<ChainFault>
+        ensures { result ≡ self.now.fault }
+    {
+        self.fault
     }
 
     /// Takes the block that is wanted. The error is want of memory; the trial isn't used after it.

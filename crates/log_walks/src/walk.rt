@@ -1,8 +1,7 @@
 //! A walk along one log, backwards by names.
 
-ghost use Rattle.std.specs.Prelude.{◌≡◌, ◌≢◌, ◌<◌, ◌+◌, ◌∷◌, ◌++◌, [], Option, Some, None, IfOk, OnOk};
-ghost use Rattle.ivy_base.specs.declared.key.Key.{Key as Named};
-ghost use Rattle.log_records.specs.Records.{record_of, records_of};
+ghost use Rattle.std.specs.Prelude.{◌≡◌, ◌≢◌, ◌<◌, IfOk, OnOk};
+ghost use Rattle.log_records.specs.Records.{record_of};
 ghost use Rattle.log_walks.specs.Walking.{begun, wanted_of, HasBeenGiven, AreOwned, kept_of, kept_with, oldest_first};
 
 use crate::reading::{Reading, read};
