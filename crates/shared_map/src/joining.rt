@@ -19,7 +19,13 @@ pub fn with_left<K: Drop, V: Drop>(
     requires few { length left.0 + length at.now.right.0 + 1 < 2 ^ 64 }
     ensures { IfOk result (IsNear (left.0 ++ (at.now.key.value, at.now.value.value) ∷ at.now.right.0) at.now.height) }
 {
-    balanced(alloc, left, at.key.clone()?, at.value.clone()?, at.right.copy()?)
+    balanced(
+        alloc,
+        left,
+        at.key.clone()?,
+        at.value.clone()?,
+        at.right.copy()?,
+    )
 }
 
 /// The node's entries with others behind its own. The error is want of memory.
@@ -33,7 +39,13 @@ pub fn with_right<K: Drop, V: Drop>(
     requires few { length at.now.left.0 + length right.0 + 1 < 2 ^ 64 }
     ensures { IfOk result (IsNear (at.now.left.0 ++ (at.now.key.value, at.now.value.value) ∷ right.0) at.now.height) }
 {
-    balanced(alloc, at.left.copy()?, at.key.clone()?, at.value.clone()?, right)
+    balanced(
+        alloc,
+        at.left.copy()?,
+        at.key.clone()?,
+        at.value.clone()?,
+        right,
+    )
 }
 
 /// The node's entries with another value under its key. The error is want of memory.
@@ -46,7 +58,13 @@ pub fn with_value<K: Drop, V: Drop>(
     requires few { length at.now.left.0 + length at.now.right.0 + 1 < 2 ^ 64 }
     ensures { IfOk result (IsNear (at.now.left.0 ++ (at.now.key.value, value.value) ∷ at.now.right.0) at.now.height) }
 {
-    joined(alloc, at.left.copy()?, at.key.clone()?, value, at.right.copy()?)
+    joined(
+        alloc,
+        at.left.copy()?,
+        at.key.clone()?,
+        value,
+        at.right.copy()?,
+    )
 }
 
 // One above the higher of two sides that one node can have.
@@ -118,18 +136,28 @@ fn from_left<K: Drop, V: Drop>(
     requires few { length left.0 + length right.0 + 1 < 2 ^ 64 }
     ensures { IfOk result (λ t. (t.0 ≡ left.0 ++ (key.value, value.value) ∷ right.0) × (left.1 ≤ t.1) × (t.1 ≤ left.1 + 1)) }
 {
-    let Some(at) = left.top() else {
-        unreachable!()
-    };
+    let Some(at) = left.top() else { unreachable!() };
     if at.left.height() >= at.right.height() {
         let right = joined(alloc, at.right.copy()?, key, value, right)?;
-        return joined(alloc, at.left.copy()?, at.key.clone()?, at.value.clone()?, right);
+        return joined(
+            alloc,
+            at.left.copy()?,
+            at.key.clone()?,
+            at.value.clone()?,
+            right,
+        );
     }
     let Some(inner) = at.right.top() else {
         unreachable!()
     };
     let right = joined(alloc, inner.right.copy()?, key, value, right)?;
-    let left = joined(alloc, at.left.copy()?, at.key.clone()?, at.value.clone()?, inner.left.copy()?)?;
+    let left = joined(
+        alloc,
+        at.left.copy()?,
+        at.key.clone()?,
+        at.value.clone()?,
+        inner.left.copy()?,
+    )?;
     joined(alloc, left, inner.key.clone()?, inner.value.clone()?, right)
 }
 
@@ -150,12 +178,24 @@ fn from_right<K: Drop, V: Drop>(
     };
     if at.right.height() >= at.left.height() {
         let left = joined(alloc, left, key, value, at.left.copy()?)?;
-        return joined(alloc, left, at.key.clone()?, at.value.clone()?, at.right.copy()?);
+        return joined(
+            alloc,
+            left,
+            at.key.clone()?,
+            at.value.clone()?,
+            at.right.copy()?,
+        );
     }
     let Some(inner) = at.left.top() else {
         unreachable!()
     };
     let left = joined(alloc, left, key, value, inner.left.copy()?)?;
-    let right = joined(alloc, inner.right.copy()?, at.key.clone()?, at.value.clone()?, at.right.copy()?)?;
+    let right = joined(
+        alloc,
+        inner.right.copy()?,
+        at.key.clone()?,
+        at.value.clone()?,
+        at.right.copy()?,
+    )?;
     joined(alloc, left, inner.key.clone()?, inner.value.clone()?, right)
 }

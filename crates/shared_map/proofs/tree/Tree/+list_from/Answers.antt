@@ -28,6 +28,6 @@ returns g t c =
     let is : c.cmp.result ≡ g.K.Ord.cmp c.args.key.now c.in-Some.at.now.key.value = c.cmp.ensures ∙ ap (λ k. g.K.Ord.cmp c.args.key.now k) c.deref.ensures in
     let le : is_le (g.K.Ord.cmp c.args.key.now c.in-Some.at.now.key.value) ≡ true = sym (ap is_le is) ∙ le_is c.cmp.result (sym c.is_gt.ensures ∙ c.if-is_gt.false) in
     onto_on c.list.result (λ h. take_sides c.args.most _ _ _ _ _ _ _ _
-        (from_left c.in-Some.at.now c.args.self.now c.in-Some.ensures.top g.K.Ord.cmp g.met.K.Ord.total c.requires.ordered c.args.key.now le)
-        c.in_ok-list_from.ensures c.in_ok-list_one.ensures h)
-      c.list.ensures
+    (from_left c.in-Some.at.now c.args.self.now c.in-Some.ensures.top g.K.Ord.cmp g.met.K.Ord.total c.requires.ordered c.args.key.now le)
+    c.in_ok-list_from.ensures c.in_ok-list_one.ensures h)
+    c.list.ensures

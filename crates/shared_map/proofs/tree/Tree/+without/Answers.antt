@@ -43,17 +43,17 @@ pub returns-in_ok-left-in-Less : goal.returns-in_ok-left-in-Less
 returns-in_ok-left-in-Less g t c =
     let lt = sym (c.in-Less.ensures ∙ ap (λ k. g.K.Ord.cmp c.args.key.now k) c.deref.ensures) in
     near_left c.in-Some.at.now c.args.self.now c.in-Some.ensures.top _ _ c.in_ok-left-in-Less.left c.in_ok-left-in-Less.ensures
-      (without_left c.in-Some.at.now c.args.self.now c.in-Some.ensures.top g.K.Ord.cmp g.met.K.Ord.total c.requires.ordered c.args.key.now lt) c.with_left.result c.with_left.ensures
+    (without_left c.in-Some.at.now c.args.self.now c.in-Some.ensures.top g.K.Ord.cmp g.met.K.Ord.total c.requires.ordered c.args.key.now lt) c.with_left.result c.with_left.ensures
 
 pub returns-in-Equal : goal.returns-in-Equal
 returns-in-Equal g t c =
     let eq = sym (c.in-Equal.ensures ∙ ap (λ k. g.K.Ord.cmp c.args.key.now k) c.deref.ensures) in
     near_is c.without_top.result _ _ _ _
-      (without_here c.in-Some.at.now c.args.self.now c.in-Some.ensures.top g.K.Ord.cmp g.met.K.Ord.total c.requires.ordered c.args.key.now eq)
-      (height_is c.in-Some.at.now c.args.self.now c.in-Some.ensures.top) c.without_top.ensures
+    (without_here c.in-Some.at.now c.args.self.now c.in-Some.ensures.top g.K.Ord.cmp g.met.K.Ord.total c.requires.ordered c.args.key.now eq)
+    (height_is c.in-Some.at.now c.args.self.now c.in-Some.ensures.top) c.without_top.ensures
 
 pub returns-in_ok-right-in-Greater : goal.returns-in_ok-right-in-Greater
 returns-in_ok-right-in-Greater g t c =
     let gt = sym (c.in-Greater.ensures ∙ ap (λ k. g.K.Ord.cmp c.args.key.now k) c.deref.ensures) in
     near_right c.in-Some.at.now c.args.self.now c.in-Some.ensures.top _ _ c.in_ok-right-in-Greater.right c.in_ok-right-in-Greater.ensures
-      (without_right c.in-Some.at.now c.args.self.now c.in-Some.ensures.top g.K.Ord.cmp g.met.K.Ord.total c.requires.ordered c.args.key.now gt) c.with_right.result c.with_right.ensures
+    (without_right c.in-Some.at.now c.args.self.now c.in-Some.ensures.top g.K.Ord.cmp g.met.K.Ord.total c.requires.ordered c.args.key.now gt) c.with_right.result c.with_right.ensures
