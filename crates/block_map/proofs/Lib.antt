@@ -1,3 +1,4 @@
 pub mod Places
 pub mod Others
 pub mod Raised
+pub mod Sealed

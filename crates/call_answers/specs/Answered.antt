@@ -15,7 +15,7 @@ use Rattle.block_map.specs.Heads.{next_head}
 use Rattle.call_answers.specs.declared.answering.Answered.{Answered}
 
 -- the call is answered by its message alone, and the participant is as it was
-pub record IsAnsweredAlone (message : List ℕ) (old new : Participant) (given : Answered) : Type 0 where
+pub record AnswersAlone (message : List ℕ) (old new : Participant) (given : Answered) : Type 0 where
   pub by : IsByMessage message given.reply
   pub left : given.left ≡ nothing_given
   pub none_written : given.blocks.items ≡ []
@@ -23,7 +23,7 @@ pub record IsAnsweredAlone (message : List ℕ) (old new : Participant) (given :
   pub same : new ≡ old
 
 -- by a turn: the reply message, what it leaves to later lines, the blocks of what was written, and the head over it
-pub record IsAnsweredByTurn (blocks : List (List ℕ)) (heads : Heads) (view : View) (now : Moment) (message : List ℕ) (old new : Participant) (given : Answered) : Type 0 where
+pub record AnswersByTurn (blocks : List (List ℕ)) (heads : Heads) (view : View) (now : Moment) (message : List ℕ) (old new : Participant) (given : Answered) : Type 0 where
   pub xid : ℕ
   pub asked : Asked
   pub candidates : List Candidate
@@ -38,7 +38,7 @@ pub record IsAnsweredByTurn (blocks : List (List ℕ)) (heads : Heads) (view : V
   pub head : given.head ≡ option_map (next_head old.signer) (newest_stamp (written_by old turned.set))
 
 -- memory was wanting for the call, and the participant is as it was
-pub record LacksMemory (message : List ℕ) (old new : Participant) (given : Answered) : Type 0 where
+pub record AnswersForWant (message : List ℕ) (old new : Participant) (given : Answered) : Type 0 where
   pub call : CallMessage
   pub is_call : IsCall message call
   pub reply_is : given.reply ≡ Some (reply call.xid SystemError)
@@ -49,6 +49,6 @@ pub record LacksMemory (message : List ℕ) (old new : Participant) (given : Ans
 
 -- one of the three
 pub data IsAnswered (blocks : List (List ℕ)) (heads : Heads) (view : View) (now : Moment) (message : List ℕ) (old new : Participant) (given : Answered) : Type 0 where
-  alone : IsAnsweredAlone message old new given → IsAnswered blocks heads view now message old new given
-  by_turn : IsAnsweredByTurn blocks heads view now message old new given → IsAnswered blocks heads view now message old new given
-  lacks_memory : LacksMemory message old new given → IsAnswered blocks heads view now message old new given
+  alone : AnswersAlone message old new given → IsAnswered blocks heads view now message old new given
+  by_turn : AnswersByTurn blocks heads view now message old new given → IsAnswered blocks heads view now message old new given
+  lacks_memory : AnswersForWant message old new given → IsAnswered blocks heads view now message old new given

@@ -1,8 +1,9 @@
 //! Replies that are a head alone.
 
-ghost use Rattle.std.specs.Prelude.{◌≡◌, ◌≤◌, [], IfOk, None};
+ghost use Rattle.std.specs.Prelude.{◌≡◌, ◌≤◌, [], IfOk, None, Some};
 ghost use Rattle.play_model.specs.Calls.{nothing_given};
 ghost use Rattle.rpc_wire.specs.ReplyHead.{head_bytes};
+ghost use Rattle.wire_model.specs.Rpc.{SystemError, reply as reply_bytes};
 
 use crate::answering::Answered;
 use ivy_base::{Bytes, Memory};
@@ -36,7 +37,7 @@ pub fn without_turn(alloc: Global, reply: Option<Bytes>) -> Answered
     ensures reply { result.reply ≡ reply }
     ensures left { result.left ≡ nothing_given }
     ensures blocks { result.blocks.items ≡ [] }
-    ensures newest { result.newest ≡ None }
+    ensures head { result.head ≡ None }
 {
     Answered {
         reply,
@@ -45,6 +46,19 @@ pub fn without_turn(alloc: Global, reply: Option<Bytes>) -> Answered
             verifier: None,
         },
         blocks: Vec::new(alloc),
-        newest: None,
+        head: None,
     }
+}
+
+/// SYSTEM_ERR to the call `xid`, where memory was wanting. It takes no memory.
+pub fn refused(alloc: Global, out: XdrWrite, xid: u32) -> Answered
+    requires empty { out.written ≡ [] }
+    requires room { LONGEST_HEAD ≤ out.spare }
+    ensures reply { result.reply ≡ Some (reply_bytes xid SystemError) }
+    ensures left { result.left ≡ nothing_given }
+    ensures blocks { result.blocks.items ≡ [] }
+    ensures head { result.head ≡ None }
+{
+    let reply = head_alone(out, xid, &ReplyHead::SystemErr);
+    without_turn(alloc, Some(reply))
 }

@@ -1,6 +1,6 @@
 //! A turn, and its reply.
 
-ghost use Rattle.std.specs.Prelude.{◌≡◌, ◌≤◌, ℕ, [], List, IfOk, IfSome, IsSomeAnd, OnOk, Some};
+ghost use Rattle.std.specs.Prelude.{◌≡◌, ◌≤◌, ℕ, [], List, IfOk, IfSome, IsSomeAnd, Some};
 ghost use Rattle.log_model.specs.Spelling.{IsMoment};
 ghost use Rattle.nfs_model.specs.Arguments.{ArgumentsFit};
 ghost use Rattle.nfs_model.specs.Results.{result as bytes_of};
@@ -13,7 +13,7 @@ ghost use Rattle.call_answers.specs.Answered.{IsAnswered};
 ghost use Rattle.call_answers.specs.Asking.{IsAskedWell};
 
 use crate::answering::Answered;
-use crate::heads::{head_alone, without_turn};
+use crate::heads::{refused, room_for_head};
 use block_map::{Blocks, Heads};
 use ivy_base::{Bytes, Memory, Moment};
 use log_agent::{Agent, Turned};
@@ -25,8 +25,8 @@ use std::alloc::Global;
 use turn_serving::Asked;
 use xdr_codec::XdrWrite;
 
-/// Answers the call `xid`, which asks for that, by a turn; by SYSTEM_ERR where the turn failed for want of memory. The error
-/// is want of memory behind the turn.
+/// Answers the call `xid`, which asks for that, by a turn; where memory is wanting for the turn or for its reply, by SYSTEM_ERR,
+/// and then nothing has changed.
 pub fn serve_call(
     alloc: Global,
     agent: &mut Agent,
@@ -36,7 +36,7 @@ pub fn serve_call(
     asked: &Asked,
     now: Moment,
     out: XdrWrite,
-) -> Result<Answered, Memory>
+) -> Answered
     requires view { IsSomeAnd agent.old.view (λ view. Unit {0}) }
     requires stand { OthersStand blocks.now agent.old.own agent.old.known }
     requires caller { IsIdentity (identity_of asked.now.caller) }
@@ -44,43 +44,43 @@ pub fn serve_call(
     requires moment { IsMoment now }
     requires empty { out.written ≡ [] }
     requires room { LONGEST_HEAD ≤ out.spare }
-    ensures ok { IfOk result (λ given. IfSome agent.old.view (λ view. (message : List ℕ) → IsAskedWell message xid asked.now → IsAnswered blocks.now heads.now view now message agent.old agent.new given)) }
-    ensures stand { OnOk result (OthersStand blocks.now agent.new.own agent.new.known) }
+    ensures answered { IfSome agent.old.view (λ view. (message : List ℕ) → IsAskedWell message xid asked.now → IsAnswered blocks.now heads.now view now message agent.old agent.new result) }
+    ensures stand { OthersStand blocks.now agent.new.own agent.new.known }
 {
     match agent.turn(alloc, blocks, heads, asked, now) {
-        Ok(turned) => answered_by(alloc, out, xid, turned),
-        Err(_) => {
-            let reply = head_alone(out, xid, &ReplyHead::SystemErr);
-            Ok(without_turn(alloc, Some(reply)))
-        }
+        Ok((turned, past)) => match answered_by(alloc, xid, turned) {
+            Ok(answered) => answered,
+            Err(Memory) => {
+                agent.go_back(past);
+                refused(alloc, out, xid)
+            }
+        },
+        Err(Memory) => refused(alloc, out, xid),
     }
 }
 
-/// What the turn answers to the call `xid`.
-fn answered_by(alloc: Global, out: XdrWrite, xid: u32, turned: Turned) -> Result<Answered, Memory>
-    requires empty { out.written ≡ [] }
-    requires room { LONGEST_HEAD ≤ out.spare }
+/// What the turn answers to the call `xid`. The error is want of memory.
+fn answered_by(alloc: Global, xid: u32, turned: Turned) -> Result<Answered, Memory>
     ensures reply { IfOk result (λ given. given.reply ≡ Some (reply_bytes xid (Success (bytes_of turned.reply)))) }
     ensures left { IfOk result (λ given. given.left ≡ given_of turned.reply) }
     ensures blocks { IfOk result (λ given. given.blocks.items ≡ turned.blocks.items) }
-    ensures newest { IfOk result (λ given. given.newest ≡ turned.newest) }
+    ensures head { IfOk result (λ given. given.head ≡ turned.head) }
 {
     let left = left_by(alloc, &turned.reply)?;
-    let reply = reply_of(out, xid, &turned.reply)?;
+    let reply = reply_of(alloc, xid, &turned.reply)?;
     Ok(Answered {
         reply: Some(reply),
         left,
         blocks: turned.blocks,
-        newest: turned.newest,
+        head: turned.head,
     })
 }
 
 /// The message of success with that result. The error is want of memory.
-fn reply_of(mut out: XdrWrite, xid: u32, reply: &Reply) -> Result<Bytes, Memory>
-    requires empty { out.written ≡ [] }
-    requires room { LONGEST_HEAD ≤ out.spare }
+fn reply_of(alloc: Global, xid: u32, reply: &Reply) -> Result<Bytes, Memory>
     ensures { IfOk result (λ bytes. bytes ≡ reply_bytes xid (Success (bytes_of reply.now))) }
 {
+    let mut out = room_for_head(alloc)?;
     write_head(&mut out, xid, &ReplyHead::Success);
     put_reply(&mut out, reply)?;
     Ok(out.into_bytes())

@@ -15,11 +15,13 @@ use Rattle.turn_model.specs.Turn as turn
 use Rattle.turn_model.specs.Turn.{own_seq, turn_on}
 use Rattle.turn_records.specs.declared.written.Before.{Before}
 use Rattle.turn_serving.specs.Serving.{agent_in}
-use Rattle.log_agent.specs.declared.agent.Turned.{Turned}
-use Rattle.log_agent.specs.Steps.{HasAnswered, with_newest}
+use Rattle.hss_keys.specs.Signer.{Signer, left_of}
+use Rattle.log_records.specs.Heads.{IsNumber}
+use Rattle.log_agent.specs.declared.answering.Answer.{Answer}
+use Rattle.log_agent.specs.Steps.{HasAnswered, sealed_over, with_newest}
 use Rattle.log_agent.specs.Turns.{stamp_of}
 use Rattle.log_agent.proofs.Fronts.{appended_front}
-use Rattle.log_agent.proofs.Written.{IsOwnBeyond, linked_written, written_beyond}
+use Rattle.log_agent.proofs.Written.{IsOwnBeyond, linked_written, newest_had_room, written_beyond}
 
 -- the newest of own records beyond a number is beyond it
 newest_beyond : (own : PubKey) (n : ℕ) (rs : List Record) → AllByRecursion (IsOwnBeyond own n) rs → IfSome (newest_stamp rs) (λ s. n < s.seq)
@@ -27,32 +29,42 @@ newest_beyond own n [] h = tt
 newest_beyond own n (r ∷ []) h = h.0.1
 newest_beyond own n (r ∷ q ∷ rs) h = newest_beyond own n (q ∷ rs) h.1
 
-module _ (view : View) (own : PubKey) (asked : turn.Asked) (now : Moment) (t written : List Record) (reply : Reply)
-    (served : turn_on (agent_in view own) t asked now ≡ record { reply = reply; set = t ++ written }) where
-  same_set : (turn_on (agent_in view own) t asked now).set ≡ t ++ written
+module _ (view : View) (own : PubKey) (signer : Signer) (asked : turn.Asked) (now : Moment) (t written : List Record) (reply : Reply)
+    (served : turn_on (agent_in view own (left_of signer)) t asked now ≡ record { reply = reply; set = t ++ written }) where
+  same_set : (turn_on (agent_in view own (left_of signer)) t asked now).set ≡ t ++ written
   same_set = ap (λ (x : turn.Turned). x.set) served
 
   whole_front : front (t ++ written) ≡ with_newest own (newest_stamp written) (front t)
   whole_front =
-      let w = linked_written (agent_in view own) t asked now written same_set in
+      let w = linked_written (agent_in view own (left_of signer)) t asked now written same_set in
       subst (λ (l : List Record). front (t ++ l) ≡ with_newest own (newest_stamp l) (front t)) w.1 (appended_front own now t w.0)
 
   -- the newest one that was written has a number
   pub newest_begins : (newest : Option Before) → option_map stamp_of newest ≡ newest_stamp written → IfSome newest (λ b. 1 ≤ b.seq)
   newest_begins newest e = by newest (subst (λ (o : Option Stamp). IfSome o (λ s. own_seq own t < s.seq)) (sym e)
-      (newest_beyond own (own_seq own t) written (written_beyond (agent_in view own) t asked now written same_set)))
+      (newest_beyond own (own_seq own t) written (written_beyond (agent_in view own (left_of signer)) t asked now written same_set)))
     where
       by : (o : Option Before) → IfSome (option_map stamp_of o) (λ s. own_seq own t < s.seq) → IfSome o (λ b. 1 ≤ b.seq)
       by None h = tt
       by (Some b) h = let past : own_seq own t < b.seq = h in omega (arith, past)
 
-  pub has_answered : (after : List Record) (given : Turned) (sf f : Vector) → given.reply ≡ reply → after ≡ t ++ written → given.blocks.items ≡ blocks_of written
-      → option_map stamp_of given.newest ≡ newest_stamp written → sf ≡ front t → f ≡ with_newest own (option_map stamp_of given.newest) sf → HasAnswered view own asked now t after given f
-  has_answered after given sf f same behind blocks newest set_front with_it = record {
+  -- and a signature was left for it
+  pub newest_had_left : (newest : Option Before) → option_map stamp_of newest ≡ newest_stamp written → IfSome newest (λ b. (0 < left_of signer) × IsNumber b.seq)
+  newest_had_left newest e = by newest (subst (λ (o : Option Stamp). IfSome o (λ s. (0 < left_of signer) × IsNumber s.seq)) (sym e)
+      (newest_had_room (agent_in view own (left_of signer)) t asked now written same_set))
+    where
+      by : (o : Option Before) → IfSome (option_map stamp_of o) (λ s. (0 < left_of signer) × IsNumber s.seq) → IfSome o (λ b. (0 < left_of signer) × IsNumber b.seq)
+      by None h = tt
+      by (Some b) h = h
+
+  pub has_answered : (after : List Record) (given : Answer) (newest : Option Before) (sf : Vector) → given.reply ≡ reply → after ≡ t ++ written → given.blocks.items ≡ blocks_of written
+      → option_map stamp_of newest ≡ newest_stamp written → given.sealed ≡ option_map (sealed_over signer) (option_map stamp_of newest) → sf ≡ front t → given.front ≡ with_newest own (option_map stamp_of newest) sf
+      → HasAnswered view own signer asked now t after given
+  has_answered after given newest sf same behind blocks newest_is sealed set_front with_it = record {
     written = written;
     turn = served ∙ ap (λ (r : Reply). record { reply = r; set = t ++ written }) (sym same) ∙ ap (λ (l : List Record). record { reply = given.reply; set = l }) (sym behind);
     behind = behind;
     blocks = blocks;
-    newest = newest;
-    fronted = with_it ∙ (λ i. with_newest own (newest i) (set_front i)) ∙ sym whole_front ∙ ap front (sym behind);
+    sealed = sealed ∙ ap (λ (o : Option Stamp). option_map (sealed_over signer) o) newest_is;
+    fronted = with_it ∙ (λ i. with_newest own (newest_is i) (set_front i)) ∙ sym whole_front ∙ ap front (sym behind);
   }

@@ -7,3 +7,4 @@ mod Taken
 mod Turning
 mod Written
 mod Fronts
+mod Sealing

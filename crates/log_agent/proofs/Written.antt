@@ -1,9 +1,9 @@
 -- What a turn writes behind the set that it took.
-use Rattle.std.proofs.Common.{◌≡◌, ℕ, ◌+◌, ◌<◌, ◌≤◌, Bool, true, false, cond, ◌&&◌, ◌||◌, List, [], ◌∷◌, ◌++◌, length, refl, sym, ap, ◌∙◌, subst, filter, arith, Contains}
-use Rattle.std.specs.Prelude.{nat_lt, ◌==◌}
+use Rattle.std.proofs.Common.{◌≡◌, ⊎_elim, inl, inr, ℕ, zero, suc, ◌+◌, ◌<◌, ◌≤◌, Bool, true, false, cond, ◌&&◌, ◌||◌, List, [], ◌∷◌, ◌++◌, length, refl, sym, ap, ◌∙◌, subst, filter, arith, Contains}
+use Rattle.std.specs.Prelude.{nat_lt, ◌==◌, IfSome}
 use Rattle.std.specs.List.{AllByRecursion}
 use Rattle.std.specs.Ordering.{eq_by_cmp}
-use Rattle.std.proofs.lemmas.Bool.{lt-ltb, le-ltb}
+use Rattle.std.proofs.lemmas.Bool.{lt-ltb, le-ltb, ltb-false}
 use Rattle.std.proofs.lemmas.List.{append-nil, append_cancel_left}
 use Rattle.std.proofs.lemmas.List.Elements.{filter-append}
 use Rattle.ivy_base.specs.declared.key.Key.{Key}
@@ -20,6 +20,8 @@ use Rattle.log_model.proofs.Opening.{same_owner}
 use Rattle.log_model.proofs.Owners.{owner_itself}
 use Rattle.log_model.specs.Spelling.{new_record, most_records}
 use Rattle.nfs_model.specs.Changing.{is_changing, Plan, Refuse, Nothing, Operations, plan}
+use Rattle.log_records.specs.Heads.{IsNumber}
+use Rattle.play_model.specs.Blocks.{newest_stamp}
 use Rattle.play_model.specs.Calls.{own_beyond}
 use Rattle.turn_model.specs.Turn.{Agent, Asked, Turned, own_seq, own_name, linked, appended, by_plan, turn_on}
 
@@ -34,22 +36,40 @@ linked_beyond own v now n seq prev [] lt = tt
 linked_beyond own v now n seq prev (op ∷ ops) lt =
     ((refl, lt), linked_beyond own v now n (seq + 1) ((new_record own seq prev v now op).name) ops (omega (arith, lt)))
 
+some_left : (n : ℕ) → n == 0 ≡ false → 0 < n
+some_left zero h = absurd (cc h)
+some_left (suc n) h = omega arith
+
+-- the newest of such records has a number, where there is room for them
+newest_fits : (own : PubKey) (v : Vector) (now : Moment) (n leaves : ℕ) (prev : Key) (ops : List Op) → 0 < leaves → 1 ≤ n → n + length ops ≤ most_records + 1
+    → IfSome (newest_stamp (linked own v now n prev ops)) (λ s. (0 < leaves) × IsNumber s.seq)
+newest_fits own v now n leaves prev [] left some few = tt
+newest_fits own v now n leaves prev (op ∷ []) left some few = (left, some, omega (arith, few))
+newest_fits own v now n leaves prev (op ∷ q ∷ ops) left some few =
+    newest_fits own v now (n + 1) leaves ((new_record own n prev v now op).name) (q ∷ ops) left (omega arith) (omega (arith, few))
+
 module _ (a : Agent) (s : List Record) (asked : Asked) (now : Moment) where
+  -- nothing is appended, or there is room for it
+  abbrev HasRoom : List Op → Type 0
+  HasRoom ops = (ops ≡ []) ⊎ ((0 < a.leaves) × (own_seq a.own s + length ops ≤ most_records))
+
   abbrev Appends : Turned → Type 0
-  Appends x = (ops : List Op) × (x.set ≡ appended a.own now s ops)
+  Appends x = (ops : List Op) × (x.set ≡ appended a.own now s ops) × HasRoom ops
 
-  same_set : (ops : List Op) × (s ≡ appended a.own now s ops)
-  same_set = ([], sym (append-nil s))
+  same_set : (ops : List Op) × (s ≡ appended a.own now s ops) × HasRoom ops
+  same_set = ([], sym (append-nil s), inl refl)
 
-  chosen : (b c : Bool) (x y z : Turned) → Appends x → Appends y → Appends z → Appends (cond b x (cond c y z))
-  chosen true c x y z p q o = p
-  chosen false true x y z p q o = q
-  chosen false false x y z p q o = o
+  chosen : (b d c : Bool) (n : ℕ) → a.leaves == 0 ≡ b → nat_lt most_records n ≡ d → (x y z : Turned) → Appends x → Appends y → (0 < a.leaves → n ≤ most_records → Appends z) → Appends (cond (b || d) x (cond c y z))
+  chosen true d c n e f x y z p q o = p
+  chosen false true c n e f x y z p q o = p
+  chosen false false true n e f x y z p q o = q
+  chosen false false false n e f x y z p q o = o (some_left a.leaves e) (ltb-false most_records n f)
 
   in_plan : (p : Plan) → Appends (by_plan a s asked now p)
   in_plan (Refuse reply) = same_set
   in_plan (Nothing reply) = same_set
-  in_plan (Operations ops) = chosen (a.leaves == 0 || nat_lt most_records (own_seq a.own s + length ops)) a.has_failed _ _ _ same_set same_set (ops, refl)
+  in_plan (Operations ops) = 
+      chosen (a.leaves == 0) (nat_lt most_records (own_seq a.own s + length ops)) a.has_failed (own_seq a.own s + length ops) refl refl _ _ _ same_set same_set (λ left few. (ops, refl, inr (left, few)))
 
   either : (b : Bool) (x y : Turned) → Appends x → Appends y → Appends (cond b x y)
   either true x y p q = p
@@ -64,6 +84,16 @@ module _ (a : Agent) (s : List Record) (asked : Asked) (now : Moment) where
   -- what stands behind the set is linked to the agent's log
   pub linked_written : (written : List Record) → (turn_on a s asked now).set ≡ s ++ written → (ops : List Op) × (more ops ≡ written)
   linked_written written e = (in_turn.0, append_cancel_left s (more in_turn.0) written (sym in_turn.1 ∙ e))
+
+  -- so its newest record is one that a signature and a number were left for
+  pub newest_had_room : (written : List Record) → (turn_on a s asked now).set ≡ s ++ written → IfSome (newest_stamp written) (λ s. (0 < a.leaves) × IsNumber s.seq)
+  newest_had_room written e =
+      let w = linked_written written e in
+      subst (λ (l : List Record). IfSome (newest_stamp l) (λ s. (0 < a.leaves) × IsNumber s.seq)) w.1
+      (⊎_elim
+      (λ none. subst (λ (ops : List Op). IfSome (newest_stamp (more ops)) (λ s. (0 < a.leaves) × IsNumber s.seq)) (sym none) tt)
+      (λ room. newest_fits a.own (without_log (head_key_of a.own) (front s)) now (own_seq a.own s + 1) a.leaves (own_name a.own s) in_turn.0 room.0 (omega arith) (omega (arith, room.1)))
+      in_turn.2)
 
   -- so it is the agent's own, and goes on from its log
   pub written_beyond : (written : List Record) → (turn_on a s asked now).set ≡ s ++ written → AllByRecursion (IsOwnBeyond a.own (own_seq a.own s)) written

@@ -14,34 +14,49 @@ ghost use Rattle.wire_model.specs.Rpc.{IsIdentity};
 ghost use Rattle.log_agent.specs.Steps.{HasAnswered, with_newest};
 ghost use Rattle.log_agent.specs.Turns.{stamp_of};
 
-use crate::agent::Turned;
+use crate::sealing::{Sealed, sealed_by};
 use block_map::Block;
+use hss_keys::Hss;
 use ivy_base::{Memory, Moment, PubKey, head_key};
 use log_records::Record;
+use nfs_model::Reply;
 use std::alloc::Global;
 use turn_records::{Before, Written};
 use turn_serving::{Asked, Served, Taken, serve};
 use version_vectors::{Entry, Vector};
 use view_blocks::View;
 
-/// Serves the call on the set at that moment, appends the records that it writes, and gives their front with that of the set.
-/// The error is want of memory, and then the set is as it was.
+/// What a call was answered, and what was written for it.
+#[derive(Drop)]
+pub struct Answer {
+    pub reply: Reply,
+    /// The blocks of the records that were written, in their order.
+    pub blocks: Vec<Block>,
+    /// The head over the newest of them.
+    pub sealed: Option<Sealed>,
+    /// The front of the set with them.
+    pub front: Vector,
+}
+
+/// Serves the call on the set at that moment, appends the records that it writes, and has a copy of the key sign the head over
+/// them, at last, when all other memory was taken. The error is want of memory, and then the set is as it was.
 pub fn answer(
     alloc: Global,
     records: &mut Vec<Record>,
     set_front: &Vector,
     view: &View,
     own: &PubKey,
+    signer: &Hss,
     asked: &Asked,
     now: Moment,
-) -> Result<(Turned, Vector), Memory>
+) -> Result<Answer, Memory>
     requires closed { IsClosed view.now (records_of records.old.items) }
     requires begun { log_of own.now (records_of records.old.items) ≢ [] }
     requires front { set_front.now ≡ front (records_of records.old.items) }
     requires caller { IsIdentity (identity_of asked.now.caller) }
     requires args { ArgumentsFit asked.now.args }
     requires moment { IsMoment now }
-    ensures ok { IfOk result (λ a. HasAnswered view.now own.now (asked_of asked.now) now (records_of records.old.items) (records_of records.new.items) a.0 a.1) }
+    ensures ok { IfOk result (λ a. HasAnswered view.now own.now signer.now (asked_of asked.now) now (records_of records.old.items) (records_of records.new.items) a) }
     ensures err { OnErr result (records.new.items ≡ records.old.items) }
 {
     let taken = Taken {
@@ -49,6 +64,7 @@ pub fn answer(
         front: set_front,
         view,
         own,
+        leaves: signer.left(),
     };
     let Served { reply, written } = serve(alloc, &taken, asked, now)?;
     let newest = newest_of(written.records.as_slice(), written.blocks.as_slice());
@@ -57,13 +73,15 @@ pub fn answer(
         records: mut more,
         blocks,
     } = written;
+    records.try_reserve(more.len())?;
+    let sealed = sealed_by(alloc, signer, newest)?;
     records.append(&mut more)?;
-    let turned = Turned {
+    Ok(Answer {
         reply,
         blocks,
-        newest,
-    };
-    Ok((turned, front))
+        sealed,
+        front,
+    })
 }
 
 /// The last of the records, whose blocks these are, by its number and its name.

@@ -1,7 +1,8 @@
 -- What a turn makes of a plan.
-use Rattle.std.proofs.Common.{◌≡◌, ◌≢◌, ℕ, ◌+◌, ◌<◌, ◌≤◌, Bool, cond, zero, suc, List, [], ◌∷◌, ◌++◌, length, get_or, take, map, refl, sym, ap, ◌∙◌, subst, arith}
+use Rattle.std.proofs.Common.{◌≡◌, ◌≢◌, ℕ, ◌+◌, ◌<◌, ◌≤◌, Bool, true, false, cond, zero, suc, List, [], ◌∷◌, ◌++◌, length, get_or, take, map, refl, sym, ap, ◌∙◌, subst, arith}
+use Rattle.std.specs.Prelude.{nat_lt, ◌==◌, ◌||◌}
 use Rattle.std.specs.List.{AllByRecursion}
-use Rattle.std.proofs.lemmas.Bool.{lt-ltb, le-ltb}
+use Rattle.std.proofs.lemmas.Bool.{ltb-false}
 use Rattle.std.proofs.lemmas.List.{take_more, map-append, append-nil}
 use Rattle.ivy_base.specs.declared.key.Key.{Key}
 use Rattle.ivy_base.specs.declared.key.PubKey.{PubKey}
@@ -80,56 +81,74 @@ module _ (view : View) (s : List Record) (own : PubKey) (asked : Asked) (now : M
       let last = ends_with s own begun in
       let member = own_member view s own last.0 closed last.1 in
       let seq : own_seq own s ≡ last.0.seq = ap reach (own_stamp view s own last.0 well closed member last.1) in
-      let whole = appended_closed (agent_in view own) s asked now last.0 well member closed last.1 caller fits moment ops (subst (λ (n : ℕ). AllMayBeWritten own (n + 1) ops) seq may_write) in
+      let whole = appended_closed (agent_in view own 0) s asked now last.0 well member closed last.1 caller fits moment ops (subst (λ (n : ℕ). AllMayBeWritten own (n + 1) ops) seq may_write) in
       let more : List Record = linked own (without_log (head_key_of own) (front s)) now (own_seq own s + 1) (own_name own s) ops in
       replay_more s more closed.ascending whole.ascending
       ∙ ap (λ (l : List (Moment × Op)). apply_all (replay s) l) (linked_effects own (without_log (head_key_of own) (front s)) now (own_seq own s + 1) (own_name own s) ops)
 
 -- ---- the turn
 
--- no number is left
-pub turn_refused : (view : View) (own : PubKey) (s more : List Record) (asked : Asked) (now : Moment) (ops : List Op) (reply : Reply)
-    → most_records < own_seq own s + length ops → reply ≡ Refused RoFs (bare_tail asked.args) → more ≡ []
-    → by_plan (agent_in view own) s asked now (Operations ops) ≡ record { reply = reply; set = s ++ more }
-turn_refused view own s more asked now ops reply many is none =
+-- no signature or no number is left
+abbrev pub is_full : ℕ → PubKey → List Record → List Op → Bool
+is_full leaves own s ops = leaves == 0 || nat_lt most_records (own_seq own s + length ops)
+
+room_left : (b : Bool) (n : ℕ) → b || nat_lt most_records n ≡ false → n ≤ most_records
+room_left true n h = absurd (cc h)
+room_left false n h = ltb-false most_records n h
+
+-- where there is room, numbers are left
+pub numbers_left : (leaves : ℕ) (own : PubKey) (s : List Record) (ops : List Op) → is_full leaves own s ops ≡ false → own_seq own s + length ops ≤ most_records
+numbers_left leaves own s ops h = room_left (leaves == 0) (own_seq own s + length ops) h
+
+-- as the code tests it
+pub fullness : (leaves : ℕ) (own : PubKey) (s : List Record) (ops said : List Op) (seq : ℕ) (tested b : Bool) → tested ≡ leaves == 0 || nat_lt most_records (seq + length said)
+    → seq ≡ own_seq own s → said ≡ ops → tested ≡ b → is_full leaves own s ops ≡ b
+fullness leaves own s ops said seq tested b tests is_seq is_said is =
+    sym (tests ∙ (λ i. leaves == 0 || nat_lt most_records (is_seq i + length (is_said i)))) ∙ is
+
+pub turn_refused : (view : View) (own : PubKey) (leaves : ℕ) (s more : List Record) (asked : Asked) (now : Moment) (ops : List Op) (reply : Reply)
+    → is_full leaves own s ops ≡ true → reply ≡ Refused RoFs (bare_tail asked.args) → more ≡ []
+    → by_plan (agent_in view own leaves) s asked now (Operations ops) ≡ record { reply = reply; set = s ++ more }
+turn_refused view own leaves s more asked now ops reply full is none =
     let written : Turned = record {
       reply = finish (replay s) (replay (appended own now s ops)) view asked.caller asked.args ops;
       set = appended own now s ops;
     } in
     let left : Turned = record { reply = Refused RoFs (bare_tail asked.args); set = s } in
-    ap (λ (b : Bool). cond b left written) (lt-ltb most_records (own_seq own s + length ops) many)
+    ap (λ (b : Bool). cond b left written) full
     ∙ ap (λ (r : Reply). record { reply = r; set = s }) (sym is)
     ∙ ap (λ (l : List Record). record { reply = reply; set = l }) (sym (append-nil s) ∙ ap (λ (l : List Record). s ++ l) (sym none))
 
 -- the records are written
-pub turn_written : (view : View) (own : PubKey) (s more : List Record) (asked : Asked) (now : Moment) (ops : List Op) (reply : Reply) (after : Tree)
-    → own_seq own s + length ops ≤ most_records
+pub turn_written : (view : View) (own : PubKey) (leaves : ℕ) (s more : List Record) (asked : Asked) (now : Moment) (ops : List Op) (reply : Reply) (after : Tree)
+    → is_full leaves own s ops ≡ false
     → reply ≡ finish (replay s) after view asked.caller asked.args ops
     → after ≡ replay (appended own now s ops)
     → more ≡ linked own (without_log (head_key_of own) (front s)) now (own_seq own s + 1) (own_name own s) ops
-    → by_plan (agent_in view own) s asked now (Operations ops) ≡ record { reply = reply; set = s ++ more }
-turn_written view own s more asked now ops reply after few is later new =
+    → by_plan (agent_in view own leaves) s asked now (Operations ops) ≡ record { reply = reply; set = s ++ more }
+turn_written view own leaves s more asked now ops reply after room is later new =
     let written : Turned = record {
       reply = finish (replay s) (replay (appended own now s ops)) view asked.caller asked.args ops;
       set = appended own now s ops;
     } in
     let left : Turned = record { reply = Refused RoFs (bare_tail asked.args); set = s } in
-    ap (λ (b : Bool). cond b left written) (le-ltb most_records (own_seq own s + length ops) few)
+    ap (λ (b : Bool). cond b left written) room
     ∙ ap (λ (r : Reply). record { reply = r; set = appended own now s ops }) (sym (is ∙ ap (λ (t : Tree). finish (replay s) t view asked.caller asked.args ops) later))
     ∙ ap (λ (l : List Record). record { reply = reply; set = s ++ l }) (sym new)
 
 -- as the code writes them
-pub turn_served : (view : View) (own : PubKey) (s : List Record) (asked : Asked) (now : Moment) (ops : List Op)
+pub turn_served : (view : View) (own : PubKey) (leaves : ℕ) (s : List Record) (asked : Asked) (now : Moment) (ops : List Op)
     → IsClosed view s → log_of own s ≢ [] → IsIdentity asked.caller → ArgumentsFit asked.args → IsMoment now
-    → plan (replay s) view asked.caller asked.args now own (own_seq own s + 1) ≡ Operations ops → own_seq own s + length ops ≤ most_records → IsView view
+    → plan (replay s) view asked.caller asked.args now own (own_seq own s + 1) ≡ Operations ops → is_full leaves own s ops ≡ false → IsView view
     → (tree after : Tree) (reply : Reply) (more : List Record) (done said : List Op) (seq : ℕ) (name head : Key) (v cited : Vector)
     → tree ≡ replay s → done ≡ ops → after ≡ apply_all tree (at_moment now done)
     → said ≡ ops → reply ≡ finish tree after view asked.caller asked.args said
     → v ≡ front s → head ≡ head_key_of own → cited ≡ without_log head v
     → seq ≡ own_seq own s → name ≡ own_name own s → more ≡ linked own cited now (seq + 1) name ops
-    → by_plan (agent_in view own) s asked now (Operations ops) ≡ record { reply = reply; set = s ++ more }
-turn_served view own s asked now ops closed begun caller fits moment planned few well tree after reply more done said seq name head v cited is_tree is_done applied is_said replied is_front is_head is_cited is_seq is_name new =
-    turn_written view own s more asked now ops reply after few
+    → by_plan (agent_in view own leaves) s asked now (Operations ops) ≡ record { reply = reply; set = s ++ more }
+turn_served view own leaves s asked now ops closed begun caller fits moment planned room well tree after reply more done said seq name head v cited is_tree is_done applied is_said replied is_front is_head is_cited is_seq is_name new =
+    let few = numbers_left leaves own s ops room in
+    turn_written view own leaves s more asked now ops reply after room
     (replied ∙ ap (λ (t : Tree). finish t after view asked.caller asked.args said) is_tree ∙ ap (λ (l : List Op). finish (replay s) after view asked.caller asked.args l) is_said)
     (applied ∙ ap (λ (t : Tree). apply_all t (at_moment now done)) is_tree ∙ ap (λ (l : List Op). apply_all (replay s) (at_moment now l)) is_done
     ∙ sym (replayed_after view s own asked now ops closed begun caller fits moment planned few well))

@@ -1,6 +1,6 @@
 //! Plans that are written.
 
-ghost use Rattle.std.specs.Prelude.{◌≡◌, ◌≢◌, ◌≤◌, ◌+◌, ◌++◌, [], map, IfOk};
+ghost use Rattle.std.specs.Prelude.{◌≡◌, ◌≢◌, ◌≤◌, ◌+◌, ◌++◌, ◌==◌, ◌||◌, [], length, map, nat_lt, IfOk};
 ghost use Rattle.std.specs.List.{AllByRecursion};
 ghost use Rattle.fs_tree.specs.Applicable.{IsApplicable};
 ghost use Rattle.log_model.specs.Closed.{IsClosed, log_of};
@@ -29,8 +29,8 @@ use turn_records::{Before, write_records};
 /// The most records of a log.
 const MOST_RECORDS: usize = 1_048_576;
 
-/// Writes what is planned behind the set, if numbers are left for it, and answers on the trees before and after; `before` is
-/// the newest record of the own log. The error is want of memory.
+/// Writes what is planned behind the set, if a signature and numbers are left for it, and answers on the trees before and
+/// after; `before` is the newest record of the own log. The error is want of memory.
 pub fn append(
     alloc: Global,
     tree: &Tree,
@@ -51,11 +51,11 @@ pub fn append(
     requires name { before.name ≡ own_name taken.now.own.now (records_of taken.now.records.now) }
     requires few { before.seq ≤ most_records }
     requires planned { plan (replay (records_of taken.now.records.now)) taken.now.view.now (identity_of asked.now.caller) asked.now.args now taken.now.own.now (own_seq taken.now.own.now (records_of taken.now.records.now) + 1) ≡ Operations ops.items }
-    ensures turn { IfOk result (λ s. by_plan (agent_in taken.now.view.now taken.now.own.now) (records_of taken.now.records.now) (asked_of asked.now) now (Operations ops.items)
+    ensures turn { IfOk result (λ s. by_plan (agent_in taken.now.view.now taken.now.own.now taken.now.leaves) (records_of taken.now.records.now) (asked_of asked.now) now (Operations ops.items)
         ≡ record { reply = s.reply; set = records_of taken.now.records.now ++ records_of s.written.records.items }) }
     ensures blocks { IfOk result (λ s. s.written.blocks.items ≡ blocks_of (records_of s.written.records.items)) }
 {
-    if before.seq as usize + ops.len() > MOST_RECORDS {
+    if is_full(taken.leaves, before.seq, &ops) {
         let refused = Reply::Refused {
             status: NfsStatus::RoFs,
             tail: bare_tail(&asked.args),
@@ -76,6 +76,14 @@ pub fn append(
     let cited = taken.front.without(alloc, &head_key(taken.own))?;
     let written = write_records(alloc, taken.own, &cited, now, before, ops)?;
     Ok(Served { reply, written })
+}
+
+/// Whether the key signs nothing more, or no numbers are left for the operations behind that one.
+fn is_full(leaves: u64, seq: u32, ops: &[Op]) -> bool
+    requires { seq ≤ most_records }
+    ensures { result ≡ (leaves == 0 || nat_lt most_records (seq + length ops.now)) }
+{
+    leaves == 0 || seq as usize + ops.len() > MOST_RECORDS
 }
 
 /// The tree with the operations applied at that moment. The error is want of memory.

@@ -33,13 +33,15 @@ pub struct Asked {
     pub args: Args,
 }
 
-/// The set that a turn took: its records, ascending by rank, their front, and the view and the participant whose turn it is.
+/// The set that a turn took: its records, ascending by rank, their front, the view and the participant whose turn it is, and
+/// how many signatures that one's key has left.
 #[derive(Clone, Copy)]
 pub struct Taken<'a> {
     pub records: &'a [Record],
     pub front: &'a Vector,
     pub view: &'a View,
     pub own: &'a PubKey,
+    pub leaves: u64,
 }
 
 /// The reply, and the records that were written behind the set, none where nothing was.
@@ -50,8 +52,8 @@ pub struct Served {
 }
 
 /// Serves a call on the set at that moment: a reading call is answered on its replay; a changing one is planned on it, and
-/// refused, or without effect, or written as records behind the set, if numbers are left for them, and answered on the
-/// replays before and after. The error is want of memory.
+/// refused, or without effect, or written as records behind the set, if a signature and numbers are left for them, and
+/// answered on the replays before and after. The error is want of memory.
 pub fn serve(alloc: Global, taken: &Taken<'_>, asked: &Asked, now: Moment) -> Result<Served, Memory>
     requires closed { IsClosed taken.now.view.now (records_of taken.now.records.now) }
     requires begun { log_of taken.now.own.now (records_of taken.now.records.now) ≢ [] }
@@ -59,7 +61,7 @@ pub fn serve(alloc: Global, taken: &Taken<'_>, asked: &Asked, now: Moment) -> Re
     requires caller { IsIdentity (identity_of asked.now.caller) }
     requires args { ArgumentsFit asked.now.args }
     requires moment { IsMoment now }
-    ensures turn { IfOk result (λ s. turn_on (agent_in taken.now.view.now taken.now.own.now) (records_of taken.now.records.now) (asked_of asked.now) now
+    ensures turn { IfOk result (λ s. turn_on (agent_in taken.now.view.now taken.now.own.now taken.now.leaves) (records_of taken.now.records.now) (asked_of asked.now) now
         ≡ record { reply = s.reply; set = records_of taken.now.records.now ++ records_of s.written.records.items }) }
     ensures blocks { IfOk result (λ s. s.written.blocks.items ≡ blocks_of (records_of s.written.records.items)) }
 {

@@ -10,8 +10,8 @@
 //! Within: `walk` goes back along one log (`specs/Walked.antt`), `log` brings what is new of it, and `refreshing` goes over
 //! the members (`specs/Brought.antt`).
 //!
-//! Costs: each log's newest head is judged once. A log that brings nothing new costs that alone; of others each new record is
-//! looked up, read and tested once, and hashed once.
+//! Costs: each log's newest head is looked up once; what it says stands beside it, so it isn't verified here. A log that brings
+//! nothing new costs that alone; of others each new record is looked up, read and tested once, and hashed once.
 #![tactic(auto)]
 
 mod log;

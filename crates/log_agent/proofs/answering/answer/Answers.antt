@@ -12,14 +12,14 @@ pub front_with-requires : goal.front_with-requires
 front_with-requires c =
     let written = records_of c.in_ok-reply.field-0.written.records.items in
     newest_begins c.args.view.now c.args.own.now (asked_of c.args.asked.now) c.args.now (records_of c.args.records.now.items) written c.in_ok-reply.field-0.reply
-    (subst (λ (l : List Record). turn_on (agent_in c.args.view.now c.args.own.now) (records_of l) (asked_of c.args.asked.now) c.args.now ≡ record { reply = c.in_ok-reply.field-0.reply; set = records_of l ++ written }) c.as_slice.ensures.value c.in_ok-reply.ensures.turn)
+    (subst (λ (l : List Record). turn_on (agent_in c.args.view.now c.args.own.now c.left.result) (records_of l) (asked_of c.args.asked.now) c.args.now ≡ record { reply = c.in_ok-reply.field-0.reply; set = records_of l ++ written }) c.as_slice.ensures.value c.in_ok-reply.ensures.turn)
     c.newest_of-newest.result (c.newest_of-newest.ensures ∙ ap (λ l. newest_stamp (records_of l)) c.as_slice-2.ensures.value)
 
 pub returns-clause-ok : goal.returns-clause-ok
 returns-clause-ok c =
     let written = records_of c.in_ok-reply.field-0.written.records.items in
     has_answered c.args.view.now c.args.own.now (asked_of c.args.asked.now) c.args.now (records_of c.args.records.now.items) written c.in_ok-reply.field-0.reply
-    (subst (λ (l : List Record). turn_on (agent_in c.args.view.now c.args.own.now) (records_of l) (asked_of c.args.asked.now) c.args.now ≡ record { reply = c.in_ok-reply.field-0.reply; set = records_of l ++ written }) c.as_slice.ensures.value c.in_ok-reply.ensures.turn)
+    (subst (λ (l : List Record). turn_on (agent_in c.args.view.now c.args.own.now c.left.result) (records_of l) (asked_of c.args.asked.now) c.args.now ≡ record { reply = c.in_ok-reply.field-0.reply; set = records_of l ++ written }) c.as_slice.ensures.value c.in_ok-reply.ensures.turn)
     (records_of c.append.new.self.items) _ c.args.set_front.now c.in_ok-front.front refl
     (ap records_of c.in_ok-append.ensures.items ∙ map-append record_of c.args.records.now.items c.in_ok-reply.field-0.written.records.items)
     c.in_ok-reply.ensures.blocks

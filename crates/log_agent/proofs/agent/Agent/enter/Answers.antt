@@ -7,6 +7,6 @@ use Rattle.log_agent.proofs.agent.Agent.enter.Goals as goal
 pub invariant_of-self : goal.invariant_of-self
 invariant_of-self c = (
   c.self.invariant.0,
-  entered_kept c.self.inside.name c.self.inside.own c.self.inside.view _ (records_of c.self.inside.records.items) _ (ap (λ (p : Participant). p.view) c.self.view_is ∙ c.requires.first) c.self.invariant.1
+  entered_kept c.self.inside.name c.self.inside.own c.self.inside.signer c.self.inside.view _ (records_of c.self.inside.records.items) _ (ap (λ (p : Participant). p.view) c.self.view_is ∙ c.requires.first) c.self.invariant.1
       c.members-members.ensures.legal (subst (λ (p : Participant). Contains c.args.view.members p.own) (sym c.self.view_is) c.requires.member),
 )

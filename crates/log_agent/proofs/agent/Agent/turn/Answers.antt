@@ -12,40 +12,40 @@ use Rattle.log_agent.proofs.agent.Agent.turn.Goals as goal
 
 pub answer-requires-clause-begun : goal.answer-requires-clause-begun
 answer-requires-clause-begun c =
-    still_begun c.self.inside.name c.self.inside.own c.self.inside.view c.in-Some.view.now (records_of c.self.inside.records.items) _ c.args.blocks.now c.args.heads.now
+    still_begun c.self.inside.name c.self.inside.own c.self.inside.signer c.self.inside.view c.in-Some.view.now (records_of c.self.inside.records.items) _ c.args.blocks.now c.args.heads.now
     (records_of c.take_in.new.records.items) c.in_ok-taken.taken c.in-Some.ensures.value c.self.invariant.1 c.in_ok-taken.ensures.ok
 
 pub invariant_of-self-in-Ok : goal.invariant_of-self-in-Ok
 invariant_of-self-in-Ok c =
-    still_kept c.self.inside.name c.self.inside.own c.self.inside.view c.in-Some.view.now (records_of c.self.inside.records.items) _ c.args.blocks.now c.args.heads.now
+    still_kept c.self.inside.name c.self.inside.own c.self.inside.signer c.self.inside.view c.in-Some.view.now (records_of c.self.inside.records.items) _ c.args.blocks.now c.args.heads.now
     (records_of c.take_in.new.records.items) c.in_ok-taken.taken c.in-Some.ensures.value c.self.invariant.1 c.in_ok-taken.ensures.ok
-    (asked_of c.args.asked.now) c.args.now (records_of c.answer.new.records.items) c.in-Ok.turned c.in-Ok.front c.requires.caller c.requires.args c.requires.moment c.in-Ok.ensures.ok
+    (asked_of c.args.asked.now) c.args.now (records_of c.answer.new.records.items) c.in-Ok.answer c.requires.caller c.requires.args c.requires.moment c.in-Ok.ensures.ok
 
 pub returns-in-Ok-clause-ok : goal.returns-in-Ok-clause-ok
 returns-in-Ok-clause-ok c =
     let after = records_of c.answer.new.records.items in
-    let new = with_known c.self.inside.name c.self.inside.own c.self.inside.view after after in
+    let new = with_known c.self.inside.name c.self.inside.own c.self.inside.signer c.self.inside.view after after in
     subst (λ (p : Participant). IfSome p.view (λ v. TakesTurn c.args.blocks.now c.args.heads.now v (asked_of c.args.asked.now) c.args.now p new c.in-Ok.turned)) c.self.view_is
-    (has_turned c.self.inside.name c.self.inside.own c.self.inside.view c.in-Some.view.now (records_of c.self.inside.records.items) _ c.args.blocks.now c.args.heads.now
+    (has_turned c.self.inside.name c.self.inside.own c.self.inside.signer c.self.inside.view c.in-Some.view.now (records_of c.self.inside.records.items) _ c.args.blocks.now c.args.heads.now
     (records_of c.take_in.new.records.items) c.in_ok-taken.taken c.in-Some.ensures.value c.self.invariant.1 c.in_ok-taken.ensures.ok
-    (asked_of c.args.asked.now) c.args.now after c.in-Ok.turned c.in-Ok.front c.requires.caller c.requires.args c.requires.moment c.in-Ok.ensures.ok)
+    (asked_of c.args.asked.now) c.args.now after c.in-Ok.answer c.requires.caller c.requires.args c.requires.moment c.in-Ok.ensures.ok)
 
 pub returns-in-Ok-clause-stand : goal.returns-in-Ok-clause-stand
 returns-in-Ok-clause-stand c =
-    others_stand c.self.inside.name c.self.inside.own c.self.inside.view c.in-Some.view.now (records_of c.self.inside.records.items) _ c.args.blocks.now c.args.heads.now
+    others_stand c.self.inside.name c.self.inside.own c.self.inside.signer c.self.inside.view c.in-Some.view.now (records_of c.self.inside.records.items) _ c.args.blocks.now c.args.heads.now
     (records_of c.take_in.new.records.items) c.in_ok-taken.taken c.in-Some.ensures.value c.self.invariant.1 c.in_ok-taken.ensures.ok
-    (asked_of c.args.asked.now) c.args.now (records_of c.answer.new.records.items) c.in-Ok.turned c.in-Ok.front c.requires.caller c.requires.args c.requires.moment c.in-Ok.ensures.ok
+    (asked_of c.args.asked.now) c.args.now (records_of c.answer.new.records.items) c.in-Ok.answer c.requires.caller c.requires.args c.requires.moment c.in-Ok.ensures.ok
 
 pub invariant_of-self-in-Err : goal.invariant_of-self-in-Err
 invariant_of-self-in-Err c =
     let left = records_of c.keep_within.new.records.items in
     let known = records_of c.self.inside.records.items in
     let back : left ≡ known =
-    as_before c.self.inside.name c.self.inside.own c.self.inside.view c.in-Some.view.now known _ c.args.blocks.now c.args.heads.now
+    as_before c.self.inside.name c.self.inside.own c.self.inside.signer c.self.inside.view c.in-Some.view.now known _ c.args.blocks.now c.args.heads.now
     (records_of c.take_in.new.records.items) c.in_ok-taken.taken c.in-Some.ensures.value c.self.invariant.1 c.in_ok-taken.ensures.ok
     c.self.inside.front (records_of c.answer.new.records.items) left c.self.invariant.0 (ap records_of c.in-Err.ensures.err) c.keep_within.ensures in (
       c.self.invariant.0 ∙ ap front (sym back),
-      subst (λ (l : List Record). IsKeptWell (with_known c.self.inside.name c.self.inside.own c.self.inside.view l (if c.self.inside.holds then l else []))) (sym back) c.self.invariant.1,
+      subst (λ (l : List Record). IsKeptWell (with_known c.self.inside.name c.self.inside.own c.self.inside.signer c.self.inside.view l (if c.self.inside.holds then l else []))) (sym back) c.self.invariant.1,
     )
 
 pub returns-clause-err : goal.returns-clause-err
@@ -53,7 +53,7 @@ returns-clause-err c =
     let left = records_of c.keep_within.new.records.items in
     let known = records_of c.self.inside.records.items in
     let back : left ≡ known =
-    as_before c.self.inside.name c.self.inside.own c.self.inside.view c.in-Some.view.now known _ c.args.blocks.now c.args.heads.now
+    as_before c.self.inside.name c.self.inside.own c.self.inside.signer c.self.inside.view c.in-Some.view.now known _ c.args.blocks.now c.args.heads.now
     (records_of c.take_in.new.records.items) c.in_ok-taken.taken c.in-Some.ensures.value c.self.invariant.1 c.in_ok-taken.ensures.ok
     c.self.inside.front (records_of c.answer.new.records.items) left c.self.invariant.0 (ap records_of c.in-Err.ensures.err) c.keep_within.ensures in
-    ap (λ (l : List Record). with_known c.self.inside.name c.self.inside.own c.self.inside.view l (if c.self.inside.holds then l else [])) back ∙ c.self.view_is
+    ap (λ (l : List Record). with_known c.self.inside.name c.self.inside.own c.self.inside.signer c.self.inside.view l (if c.self.inside.holds then l else [])) back ∙ c.self.view_is
