@@ -1,5 +1,5 @@
 -- What was served on a set, and what was written behind it.
-use Rattle.std.proofs.Common.{◌≡◌, ◌≤◌, ◌<◌, ℕ, List, [], ◌∷◌, ◌++◌, map, Option, Some, None, sym, ap, ◌∙◌, subst, arith}
+use Rattle.std.proofs.Common.{◌≡◌, ◌≤◌, ◌<◌, ℕ, List, [], ◌∷◌, ◌++◌, Option, Some, None, sym, ap, ◌∙◌, subst, arith}
 use Rattle.std.specs.Prelude.{IfSome, option_map}
 use Rattle.std.specs.List.{AllByRecursion}
 use Rattle.ivy_base.specs.declared.key.PubKey.{PubKey}
@@ -17,6 +17,8 @@ use Rattle.turn_records.specs.declared.written.Before.{Before}
 use Rattle.turn_serving.specs.Serving.{agent_in}
 use Rattle.hss_keys.specs.Signer.{Signer, left_of}
 use Rattle.log_records.specs.Heads.{IsNumber}
+use Rattle.log_records.specs.Records.{records_of}
+use Rattle.log_records.specs.declared.record.Record.{Record as Kept}
 use Rattle.log_agent.specs.declared.answering.Answer.{Answer}
 use Rattle.log_agent.specs.Steps.{HasAnswered, sealed_over, with_newest}
 use Rattle.log_agent.specs.Turns.{stamp_of}
@@ -28,6 +30,14 @@ newest_beyond : (own : PubKey) (n : ℕ) (rs : List Record) → AllByRecursion (
 newest_beyond own n [] h = tt
 newest_beyond own n (r ∷ []) h = h.0.1
 newest_beyond own n (r ∷ q ∷ rs) h = newest_beyond own n (q ∷ rs) h.1
+
+-- as the code serves it
+pub served_as : (view : View) (own : PubKey) (signer : Signer) (asked : turn.Asked) (now : Moment) (held seen : List Kept) (written : List Record) (reply : Reply) (leaves : ℕ)
+    → leaves ≡ left_of signer → seen ≡ held → turn_on (agent_in view own leaves) (records_of seen) asked now ≡ record { reply = reply; set = records_of seen ++ written }
+    → turn_on (agent_in view own (left_of signer)) (records_of held) asked now ≡ record { reply = reply; set = records_of held ++ written }
+served_as view own signer asked now held seen written reply leaves left same served =
+    subst (λ (n : ℕ). turn_on (agent_in view own n) (records_of held) asked now ≡ record { reply = reply; set = records_of held ++ written }) left
+    (subst (λ (l : List Kept). turn_on (agent_in view own leaves) (records_of l) asked now ≡ record { reply = reply; set = records_of l ++ written }) same served)
 
 module _ (view : View) (own : PubKey) (signer : Signer) (asked : turn.Asked) (now : Moment) (t written : List Record) (reply : Reply)
     (served : turn_on (agent_in view own (left_of signer)) t asked now ≡ record { reply = reply; set = t ++ written }) where

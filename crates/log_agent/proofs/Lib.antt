@@ -1,10 +1,9 @@
 mod Answered
 mod Known
 mod NewlyKnown
-mod Opened
+mod Opening
 mod Seen
 mod Taken
 mod Turning
 mod Written
 mod Fronts
-mod Sealing

@@ -1,5 +1,5 @@
 -- What follows for a set that was taken, and for what was answered and written on it.
-use Rattle.std.proofs.Common.{◌≡◌, ◌≢◌, inl, inr, ℕ, ◌≤◌, true, List, [], map, Option, Some, None, refl, sym, ap, ◌∙◌, subst, filter, Contains}
+use Rattle.std.proofs.Common.{◌≡◌, ◌≢◌, inl, inr, ℕ, ◌≤◌, true, List, [], Option, Some, None, refl, sym, ap, ◌∙◌, subst, filter, Contains}
 use Rattle.std.specs.Prelude.{option_map}
 use Rattle.std.specs.List.{AllByRecursion}
 use Rattle.std.specs.Ordering.{eq_by_cmp}

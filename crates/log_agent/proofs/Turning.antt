@@ -83,7 +83,7 @@ module _ (name : List ℕ) (own : PubKey) (signer : Signer) (entered : Option Vi
     leads_back holds signed past is_held counted fronted same_held replaced =
         let last = ends_with known own given_under.3 in
         let gone : known_before past after ≡ known = ap (λ (v : Vector). filter (is_within v) after) fronted
-            ∙ let_go_after blocks heads view own known t f given_under.0 given_under.2 taken signer asked now after answer last.0 given_under.1 last.1 caller fits moment answered in
+        ∙ let_go_after blocks heads view own known t f given_under.0 given_under.2 taken signer asked now after answer last.0 given_under.1 last.1 caller fits moment answered in
         let is_signer : signer_before past.signer signed ≡ signer = (λ i. signer_before (replaced i) (counted i)) ∙ signer_back signer answer.sealed in
         record {
           back = (λ i. with_known name own (is_signer i) entered (gone i) (if same_held i then gone i else [])) ∙ ap (λ (l : List Record). with_known name own signer entered known l) (sym is_held);

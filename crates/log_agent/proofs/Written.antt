@@ -1,6 +1,6 @@
 -- What a turn writes behind the set that it took.
 use Rattle.std.proofs.Common.{◌≡◌, ⊎_elim, inl, inr, ℕ, zero, suc, ◌+◌, ◌<◌, ◌≤◌, Bool, true, false, cond, ◌&&◌, ◌||◌, List, [], ◌∷◌, ◌++◌, length, refl, sym, ap, ◌∙◌, subst, filter, arith, Contains}
-use Rattle.std.specs.Prelude.{nat_lt, ◌==◌, IfSome}
+use Rattle.std.specs.Prelude.{nat_lt, ◌==◌, IfSome, ◌⊎◌}
 use Rattle.std.specs.List.{AllByRecursion}
 use Rattle.std.specs.Ordering.{eq_by_cmp}
 use Rattle.std.proofs.lemmas.Bool.{lt-ltb, le-ltb, ltb-false}
@@ -44,7 +44,7 @@ some_left (suc n) h = omega arith
 newest_fits : (own : PubKey) (v : Vector) (now : Moment) (n leaves : ℕ) (prev : Key) (ops : List Op) → 0 < leaves → 1 ≤ n → n + length ops ≤ most_records + 1
     → IfSome (newest_stamp (linked own v now n prev ops)) (λ s. (0 < leaves) × IsNumber s.seq)
 newest_fits own v now n leaves prev [] left some few = tt
-newest_fits own v now n leaves prev (op ∷ []) left some few = (left, some, omega (arith, few))
+newest_fits own v now n leaves prev (op ∷ []) left some few = (left, (some, omega (arith, few)))
 newest_fits own v now n leaves prev (op ∷ q ∷ ops) left some few =
     newest_fits own v now (n + 1) leaves ((new_record own n prev v now op).name) (q ∷ ops) left (omega arith) (omega (arith, few))
 
@@ -68,7 +68,7 @@ module _ (a : Agent) (s : List Record) (asked : Asked) (now : Moment) where
   in_plan : (p : Plan) → Appends (by_plan a s asked now p)
   in_plan (Refuse reply) = same_set
   in_plan (Nothing reply) = same_set
-  in_plan (Operations ops) = 
+  in_plan (Operations ops) =
       chosen (a.leaves == 0) (nat_lt most_records (own_seq a.own s + length ops)) a.has_failed (own_seq a.own s + length ops) refl refl _ _ _ same_set same_set (λ left few. (ops, refl, inr (left, few)))
 
   either : (b : Bool) (x y : Turned) → Appends x → Appends y → Appends (cond b x y)
@@ -88,8 +88,8 @@ module _ (a : Agent) (s : List Record) (asked : Asked) (now : Moment) where
   -- so its newest record is one that a signature and a number were left for
   pub newest_had_room : (written : List Record) → (turn_on a s asked now).set ≡ s ++ written → IfSome (newest_stamp written) (λ s. (0 < a.leaves) × IsNumber s.seq)
   newest_had_room written e =
-      let w = linked_written written e in
-      subst (λ (l : List Record). IfSome (newest_stamp l) (λ s. (0 < a.leaves) × IsNumber s.seq)) w.1
+      let w : more in_turn.0 ≡ written = append_cancel_left s (more in_turn.0) written (sym in_turn.1 ∙ e) in
+      subst (λ (l : List Record). IfSome (newest_stamp l) (λ s. (0 < a.leaves) × IsNumber s.seq)) w
       (⊎_elim
       (λ none. subst (λ (ops : List Op). IfSome (newest_stamp (more ops)) (λ s. (0 < a.leaves) × IsNumber s.seq)) (sym none) tt)
       (λ room. newest_fits a.own (without_log (head_key_of a.own) (front s)) now (own_seq a.own s + 1) a.leaves (own_name a.own s) in_turn.0 room.0 (omega arith) (omega (arith, room.1)))

@@ -1,5 +1,5 @@
 -- The steps of a turn: what it takes, and then what it answers and writes.
-use Rattle.std.specs.Prelude.{◌≡◌, ℕ, Bool, List, ◌++◌, map, nat_le, Option, Some, None, option_map}
+use Rattle.std.specs.Prelude.{◌≡◌, ℕ, Bool, List, ◌++◌, nat_le, Option, Some, None, option_map}
 use Rattle.std.specs.FinMap.Entries.{put}
 use Rattle.ivy_base.specs.declared.key.PubKey.{PubKey}
 use Rattle.ivy_base.specs.declared.operation.Moment.{Moment}

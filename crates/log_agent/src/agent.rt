@@ -20,7 +20,7 @@ ghost use Rattle.play_model.specs.Kept.{IsKeptWell};
 ghost use Rattle.log_agent.specs.Back.{LeadsBack};
 ghost use Rattle.log_agent.specs.Turns.{TakesTurn};
 
-use crate::answering::{Answer, answer};
+use crate::answering::{Answer, answer_call};
 use crate::past::Past;
 use crate::sealing::{put_back, put_sealed, seal_over};
 use crate::taking::take_in;
@@ -197,7 +197,16 @@ impl Agent {
         };
         let records = &mut self.records;
         let taken = take_in(alloc, blocks, heads, view, &self.own, records, &self.front)?;
-        match answer(alloc, records, &taken, view, &self.own, &self.signer, asked, now) {
+        match answer_call(
+            alloc,
+            records,
+            &taken,
+            view,
+            &self.own,
+            &self.signer,
+            asked,
+            now,
+        ) {
             Ok(answer) => {
                 let Answer {
                     reply,

@@ -40,7 +40,7 @@ pub struct Answer {
 
 /// Serves the call on the set at that moment, appends the records that it writes, and has a copy of the key sign the head over
 /// them, at last, when all other memory was taken. The error is want of memory, and then the set is as it was.
-pub fn answer(
+pub fn answer_call(
     alloc: Global,
     records: &mut Vec<Record>,
     set_front: &Vector,

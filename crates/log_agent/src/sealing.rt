@@ -41,7 +41,11 @@ pub fn seal_over(alloc: Global, signer: &mut Hss, newest: Before) -> Result<Sign
 
 /// The head over that record, where there is one, and the key once it signed it. It is a copy that signs, so that the key
 /// is what it was after the error, which is want of memory.
-pub fn sealed_by(alloc: Global, signer: &Hss, newest: Option<Before>) -> Result<Option<Sealed>, Memory>
+pub fn sealed_by(
+    alloc: Global,
+    signer: &Hss,
+    newest: Option<Before>,
+) -> Result<Option<Sealed>, Memory>
     requires { IfSome newest (λ before. (0 < left_of signer.now) × IsNumber before.seq) }
     ensures { IfOk result (λ sealed. sealed ≡ option_map (sealed_over signer.now) (option_map stamp_of newest)) }
 {

@@ -1,7 +1,7 @@
 use Rattle.std.proofs.Common.{sym, ap, ◌∙◌, subst, Contains}
 use Rattle.play_model.specs.World.{Participant}
 use Rattle.log_records.specs.Records.{records_of}
-use Rattle.log_agent.proofs.Opened.{entered_kept}
+use Rattle.log_agent.proofs.Opening.{entered_kept}
 use Rattle.log_agent.proofs.agent.Agent.enter.Goals as goal
 
 pub invariant_of-self : goal.invariant_of-self

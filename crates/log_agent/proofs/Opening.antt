@@ -1,5 +1,5 @@
 -- What holds of a participant that has opened its log, and then entered a view.
-use Rattle.std.proofs.Common.{◌≡◌, ℕ, List, [], ◌∷◌, None, inl, refl, sym, subst, Option, Some, Contains}
+use Rattle.std.proofs.Common.{◌≡◌, ◌∙◌, ℕ, List, [], ◌∷◌, None, ap, inl, refl, sym, subst, Option, Some, Contains}
 use Rattle.std.specs.List.{AllByRecursion}
 use Rattle.std.specs.Ordering.{eq_by_cmp}
 use Rattle.ivy_base.specs.declared.key.PubKey.{PubKey}
@@ -13,10 +13,13 @@ use Rattle.log_model.specs.View.{View, IsView}
 use Rattle.log_model.proofs.Lists.{here, in_filter, in_nothing}
 use Rattle.log_model.proofs.Opening.{opening_has_spelling, opening_is_closed}
 use Rattle.log_model.proofs.Owners.{owner_itself}
-use Rattle.hss_keys.specs.Signer.{Signer, one_more_made}
+use Rattle.hss_keys.specs.Signer.{Signer, one_more_made, owner_of}
 use Rattle.play_model.specs.Kept.{IsKeptWell}
 use Rattle.play_model.specs.Keys.{key_of}
 use Rattle.play_model.specs.World.{Participant, newcomer}
+
+pub owner_is : (signer : Signer) (owner : PubKey) → owner.0 ≡ owner_of signer → owner ≡ key_of signer
+owner_is signer owner e = ap (λ (bytes : List ℕ). record { 0 = bytes }) e
 
 newcomer_kept : (name : List ℕ) (signer : Signer) (now : Moment) → IsMoment now → IsKeptWell (newcomer name signer now)
 newcomer_kept name signer now fits =
