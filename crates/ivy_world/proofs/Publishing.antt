@@ -1,5 +1,5 @@
 -- What is published, by its records.
-use Rattle.std.proofs.Common.{◌≡◌, ℕ, true, ◌&&◌, List, [], ◌∷◌, ◌++◌, Option, Some, None, refl, sym, ap, ◌∙◌, append-nil}
+use Rattle.std.proofs.Common.{◌≡◌, ℕ, ◌<◌, true, ◌&&◌, List, [], ◌∷◌, ◌++◌, Option, Some, None, refl, sym, ap, ◌∙◌, subst, arith, append-nil}
 use Rattle.std.specs.Prelude.{option_map, is_none}
 use Rattle.std.proofs.lemmas.List.Sums.{fold-append}
 use Rattle.hash_signature_model.specs.declared.set.Set.{Set}
@@ -8,7 +8,8 @@ use Rattle.log_model.specs.Rank.{own_entry}
 use Rattle.log_model.specs.Record.{Record}
 use Rattle.log_model.specs.Vector.{Stamp}
 use Rattle.log_model.specs.Standing.{blocks_of, opening_block}
-use Rattle.hss_keys.specs.Signer.{Signer}
+use Rattle.hss_keys.specs.Signer.{Signer, left_of}
+use Rattle.hss_keys.proofs.Signing.{capacity_some}
 use Rattle.script_driver.specs.Run.{Goes}
 use Rattle.play_model.specs.Blocks.{Met, meets, meets_all, newest_stamp, published_heads}
 use Rattle.play_model.specs.Keys.{fresh_signer, key_of, signed_head}
@@ -25,6 +26,12 @@ module _ (w : World) (signer : Signer) (records : List Record) where
   pub published_is : (blocks : List (List ℕ)) (head : Option Head) → blocks ≡ blocks_of records → head ≡ option_map (next_head signer) (newest_stamp records)
       → with_published w blocks head ≡ publishing w signer records
   published_is blocks head are is = (λ i. with_published w (are i) (is i)) ∙ of_records (newest_stamp records) refl
+
+-- a key that has signed nothing signs
+pub signs_first : (signer : Signer) (id seed : List ℕ) (sets : List Set) → signer ≡ fresh_signer id seed sets → 0 < left_of signer
+signs_first signer id seed sets is =
+    let some = capacity_some sets in
+    let first : 0 < left_of (fresh_signer id seed sets) = omega (arith, some) in subst (λ (s : Signer). 0 < left_of s) (sym is) first
 
 -- a log that is made, by its participant, the opening's block and the head over it
 pub log_made : (w v : World) (name id seed : List ℕ) (sets : List Set) (signer : Signer) (p : Participant) (blocks : List (List ℕ)) (head : Head) (text : List ℕ)

@@ -8,18 +8,18 @@ pub invariant_of-self : goal.invariant_of-self
 invariant_of-self c =
     let sends = rw c.in-Some.is at c.in_ok-place.ensures in
     let at = found_at _ _ _ _ _ c.self.view_is sends.at c.index_mut.ensures.value in
-    call_keeps _ _ c.self.view_is _ _ _ _ _ _ _ _ _ _ _ c.self.invariant sends at c.found.ensures.found c.in_ok-answer_message.ensures.ok c.in_ok-answer_message.ensures.stand
+    put_back _ _ _ _ c.self.invariant at c.in_err-reply.ensures.err
 
-pub invariant_of-self-in_err-answer_message : goal.invariant_of-self-in_err-answer_message
-invariant_of-self-in_err-answer_message c =
+pub invariant_of-self-2 : goal.invariant_of-self-2
+invariant_of-self-2 c =
     let sends = rw c.in-Some.is at c.in_ok-place.ensures in
     let at = found_at _ _ _ _ _ c.self.view_is sends.at c.index_mut.ensures.value in
-    put_back _ _ _ _ c.self.invariant at c.in_err-answer_message.ensures.err
+    call_keeps _ _ c.self.view_is _ _ _ _ _ _ _ _ _ _ _ c.self.invariant sends at c.found.ensures.found c.in_ok-reply.ensures.ok c.in_ok-reply.ensures.stand
 
 pub returns : goal.returns
 returns c =
     let sends = rw c.in-Some.is at c.in_ok-place.ensures in
     let at = found_at _ _ _ _ _ c.self.view_is sends.at c.index_mut.ensures.value in
-    call_answered _ _ c.self.view_is _ _ _ _ _ _ _ _ _ _ _ c.self.invariant sends at c.found.ensures.found c.in_ok-answer_message.ensures.ok
+    call_answered _ _ c.self.view_is _ _ _ _ _ _ _ _ _ _ _ c.self.invariant sends at c.found.ensures.found c.in_ok-reply.ensures.ok
     _ _ c.in_ok-shown_reply.field-0.items refl refl c.as_slice.ensures
     c.in_ok-publish.ensures c.in_ok-count.ensures c.in_ok-shown_reply.ensures
