@@ -1,12 +1,12 @@
 -- What a call is answered, over blocks and heads.
-use Rattle.std.specs.Prelude.{◌≡◌, ℕ, List, [], map, Some, None, option_map}
+use Rattle.std.specs.Prelude.{◌≡◌, ℕ, List, [], Some, None, option_map}
 use Rattle.ivy_base.specs.declared.operation.Moment.{Moment}
 use Rattle.log_model.specs.Rank.{front}
 use Rattle.log_model.specs.View.{View}
 use Rattle.log_model.specs.Standing.{blocks_of}
 use Rattle.nfs_model.specs.Results.{result}
 use Rattle.turn_model.specs.Candidates.{AreCandidates}
-use Rattle.turn_model.specs.Turn.{Asked, Candidate, Turned, IsTurn, own_seq}
+use Rattle.turn_model.specs.Turn.{Asked, Candidate, Turned, IsTurn}
 use Rattle.wire_model.specs.Rpc.{CallMessage, IsCall, Success, SystemError, reply}
 use Rattle.play_model.specs.Blocks.{Heads, heads_at, newest_stamp}
 use Rattle.play_model.specs.Calls.{IsByMessage, Asks, agent_of, given_of, having_turned, written_by, nothing_given}

@@ -53,14 +53,7 @@ pub fn answer_message(
             Ok(without_turn(alloc, Some(reply)))
         }
         Asking::Turn { xid, asked } => Ok(serve_call(
-            alloc,
-            agent,
-            blocks,
-            heads,
-            xid,
-            &asked,
-            now,
-            out,
+            alloc, agent, blocks, heads, xid, &asked, now, out,
         )),
     }
 }
