@@ -8,8 +8,8 @@ invariant_of-self c = goes_on _ _ c.self.invariant refl refl c.meet_all.ensures.
 pub invariant_of-self-in_default : goal.invariant_of-self-in_default
 invariant_of-self-in_default c = goes_on _ _ c.self.invariant refl refl c.meet_all.ensures.grows
 
-pub invariant_of-self-in_err-copy_of : goal.invariant_of-self-in_err-copy_of
-invariant_of-self-in_err-copy_of c = goes_on _ _ c.self.invariant refl refl c.meet_all.ensures.grows
+pub invariant_of-self-in_err-block : goal.invariant_of-self-in_err-block
+invariant_of-self-in_err-block c = goes_on _ _ c.self.invariant refl refl c.meet_all.ensures.grows
 
 pub invariant_of-self-in_err-meet : goal.invariant_of-self-in_err-meet
 invariant_of-self-in_err-meet c = goes_on _ _ c.self.invariant refl refl (found_still _ _ _ c.meet_all.ensures.grows c.in_err-meet.ensures.err)
