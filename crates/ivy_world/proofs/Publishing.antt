@@ -33,17 +33,18 @@ signs_first signer id seed sets is =
     let some = capacity_some sets in
     let first : 0 < left_of (fresh_signer id seed sets) = omega (arith, some) in subst (λ (s : Signer). 0 < left_of s) (sym is) first
 
--- a log that is made, by its participant, the opening's block and the head over it
-pub log_made : (w v : World) (name id seed : List ℕ) (sets : List Set) (signer : Signer) (p : Participant) (blocks : List (List ℕ)) (head : Head) (text : List ℕ)
-    → w.has_ring ≡ true → participant w name ≡ None → signer ≡ fresh_signer id seed sets → p ≡ newcomer name signer w.now → blocks ≡ opening_block (key_of signer) w.now ∷ []
-    → head ≡ next_head signer (own_entry (opening (key_of signer) w.now)).1 → v ≡ with_published (record w { participants = w.participants ++ p ∷ [] }) blocks (Some head) → text ≡ []
-    → Goes v text ≡ log_line w name id seed sets
-log_made w v name id seed sets signer p blocks head text ring free is made are heads then_is text_is =
-    let records : List Record = opening (key_of signer) w.now ∷ [] in
-    let joined : World = record w { participants = w.participants ++ newcomer name signer w.now ∷ [] } in
+-- a log that is made in a world x, which is w, by its participant, the opening's block and the head over it
+pub log_made : (x w : World) → x ≡ w → (v : World) (name id seed : List ℕ) (sets : List Set) (signer : Signer) (p : Participant) (ps : List Participant) (blocks : List (List ℕ)) (head : Head) (text : List ℕ)
+    → x.has_ring ≡ true → participant x name ≡ None → signer ≡ fresh_signer id seed sets → p ≡ newcomer name signer x.now → ps ≡ x.participants ++ p ∷ []
+    → blocks ≡ opening_block (key_of signer) x.now ∷ [] → head ≡ next_head signer (own_entry (opening (key_of signer) x.now)).1
+    → v ≡ with_published (record x { participants = ps }) blocks (Some head) → text ≡ [] → Goes v text ≡ log_line w name id seed sets
+log_made x w same v name id seed sets signer p ps blocks head text ring free is made are blocks_are heads then_is text_is =
+    let records : List Record = opening (key_of signer) x.now ∷ [] in
+    let joined : World = record x { participants = x.participants ++ newcomer name signer x.now ∷ [] } in
     let published : v ≡ publishing joined signer records =
-    then_is ∙ ap (λ (q : Participant). with_published (record w { participants = w.participants ++ q ∷ [] }) blocks (Some head)) made
-    ∙ published_is joined signer records blocks (Some head) are (ap (λ (h : Head). Some h) heads) in
+    then_is ∙ ap (λ (qs : List Participant). with_published (record x { participants = qs }) blocks (Some head)) (are ∙ ap (λ (q : Participant). x.participants ++ q ∷ []) made)
+    ∙ published_is joined signer records blocks (Some head) blocks_are (ap (λ (h : Head). Some h) heads) in
     (λ i. Goes (published i) (text_is i))
     ∙ (λ i. goes_if (sym ring i && is_none (sym free i)) (publishing joined signer records))
-    ∙ ap (λ (s : Signer). goes_if (w.has_ring && is_none (participant w name)) (publishing (record w { participants = w.participants ++ newcomer name s w.now ∷ [] }) s (opening (key_of s) w.now ∷ []))) is
+    ∙ ap (λ (s : Signer). goes_if (x.has_ring && is_none (participant x name)) (publishing (record x { participants = x.participants ++ newcomer name s x.now ∷ [] }) s (opening (key_of s) x.now ∷ []))) is
+    ∙ ap (λ (y : World). log_line y name id seed sets) same
