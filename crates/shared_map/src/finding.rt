@@ -1,0 +1,127 @@
+//! Trees whose keys ascend: a search goes down one path.
+
+ghost use Rattle.std.specs.Prelude.{◌≡◌, ◌+◌, ◌^◌, ◌<◌, ◌≤◌, [], ◌∷◌, ◌++◌, T, length, map, take, drop, not, IfOk, OnOk, IfNone, IfSome, Some};
+ghost use Rattle.std.specs.Option.{option_map};
+ghost use Rattle.std.specs.Ordering.{eq_by_cmp, is_le};
+ghost use Rattle.std.specs.FinMap.Entries.{find as value_at, put, where_key, is_sorted};
+ghost use Rattle.shared_map.specs.Trees.{IsBalanced, IsNear};
+
+use crate::joining::{balanced, joined, with_left, with_right, with_value};
+use crate::tree::{Fork, Tree};
+use ivy_base::Memory;
+use std::alloc::Global;
+use std::cmp::Ordering;
+use std::sync::Arc;
+
+impl<K: Ord + Drop, V: Drop> Tree<K, V> {
+    /// The value under the key.
+    pub fn get(&self, key: &K) -> Option<&Arc<V>>
+        requires { T (is_sorted K.cmp self.now.0) }
+        ensures { option_map (λ v. v.now.value) result ≡ value_at K.cmp key.now self.now.0 }
+    {
+        let Some(at) = self.top() else {
+            return None;
+        };
+        match key.cmp(&at.key) {
+            Ordering::Less => at.left.get(key),
+            Ordering::Equal => Some(&at.value),
+            Ordering::Greater => at.right.get(key),
+        }
+    }
+
+    /// The entries with the value under the key. The error is want of memory.
+    pub fn with(&self, alloc: Global, key: K, value: Arc<V>) -> Result<Tree<K, V>, Memory>
+        requires ordered { T (is_sorted K.cmp self.now.0) }
+        requires few { length self.now.0 + 1 < 2 ^ 64 }
+        ensures { IfOk result (IsNear (put K.cmp key value.value self.now.0) self.now.1) }
+    {
+        let Some(at) = self.top() else {
+            return alone(alloc, key, value);
+        };
+        match key.cmp(&at.key) {
+            Ordering::Less => {
+                let left = at.left.with(alloc, key, value)?;
+                with_left(alloc, at, left)
+            }
+            Ordering::Equal => with_value(alloc, at, value),
+            Ordering::Greater => {
+                let right = at.right.with(alloc, key, value)?;
+                with_right(alloc, at, right)
+            }
+        }
+    }
+
+    /// The entries but the one of that key. The error is want of memory.
+    pub fn without(&self, alloc: Global, key: &K) -> Result<Tree<K, V>, Memory>
+        requires ordered { T (is_sorted K.cmp self.now.0) }
+        requires few { length self.now.0 < 2 ^ 64 }
+        ensures { IfOk result (IsNear (where_key K.cmp (λ k. not (eq_by_cmp K.cmp key.now k)) self.now.0) self.now.1) }
+    {
+        let Some(at) = self.top() else {
+            return Ok(Tree::new());
+        };
+        match key.cmp(&at.key) {
+            Ordering::Less => {
+                let left = at.left.without(alloc, key)?;
+                with_left(alloc, at, left)
+            }
+            Ordering::Equal => without_top(alloc, at),
+            Ordering::Greater => {
+                let right = at.right.without(alloc, key)?;
+                with_right(alloc, at, right)
+            }
+        }
+    }
+}
+
+impl<K: Drop, V: Drop> Tree<K, V> {
+    /// The first entry.
+    pub fn first(&self) -> Option<(&Arc<K>, &Arc<V>)>
+        ensures none { IfNone result (self.now ≡ ([], 0)) }
+        ensures some { IfSome result (λ e. self.now.0 ≡ (e.0.now.value, e.1.now.value) ∷ drop 1 self.now.0) }
+    {
+        let Some(at) = self.top() else {
+            return None;
+        };
+        match at.left.first() {
+            None => Some((&at.key, &at.value)),
+            Some(first) => Some(first),
+        }
+    }
+
+    /// The entries but the first. The error is want of memory.
+    pub fn without_first(&self, alloc: Global) -> Result<Tree<K, V>, Memory>
+        requires few { length self.now.0 < 2 ^ 64 }
+        ensures { IfOk result (IsNear (drop 1 self.now.0) self.now.1) }
+    {
+        let Some(at) = self.top() else {
+            return Ok(Tree::new());
+        };
+        let Some(_) = at.left.top() else {
+            return at.right.copy();
+        };
+        let left = at.left.without_first(alloc)?;
+        with_left(alloc, at, left)
+    }
+}
+
+// One entry. The error is want of memory.
+fn alone<K: Drop, V: Drop>(alloc: Global, key: K, value: Arc<V>) -> Result<Tree<K, V>, Memory>
+    ensures { IfOk result (λ t. t ≡ ((key, value.value) ∷ [], 1)) }
+{
+    let key = Arc::new(alloc, key)?;
+    joined(alloc, Tree::new(), key, value, Tree::new())
+}
+
+// The node's entries but its own. The error is want of memory.
+fn without_top<K: Drop, V: Drop>(alloc: Global, at: &Fork<K, V>) -> Result<Tree<K, V>, Memory>
+    requires sides { IsBalanced (Some at.now) }
+    requires few { length at.now.left.0 + length at.now.right.0 + 1 < 2 ^ 64 }
+    ensures { IfOk result (IsNear (at.now.left.0 ++ at.now.right.0) at.now.height) }
+{
+    let Some((key, value)) = at.right.first() else {
+        return at.left.copy();
+    };
+    let right = at.right.without_first(alloc)?;
+    balanced(alloc, at.left.copy()?, key.clone()?, value.clone()?, right)
+}

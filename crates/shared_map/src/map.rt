@@ -1,0 +1,150 @@
+//! The map.
+
+ghost use Rattle.std.specs.Prelude.{◌≡◌, ◌↔◌, [], T, IsTrue, length, map, take, not, IfOk, OnOk, OnErr};
+ghost use Rattle.std.specs.Option.{option_copied, option_map};
+ghost use Rattle.std.specs.Ordering.{eq_by_cmp, is_le};
+ghost use Rattle.std.specs.FinMap.Entries.{find as value_at, put, where_key, is_sorted};
+
+use crate::tree::Tree;
+use ivy_base::Memory;
+use std::alloc::Global;
+use std::marker::Model;
+use std::sync::Arc;
+
+/// Values under keys, in the keys' order. A copy shares all that it has in common with this map, and what is put into
+/// one of the two later doesn't reach the other.
+///
+/// Contracts see the list of its entries, in the order of their keys.
+#[derive(Drop)]
+pub struct SharedMap<K: Ord, V> {
+    tree: Tree<K, V>,
+    count: usize,
+}
+
+impl<K: Ord, V> Model for SharedMap<K, V> {
+    ghost use Rattle.std.specs.Prelude.{◌≡◌, List, T, length};
+    ghost use Rattle.std.specs.FinMap.Entries.{is_sorted};
+
+    ghost Value = { List (K × V) };
+
+    ghost view = { λ m. m.tree.0 };
+
+    ghost invariant = { λ m. T (is_sorted K.cmp m.tree.0) × (m.count ≡ length m.tree.0) };
+}
+
+impl<K: Ord + Drop, V: Drop> SharedMap<K, V> {
+    /// An empty map.
+    pub fn new() -> SharedMap<K, V>
+        ensures { result ≡ [] }
+    {
+        SharedMap {
+            tree: Tree::new(),
+            count: 0,
+        }
+    }
+
+    /// How many entries there are.
+    pub fn len(&self) -> usize
+        ensures count { result ≡ length self.now }
+        ensures ordered { T (is_sorted K.cmp self.now) }
+    {
+        self.count
+    }
+
+    /// Whether there is no entry.
+    pub fn is_empty(&self) -> bool
+        ensures { IsTrue result ↔ (self.now ≡ []) }
+    {
+        self.count == 0
+    }
+
+    /// The value under the key.
+    pub fn get(&self, key: &K) -> Option<&V>
+        ensures value { option_copied result ≡ value_at K.cmp key.now self.now }
+        ensures ordered { T (is_sorted K.cmp self.now) }
+    {
+        match self.tree.get(key) {
+            None => None,
+            Some(value) => Some(&**value),
+        }
+    }
+
+    /// An equal map. It takes no memory: the only error is that a part of it already has as many owners as can be
+    /// counted.
+    pub fn copy(&self) -> Result<SharedMap<K, V>, Memory>
+        ensures { IfOk result (λ copy. copy ≡ self.now) }
+    {
+        Ok(SharedMap {
+            tree: self.tree.copy()?,
+            count: self.count,
+        })
+    }
+
+    /// Lets the key stand for the value, and answers the value that it stood for. A key that is equal to one of the map
+    /// leaves that in its place. The error is want of memory, and then nothing has changed.
+    pub fn insert(&mut self, alloc: Global, key: K, value: V) -> Result<Option<Arc<V>>, Memory>
+        ensures old { IfOk result (λ old. option_map (λ v. v.value) old ≡ value_at K.cmp key self.old) }
+        ensures ok { OnOk result (self.new ≡ put K.cmp key value self.old) }
+        ensures err { OnErr result (self.new ≡ self.old) }
+    {
+        if self.count == usize::MAX {
+            return Err(Memory);
+        }
+        let old = self.shared(&key)?;
+        let value = Arc::new(alloc, value)?;
+        self.tree = self.tree.with(alloc, key, value)?;
+        if old.is_none() {
+            self.count += 1;
+        }
+        Ok(old)
+    }
+
+    /// Takes the key out, and answers the value that it stood for. The error is want of memory, and then nothing has
+    /// changed; a key that isn't there takes none.
+    pub fn remove(&mut self, alloc: Global, key: &K) -> Result<Option<Arc<V>>, Memory>
+        ensures old { IfOk result (λ old. option_map (λ v. v.value) old ≡ value_at K.cmp key.now self.old) }
+        ensures ok { OnOk result (self.new ≡ where_key K.cmp (λ k. not (eq_by_cmp K.cmp key.now k)) self.old) }
+        ensures err { OnErr result (self.new ≡ self.old) }
+    {
+        let Some(old) = self.shared(key)? else {
+            return Ok(None);
+        };
+        self.tree = self.tree.without(alloc, key)?;
+        self.count -= 1;
+        Ok(Some(old))
+    }
+
+    /// All entries, in the keys' order. The error is want of memory.
+    pub fn entries(&self, alloc: Global) -> Result<Vec<(&K, &V)>, Memory>
+        ensures { IfOk result (λ list. map {B = K × V} (λ e. (e.0.now, e.1.now)) list.items ≡ self.now) }
+    {
+        let mut list = Vec::with_capacity(alloc, self.count)?;
+        self.tree.list(self.count, &mut list)?;
+        Ok(list)
+    }
+
+    /// The first entries, so many at most, of those whose keys are not below the one given, in the keys' order. The
+    /// error is want of memory.
+    pub fn entries_from<'a>(
+        &'a self,
+        alloc: Global,
+        key: &K,
+        most: usize,
+    ) -> Result<Vec<(&'a K, &'a V)>, Memory>
+        ensures { IfOk result (λ list. map {B = K × V} (λ e. (e.0.now, e.1.now)) list.items ≡ take most (where_key K.cmp (λ k. is_le (K.cmp key.now k)) self.now)) }
+    {
+        let mut list = Vec::new(alloc);
+        self.tree.list_from(key, most, &mut list)?;
+        Ok(list)
+    }
+
+    // The value under the key, with one owner more.
+    fn shared(&self, key: &K) -> Result<Option<Arc<V>>, Memory>
+        ensures { IfOk result (λ value. option_map (λ v. v.value) value ≡ value_at K.cmp key.now self.now) }
+    {
+        match self.tree.get(key) {
+            None => Ok(None),
+            Some(value) => Ok(Some(value.clone()?)),
+        }
+    }
+}

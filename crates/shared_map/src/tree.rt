@@ -1,0 +1,98 @@
+//! Trees of entries in order, which share their parts: a node is never changed, only made anew along one path.
+
+ghost use Rattle.std.specs.Prelude.{◌≡◌, [], length, IfOk, Some};
+ghost use Rattle.std.specs.Option.{option_copied};
+ghost use Rattle.shared_map.specs.Trees.{seen, IsBalanced, IsLow};
+
+use ivy_base::Memory;
+use std::alloc::Global;
+use std::marker::Model;
+use std::sync::Arc;
+
+/// Entries in order, as a tree; seen as their list, and the tree's height.
+#[cycle(tree)]
+#[derive(Drop)]
+pub struct Tree<K, V> {
+    root: Option<Arc<Fork<K, V>>>,
+}
+
+/// A node: an entry, with the entries before it and those behind it.
+#[cycle(tree)]
+#[derive(Drop)]
+pub struct Fork<K, V> {
+    pub left: Tree<K, V>,
+    pub key: Arc<K>,
+    pub value: Arc<V>,
+    pub height: u8,
+    pub right: Tree<K, V>,
+}
+
+impl<K, V> Model for Tree<K, V> {
+    ghost use Rattle.std.specs.Prelude.{ℕ, List, length};
+
+    ghost Value = { List (K × V) × ℕ };
+
+    ghost use Rattle.shared_map.specs.Trees.{seen, top, IsBalanced, IsLow};
+
+    ghost view = { λ t. seen (top t.root) };
+
+    ghost invariant = { λ t. IsBalanced (top t.root) × IsLow (length (seen (top t.root)).0) (seen (top t.root)).1 };
+
+    ghost size = { λ t. length t.0 };
+
+    ghost use Rattle.std.proofs.Common.{arith, length-append};
+
+    ghost size_decreases = { λ t h. Prim.grind (arith, length-append) };
+}
+
+impl<K: Drop, V: Drop> Tree<K, V> {
+    /// None.
+    pub fn new() -> Tree<K, V>
+        ensures { result ≡ ([], 0) }
+    {
+        Tree { root: None }
+    }
+
+    /// The same tree; no memory is taken. The error is that there are too many copies.
+    pub fn copy(&self) -> Result<Tree<K, V>, Memory>
+        ensures { IfOk result (λ t. t ≡ self.now) }
+    {
+        match &self.root {
+            None => Ok(Tree { root: None }),
+            Some(fork) => Ok(Tree {
+                root: Some(fork.clone()?),
+            }),
+        }
+    }
+
+    /// The node at the top.
+    pub fn top(&self) -> Option<&Fork<K, V>>
+        ensures top { seen (option_copied result) ≡ self.now }
+        ensures balanced { IsBalanced (option_copied result) }
+    {
+        match &self.root {
+            None => None,
+            Some(fork) => Some(&**fork),
+        }
+    }
+
+    /// How high the tree is.
+    pub fn height(&self) -> u8
+        ensures height { result ≡ self.now.1 }
+        ensures low { IsLow (length self.now.0) result }
+    {
+        match &self.root {
+            None => 0,
+            Some(fork) => fork.height,
+        }
+    }
+
+    /// The tree of that node.
+    pub fn over(fork: Arc<Fork<K, V>>) -> Tree<K, V>
+        requires balanced { IsBalanced (Some fork.value) }
+        requires low { IsLow (length (seen (Some fork.value)).0) fork.value.height }
+        ensures { result ≡ seen (Some fork.value) }
+    {
+        Tree { root: Some(fork) }
+    }
+}
