@@ -1,5 +1,5 @@
 -- A tree at its top: its entries are those of the left side, its own and those of the right side.
-use Rattle.std.proofs.Common.{◌≡◌, ℕ, suc, ◌+◌, ◌^◌, ◌<◌, ◌≤◌, T, true, not, List, [], ◌∷◌, ◌++◌, length, length-append, take, drop, Option, Some, None, Result, Ok, Err, refl, sym, ap, ◌∙◌, subst, arith}
+use Rattle.std.proofs.Common.{◌≡◌, ℕ, suc, ◌+◌, ◌^◌, ◌<◌, ◌≤◌, T, true, not, List, [], ◌∷◌, ◌++◌, length, length-append, drop, Some, Result, refl, sym, ap, ◌∙◌, subst, arith}
 use Rattle.std.specs.Prelude.{IfOk}
 use Rattle.std.specs.Ordering.{eq_by_cmp, is_le}
 use Rattle.std.specs.Cmp.{IsTotalOrder}
@@ -7,7 +7,7 @@ use Rattle.std.specs.declared.cmp.Ordering.{Ordering}
 use Rattle.std.specs.declared.cmp.Ordering.TheVariants.{Less, Equal, Greater}
 use Rattle.std.specs.FinMap.Entries.{find as value_at, put, where_key, is_sorted}
 use Rattle.shared_map.specs.declared.tree.Fork.{Fork}
-use Rattle.shared_map.specs.Trees.{seen, IsBalanced, IsNear, DifferByAtMost}
+use Rattle.shared_map.specs.Trees.{seen, IsBalanced, IsNear}
 use Rattle.shared_map.proofs.Sides as sides
 
 pub near_is : {A E : Type 0} {B : Type 0} (r : Result (List (A × B) × ℕ) E) (es fs : List (A × B)) (h i : ℕ) → es ≡ fs → h ≡ i → IfOk r (IsNear es h) → IfOk r (IsNear fs i)

@@ -1,4 +1,4 @@
-use Rattle.std.proofs.Common.{ℕ, ◌+◌, length, arith}
+use Rattle.std.proofs.Common.{arith}
 use Rattle.shared_map.proofs.Heights.{low_fits}
 use Rattle.shared_map.proofs.joining.height_above.Goals as goal
 

@@ -1,4 +1,4 @@
-use Rattle.std.proofs.Common.{◌≡◌, sym, ap, ◌∙◌}
+use Rattle.std.proofs.Common.{sym, ap, ◌∙◌}
 use Rattle.std.specs.FinMap.Entries.{find as value_at}
 use Rattle.shared_map.proofs.Counts.{new_count, same_count, is_none_by}
 use Rattle.shared_map.proofs.map.SharedMap.insert.Goals as goal

@@ -1,4 +1,4 @@
-use Rattle.std.proofs.Common.{rules, ◌≡◌, Some, sym, ap, ◌∙◌}
+use Rattle.std.proofs.Common.{rules, sym, ap, ◌∙◌}
 use Rattle.shared_map.proofs.Forks.{shorter, sorted_sides, found_left, found_here, found_right}
 use Rattle.shared_map.proofs.tree.Tree.+get.Goals as goal
 

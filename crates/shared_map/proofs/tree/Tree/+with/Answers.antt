@@ -1,4 +1,4 @@
-use Rattle.std.proofs.Common.{rules, ◌≡◌, ◌+◌, ◌<◌, length, sym, ap, ◌∙◌, arith}
+use Rattle.std.proofs.Common.{rules, sym, ap, ◌∙◌, arith}
 use Rattle.shared_map.proofs.Sides.{length_put}
 use Rattle.shared_map.proofs.Forks.{shorter, sorted_sides, put_left, put_here, put_right, near_is, near_left, near_right, few_left, few_right, few_sides, height_is}
 use Rattle.shared_map.proofs.tree.Tree.+with.Goals as goal

@@ -1,4 +1,4 @@
-use Rattle.std.proofs.Common.{rules, ◌≡◌, ◌+◌, ◌<◌, length, not, sym, ap, ◌∙◌, arith}
+use Rattle.std.proofs.Common.{rules, not, sym, ap, ◌∙◌, arith}
 use Rattle.std.specs.Ordering.{eq_by_cmp}
 use Rattle.shared_map.proofs.Sides.{length_where}
 use Rattle.shared_map.proofs.Forks.{shorter, sorted_sides, without_left, without_here, without_right, near_is, near_left, near_right, fewer_left, fewer_right, few_sides, height_is}
