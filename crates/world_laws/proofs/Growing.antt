@@ -23,10 +23,9 @@ use Rattle.script_model.specs.declared.command.Command.TheVariants as command
 use Rattle.script_model.specs.Lines.{command_of}
 use Rattle.world_model.specs.Agents.{Entering, Kept, entering}
 use Rattle.world_model.specs.Keepers.{fails_next}
-use Rattle.world_model.specs.World.{World, Participant, meets, participant, session_named, view_named, with_node, without_session}
-use Rattle.world_model.specs.Story.{Story}
+use Rattle.world_model.specs.World.{World, Participant, meets, participant, view_named, with_node, without_session}
 use Rattle.world_model.specs.Nodes.{Node}
-use Rattle.world_model.specs.Fates.{FateOf, Fates, Puts}
+use Rattle.world_model.specs.Fates.{FateOf, Fates}
 use Rattle.world_model.specs.Fates.FateOf.{lost, stopped, answers}
 use Rattle.world_model.specs.Fates.Fates.{none as fates_none, more as fates_more}
 use Rattle.world_model.specs.Steps.{Scene, Acts, Steps, StepsOn, RunsOut, met_by}
@@ -37,7 +36,7 @@ use Rattle.world_model.specs.Steps.RunsOut.{is_over as runs_over, more as runs_m
 use Rattle.world_model.specs.Ring.{RingLine, JoinLine, stop_line}
 use Rattle.world_model.specs.Ring.RingLine.{refused as ring_refused, exceeds as ring_exceeds, makes as ring_makes}
 use Rattle.world_model.specs.Ring.JoinLine.{before_ring as join_before_ring, known as join_known, exceeds as join_exceeds, alone as join_alone, joins as join_joins, fails as join_fails}
-use Rattle.world_model.specs.Rounds.{EachDoes, ManyDo, Forgets, Notifies, Stabilises, FixesFinger, FixesFrom, PutsAround, PutsAll, Repairs, IsRoundOf, RoundLine}
+use Rattle.world_model.specs.Rounds.{EachDoes, ManyDo, Forgets, Notifies, Stabilises, FixesFrom, PutsAround, PutsAll, Repairs, IsRoundOf, RoundLine}
 use Rattle.world_model.specs.Rounds.EachDoes.{done as each_done, next as each_next}
 use Rattle.world_model.specs.Rounds.ManyDo.{none as many_none, again as many_again}
 use Rattle.world_model.specs.Rounds.Forgets.{has_none, keeps, forgets}
@@ -47,7 +46,7 @@ use Rattle.world_model.specs.Rounds.FixesFrom.{done as fixes_done, next as fixes
 use Rattle.world_model.specs.Rounds.PutsAround.{no_route, puts as puts_around}
 use Rattle.world_model.specs.Rounds.PutsAll.{done as all_done, keeps as all_keeps, drops as all_drops}
 use Rattle.world_model.specs.Rounds.RoundLine.{before_ring as round_before_ring, goes as round_goes}
-use Rattle.world_model.specs.Logs.{Played, LogLine, ViewLine, RestartLine, SnapLine, after_entering, beside, goes_if, at_line, keep_by, keep_line, use_by, use_line, with_newcomer, with_view}
+use Rattle.world_model.specs.Logs.{Played, LogLine, ViewLine, RestartLine, SnapLine, after_entering, beside, goes_if, at_line, keep_by, keep_line, use_by, with_view}
 use Rattle.world_model.specs.Logs.LogLine.{before_ring as log_before_ring, known as log_known, begins as log_begins}
 use Rattle.world_model.specs.Logs.ViewLine.{known as view_known, no_members as view_no_members, no_former as view_no_former, one_head_key as view_one_head_key, exceeds as view_exceeds, makes as view_makes}
 use Rattle.world_model.specs.Logs.RestartLine.{nobody as restart_nobody, outside as restart_outside, starts as restart_starts}
@@ -58,7 +57,7 @@ use Rattle.world_model.specs.Calls.OpenLine.{sends_nothing as opening_sends_noth
 use Rattle.world_model.specs.Calls.StepLine.{not_open as stepping_not_open, out_of_range as stepping_out_of_range, steps as stepping_steps}
 use Rattle.world_model.specs.Calls.FinishLine.{not_open as finishing_not_open, ends as finishing_ends}
 use Rattle.world_model.specs.Faults.{damage_by, damage_line, damaged_to, holds_by, holds_line, holds_text, lose_line, meets_some, node_named, key_named, order_line, order_text, showing, work_line, work_text}
-use Rattle.world_model.specs.Step.{Does, MayDo, MayDoFirst, Untold, WithinLimit, most_bytes}
+use Rattle.world_model.specs.Step.{Does, MayDoFirst, Untold, WithinLimit, most_bytes}
 use Rattle.world_laws.specs.Laws.{MetGrows}
 
 -- ---- blocks

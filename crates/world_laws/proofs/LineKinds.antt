@@ -1,5 +1,5 @@
 -- Each outcome of a line is of the line's kind, case by case.
-use Rattle.std.proofs.Common.{◌≡◌, ℕ, Bool, true, false, cond, List, [], ◌++◌, map, length, Option, Some, None, refl, sym, ap, ◌∙◌, subst}
+use Rattle.std.proofs.Common.{◌≡◌, ℕ, Bool, true, false, cond, List, ◌++◌, map, length, Option, Some, None, refl, sym, ap, ◌∙◌}
 use Rattle.std.specs.Prelude.{MatchBool, nat_lt, nat_le, is_some, sum_by}
 use Rattle.ivy_base.specs.declared.key.Key.{Key}
 use Rattle.ivy_base.specs.declared.key.PubKey.{PubKey}
@@ -29,8 +29,8 @@ use Rattle.world_model.specs.Calls.AsLine.{sends_nothing as whole_sends_nothing,
 use Rattle.world_model.specs.Calls.OpenLine.{sends_nothing as opening_sends_nothing, is_open as opening_is_open, opens as opening_opens}
 use Rattle.world_model.specs.Calls.StepLine.{not_open as stepping_not_open, out_of_range as stepping_out_of_range, steps as stepping_steps}
 use Rattle.world_model.specs.Calls.FinishLine.{not_open as finishing_not_open, ends as finishing_ends}
-use Rattle.world_model.specs.Step.{Does, MayDo, MayDoFirst, Untold, WithinLimit, most_bytes}
-use Rattle.world_laws.specs.Kinds.{Kind, Going, Ending, Refused, Limited, kind, ring_kind, log_kind, view_kind, sending_kind, open_kind, session_kind, join_kind, round_kind, in_view_kind, command_kind, within_limit_kind, first_kind, LineHasOneKind}
+use Rattle.world_model.specs.Step.{Does, MayDoFirst, Untold, WithinLimit, most_bytes}
+use Rattle.world_laws.specs.Kinds.{Kind, Going, Refused, Limited, kind, ring_kind, log_kind, view_kind, sending_kind, open_kind, session_kind, join_kind, round_kind, in_view_kind, command_kind, within_limit_kind, first_kind, LineHasOneKind}
 
 -- a test that is known to be true, or false
 if_true : (b : Bool) (k l : Kind) → b ≡ true → cond b k l ≡ k

@@ -1,17 +1,13 @@
 -- Lines that show something, or set the moment or a loss, change nothing else.
-use Rattle.std.proofs.Common.{◌≡◌, ℕ, Bool, true, false, cond, List, [], Option, Some, None, refl, sym, ap, ◌∙◌, subst}
+use Rattle.std.proofs.Common.{◌≡◌, ℕ, Bool, true, false, cond, List, Option, Some, None, refl, sym, subst}
 use Rattle.std.specs.Prelude.{nat_lt, nat_le, is_some, ◌&&◌}
 use Rattle.script_driver.specs.Run.{Outcome, Goes, Ends, Refuses, Exceeds}
-use Rattle.script_model.specs.declared.command.Command.{Command}
 use Rattle.script_model.specs.declared.command.Command.TheVariants as command
-use Rattle.log_heads.specs.Signed.{hss_judged}
 use Rattle.world_model.specs.Nodes.{Node}
 use Rattle.world_model.specs.World.{World, Participant, participant}
-use Rattle.world_model.specs.Story.{Story}
 use Rattle.world_model.specs.Logs.{Played, at_line, beside, goes_if}
 use Rattle.world_model.specs.Faults.{holds_by, holds_line, holds_text, lose_line, node_named, order_line, order_text, showing, work_line, work_text}
-use Rattle.world_model.specs.Step.{Does}
-use Rattle.world_laws.specs.Laws.{IsStill, StillLinesChangeNothing}
+use Rattle.world_laws.specs.Laws.{StillLinesChangeNothing}
 
 -- but for the moment and losses it is that world
 abbrev IsAlmost : World → World → Type 0

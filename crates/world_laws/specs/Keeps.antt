@@ -25,7 +25,6 @@ use Rattle.agent_model.specs.Standing.{Refresh, edges_of}
 use Rattle.turn_model.specs.Turn.{Asked}
 use Rattle.dht_ids.specs.declared.ask.Answer.{Answer}
 use Rattle.dht_ids.specs.declared.ask.Answer.TheVariants as answer
-use Rattle.dht_ids.specs.declared.ask.Heard.{Heard}
 use Rattle.session_model.specs.Asking.{IsBegun}
 use Rattle.session_model.specs.Refreshing.{Note, RefreshEnd, Refreshes, Needs, FailsBy, Done}
 use Rattle.session_model.specs.Replies.{Asks}
@@ -33,10 +32,11 @@ use Rattle.log_heads.specs.Signed.{hss_judged}
 use Rattle.session_model.specs.Brought.{BlockOf, all_heads, brought_in, stamp_of}
 use Rattle.session_model.specs.Sessions.{Said, Session, Stage, Refreshing, Publishing, Over, IsGet, IsPut}
 use Rattle.node_store.specs.Stores.{IsStore}
+use Rattle.round_laws.specs.RingOf.{AreNamed, KnowsOnly}
+use Rattle.round_laws.specs.RingOf.{AreApart as StandApart}
 use Rattle.world_model.specs.Agents.{Agent, IsKept, Kept, kept_bytes, own, own_reach, sealed}
-use Rattle.world_model.specs.Nodes.{Node}
 use Rattle.world_model.specs.World.{World, NamedSession, Participant, participant, named_bytes, peer_of}
-use Rattle.world_model.specs.Story.{Story, Began, Knowing, HadTurn, began_of, knowing_of, known_of}
+use Rattle.world_model.specs.Story.{Story, Began, Knowing, began_of, knowing_of, known_of}
 use Rattle.world_model.specs.Logs.{Played}
 use Rattle.world_model.specs.Steps.{Scene, heads_by}
 use Rattle.world_laws.specs.Causes.{HasCause, said_at}
@@ -54,13 +54,12 @@ pub record BlocksAreMet (w : World) : Type 0 where
   pub cached : AllByRecursion (λ p. IsCache p.cache × AllByRecursion (λ e. Contains w.met e.1) p.cache) w.participants
   pub views : AllByRecursion (λ v. IsView v.view) w.views
 
--- nodes have different identifiers, and each peer that a node, an entry list or a head of a list names is a node that was made
+-- each node has the identifier of its number, no two stand at one place, and each peer that a node knows is a node that was made
 pub record PeersAreMade (w : World) : Type 0 where
-  pub apart : (n m : Node) → Contains w.nodes n → Contains w.nodes m → (peer_of n).id ≡ (peer_of m).id → n ≡ m
+  pub named : AreNamed (map peer_of w.nodes)
+  pub apart : StandApart (map peer_of w.nodes)
   pub few : length w.nodes ≤ 256
-  pub lists : AllByRecursion (λ n. AllByRecursion (Contains (map peer_of w.nodes)) n.ring.links.list) w.nodes
-  pub fingers : AllByRecursion (λ n. AllByRecursion (Contains (map peer_of w.nodes)) n.ring.links.fingers) w.nodes
-  pub befores : AllByRecursion (λ n. IfSome n.ring.links.before (Contains (map peer_of w.nodes))) w.nodes
+  pub known : AllByRecursion (KnowsOnly (map peer_of w.nodes)) w.nodes
 
 -- a head of the signer's, by the number of its signature and the record that it is over
 abbrev pub sealed_with : Signer → ℕ × Stamp → List ℕ

@@ -1,5 +1,5 @@
 -- Laws of the world's steps and of its runs. Each is stated here, and proved by the crates above.
-use Rattle.std.specs.Prelude.{◌≡◌, ◌≢◌, ◌⊎◌, ◌↔◌, ℕ, ◌+◌, ◌<◌, List, [], ◌∷◌, ◌++◌, map, take, Contains, Option, Ok, Some, None}
+use Rattle.std.specs.Prelude.{◌≡◌, ◌≢◌, ◌⊎◌, ◌↔◌, ℕ, ◌+◌, ◌<◌, List, [], ◌∷◌, ◌++◌, map, take, Contains, Option, Ok, Some}
 use Rattle.std.specs.List.{AllByRecursion}
 use Rattle.ivy_base.specs.declared.key.Key.{Key}
 use Rattle.ivy_base.specs.declared.key.PubKey.{PubKey}
@@ -12,7 +12,7 @@ use Rattle.log_model.specs.Spelling.{HasSpelling, no_name, record_block}
 use Rattle.log_model.specs.Standing.{Stand}
 use Rattle.log_model.specs.Vector.{Stamp, Vector, stamp_at}
 use Rattle.log_model.specs.View.{View}
-use Rattle.turn_model.specs.Basis.{Basis, fresh_basis}
+use Rattle.turn_model.specs.Basis.{Basis}
 use Rattle.turn_model.specs.Known.{EndsAt}
 use Rattle.turn_model.specs.Turn.{Candidate, IsPrefixOf}
 use Rattle.dht_ids.specs.declared.ask.Ask.TheVariants as ask
@@ -40,7 +40,7 @@ use Rattle.script_model.specs.Lines.{command_of}
 use Rattle.world_model.specs.Agents.{Agent, IsKept, Kept, TakesTurn, kept_bytes, own}
 use Rattle.world_model.specs.Keepers.{fails_next}
 use Rattle.world_model.specs.World.{World, NamedSession, Participant, empty_world, named_bytes, participant}
-use Rattle.world_model.specs.Story.{Story, HadTurn, empty_story, known_of}
+use Rattle.world_model.specs.Story.{HadTurn, empty_story, known_of}
 use Rattle.world_model.specs.Logs.{Played}
 use Rattle.world_model.specs.Calls.{reply_line}
 use Rattle.world_model.specs.Step.{Does, IvyStep}
