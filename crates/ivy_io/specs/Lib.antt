@@ -1,3 +1,4 @@
 pub mod Causes
 pub mod Known
 pub mod States
+pub mod Keepers

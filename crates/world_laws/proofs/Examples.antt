@@ -54,5 +54,5 @@ head_waits : after_put None c (d ∷ a ∷ b ∷ []) [] false ≡ Publishing Non
 head_waits = refl
 
 -- the second save is planned to fail
-second_fails : fails_next (record fresh_keeper { saves = 1; failing = (2, true) ∷ [] }) ≡ true
+second_fails : fails_next (record fresh_keeper { saves = 1; failing = record { number = 2; new = true } ∷ [] }) ≡ true
 second_fails = refl

@@ -174,7 +174,7 @@ use_line w log view = use_by w (participant w.0 log) (view_named w.0 view)
 abbrev pub keep_by : World → Option Participant → ℕ → Bool → Outcome World
 keep_by w None count new = Refuses
 keep_by w (Some p) count new =
-    goes_if (nat_lt 0 count) (with_participant w (record p { keeper = with_fault p.keeper (p.keeper.saves + count) new }))
+    goes_if (nat_lt 0 count) (with_participant w (record p { keeper = with_fault p.keeper count new }))
 
 abbrev pub keep_line : World → List ℕ → ℕ → Bool → Outcome World
 keep_line w log count new = keep_by w (participant w log) count new
