@@ -1,6 +1,6 @@
 -- The candidates of a turn by the standing of its session, and what a refresh has to bring of them. One reading is settled here: fetching a log from a record
 -- whose vector isn't known may take records that don't know all that this record does.
-use Rattle.std.specs.Prelude.{◌≡◌, ℕ, nat_lt, List, filter, map, Contains, Some, None}
+use Rattle.std.specs.Prelude.{◌≡◌, ℕ, nat_lt, List, filter, map, Contains, IfSome, Some, None}
 use Rattle.std.specs.List.{AllByRecursion}
 use Rattle.ivy_base.specs.declared.key.Key.{Key}
 use Rattle.ivy_base.specs.declared.key.PubKey.{PubKey}
@@ -12,6 +12,8 @@ use Rattle.log_model.specs.Closed.{log_of}
 use Rattle.log_records.specs.Batches.{IsOnward, IsSound}
 use Rattle.turn_model.specs.Candidates.{IsCandidate, IsPassedOver, IsTried, IsTriedBefore}
 use Rattle.log_model.specs.Standing.{Stand}
+use Rattle.turn_model.specs.Basis.{Basis, StandsFor}
+use Rattle.turn_model.specs.Known.{IsKnown}
 use Rattle.turn_model.specs.Turn.{Candidate}
 use Rattle.agent_model.specs.Standing.{Standing, Chain, Refresh, edge_at}
 
@@ -67,9 +69,16 @@ pub record Brings (heads : Key → List Stamp) (blocks : List (List ℕ)) (view 
   pub once : (c d : Chain) → Contains brought.chains c → Contains brought.chains d → c.owner ≡ d.owner → c ≡ d
   pub each : AllByRecursion (BringsOf heads blocks view s knew brought) view.members
 
--- A turn is held to the definitions where what the agent knows stands among the blocks met and has all that it knew when the session began, and the refresh
--- brings what these heads name.
-pub record MayTurn (heads : Key → List Stamp) (met : List (List ℕ)) (view : View) (s : Standing) (knew : List Record) (known : List Record) (brought : Refresh) : Type 0 where
+-- the basis stands for a closed set of what is known
+abbrev pub StandsWithin : View → List Record → Basis → Type 0
+StandsWithin view known b = (below : List Record) × StandsFor view b below × ((r : Record) → Contains below r → Contains known r)
+
+-- A turn is held to the definitions where the standing is the agent's own, and its floor names what the agent knew when the session began; what it knows now stands
+-- among the blocks met and has all of that; the refresh brings what these heads name; and a basis that it loaded stands for a part of what is known.
+pub record MayTurn (heads : Key → List Stamp) (met : List (List ℕ)) (view : View) (own : PubKey) (s : Standing) (knew : List Record) (known : List Record) (brought : Refresh) : Type 0 where
+  pub same_own : s.own ≡ own
+  pub by_floor : IsKnown view s.floor knew
   pub stand : Stand met known
   pub knew_before : (r : Record) → Contains knew r → Contains known r
   pub brings : Brings heads met view s knew brought
+  pub loaded : IfSome brought.basis (StandsWithin view known)

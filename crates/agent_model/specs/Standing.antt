@@ -11,7 +11,7 @@ use Rattle.log_model.specs.View.{View}
 use Rattle.log_model.specs.Vector.{Stamp, Vector, stamp_at, seq_of}
 use Rattle.log_model.specs.Record.{Record}
 use Rattle.log_records.specs.declared.edge.Edge.{Edge}
-use Rattle.log_records.specs.Batches.{as_edge}
+use Rattle.log_records.specs.Batches.{as_edge, owner_of}
 use Rattle.turn_model.specs.Basis.{Basis, Holding}
 use Rattle.dht_ids.specs.declared.post.Post.{Post}
 use Rattle.agent_model.specs.Agent.{Agent, Signing, own, joined}
@@ -57,6 +57,10 @@ pub record Chain : Type 0 where
   pub owner : PubKey
   pub records : List Record
 
+-- a chain of a batch, by its owner and its records
+abbrev pub chain_of : Stamp × List Record → Chain
+chain_of c = record { owner = owner_of c.1; records = c.1 }
+
 -- what it started from, a chain at most of each member's log, and the basis that was loaded
 pub record Refresh : Type 0 where
   pub started : Vector
@@ -85,10 +89,10 @@ beyond front c = (let log = head_key_of c.owner in let rest = filter (λ r. nat_
     if go_on_from (stamp_at front log) rest then rest else [])
 
 -- of the own log only what the floor names counts
-abbrev pub new_in : {S : Type 0} → Signing S → Agent S → Holding → Chain → List Record
-new_in signs a h c = (let rest = beyond (joined h) c in
-    if eq_by_cmp owner_cmp (own signs a) c.owner then filter (λ r. nat_le r.seq (seq_of a.floor (head_key_of c.owner))) rest else rest)
+abbrev pub new_in : PubKey → Vector → Holding → Chain → List Record
+new_in own floor h c = (let rest = beyond (joined h) c in
+    if eq_by_cmp owner_cmp own c.owner then filter (λ r. nat_le r.seq (seq_of floor (head_key_of c.owner))) rest else rest)
 
--- the new records that a refresh brings to what a turn goes on from
-abbrev pub new_records : {S : Type 0} → Signing S → Agent S → Holding → Refresh → List Record
-new_records signs a h brought = flat_map (new_in signs a h) brought.chains
+-- the new records that a refresh brings to what a turn goes on from, by the own key and the floor
+abbrev pub new_records : PubKey → Vector → Holding → Refresh → List Record
+new_records own floor h brought = flat_map (new_in own floor h) brought.chains

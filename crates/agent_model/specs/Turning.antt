@@ -49,6 +49,15 @@ lacks floor front new log = option_map_or (λ t. nat_lt (seq_of front log) t.seq
 abbrev pub is_above : Basis → Record → Bool
 is_above b r = dominates (full_vector r) b.front && nat_lt (seq_of b.front (head_key_of r.owner)) r.seq
 
+-- The refresh began with more than is held by now; or what is held and the new records lack the record of a member's log that the floor names.
+abbrev pub is_behind : View → PubKey → Vector → Holding → Refresh → Bool
+is_behind view own floor h brought = not (dominates (joined h) brought.started)
+    || list_any (λ owner. lacks floor (joined h) (new_records own floor h brought) (head_key_of owner)) view.members
+
+-- a new record isn't above the basis
+abbrev pub is_below_tide : PubKey → Vector → Holding → Refresh → Bool
+is_below_tide own floor h brought = list_any (λ r. not (is_above h.basis r)) (new_records own floor h brought)
+
 -- What a turn answers: a refusal, or a reply, and how many records were applied for it.
 pub data TurnEnd : Type 0 where
   Behind : TurnEnd
@@ -64,16 +73,6 @@ module _ {S : Type 0} (signs : Signing S) where
 
   abbrev pub inputs : Agent S → View → Bool → Inputs
   inputs a view fails = record { view = view; own = own signs a; leaves = signs.remaining a.signer; has_failed = a.has_failed || fails }
-
-  -- The refresh began with more than the agent holds by now; or what it holds and the new records lack the record of a member's log
-  -- that the floor names.
-  abbrev pub is_behind : View → Agent S → Holding → Refresh → Bool
-  is_behind view a h brought = not (dominates (joined h) brought.started)
-      || list_any (λ owner. lacks a.floor (joined h) (new_records signs a h brought) (head_key_of owner)) view.members
-
-  -- a new record isn't above the basis
-  abbrev pub is_below_tide : Agent S → Holding → Refresh → Bool
-  is_below_tide a h brought = list_any (λ r. not (is_above h.basis r)) (new_records signs a h brought)
 
   -- ---- the agent after a turn
 
@@ -138,17 +137,17 @@ module _ {S : Type 0} (signs : Signing S) where
   -- Whatever the agent may know, the turn is that of the definition.
   abbrev pub IsByDefinition : Refresh → Agent S → View → Bool → Asked → Moment → Holding → List Record → Reply → Type 0
   IsByDefinition brought a view fails asked now h written reply = (heads : Key → List Stamp) (met : List (List ℕ)) (s : Standing) (knew known : List Record)
-      → NamesTellApart met → Knows view a.floor a.holding known → MayTurn heads met view s knew known brought
+      → NamesTellApart met → Knows view a.floor a.holding known → MayTurn heads met view (own signs a) s knew known brought
       → IsTurnOf heads met s knew known brought.started a view fails asked now h written reply
 
   -- A turn, by what was brought to it and whether a save would fail: how it ends, the agent then, and what is to be saved. Behind comes before BelowTide; else
   -- there is a reply, and exactly the records are applied that the engine has to.
   pub data Turns (brought : Refresh) (a : Agent S) (view : View) (fails : Bool) (asked : Asked) (now : Moment) : TurnEnd → Agent S → Option (Kept S) → Type 0 where
-    behind : is_behind view a (going_on a brought.basis) brought ≡ true → Turns brought a view fails asked now Behind a None
-    below : is_behind view a (going_on a brought.basis) brought ≡ false → is_below_tide a (going_on a brought.basis) brought ≡ true
+    behind : is_behind view (own signs a) a.floor (going_on a brought.basis) brought ≡ true → Turns brought a view fails asked now Behind a None
+    below : is_behind view (own signs a) a.floor (going_on a brought.basis) brought ≡ false → is_below_tide (own signs a) a.floor (going_on a brought.basis) brought ≡ true
         → Turns brought a view fails asked now BelowTide (record a { holding = nothing_held; to_load = None }) None
     answers : (h : Holding) (written : List Record) (reply : Reply) (after : Agent S) (saving : Option (Kept S))
-        → is_behind view a (going_on a brought.basis) brought ≡ false → is_below_tide a (going_on a brought.basis) brought ≡ false
+        → is_behind view (own signs a) a.floor (going_on a brought.basis) brought ≡ false → is_below_tide (own signs a) a.floor (going_on a brought.basis) brought ≡ false
         → h.basis ≡ (going_on a brought.basis).basis → MayTake view a h → Becomes view a h fails written after saving
         → IsByDefinition brought a view fails asked now h written reply
         → Turns brought a view fails asked now (Answered reply (applied_between (going_on a brought.basis).held h.held + length written)) after saving

@@ -5,10 +5,10 @@ use Rattle.log_model.specs.Record.{Record}
 use Rattle.rpc_wire.specs.Callers.{identity_of}
 use Rattle.turn_model.specs.Turn as turn
 use Rattle.fs_tree.specs.Bases.{basis_of}
-use Rattle.log_records.specs.Batches.{owner_of}
 use Rattle.dhash_client.specs.declared.miss.Miss.{Miss}
 use Rattle.dhash_client.specs.declared.miss.Miss.TheVariants as miss
 use Rattle.agent_model.specs.Standing as agent
+use Rattle.agent_model.specs.Standing.{chain_of}
 use Rattle.session_model.specs.Refreshing as session
 use Rattle.log_fetch.specs.declared.asked.Asked.{Asked}
 use Rattle.log_fetch.specs.declared.standing.Standing.{Standing}
@@ -21,10 +21,6 @@ asked_of a = record { caller = identity_of a.caller; args = a.args }
 
 abbrev pub standing_of : Standing → agent.Standing
 standing_of s = record { view = s.view; own = s.own; floor = s.floor; held = s.held; edges = s.edges; to_load = s.basis; pending = s.pending }
-
--- a chain of a batch, by its owner and its records
-abbrev pub chain_of : Stamp × List Record → agent.Chain
-chain_of c = record { owner = owner_of c.1; records = c.1 }
 
 abbrev pub refresh_of : Refresh → agent.Refresh
 refresh_of r = record { started = r.batch.held; chains = map chain_of r.batch.chains; basis = option_map basis_of r.basis }
