@@ -15,7 +15,7 @@ use Rattle.turn_model.specs.Turn.{Candidate, IsAtHand}
 use Rattle.agent_model.specs.Agent.{Agent, joined}
 use Rattle.agent_model.specs.Standing.{Standing, going_on}
 use Rattle.agent_model.specs.Candidates.{AreCandidatesOf, MayTurn}
-use Rattle.agent_laws.specs.Taking.{TakesNew, refresh_with, with_new}
+use Rattle.agent_model.specs.Taking.{TakesNew, refresh_with, with_new}
 
 -- The set is the largest closed part of what the agent knows and of the candidates that the refresh's heads name, and all of it is held.
 pub record IsTakenBy (heads : Key → List Stamp) (met : List (List ℕ)) (view : View) (s : Standing) (knew known : List Record) (started : Vector) (h : Holding) (taken : List Record) : Type 0 where

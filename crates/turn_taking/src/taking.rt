@@ -1,0 +1,60 @@
+//! The new records of a turn.
+
+ghost use Rattle.std.specs.Prelude.{◌≡◌, Contains, IfOk};
+ghost use Rattle.std.specs.List.{AllByRecursion};
+ghost use Rattle.agent_model.specs.Agent.{joined};
+ghost use Rattle.causal_order.specs.Over.{IsClosed};
+ghost use Rattle.ivy_base.specs.declared.key.Key.{Key};
+ghost use Rattle.log_records.specs.Batches.{owner_of, AreUnder};
+ghost use Rattle.log_records.specs.Records.{records_of};
+ghost use Rattle.turn_model.specs.Basis.{Holding};
+ghost use Rattle.turn_taking.specs.Taking.{IsHeld, IsWithin, Takes};
+
+use ivy_base::{Memory, PubKey};
+use log_records::{Batch, Record};
+use std::alloc::Global;
+use version_vectors::Vector;
+use view_blocks::View;
+
+/// What an agent holds, and how far it knows the logs of its view.
+#[derive(Clone, Copy)]
+pub struct Held<'a> {
+    /// The view that the agent is in.
+    pub view: &'a View,
+    /// The agent's public key.
+    pub own: &'a PubKey,
+    /// How far it has known each log.
+    pub floor: &'a Vector,
+    /// The front of the basis below the records.
+    pub base: &'a Vector,
+    /// The records above the basis, ascending by rank.
+    pub records: &'a [Record],
+    /// The front of the basis and the records.
+    pub front: &'a Vector,
+}
+
+/// What a turn takes of what was brought.
+#[derive(Drop)]
+pub enum Taken {
+    /// The refresh began with more than is held by now, or the floor's record of a member's log is neither held nor new.
+    Behind,
+    /// A new record isn't above the basis.
+    BelowTide,
+    /// The new records of the largest closed part, ascending by rank, and the front of all that is held then.
+    New(Vec<Record>, Vector),
+}
+
+/// What a turn that goes on from what is held takes of the batch, which was fetched under the view, of its members. The error
+/// is want of memory.
+pub fn take(alloc: Global, held: &Held<'_>, batch: Batch) -> Result<Taken, Memory>
+    requires closed { IsClosed held.now.view.now held.now.base.now (records_of held.now.records.now) }
+    requires front { (h : Holding) → IsHeld held.now h → held.now.front.now ≡ joined h }
+    requires base { IsWithin held.now.view.now held.now.own.now held.now.floor.now held.now.base.now }
+    requires own { IsWithin held.now.view.now held.now.own.now held.now.floor.now held.now.front.now }
+    requires member { Contains held.now.view.now.members held.now.own.now }
+    requires under { (edges : Key → Option Edge) × AreUnder held.now.view.now edges batch }
+    requires members { AllByRecursion (λ c. Contains held.now.view.now.members (owner_of c.1)) batch.chains }
+    ensures { IfOk result (λ taken. (h : Holding) → IsHeld held.now h → Takes held.now.view.now held.now.own.now held.now.floor.now batch h taken) }
+{
+    unimplemented!()
+}
