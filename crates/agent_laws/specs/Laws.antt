@@ -3,7 +3,7 @@ use Rattle.std.specs.Prelude.{◌≡◌, ℕ, List, Option, Contains}
 use Rattle.ivy_base.specs.declared.key.Key.{Key}
 use Rattle.ivy_base.specs.declared.key.PubKey.{PubKey}
 use Rattle.ivy_base.specs.Naming.{NamesTellApart, head_key_of}
-use Rattle.log_model.specs.View.{View}
+use Rattle.log_model.specs.View.{View, IsView}
 use Rattle.log_model.specs.Vector.{Stamp, Vector, stamp_at}
 use Rattle.log_model.specs.Record.{Record}
 use Rattle.log_model.specs.Rank.{front}
@@ -28,7 +28,7 @@ pub record IsTakenBy (heads : Key → List Stamp) (met : List (List ℕ)) (view 
 abbrev pub TakenIsByDefinition : Type 0
 TakenIsByDefinition = {S : Type 0} (a : Agent S) (heads : Key → List Stamp) (met : List (List ℕ)) (view : View) (own : PubKey) (s : Standing) (knew known : List Record)
     (batch : Batch) (basis : Option Basis) (edges : Key → Option Edge) (new : List Record)
-    → NamesTellApart met → Knows view a.floor a.holding known → MayTurn heads met view own s knew known (refresh_with batch basis)
+    → NamesTellApart met → IsView view → Knows view a.floor a.holding known → MayTurn heads met view own s knew known (refresh_with batch basis)
     → IsBatch batch → AreUnder view edges batch → TakesNew view own a.floor (going_on a basis) (refresh_with batch basis) new
     → (taken : List Record) × IsTakenBy heads met view s knew known batch.held (with_new (going_on a basis) new) taken
 
@@ -42,6 +42,6 @@ FrontIsJoined = (view : View) (s : List Record) (h : Holding) → HoldsAll view 
 abbrev pub OwnLogEndsAtFloor : Type 0
 OwnLogEndsAtFloor = {S : Type 0} (a : Agent S) (heads : Key → List Stamp) (met : List (List ℕ)) (view : View) (own : PubKey) (s : Standing) (knew known : List Record)
     (batch : Batch) (basis : Option Basis) (edges : Key → Option Edge) (new : List Record)
-    → NamesTellApart met → Knows view a.floor a.holding known → MayTurn heads met view own s knew known (refresh_with batch basis)
+    → NamesTellApart met → IsView view → Knows view a.floor a.holding known → MayTurn heads met view own s knew known (refresh_with batch basis)
     → IsBatch batch → AreUnder view edges batch → TakesNew view own a.floor (going_on a basis) (refresh_with batch basis) new
     → Contains view.members own → stamp_at (joined (with_new (going_on a basis) new)) (head_key_of own) ≡ stamp_at a.floor (head_key_of own)

@@ -3,6 +3,7 @@ use Rattle.std.specs.Prelude.{◌≡◌, ℕ, List, Contains, Ok, IfSome, Some, 
 use Rattle.ivy_base.specs.declared.key.Key.{Key}
 use Rattle.ivy_base.specs.declared.key.PubKey.{PubKey}
 use Rattle.ivy_base.specs.Naming.{NamesTellApart, head_key_of, name}
+use Rattle.log_model.specs.View.{IsView}
 use Rattle.log_model.specs.Vector.{Stamp, Vector, stamp_at}
 use Rattle.log_model.specs.Record.{Record}
 use Rattle.log_model.specs.Rank.{own_entry}
@@ -27,6 +28,6 @@ StartsFrom s start knew = (owner : PubKey) → Contains s.view.members owner →
 -- Where names tell the blocks apart, the members' logs that were fetched to the end bring what their heads name.
 abbrev pub FetchedIsBrought : Type 0
 FetchedIsBrought = (met : List (List ℕ)) (s : Standing) (start : Vector) (knew : List Record) (brought : List Brought) (notes : List Note) (chains : List Chain) (basis : Option Basis)
-    → NamesTellApart met → IsKnown s.view s.floor knew → Stand met knew → StartsFrom s start knew → AreMet met brought
+    → NamesTellApart met → IsView s.view → IsKnown s.view s.floor knew → Stand met knew → StartsFrom s start knew → AreMet met brought
     → FetchesAll s start s.view.members brought notes chains Done
     → Brings (heads_at brought) met s.view s knew (record { started = start; chains = chains; basis = basis })
