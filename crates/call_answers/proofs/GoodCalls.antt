@@ -11,7 +11,7 @@ use Rattle.nfs_model.specs.declared.arguments.Args.TheVariants.{Null}
 use Rattle.nfs_model.specs.Arguments.{AreArguments}
 use Rattle.nfs3_args.specs.Reading.{AreNoArguments}
 use Rattle.turn_serving.specs.declared.serving.Asked.{Asked}
-use Rattle.play_model.specs.Calls.{IsServed, IsByMessage, no_call, other_version, no_program, no_version, no_procedure, no_caller, no_arguments, null}
+use Rattle.play_model.specs.Calls.{HasProcedure, IsByMessage, no_call, other_version, no_program, no_version, no_procedure, no_caller, no_arguments, null}
 use Rattle.call_answers.specs.Asking.{IsThere, IsNotThere, IsHeadAlone, by_message, lacks_memory, IsAskedWell}
 use Rattle.call_answers.specs.Asking as missing
 use Rattle.call_answers.proofs.Callers.{caller_is_identity}
@@ -34,7 +34,7 @@ module _ (message : List ℕ) (given : Call) (good : IsGoodCall message given) w
   not_there _ (missing.no_procedure program version more) =
       by_message (under ProcedureUnavailable (no_procedure good.call good.is_call (sym good.program ∙ program) (sym good.version ∙ version) (subst (λ (n : ℕ). 22 ≤ n) good.procedure more)))
 
-  served : IsThere given → IsServed good.call
+  served : IsThere given → HasProcedure good.call
   served there = record {
     program = sym good.program ∙ there.program;
     version = sym good.version ∙ there.version;

@@ -1,5 +1,5 @@
 -- The blocks that were met, each once, and the newest head of each log.
-use Rattle.std.specs.Prelude.{ℕ, ◌++◌, nat_lt, Bool, length, List, [], ◌∷◌, sum_by, fold, map, Option, Some, None, if◌then◌else◌}
+use Rattle.std.specs.Prelude.{ℕ, ◌++◌, nat_lt, Bool, length, List, [], ◌∷◌, sum_by, fold, Option, Some, None, if◌then◌else◌}
 use Rattle.std.specs.FinMap.Entries.{find as value_at, put}
 use Rattle.std.specs.List.{filter_map, list_any}
 use Rattle.std.specs.Str.{bytes_eq}

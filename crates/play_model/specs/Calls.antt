@@ -45,7 +45,7 @@ sending_of w name pieces = do
 -- ---- answers by the message alone (RFC 5531, section 9)
 
 -- a call of NFS version 3 whose procedure is there
-pub record IsServed (c : CallMessage) : Type 0 where
+pub record HasProcedure (c : CallMessage) : Type 0 where
   pub program : c.program ≡ nfs_program
   pub version : c.version ≡ 3
   pub procedure : c.procedure < 22
@@ -58,10 +58,10 @@ pub data IsByMessage (message : List ℕ) : Option (List ℕ) → Type 0 where
   no_program : (c : CallMessage) → IsCall message c → c.program ≢ nfs_program → IsByMessage message (Some (reply c.xid ProgramUnavailable))
   no_version : (c : CallMessage) → IsCall message c → c.program ≡ nfs_program → c.version ≢ 3 → IsByMessage message (Some (reply c.xid (ProgramMismatch 3 3)))
   no_procedure : (c : CallMessage) → IsCall message c → c.program ≡ nfs_program → c.version ≡ 3 → 22 ≤ c.procedure → IsByMessage message (Some (reply c.xid ProcedureUnavailable))
-  no_caller : (c : CallMessage) → IsCall message c → IsServed c → ((who : Identity) → IsCaller c.credential who → ⊥) → IsByMessage message (Some (reply c.xid BadCredential))
-  no_arguments : (c : CallMessage) (who : Identity) → IsCall message c → IsServed c → IsCaller c.credential who
+  no_caller : (c : CallMessage) → IsCall message c → HasProcedure c → ((who : Identity) → IsCaller c.credential who → ⊥) → IsByMessage message (Some (reply c.xid BadCredential))
+  no_arguments : (c : CallMessage) (who : Identity) → IsCall message c → HasProcedure c → IsCaller c.credential who
       → ((args : Args) → AreArguments c.program c.procedure c.arguments args → ⊥) → IsByMessage message (Some (reply c.xid GarbageArguments))
-  null : (c : CallMessage) (who : Identity) → IsCall message c → IsServed c → IsCaller c.credential who
+  null : (c : CallMessage) (who : Identity) → IsCall message c → HasProcedure c → IsCaller c.credential who
       → AreArguments c.program c.procedure c.arguments Null → IsByMessage message (Some (reply c.xid (Success [])))
 
 -- what the message asks for, where it reaches a turn
@@ -69,7 +69,7 @@ pub record Asks (message : List ℕ) (xid : ℕ) (asked : Asked) : Type 0 where
   pub call : CallMessage
   pub is_call : IsCall message call
   pub xid_is : call.xid ≡ xid
-  pub served : IsServed call
+  pub served : HasProcedure call
   pub caller : IsCaller call.credential asked.caller
   pub arguments : AreArguments call.program call.procedure call.arguments asked.args
   pub not_null : asked.args ≢ Null

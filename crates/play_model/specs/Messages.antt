@@ -1,5 +1,5 @@
 -- Calls of a script: the message that the pieces are.
-use Rattle.std.specs.Prelude.{ℕ, zero, suc, ◌+◌, nat_le, List, [], ◌∷◌, ◌++◌, length, replicate, Option, Some, None, option_map, if◌then◌else◌, slice_get}
+use Rattle.std.specs.Prelude.{ℕ, zero, suc, nat_le, List, [], ◌∷◌, ◌++◌, length, replicate, Option, Some, None, option_map, if◌then◌else◌, slice_get}
 use Rattle.std.specs.List.{flat_map}
 use Rattle.ivy_base.specs.Naming.{root_number}
 use Rattle.wire_model.specs.Xdr.{word, double_word, opaque}

@@ -1,19 +1,18 @@
 -- The world of a script, and the lines that change it but for calls.
-use Rattle.std.specs.Prelude.{ℕ, ◌+◌, ◌++◌, ◌==◌, nat_lt, Bool, true, false, ◌&&◌, ◌||◌, not, List, [], ◌∷◌, codes, fold, map, find, length, Option, Some, None, is_some, is_none, option_map, if◌then◌else◌}
+use Rattle.std.specs.Prelude.{ℕ, ◌++◌, ◌==◌, nat_lt, Bool, true, false, ◌&&◌, ◌||◌, not, List, [], ◌∷◌, codes, fold, map, find, length, Option, Some, None, is_some, is_none, option_map, if◌then◌else◌}
 use Rattle.std.specs.Fmt.{decimal}
 use Rattle.std.specs.FinMap.Entries.{by_order}
 use Rattle.std.specs.List.{flat_map}
 use Rattle.std.specs.Option.{option_map_or}
 use Rattle.std.specs.Ordering.{eq_by_cmp}
 use Rattle.std.specs.Str.{bytes_eq}
-use Rattle.ivy_base.specs.declared.key.Key.{Key}
 use Rattle.ivy_base.specs.declared.key.PubKey.{PubKey}
 use Rattle.ivy_base.specs.declared.operation.Moment.{Moment}
 use Rattle.ivy_base.specs.Naming.{owner_cmp}
 use Rattle.log_model.specs.Record.{Record}
 use Rattle.log_model.specs.Rank.{weight}
 use Rattle.log_model.specs.Chain.{opening}
-use Rattle.log_model.specs.View.{View, have_own_head_keys, is_member, view_block, most_members, most_former}
+use Rattle.log_model.specs.View.{View, have_own_head_keys, view_block, most_members, most_former}
 use Rattle.hash_signature_model.specs.declared.set.Set.{Set}
 use Rattle.hss_keys.specs.Signer.{Signer, one_more_made}
 use Rattle.script_driver.specs.Run.{Outcome, Goes, Refuses, Exceeds}

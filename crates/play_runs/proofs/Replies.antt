@@ -7,7 +7,7 @@ use Rattle.nfs_model.specs.declared.arguments.Args.TheVariants.{Null}
 use Rattle.nfs_model.specs.Arguments.{AreArguments, nfs_program}
 use Rattle.nfs_model.proofs.OneArguments.{one_arguments}
 use Rattle.turn_model.specs.Turn.{Asked}
-use Rattle.play_model.specs.Calls.{IsServed, IsByMessage, no_call, other_version, no_program, no_version, no_procedure, no_caller, no_arguments, null, Asks}
+use Rattle.play_model.specs.Calls.{HasProcedure, IsByMessage, no_call, other_version, no_program, no_version, no_procedure, no_caller, no_arguments, null, Asks}
 
 -- of a call: what it asks, a reply by itself or a turn
 data Verdict : Type 0 where
@@ -37,7 +37,7 @@ module _ (c : CallMessage) where
   abbrev OfProgram : Verdict → Type 0
   OfProgram v = ((c.program ≢ nfs_program) × (v ≡ Says (Some (reply c.xid ProgramUnavailable)))) ⊎ ((c.program ≡ nfs_program) × OfVersion v)
 
-  served : (v : Verdict) → IsServed c → OfCaller v → OfProgram v
+  served : (v : Verdict) → HasProcedure c → OfCaller v → OfProgram v
   served v is rest = inr (is.program, inr (is.version, inr (is.procedure, rest)))
 
   -- ---- a call has one verdict
