@@ -3,10 +3,11 @@
 ghost use Rattle.std.specs.Prelude.{◌≡◌, is_some};
 ghost use Rattle.block_cache.specs.Blocks.{block_of, moved_to_front};
 
-use crate::words::bytes_text;
+use crate::words::{Words, put_bytes};
 use block_cache::BlockCache;
 use ivy_base::{Bytes, Key, Memory, name_of};
-use std::alloc::Global;
+use std::alloc::{AllocError, Global};
+use std::fmt::Write;
 
 /// Keeps the block of that number.
 fn keep(cache: &mut BlockCache, alloc: Global, number: u16) -> Result<bool, Memory> {
@@ -33,29 +34,33 @@ fn holds(cache: &mut BlockCache, key: &Key) -> bool
     cache.find(key).is_some()
 }
 
-/// The block of that name, where it is held.
-fn found(cache: &mut BlockCache, alloc: Global, key: &Key) -> Option<String> {
+/// Writes the block of that name, where it is held.
+fn put_found(out: &mut String, cache: &mut BlockCache, key: &Key) -> Result<(), AllocError> {
     match cache.find(key) {
-        Some(bytes) => bytes_text(alloc, bytes),
-        None => format!(in alloc; "nothing").ok(),
+        Some(bytes) => put_bytes(out, bytes),
+        None => out.push_str("nothing"),
     }
 }
 
-/// The answer to a line, `None` for want of memory and where there is none.
-pub fn answer(cache: &mut Option<BlockCache>, alloc: Global, line: &str) -> Option<String> {
-    let mut words = line.split(' ');
-    let what = words.next()?;
+/// Writes the answer to a line, `None` for want of memory and where there is none.
+pub fn answer(
+    cache: &mut Option<BlockCache>,
+    out: &mut String,
+    alloc: Global,
+    mut words: Words<'_>,
+) -> Option<()> {
+    let what = words.word()?;
     if what == "full" {
         *cache = Some(full(alloc).ok()?);
-        return format!(in alloc; "kept").ok();
+        return out.push_str("kept").ok();
     }
     let cache = cache.as_mut()?;
-    let number: u16 = words.next()?.parse().ok()?;
+    let number: u16 = words.word()?.parse().ok()?;
     let key = name_of(&number.to_be_bytes());
     match what {
-        "keep" if keep(cache, alloc, number).ok()? => format!(in alloc; "kept").ok(),
-        "has" => format!(in alloc; "{}", holds(cache, &key)).ok(),
-        "find" => found(cache, alloc, &key),
+        "keep" if keep(cache, alloc, number).ok()? => out.push_str("kept").ok(),
+        "has" => write!(out, "{}", holds(cache, &key)).ok(),
+        "find" => put_found(out, cache, &key).ok(),
         _ => None,
     }
 }

@@ -1,9 +1,8 @@
 //! Questions about places on the circle.
 
-use crate::words::{key_of, key_text, number_of};
+use crate::words::{Words, put_key};
 use dht_ids::{between, distance, finger_start, inside, node_id, order, same};
 use ivy_base::Key;
-use std::alloc::Global;
 use std::cmp::Ordering;
 
 /// Where x lies on the arc from a to b.
@@ -26,31 +25,24 @@ fn comparison(a: &Key, b: &Key) -> &'static str {
     }
 }
 
-/// The answer to a question, `None` for want of memory and where there is none.
-pub fn answer(alloc: Global, question: &str) -> Option<String> {
-    let mut words = question.split(' ');
-    match words.next()? {
-        "id" => key_text(alloc, &node_id(number_of(words.next())?)),
-        "distance" => {
-            let (from, to) = (key_of(words.next())?, key_of(words.next())?);
-            key_text(alloc, &distance(&from, &to))
-        }
-        "finger" => {
-            let (node, k) = (key_of(words.next())?, number_of(words.next())?);
-            if k == 0 || k > 160 {
-                return None;
-            }
-            key_text(alloc, &finger_start(&node, k))
-        }
-        "arc" => {
-            let (a, x) = (key_of(words.next())?, key_of(words.next())?);
-            let b = key_of(words.next())?;
-            format!(in alloc; "{}", arc(&a, &x, &b)).ok()
-        }
-        "order" => {
-            let (a, b) = (key_of(words.next())?, key_of(words.next())?);
-            format!(in alloc; "{}", comparison(&a, &b)).ok()
-        }
+/// Writes where a finger begins.
+fn finger(out: &mut String, node: &Key, k: u32) -> Option<()> {
+    if k == 0 || k > 160 {
+        return None;
+    }
+    put_key(out, &finger_start(node, k)).ok()
+}
+
+/// Writes the answer to a question, `None` for want of memory and where there is none.
+pub fn answer(out: &mut String, mut words: Words<'_>) -> Option<()> {
+    match words.word()? {
+        "id" => put_key(out, &node_id(words.number()?)).ok(),
+        "distance" => put_key(out, &distance(&words.key()?, &words.key()?)).ok(),
+        "finger" => finger(out, &words.key()?, words.number()?),
+        "arc" => out
+            .push_str(arc(&words.key()?, &words.key()?, &words.key()?))
+            .ok(),
+        "order" => out.push_str(comparison(&words.key()?, &words.key()?)).ok(),
         _ => None,
     }
 }

@@ -29,10 +29,20 @@ impl Course {
     /// Whether a node was asked twice.
     pub fn asked_twice(&self) -> bool {
         let asked = self.asked.as_slice();
-        asked.iter().enumerate().any(|(i, node)| asked
-            .iter()
-            .skip(i.saturating_add(1))
-            .any(|other| other == node))
+        for (i, node) in asked.iter().enumerate() {
+            if is_among(node, asked.get(..i)) {
+                return true;
+            }
+        }
+        false
+    }
+}
+
+/// Whether the node is one of these.
+fn is_among(node: &Peer, nodes: Option<&[Peer]>) -> bool {
+    match nodes {
+        Some(nodes) => nodes.contains(node),
+        None => false,
     }
 }
 

@@ -3,12 +3,12 @@
 ghost use Rattle.std.specs.Prelude.{◌<◌};
 
 use crate::words::{
-    bytes_of, bytes_text, key_text, listed, number_of, peer, peer_text, peers_text,
+    Words, peer, push_numbered, put_bytes, put_heads, put_key, put_peer, put_peers,
 };
 use dhash_client::{GetBlock, GetHead, Miss, PutBlock, PutHead, Want};
 use dht_ids::{Answer, Ask, Heads, Judge, Judged, Peer, Peers, StoreFault};
 use ivy_base::{Bytes, Key, Memory, name_of};
-use std::alloc::Global;
+use std::alloc::{AllocError, Global};
 
 /// What an owner answers.
 #[derive(Drop)]
@@ -31,77 +31,87 @@ const ENTRY: u32 = 100;
 /// How often a machine is told to go on.
 const MOST_STEPS: u32 = 30;
 
-/// The owners of a key, by number.
-#[derive(Drop)]
-struct Owners(Vec<Owner>);
-
 /// The owner of a word, whose bytes stand behind a colon.
 fn owner_of(alloc: Global, word: &str) -> Option<Owner> {
-    let mut parts = word.split(':');
-    Some(match parts.next()? {
-        "silent" => Owner::Silent,
-        "empty" => Owner::Empty,
-        "gives" => Owner::Gives(Bytes::of(bytes_of(alloc, parts.next())?)),
-        "stores" => Owner::Stores,
-        "older" => Owner::Older,
-        "full" => Owner::Full,
-        "muddled" => Owner::Muddled,
-        _ => return None,
-    })
+    let mut parts = Words::of(word, ':');
+    match parts.word()? {
+        "silent" => Some(Owner::Silent),
+        "empty" => Some(Owner::Empty),
+        "gives" => Some(Owner::Gives(parts.bytes(alloc)?)),
+        "stores" => Some(Owner::Stores),
+        "older" => Some(Owner::Older),
+        "full" => Some(Owner::Full),
+        "muddled" => Some(Owner::Muddled),
+        _ => None,
+    }
+}
+
+/// The owners of a key, by number, and those that were asked, in order.
+#[derive(Drop)]
+struct Owners {
+    owners: Vec<Owner>,
+    asked: Vec<Peer>,
 }
 
 impl Owners {
-    /// The owners of a word, with commas between; `-` for none.
-    fn of(alloc: Global, word: Option<&str>) -> Option<Owners> {
-        let mut owners = Vec::new(alloc);
-        let word = word?;
-        if word != "-" {
-            for owner in word.split(',') {
-                owners.push(owner_of(alloc, owner)?).ok()?;
-            }
+    /// Adds the owners of a word, with commas between; none for `-`.
+    fn push(&mut self, alloc: Global, word: &str) -> Option<()> {
+        if word == "-" {
+            return Some(());
         }
-        Some(Owners(owners))
+        for owner in word.split(',') {
+            self.owners.push(owner_of(alloc, owner)?).ok()?;
+        }
+        Some(())
     }
 
     /// A silent node and, where there are owners, the one that knows them.
     fn entries(&self, alloc: Global) -> Result<Peers, Memory> {
-        let mut entries = vec![in alloc; peer(101)]?;
-        if !self.0.is_empty() {
-            entries.push(peer(ENTRY))?;
-        }
-        Ok(Peers::of(entries))
+        let entries = [peer(101), peer(ENTRY)];
+        let count = if self.owners.is_empty() { 1 } else { 2 };
+        Ok(Peers::of(entries[..count].to_vec(alloc)?))
     }
 
     /// The owners, and then the first one again.
     fn listed(&self, alloc: Global) -> Result<Peers, Memory> {
         let mut peers = Vec::new(alloc);
-        for (_owner, number) in self.0.iter().zip(0..ENTRY) {
-            peers.push(peer(number))?;
-        }
+        push_numbered(&mut peers, 0, self.owners.len().min(100) as u32)?;
         peers.push(peer(0))?;
         Ok(Peers::of(peers))
     }
 
-    /// What the node answers.
-    fn answer(&self, alloc: Global, node: Peer, ask: &Ask) -> Result<Answer, Memory> {
-        if matches!(ask, Ask::Route(_)) {
-            if node.number != ENTRY {
-                return Ok(Answer::Silent);
-            }
-            return Ok(Answer::Route {
-                nearer: Peers::of(Vec::new(alloc)),
-                owners: self.listed(alloc)?,
-            });
+    /// The route that the node names.
+    fn route(&self, alloc: Global, node: Peer) -> Result<Answer, Memory> {
+        if node.number != ENTRY {
+            return Ok(Answer::Silent);
         }
-        Ok(match self.0.get(node.number as usize) {
-            Some(Owner::Empty) => Answer::Nothing,
-            Some(Owner::Gives(bytes)) => Answer::Found(bytes.copy(alloc)?),
-            Some(Owner::Stores) => Answer::Stored,
-            Some(Owner::Older) => Answer::Refused(StoreFault::Older(7)),
-            Some(Owner::Full) => Answer::Refused(StoreFault::Full),
-            Some(Owner::Muddled) => Answer::Noted,
-            _ => Answer::Silent,
+        let owners = self.listed(alloc)?;
+        Ok(Answer::Route {
+            nearer: Peers::of(Vec::new(alloc)),
+            owners,
         })
+    }
+
+    /// What the node answers to a get or a put.
+    fn held(&self, alloc: Global, node: Peer) -> Result<Answer, Memory> {
+        match self.owners.get(node.number as usize) {
+            Some(Owner::Empty) => Ok(Answer::Nothing),
+            Some(Owner::Gives(bytes)) => Ok(Answer::Found(bytes.copy(alloc)?)),
+            Some(Owner::Stores) => Ok(Answer::Stored),
+            Some(Owner::Older) => Ok(Answer::Refused(StoreFault::Older(7))),
+            Some(Owner::Full) => Ok(Answer::Refused(StoreFault::Full)),
+            Some(Owner::Muddled) => Ok(Answer::Noted),
+            _ => Ok(Answer::Silent),
+        }
+    }
+
+    /// What the node answers. A node that isn't asked for a route counts as asked.
+    fn answer(&mut self, alloc: Global, node: Peer, ask: &Ask) -> Result<Answer, Memory> {
+        if matches!(ask, Ask::Route(_)) {
+            return self.route(alloc, node);
+        }
+        self.asked.push(node)?;
+        self.held(alloc, node)
     }
 }
 
@@ -126,173 +136,183 @@ impl Judge for Counts {
     }
 }
 
-/// What a get or a put came to: its result and the owners that it asked, in order.
-#[derive(Drop)]
-struct Course<T: Drop> {
-    result: Result<T, Miss>,
-    asked: Vec<Peer>,
-}
-
-/// Drives a machine to its end; `None` where it goes on.
+/// Drives a machine to its result; `None` where it goes on.
 macro_rules! drive {
-    ($alloc:expr, $owners:expr, $machine:expr) => {{
-        let mut machine = $machine;
-        let mut asked = Vec::new($alloc);
+    ($machine:expr, $alloc:expr, $owners:expr) => {{
         for _ in 0..MOST_STEPS {
-            match machine.next()? {
-                Want::Ask(node, ask) => {
-                    if !matches!(ask, Ask::Route(_)) {
-                        asked.push(node)?;
-                    }
-                    machine.heard($owners.answer($alloc, node, &ask)?)?;
-                }
-                Want::Done(result) => return Ok(Some(Course { result, asked })),
+            match $machine.next()? {
+                Want::Ask(node, ask) => $machine.heard($owners.answer($alloc, node, &ask)?)?,
+                Want::Done(result) => return Ok(Some(result)),
             }
         }
         Ok(None)
     }};
 }
 
+fn drive_get_block(
+    machine: &mut GetBlock,
+    alloc: Global,
+    owners: &mut Owners,
+) -> Result<Option<Result<Bytes, Miss>>, Memory> {
+    drive!(machine, alloc, owners)
+}
+
+fn drive_get_head(
+    machine: &mut GetHead<Counts>,
+    alloc: Global,
+    owners: &mut Owners,
+) -> Result<Option<Result<Heads, Miss>>, Memory> {
+    drive!(machine, alloc, owners)
+}
+
+fn drive_put_block(
+    machine: &mut PutBlock,
+    alloc: Global,
+    owners: &mut Owners,
+) -> Result<Option<Result<bool, Miss>>, Memory> {
+    drive!(machine, alloc, owners)
+}
+
+fn drive_put_head(
+    machine: &mut PutHead,
+    alloc: Global,
+    owners: &mut Owners,
+) -> Result<Option<Result<bool, Miss>>, Memory> {
+    drive!(machine, alloc, owners)
+}
+
 /// Gets the block `block`.
 fn get_block(
     alloc: Global,
     replicas: u32,
-    owners: &Owners,
-) -> Result<Option<Course<Bytes>>, Memory> {
+    entries: &Peers,
+    owners: &mut Owners,
+) -> Result<Option<Result<Bytes, Miss>>, Memory> {
     let key = name_of(b"block".as_slice());
-    let entries = owners.entries(alloc)?;
-    drive!(
-        alloc,
-        owners,
-        GetBlock::start(alloc, key, replicas, &entries)?
-    )
+    let mut machine = GetBlock::start(alloc, key, replicas, entries)?;
+    drive_get_block(&mut machine, alloc, owners)
 }
 
 /// Gets the heads under the name of `owner`.
 fn get_head(
     alloc: Global,
     replicas: u32,
-    owners: &Owners,
-) -> Result<Option<Course<Heads>>, Memory> {
+    entries: &Peers,
+    owners: &mut Owners,
+) -> Result<Option<Result<Heads, Miss>>, Memory> {
     let key = name_of(b"owner".as_slice());
-    let entries = owners.entries(alloc)?;
-    drive!(
-        alloc,
-        owners,
-        GetHead::start(alloc, Counts(key), key, replicas, &entries)?
-    )
+    let mut machine = GetHead::start(alloc, Counts(key), key, replicas, entries)?;
+    drive_get_head(&mut machine, alloc, owners)
 }
 
 /// Puts the block `block`.
 fn put_block(
     alloc: Global,
     replicas: u32,
-    owners: &Owners,
-) -> Result<Option<Course<bool>>, Memory> {
+    entries: &Peers,
+    owners: &mut Owners,
+) -> Result<Option<Result<bool, Miss>>, Memory> {
+    let key = name_of(b"block".as_slice());
     let bytes = Bytes::copy_of(alloc, b"block".as_slice())?;
-    let key = name_of(bytes.as_slice());
-    let entries = owners.entries(alloc)?;
-    drive!(
-        alloc,
-        owners,
-        PutBlock::start(alloc, key, bytes, replicas, &entries)?
-    )
+    let mut machine = PutBlock::start(alloc, key, bytes, replicas, entries)?;
+    drive_put_block(&mut machine, alloc, owners)
 }
 
 /// Puts the head `head` under the name of `owner`.
-fn put_head(alloc: Global, replicas: u32, owners: &Owners) -> Result<Option<Course<bool>>, Memory> {
-    let bytes = Bytes::copy_of(alloc, b"head".as_slice())?;
+fn put_head(
+    alloc: Global,
+    replicas: u32,
+    entries: &Peers,
+    owners: &mut Owners,
+) -> Result<Option<Result<bool, Miss>>, Memory> {
     let key = name_of(b"owner".as_slice());
-    let entries = owners.entries(alloc)?;
-    drive!(
-        alloc,
-        owners,
-        PutHead::start(alloc, key, bytes, replicas, &entries)?
-    )
+    let bytes = Bytes::copy_of(alloc, b"head".as_slice())?;
+    let mut machine = PutHead::start(alloc, key, bytes, replicas, entries)?;
+    drive_put_head(&mut machine, alloc, owners)
 }
 
-/// Why there is no result.
-fn miss_text(alloc: Global, miss: &Miss) -> Option<String> {
+/// Writes why there is no result.
+fn put_miss(out: &mut String, miss: &Miss) -> Result<(), AllocError> {
     match miss {
         Miss::NoRoute(key) => {
-            let key = key_text(alloc, key)?;
-            format!(in alloc; "no route to {key}").ok()
+            out.push_str("no route to ")?;
+            put_key(out, key)
         }
         Miss::Missing { key, asked } => {
-            let (key, asked) = (key_text(alloc, key)?, peers_text(alloc, asked.as_slice())?);
-            format!(in alloc; "missing {key} at {asked}").ok()
+            out.push_str("missing ")?;
+            put_key(out, key)?;
+            out.push_str(" at ")?;
+            put_peers(out, asked.as_slice())
         }
         Miss::Damaged { key, node } => {
-            let (key, node) = (key_text(alloc, key)?, peer_text(alloc, node)?);
-            format!(in alloc; "damaged {key} at {node}").ok()
+            out.push_str("damaged ")?;
+            put_key(out, key)?;
+            out.push_str(" at ")?;
+            put_peer(out, node)
         }
     }
 }
 
-/// The heads by their numbers and names.
-fn heads_text(alloc: Global, heads: &Heads) -> Option<String> {
-    let mut words = Vec::new(alloc);
-    for head in heads.as_slice() {
-        let (seq, name) = (head.seq, key_text(alloc, &head.name)?);
-        words.push(format!(in alloc; "{seq}:{name}").ok()?).ok()?;
+/// Writes what a put came to.
+fn put_acknowledged(out: &mut String, end: &Result<bool, Miss>) -> Result<(), AllocError> {
+    match end {
+        Ok(true) => out.push_str("acknowledged"),
+        Ok(false) => out.push_str("not acknowledged"),
+        Err(miss) => put_miss(out, miss),
     }
-    listed(alloc, &words)
 }
 
-/// Whether a put was acknowledged.
-fn word_text(alloc: Global, acknowledged: bool) -> Option<String> {
-    let word = if acknowledged {
-        "acknowledged"
-    } else {
-        "not acknowledged"
-    };
-    format!(in alloc; "{word}").ok()
+/// Writes what a get of a block came to.
+fn put_gotten_block(out: &mut String, end: &Result<Bytes, Miss>) -> Result<(), AllocError> {
+    match end {
+        Ok(bytes) => put_bytes(out, bytes.as_slice()),
+        Err(miss) => put_miss(out, miss),
+    }
 }
 
-/// The result, and the owners that were asked.
-fn with_asked(alloc: Global, end: &str, asked: &[Peer]) -> Option<String> {
-    let asked = peers_text(alloc, asked)?;
-    format!(in alloc; "{end}; asked {asked}").ok()
+/// Writes what a get of heads came to.
+fn put_gotten_heads(out: &mut String, end: &Result<Heads, Miss>) -> Result<(), AllocError> {
+    match end {
+        Ok(heads) => put_heads(out, heads.as_slice()),
+        Err(miss) => put_miss(out, miss),
+    }
 }
 
-/// What a put came to.
-fn put_text(alloc: Global, course: &Course<bool>) -> Option<String> {
-    let result = match &course.result {
-        Ok(acknowledged) => word_text(alloc, *acknowledged)?,
-        Err(miss) => miss_text(alloc, miss)?,
-    };
-    with_asked(alloc, result.as_str(), &course.asked)
-}
-
-/// What a get of a block came to.
-fn block_text(alloc: Global, course: &Course<Bytes>) -> Option<String> {
-    let result = match &course.result {
-        Ok(bytes) => bytes_text(alloc, bytes.as_slice())?,
-        Err(miss) => miss_text(alloc, miss)?,
-    };
-    with_asked(alloc, result.as_str(), &course.asked)
-}
-
-/// What a get of heads came to.
-fn head_text(alloc: Global, course: &Course<Heads>) -> Option<String> {
-    let result = match &course.result {
-        Ok(heads) => heads_text(alloc, heads)?,
-        Err(miss) => miss_text(alloc, miss)?,
-    };
-    with_asked(alloc, result.as_str(), &course.asked)
-}
-
-/// The answer to a line, `None` for want of memory and where there is none.
-pub fn answer(alloc: Global, line: &str) -> Option<String> {
-    let mut words = line.split(' ');
-    let what = words.next()?;
-    let replicas = number_of(words.next())?;
-    let owners = Owners::of(alloc, words.next())?;
+/// Writes what the get or the put that a word names comes to.
+fn put_end(
+    out: &mut String,
+    alloc: Global,
+    what: &str,
+    replicas: u32,
+    owners: &mut Owners,
+) -> Option<()> {
+    let entries = &owners.entries(alloc).ok()?;
     match what {
-        "get-block" => block_text(alloc, &get_block(alloc, replicas, &owners).ok()??),
-        "get-head" => head_text(alloc, &get_head(alloc, replicas, &owners).ok()??),
-        "put-block" => put_text(alloc, &put_block(alloc, replicas, &owners).ok()??),
-        "put-head" => put_text(alloc, &put_head(alloc, replicas, &owners).ok()??),
+        "get-block" => {
+            put_gotten_block(out, &get_block(alloc, replicas, entries, owners).ok()??).ok()
+        }
+        "get-head" => {
+            put_gotten_heads(out, &get_head(alloc, replicas, entries, owners).ok()??).ok()
+        }
+        "put-block" => {
+            put_acknowledged(out, &put_block(alloc, replicas, entries, owners).ok()??).ok()
+        }
+        "put-head" => {
+            put_acknowledged(out, &put_head(alloc, replicas, entries, owners).ok()??).ok()
+        }
         _ => None,
     }
+}
+
+/// Writes the answer to a line that such a word begins, `None` for want of memory and where there is none.
+pub fn answer(out: &mut String, alloc: Global, what: &str, mut words: Words<'_>) -> Option<()> {
+    let (replicas, word) = (words.number()?, words.word()?);
+    let mut owners = Owners {
+        owners: Vec::new(alloc),
+        asked: Vec::new(alloc),
+    };
+    owners.push(alloc, word)?;
+    put_end(out, alloc, what, replicas, &mut owners)?;
+    out.push_str("; asked ").ok()?;
+    put_peers(out, &owners.asked).ok()
 }

@@ -1,9 +1,10 @@
 //! A mesh of one node, asked by a client that knows no more of it than that it is a mesh.
 
-use crate::words::{answer_text, key_of, peer};
+use crate::words::{Words, peer, put_answer};
 use dht_ids::{Answer, Ask, Mesh, Peer, Peers, StoreFault};
 use ivy_base::{Key, Memory};
 use std::alloc::Global;
+use std::fmt::Write;
 
 /// A mesh of one node, which holds nothing.
 #[derive(Drop)]
@@ -50,10 +51,10 @@ fn route_by<M: Mesh>(mesh: &mut M, alloc: Global, key: Key) -> Result<Option<Ans
     Ok(Some(mesh.ask(alloc, first, &Ask::Route(key))?))
 }
 
-/// The answer to a line, `None` for want of memory and where there is none.
-pub fn answer(alloc: Global, line: &str) -> Option<String> {
+/// Writes the answer to a line, `None` for want of memory and where there is none.
+pub fn answer(out: &mut String, alloc: Global, mut words: Words<'_>) -> Option<()> {
+    let key = words.key()?;
     let mut mesh = Lone(peer(0));
-    let route = route_by(&mut mesh, alloc, key_of(Some(line))?).ok()??;
-    let route = answer_text(alloc, &route)?;
-    format!(in alloc; "{route} of {}", mesh.replicas()).ok()
+    put_answer(out, &route_by(&mut mesh, alloc, key).ok()??).ok()?;
+    write!(out, " of {}", mesh.replicas()).ok()
 }

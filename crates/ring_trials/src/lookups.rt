@@ -43,17 +43,28 @@ pub fn key(number: u32) -> Key {
     node_id(FIRST_KEY.saturating_add(number))
 }
 
+/// Whether those of the nodes that live begin with the owners.
+fn are_first_live(found: &[Peer], ring: &Ring, owners: &[Peer]) -> bool {
+    let mut owners = owners.iter();
+    let mut owner = owners.next();
+    for peer in found {
+        if owner.is_some() && ring.nodes.contains_key(&peer.number) {
+            if owner != Some(peer) {
+                return false;
+            }
+            owner = owners.next();
+        }
+    }
+    owner.is_none()
+}
+
 /// Whether the look-up found the owners, perhaps with stopped nodes among them and others behind them, and asked no
 /// node twice.
 fn is_right(course: &Course, ring: &Ring, owners: &[Peer]) -> bool {
-    let Ok(found) = &course.found else {
-        return false;
-    };
-    let mut live = found
-        .as_slice()
-        .iter()
-        .filter(|peer| ring.nodes.contains_key(&peer.number));
-    owners.iter().all(|owner| live.next() == Some(owner)) && !course.asked_twice()
+    match &course.found {
+        Ok(found) => are_first_live(found.as_slice(), ring, owners) && !course.asked_twice(),
+        Err(_) => false,
+    }
 }
 
 /// Looks so many keys up in a ring, each from each live node.

@@ -70,8 +70,9 @@ fn main(rt: HostRuntime) -> io::Result<()> {
     let mut table = Table::new(rt.alloc());
     for line in rt.lines(rt.alloc()) {
         let line = line?;
-        match table.answer(rt.alloc(), line.as_str()) {
-            Some(text) => println!(rt; "{text}")?,
+        let mut text = String::new(rt.alloc());
+        match table.answer(&mut text, rt.alloc(), line.as_str()) {
+            Some(()) => println!(rt; "{text}")?,
             None => println!(rt; "no answer")?,
         }
     }

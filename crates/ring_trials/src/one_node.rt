@@ -1,84 +1,94 @@
 //! What one node makes of what it hears, and what it answers.
 
 ghost use Rattle.std.specs.Prelude.{◌≤◌};
+ghost use Rattle.chord_core.specs.State.{IsOfRing};
 
-use crate::words::{answer_text, key_of, number_of, peer_of, peers_of};
+use crate::words::{Words, put_answer};
 use chord_core::Node;
 use dht_ids::{Answer, Ask, Peer, Peers};
 use std::alloc::Global;
 
 /// The node of a settled ring of the members.
-fn settled(alloc: Global, me: Peer, replicas: u32, members: Vec<Peer>) -> Option<Node>
+fn settled(alloc: Global, me: Peer, replicas: u32, members: &Peers) -> Option<Node>
     requires { (1 ≤ replicas) × (replicas ≤ 8) }
 {
-    let members = Peers::of(members);
     for member in members.as_slice() {
         if *member == me {
-            return Node::settled(alloc, *member, replicas, &members).ok();
+            return Node::settled(alloc, *member, replicas, members).ok();
         }
     }
     None
 }
 
 /// The node that a line makes.
-fn made(alloc: Global, line: &str) -> Option<Node> {
-    let mut words = line.split(' ');
-    let how = words.next()?;
-    let me = peer_of(words.next())?;
-    let replicas = number_of(words.next())?;
+fn made(alloc: Global, how: &str, mut words: Words<'_>) -> Option<Node> {
+    let (me, replicas) = (words.peer()?, words.number()?);
     if replicas == 0 || replicas > 8 {
         return None;
     }
+    if how == "alone" {
+        Node::alone(alloc, me, replicas).ok()
+    } else {
+        settled(alloc, me, replicas, &words.peers(alloc)?)
+    }
+}
+
+/// Has the node hear an answer to Near.
+fn hear_near(node: &mut Node, alloc: Global, mut words: Words<'_>) -> Option<()> {
+    let before = words.peers(alloc)?.as_slice().first().copied();
+    let list = words.peers(alloc)?;
+    node.stabilise(alloc, &Answer::Near { before, list }).ok()
+}
+
+/// Has the node fix a finger.
+fn fix_finger(node: &mut Node, k: u32, owner: Peer) -> Option<()> {
+    if k == 0 || k > 160 {
+        return None;
+    }
+    node.fix_finger(k, owner);
+    Some(())
+}
+
+/// Has the node hear or take what the line says.
+fn change(node: &mut Node, alloc: Global, how: &str, mut words: Words<'_>) -> Option<()> {
     match how {
-        "alone" => Node::alone(alloc, me, replicas).ok(),
-        "settled" => settled(alloc, me, replicas, peers_of(alloc, words.next())?),
+        "near" => hear_near(node, alloc, words),
+        "silent" => node.stabilise(alloc, &Answer::Silent).ok(),
+        "notify" => {
+            node.notify(words.peer()?);
+            Some(())
+        }
+        "forget" => {
+            node.forget();
+            Some(())
+        }
+        "adopt" => node.adopt(alloc, &words.peers(alloc)?).ok(),
+        "finger" => fix_finger(node, words.number()?, words.peer()?),
         _ => None,
     }
 }
 
-/// Has the node hear or take what the line says.
-fn change(node: &mut Node, alloc: Global, line: &str) -> Option<()> {
-    let mut words = line.split(' ');
-    match words.next()? {
-        "near" => {
-            let before = peers_of(alloc, words.next())?.as_slice().first().copied();
-            let list = Peers::of(peers_of(alloc, words.next())?);
-            node.stabilise(alloc, &Answer::Near { before, list }).ok()?;
-        }
-        "silent" => node.stabilise(alloc, &Answer::Silent).ok()?,
-        "notify" => node.notify(peer_of(words.next())?),
-        "forget" => node.forget(),
-        "adopt" => {
-            let list = Peers::of(peers_of(alloc, words.next())?);
-            node.adopt(alloc, &list).ok()?;
-        }
-        "finger" => {
-            let (k, owner) = (number_of(words.next())?, peer_of(words.next())?);
-            if k == 0 || k > 160 {
-                return None;
-            }
-            node.fix_finger(k, owner);
-        }
-        _ => return None,
-    }
-    Some(())
+/// Writes what the node answers.
+fn put_answered(out: &mut String, node: &Node, alloc: Global, ask: &Ask) -> Option<()>
+    requires { IsOfRing ask.now }
+{
+    put_answer(out, &node.answer(alloc, ask).ok()?).ok()
 }
 
-/// What the node then answers to Near.
-fn near(node: &Node, alloc: Global) -> Option<String> {
-    answer_text(alloc, &node.answer(alloc, &Ask::Near).ok()?)
-}
-
-/// The answer to a line, `None` for want of memory and where there is none.
-pub fn answer(node: &mut Option<Node>, alloc: Global, line: &str) -> Option<String> {
-    let mut words = line.split(' ');
-    match words.next()? {
-        "alone" | "settled" => *node = Some(made(alloc, line)?),
+/// Writes the answer to a line, `None` for want of memory and where there is none.
+pub fn answer(
+    node: &mut Option<Node>,
+    out: &mut String,
+    alloc: Global,
+    mut words: Words<'_>,
+) -> Option<()> {
+    match words.word()? {
         "route" => {
-            let ask = Ask::Route(key_of(words.next())?);
-            return answer_text(alloc, &node.as_ref()?.answer(alloc, &ask).ok()?);
+            let ask = Ask::Route(words.key()?);
+            return put_answered(out, node.as_ref()?, alloc, &ask);
         }
-        _ => change(node.as_mut()?, alloc, line)?,
+        how @ ("alone" | "settled") => *node = Some(made(alloc, how, words)?),
+        how => change(node.as_mut()?, alloc, how, words)?,
     }
-    near(node.as_ref()?, alloc)
+    put_answered(out, node.as_ref()?, alloc, &Ask::Near)
 }

@@ -3,7 +3,7 @@
 ghost use Rattle.std.specs.Prelude.{◌≤◌};
 ghost use Rattle.chord_core.specs.State.{IsOfRing};
 
-use crate::words::peer;
+use crate::words::push_numbered;
 use chord_core::Node;
 use dht_ids::{Answer, Ask, Peer, Peers, distance, order};
 use ivy_base::{Key, Memory};
@@ -46,9 +46,7 @@ impl Ring {
         requires { (1 ≤ replicas) × (replicas ≤ 8) }
     {
         let mut members = Vec::new(alloc);
-        for number in 0..size {
-            members.push(peer(number))?;
-        }
+        push_numbered(&mut members, 0, size)?;
         Ring::settled(alloc, members, replicas)
     }
 

@@ -7,19 +7,22 @@ use crate::lookups::key;
 use crate::ring::{Nodes, Ring};
 use crate::words::peer;
 use chord_core::Node;
-use dht_ids::{Answer, Ask, Peer, finger_start};
+use dht_ids::{Answer, Ask, Peer, Peers, finger_start};
 use ivy_base::{Key, Memory};
 use std::alloc::Global;
 
 /// How many keys the nodes are asked for the routes to.
 const ROUTES: u32 = 20;
 
+/// Whether the node's predecessor is stopped.
+fn follows_stopped(nodes: &Nodes, me: Peer) -> Option<bool> {
+    let before = nodes.get(&me.number)?.before()?;
+    Some(!nodes.contains_key(&before.number))
+}
+
 /// Has the node forget its predecessor where that is stopped.
 fn forget_stopped(nodes: &mut Nodes, me: Peer) {
-    let Some(before) = nodes.get(&me.number).and_then(|node| node.before()) else {
-        return;
-    };
-    if !nodes.contains_key(&before.number)
+    if follows_stopped(nodes, me) == Some(true)
         && let Some(node) = nodes.get_mut(&me.number)
     {
         node.forget();
@@ -70,12 +73,18 @@ fn renew(alloc: Global, nodes: &mut Nodes, me: Peer) -> Result<(), Memory> {
     Ok(())
 }
 
+/// The owner of a key, by a look-up from the node.
+fn owner_of(alloc: Global, nodes: &Nodes, key: Key, me: Peer) -> Result<Option<Peer>, Memory> {
+    match look_up(alloc, nodes, key, me)? {
+        Some(course) => Ok(course.owner()),
+        None => Ok(None),
+    }
+}
+
 /// Has the node fix its fingers by look-ups from itself.
 fn fix_fingers(alloc: Global, nodes: &mut Nodes, me: Peer) -> Result<(), Memory> {
     for k in 1..161 {
-        let course = look_up(alloc, nodes, finger_start(&me.id, k), me)?;
-        let owner = course.and_then(|course| course.owner());
-        if let Some(owner) = owner
+        if let Some(owner) = owner_of(alloc, nodes, finger_start(&me.id, k), me)?
             && let Some(node) = nodes.get_mut(&me.number)
         {
             node.fix_finger(k, owner);
@@ -115,21 +124,29 @@ pub fn join(alloc: Global, ring: &mut Ring, number: u32, replicas: u32) -> Resul
     ring.add(alloc, me, node)
 }
 
+/// Whether the answer is a route to these nodes.
+fn is_route(answer: &Answer, nodes: &Peers, last: &Peers) -> bool {
+    match answer {
+        Answer::Route { nearer, owners } => {
+            nearer.as_slice() == nodes.as_slice() && owners.as_slice() == last.as_slice()
+        }
+        _ => false,
+    }
+}
+
+/// Whether both are one route.
+fn are_one_route(answer: &Answer, other: &Answer) -> bool {
+    match other {
+        Answer::Route { nearer, owners } => is_route(answer, nearer, owners),
+        _ => false,
+    }
+}
+
 /// Whether both nodes answer the same to Route.
 fn is_same_route(alloc: Global, node: &Node, other: &Node, key: Key) -> Result<bool, Memory> {
     let ask = Ask::Route(key);
-    Ok(
-        match (node.answer(alloc, &ask)?, other.answer(alloc, &ask)?) {
-            (
-                Answer::Route { nearer, owners },
-                Answer::Route {
-                    nearer: others,
-                    owners: last,
-                },
-            ) => { nearer.as_slice() == others.as_slice() && owners.as_slice() == last.as_slice() }
-            _ => false,
-        },
-    )
+    let answer = node.answer(alloc, &ask)?;
+    Ok(are_one_route(&answer, &other.answer(alloc, &ask)?))
 }
 
 /// Whether both states of the node have one list and one predecessor, and answer the same for a few keys and for the

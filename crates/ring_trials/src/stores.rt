@@ -1,10 +1,11 @@
 //! What a store holds and refuses.
 
-use crate::words::{bytes_of, bytes_text, key_of, key_text, listed, number_of};
+use crate::words::{Words, put_bytes, put_posts};
 use dht_ids::{Judge, Judged};
 use ivy_base::{Key, name_of};
 use node_store::{PutFault, Store};
-use std::alloc::Global;
+use std::alloc::{AllocError, Global};
+use std::fmt::Write;
 
 /// A judge to whom the number of a head is its first byte, and a head of the number 0 is none.
 #[derive(Clone, Copy)]
@@ -27,83 +28,99 @@ impl Judge for FirstByte {
     }
 }
 
-/// What a put came to.
-fn put_text(alloc: Global, put: Result<(), PutFault>) -> Option<String> {
-    match put {
-        Ok(()) => format!(in alloc; "stored").ok(),
-        Err(fault) => format!(in alloc; "{fault}").ok(),
+/// Writes what a put came to.
+fn put_end(out: &mut String, end: Result<(), PutFault>) -> Result<(), AllocError> {
+    match end {
+        Ok(()) => out.push_str("stored"),
+        Err(fault) => write!(out, "{fault}"),
     }
 }
 
-/// The bytes that the key holds.
-fn held_text(store: &Store, alloc: Global, key: &Key) -> Option<String> {
+/// Puts a block, and writes what that came to.
+fn put_block(
+    out: &mut String,
+    store: &mut Store,
+    alloc: Global,
+    key: &Key,
+    bytes: &[u8],
+) -> Option<()> {
+    put_end(out, store.put_block(alloc, key, bytes)).ok()
+}
+
+/// Puts a head, and writes what that came to.
+fn put_head(
+    out: &mut String,
+    store: &mut Store,
+    alloc: Global,
+    key: &Key,
+    bytes: &[u8],
+) -> Option<()> {
+    put_end(out, store.put_head(alloc, &FirstByte, key, bytes)).ok()
+}
+
+/// Writes the bytes that the key holds.
+fn put_held(out: &mut String, store: &Store, key: &Key) -> Result<(), AllocError> {
     match store.get(key) {
-        Some(bytes) => bytes_text(alloc, bytes),
-        None => format!(in alloc; "nothing").ok(),
+        Some(bytes) => put_bytes(out, bytes),
+        None => out.push_str("nothing"),
     }
 }
 
-/// All that is held, with how it was put.
-fn all_text(store: &Store, alloc: Global) -> Option<String> {
-    let mut words = Vec::new(alloc);
-    let posts = store.held(alloc).ok()?;
-    for post in posts.as_slice() {
-        let key = key_text(alloc, &post.key)?;
-        let (kind, bytes) = (post.kind, bytes_text(alloc, post.bytes.as_slice())?);
-        words
-            .push(format!(in alloc; "{key}:{kind:?}:{bytes}").ok()?)
-            .ok()?;
-    }
-    listed(alloc, &words)
+/// Writes all that is held, with how it was put.
+fn put_all(out: &mut String, store: &Store, alloc: Global) -> Option<()> {
+    put_posts(out, store.held(alloc).ok()?.as_slice()).ok()
 }
 
 /// So many bytes, each of the same number, as two words say.
-fn row(alloc: Global, byte: Option<&str>, count: Option<&str>) -> Option<Vec<u8>> {
-    let byte: u8 = byte?.parse().ok()?;
-    vec![in alloc; byte; number_of(count)? as usize].ok()
+fn row(alloc: Global, words: &mut Words<'_>) -> Option<Vec<u8>> {
+    let (byte, count) = (words.byte()?, words.number()?);
+    vec![in alloc; byte; count as usize].ok()
 }
 
-/// The answer to a line, `None` for want of memory and where there is none.
-pub fn answer(store: &mut Store, alloc: Global, line: &str) -> Option<String> {
-    let mut words = line.split(' ');
-    match words.next()? {
+/// Spoils a byte, and writes whether it was there.
+fn spoil(out: &mut String, store: &mut Store, mut words: Words<'_>) -> Option<()> {
+    let key = words.key()?;
+    let offset: u64 = words.word()?.parse().ok()?;
+    let spoilt = store.spoil(&key, offset, words.byte()?);
+    write!(out, "{spoilt}").ok()
+}
+
+/// Writes the answer to a line, `None` for want of memory and where there is none.
+pub fn answer(
+    store: &mut Store,
+    out: &mut String,
+    alloc: Global,
+    mut words: Words<'_>,
+) -> Option<()> {
+    match words.word()? {
         "new" => {
             *store = Store::new(alloc);
-            all_text(store, alloc)
+            put_all(out, store, alloc)
         }
         "put" => {
-            let (key, bytes) = (key_of(words.next())?, bytes_of(alloc, words.next())?);
-            put_text(alloc, store.put_block(alloc, &key, &bytes[..]))
+            let (key, bytes) = (words.key()?, words.bytes(alloc)?);
+            put_block(out, store, alloc, &key, bytes.as_slice())
         }
         "head" => {
-            let (key, bytes) = (key_of(words.next())?, bytes_of(alloc, words.next())?);
-            put_text(alloc, store.put_head(alloc, &FirstByte, &key, &bytes[..]))
+            let (key, bytes) = (words.key()?, words.bytes(alloc)?);
+            put_head(out, store, alloc, &key, bytes.as_slice())
         }
         "put-row" => {
-            let bytes = row(alloc, words.next(), words.next())?;
-            put_text(
-                alloc,
-                store.put_block(alloc, &name_of(&bytes[..]), &bytes[..]),
-            )
+            let bytes = row(alloc, &mut words)?;
+            put_block(out, store, alloc, &name_of(&bytes), &bytes)
         }
         "head-row" => {
-            let key = key_of(words.next())?;
-            let bytes = row(alloc, words.next(), words.next())?;
-            put_text(alloc, store.put_head(alloc, &FirstByte, &key, &bytes[..]))
+            let (key, bytes) = (words.key()?, row(alloc, &mut words)?);
+            put_head(out, store, alloc, &key, &bytes)
         }
-        "get" => held_text(store, alloc, &key_of(words.next())?),
+        "get" => put_held(out, store, &words.key()?).ok(),
         "drop" => {
-            let key = key_of(words.next())?;
+            let key = words.key()?;
             store.drop_block(&key);
-            held_text(store, alloc, &key)
+            put_held(out, store, &key).ok()
         }
-        "spoil" => {
-            let key = key_of(words.next())?;
-            let offset: u64 = words.next()?.parse().ok()?;
-            let spoilt = store.spoil(&key, offset, words.next()?.parse().ok()?);
-            format!(in alloc; "{spoilt}").ok()
-        }
-        "held" => all_text(store, alloc),
+        "spoil" => spoil(out, store, words),
+        "held" => put_all(out, store, alloc),
         _ => None,
     }
 }

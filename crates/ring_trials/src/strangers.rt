@@ -1,11 +1,12 @@
 //! Look-ups over nodes that answer without a ring.
 
 use crate::course::{Course, Others, drive};
-use crate::words::{key_text, number_of, peer, peers_text};
+use crate::words::{Words, peer, push_numbered, put_key, put_peers};
 use dhash_client::Miss;
 use dht_ids::{Answer, Peer, Peers, node_id};
 use ivy_base::{Key, Memory};
-use std::alloc::Global;
+use std::alloc::{AllocError, Global};
+use std::fmt::Write;
 
 /// What the nodes answer.
 #[derive(Clone, Copy)]
@@ -25,9 +26,7 @@ pub enum Strangers {
 /// The nodes with numbers from one on, at their identifiers.
 fn peers(alloc: Global, first: u32, count: u32) -> Result<Peers, Memory> {
     let mut peers = Vec::new(alloc);
-    for number in first..first.saturating_add(count) {
-        peers.push(peer(number))?;
-    }
+    push_numbered(&mut peers, first, count)?;
     Ok(Peers::of(peers))
 }
 
@@ -73,41 +72,54 @@ impl Strangers {
     }
 }
 
-/// What a look-up came to.
-fn course_text(alloc: Global, course: &Course) -> Option<String> {
-    let found = match &course.found {
+/// Writes what was found.
+fn put_found(out: &mut String, found: &Result<Peers, Miss>) -> Result<(), AllocError> {
+    match found {
         Ok(owners) => {
-            let owners = peers_text(alloc, owners.as_slice())?;
-            format!(in alloc; "owners {owners}").ok()?
+            out.push_str("owners ")?;
+            put_peers(out, owners.as_slice())
         }
         Err(Miss::NoRoute(key)) => {
-            let key = key_text(alloc, key)?;
-            format!(in alloc; "no route to {key}").ok()?
+            out.push_str("no route to ")?;
+            put_key(out, key)
         }
-        Err(_) => format!(in alloc; "another miss").ok()?,
-    };
-    let once = if course.asked_twice() {
+        Err(_) => out.push_str("another miss"),
+    }
+}
+
+/// Writes what a look-up came to.
+fn put_course(out: &mut String, course: &Course) -> Result<(), AllocError> {
+    put_found(out, &course.found)?;
+    write!(out, ", {} asked, ", course.asked.len())?;
+    out.push_str(if course.asked_twice() {
         "one twice"
     } else {
         "none twice"
-    };
-    let asks = course.asked.len();
-    format!(in alloc; "{found}, {asks} asked, {once}").ok()
+    })
 }
 
-/// The answer to a line, `None` for want of memory and where there is none.
-pub fn answer(alloc: Global, line: &str) -> Option<String> {
-    let mut words = line.split(' ');
-    let strangers = match words.next()? {
-        "nobody" => Strangers::Nobody,
-        "muddled" => Strangers::Muddled,
-        "echoes" => Strangers::Echoes,
-        "crowd" => Strangers::Crowd,
-        "blank" => Strangers::Blank,
-        _ => return None,
-    };
-    let entries = peers(alloc, 0, number_of(words.next())?).ok()?;
-    let key = node_id(number_of(words.next())?);
-    let course = drive(alloc, key, &entries, &Others::Strangers(strangers)).ok()??;
-    course_text(alloc, &course)
+/// The strangers of a word.
+fn strangers_of(word: &str) -> Option<Strangers> {
+    match word {
+        "nobody" => Some(Strangers::Nobody),
+        "muddled" => Some(Strangers::Muddled),
+        "echoes" => Some(Strangers::Echoes),
+        "crowd" => Some(Strangers::Crowd),
+        "blank" => Some(Strangers::Blank),
+        _ => None,
+    }
+}
+
+/// Writes what a look-up from so many strangers comes to.
+fn put_trial(out: &mut String, alloc: Global, who: Strangers, count: u32, key: Key) -> Option<()> {
+    let entries = peers(alloc, 0, count).ok()?;
+    let course = drive(alloc, key, &entries, &Others::Strangers(who)).ok()??;
+    put_course(out, &course).ok()
+}
+
+/// Writes the answer to a line, `None` for want of memory and where there is none.
+pub fn answer(out: &mut String, alloc: Global, mut words: Words<'_>) -> Option<()> {
+    let who = strangers_of(words.word()?)?;
+    let (count, number) = (words.number()?, words.number()?);
+    put_trial(out, alloc, who, count, node_id(number))
 }

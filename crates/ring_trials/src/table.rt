@@ -1,5 +1,6 @@
 //! What the lines change.
 
+use crate::words::Words;
 use crate::{caches, circle, copies, gets, lone, one_node, stores, strangers, trials};
 use block_cache::BlockCache;
 use chord_core::Node;
@@ -24,19 +25,21 @@ impl Table {
         }
     }
 
-    /// The answer to a line, `None` for want of memory and where the line asks nothing.
-    pub fn answer(&mut self, alloc: Global, line: &str) -> Option<String> {
-        let (family, rest) = line.split_once(' ')?;
-        match family {
-            "circle" => circle::answer(alloc, rest),
-            "copy" => copies::answer(alloc, rest),
-            "mesh" => lone::answer(alloc, rest),
-            "node" => one_node::answer(&mut self.node, alloc, rest),
-            "strangers" => strangers::answer(alloc, rest),
-            "get-block" | "get-head" | "put-block" | "put-head" => gets::answer(alloc, line),
-            "store" => stores::answer(&mut self.store, alloc, rest),
-            "cache" => caches::answer(&mut self.cache, alloc, rest),
-            _ => trials::answer(alloc, line),
+    /// Writes the answer to a line, `None` for want of memory and where the line asks nothing.
+    pub fn answer(&mut self, out: &mut String, alloc: Global, line: &str) -> Option<()> {
+        let mut words = Words::of(line, ' ');
+        match words.word()? {
+            "circle" => circle::answer(out, words),
+            "copy" => copies::answer(out, alloc, words),
+            "mesh" => lone::answer(out, alloc, words),
+            "node" => one_node::answer(&mut self.node, out, alloc, words),
+            "strangers" => strangers::answer(out, alloc, words),
+            "store" => stores::answer(&mut self.store, out, alloc, words),
+            "cache" => caches::answer(&mut self.cache, out, alloc, words),
+            what @ ("get-block" | "get-head" | "put-block" | "put-head") => {
+                gets::answer(out, alloc, what, words)
+            }
+            trial => trials::answer(out, alloc, line, trial, words),
         }
     }
 }

@@ -1,9 +1,9 @@
-//! The words of lines and of answers.
+//! The words of lines, and how answers are written.
 
-use dht_ids::{Answer, Peer, node_id};
+use dht_ids::{Answer, Judged, Peer, Peers, Post, node_id};
 use hex::FromHex;
-use ivy_base::Key;
-use std::alloc::Global;
+use ivy_base::{Bytes, Key, Memory};
+use std::alloc::{AllocError, Global};
 use std::fmt::Write;
 
 /// The place with this number.
@@ -29,129 +29,234 @@ pub fn peer_at(number: u8) -> Peer {
     }
 }
 
-/// The number of a word.
-pub fn number_of(word: Option<&str>) -> Option<u32> {
-    word?.parse().ok()
+/// Adds so many nodes, with the numbers from one on, at their identifiers.
+pub fn push_numbered(peers: &mut Vec<Peer>, first: u32, count: u32) -> Result<(), Memory> {
+    for number in first..first.saturating_add(count) {
+        peers.push(peer(number))?;
+    }
+    Ok(())
 }
 
 /// The key of a word: the number of one of the first 256 places, or 40 hexadecimal digits.
-pub fn key_of(word: Option<&str>) -> Option<Key> {
-    let word = word?;
+fn key_of(word: &str) -> Option<Key> {
     match word.parse::<u8>() {
         Ok(number) => Some(place(number)),
         Err(_) => Some(Key(<[u8; 20] as FromHex>::from_hex(word).ok()?)),
     }
 }
 
-/// The bytes of a word of hexadecimal digits, `-` for none.
-pub fn bytes_of(alloc: Global, word: Option<&str>) -> Option<Vec<u8>> {
-    let word = word?;
-    if word == "-" {
-        return Some(Vec::new(alloc));
-    }
-    hex::decode(alloc, word).ok()
+/// The node of a word, at the place of its number.
+fn peer_of(word: &str) -> Option<Peer> {
+    Some(peer_at(word.parse().ok()?))
 }
 
-/// The node of a word, at the place of its number.
-pub fn peer_of(word: Option<&str>) -> Option<Peer> {
-    Some(peer_at(word?.parse().ok()?))
+/// The words of a text, taken from the front.
+#[derive(Clone, Copy)]
+pub struct Words<'a> {
+    /// What was not taken yet.
+    pub rest: Option<&'a str>,
+    between: char,
+}
+
+impl<'a> Words<'a> {
+    /// The words of a text with such a letter between.
+    pub fn of(text: &'a str, between: char) -> Words<'a> {
+        Words {
+            rest: Some(text),
+            between,
+        }
+    }
+
+    /// The next word.
+    pub fn word(&mut self) -> Option<&'a str> {
+        let rest = self.rest?;
+        match rest.split_once(self.between) {
+            Some((word, rest)) => {
+                self.rest = Some(rest);
+                Some(word)
+            }
+            None => {
+                self.rest = None;
+                Some(rest)
+            }
+        }
+    }
+
+    /// The number that the next word is.
+    pub fn number(&mut self) -> Option<u32> {
+        self.word()?.parse().ok()
+    }
+
+    /// The byte that the next word is, as a number.
+    pub fn byte(&mut self) -> Option<u8> {
+        self.word()?.parse().ok()
+    }
+
+    /// The key that the next word is.
+    pub fn key(&mut self) -> Option<Key> {
+        key_of(self.word()?)
+    }
+
+    /// The node that the next word is, at the place of its number.
+    pub fn peer(&mut self) -> Option<Peer> {
+        peer_of(self.word()?)
+    }
+
+    /// The nodes that the next word is.
+    pub fn peers(&mut self, alloc: Global) -> Option<Peers> {
+        peers_of(alloc, self.word()?)
+    }
+
+    /// The bytes that the next word is.
+    pub fn bytes(&mut self, alloc: Global) -> Option<Bytes> {
+        bytes_of(alloc, self.word()?)
+    }
+}
+
+/// Adds the nodes of a word, by their numbers with commas between, each at the place of its number.
+fn push_peers(peers: &mut Vec<Peer>, word: &str) -> Option<()> {
+    for number in word.split(',') {
+        peers.push(peer_of(number)?).ok()?;
+    }
+    Some(())
 }
 
 /// The nodes of a word, by their numbers with commas between, each at the place of its number; `-` for none.
-pub fn peers_of(alloc: Global, word: Option<&str>) -> Option<Vec<Peer>> {
+fn peers_of(alloc: Global, word: &str) -> Option<Peers> {
     let mut peers = Vec::new(alloc);
-    let word = word?;
     if word != "-" {
-        for number in word.split(',') {
-            peers.push(peer_of(Some(number))?).ok()?;
-        }
+        push_peers(&mut peers, word)?;
     }
-    Some(peers)
+    Some(Peers::of(peers))
 }
 
-/// The word of a key.
-pub fn key_text(alloc: Global, key: &Key) -> Option<String> {
+/// The bytes of a word of hexadecimal digits, `-` for none.
+pub fn bytes_of(alloc: Global, word: &str) -> Option<Bytes> {
+    let digits = if word == "-" { "" } else { word };
+    match hex::decode(alloc, digits) {
+        Ok(bytes) => Some(Bytes::of(bytes)),
+        Err(_) => None,
+    }
+}
+
+/// Writes bytes as hexadecimal digits.
+fn put_digits(out: &mut String, bytes: &[u8]) -> Result<(), AllocError> {
+    for byte in bytes {
+        write!(out, "{byte:02x}")?;
+    }
+    Ok(())
+}
+
+/// Writes the word of bytes.
+pub fn put_bytes(out: &mut String, bytes: &[u8]) -> Result<(), AllocError> {
+    if bytes.is_empty() {
+        out.push_str("-")
+    } else {
+        put_digits(out, bytes)
+    }
+}
+
+/// Writes the word of a key.
+pub fn put_key(out: &mut String, key: &Key) -> Result<(), AllocError> {
     let last = key.0[19];
     if *key == place(last) {
-        format!(in alloc; "{last}").ok()
+        write!(out, "{last}")
     } else {
-        hex::encode(alloc, &key.0[..]).ok()
+        put_digits(out, &key.0[..])
     }
 }
 
-/// The word of bytes.
-pub fn bytes_text(alloc: Global, bytes: &[u8]) -> Option<String> {
-    if bytes.is_empty() {
-        format!(in alloc; "-").ok()
-    } else {
-        hex::encode(alloc, bytes).ok()
-    }
+/// Whether the node is at its identifier or at the place of its number.
+fn is_at_home(node: &Peer) -> bool {
+    let last = node.id.0[19];
+    node.id == node_id(node.number) || node.number == last as u32 && node.id == place(last)
 }
 
-/// The word of a node: its number, and its place where that is neither its identifier nor the place of its number.
-pub fn peer_text(alloc: Global, node: &Peer) -> Option<String> {
-    let number = node.number;
-    if *node == peer(number) || node.id == place(node.id.0[19]) && node.id.0[19] as u32 == number {
-        format!(in alloc; "{number}").ok()
-    } else {
-        let place = key_text(alloc, &node.id)?;
-        format!(in alloc; "{number}@{place}").ok()
+/// Writes the word of a node: its number, and its place where that is neither its identifier nor the place of its number.
+pub fn put_peer(out: &mut String, node: &Peer) -> Result<(), AllocError> {
+    write!(out, "{}", node.number)?;
+    if is_at_home(node) {
+        return Ok(());
     }
+    out.push_str("@")?;
+    put_key(out, &node.id)
 }
 
-/// Words with commas between, `-` for none.
-pub fn listed(alloc: Global, words: &[String]) -> Option<String> {
-    let mut text = String::new(alloc);
-    for word in words {
-        if !text.is_empty() {
-            text.push_str(",").ok()?;
-        }
-        text.push_str(word.as_str()).ok()?;
-    }
-    if text.is_empty() {
-        text.push_str("-").ok()?;
-    }
-    Some(text)
-}
-
-/// The word of nodes.
-pub fn peers_text(alloc: Global, peers: &[Peer]) -> Option<String> {
-    let mut words = Vec::new(alloc);
+/// Writes the word of nodes.
+pub fn put_peers(out: &mut String, peers: &[Peer]) -> Result<(), AllocError> {
+    let mut between = "";
     for peer in peers {
-        words.push(peer_text(alloc, peer)?).ok()?;
+        out.push_str(between)?;
+        put_peer(out, peer)?;
+        between = ",";
     }
-    listed(alloc, &words)
+    put_none(out, peers.is_empty())
 }
 
-/// The word of a node that may be missing.
-pub fn before_text(alloc: Global, before: Option<Peer>) -> Option<String> {
+/// Writes the word of a list of nothing, where it is one.
+fn put_none(out: &mut String, none: bool) -> Result<(), AllocError> {
+    if none { out.push_str("-") } else { Ok(()) }
+}
+
+/// Writes the word of heads, by their numbers and names.
+pub fn put_heads(out: &mut String, heads: &[Judged]) -> Result<(), AllocError> {
+    let mut between = "";
+    for head in heads {
+        write!(out, "{between}{}:", head.seq)?;
+        put_key(out, &head.name)?;
+        between = ",";
+    }
+    put_none(out, heads.is_empty())
+}
+
+/// Writes the word of posts, by their keys, kinds and bytes.
+pub fn put_posts(out: &mut String, posts: &[Post]) -> Result<(), AllocError> {
+    let mut between = "";
+    for post in posts {
+        out.push_str(between)?;
+        put_key(out, &post.key)?;
+        write!(out, ":{:?}:", post.kind)?;
+        put_bytes(out, post.bytes.as_slice())?;
+        between = ",";
+    }
+    put_none(out, posts.is_empty())
+}
+
+/// Writes what a node answers to Route.
+fn put_route(out: &mut String, nearer: &Peers, owners: &Peers) -> Result<(), AllocError> {
+    out.push_str("nearer ")?;
+    put_peers(out, nearer.as_slice())?;
+    out.push_str(" owners ")?;
+    put_peers(out, owners.as_slice())
+}
+
+/// Writes what a node answers to Near.
+fn put_near(out: &mut String, before: &Option<Peer>, list: &Peers) -> Result<(), AllocError> {
+    out.push_str("before ")?;
     match before {
-        Some(peer) => peer_text(alloc, &peer),
-        None => format!(in alloc; "-").ok(),
+        Some(before) => put_peer(out, before)?,
+        None => out.push_str("-")?,
     }
+    out.push_str(" list ")?;
+    put_peers(out, list.as_slice())
 }
 
-/// What a node answers.
-pub fn answer_text(alloc: Global, answer: &Answer) -> Option<String> {
+/// Writes the bytes that were found.
+fn put_found(out: &mut String, bytes: &[u8]) -> Result<(), AllocError> {
+    out.push_str("found ")?;
+    put_bytes(out, bytes)
+}
+
+/// Writes what a node answers.
+pub fn put_answer(out: &mut String, answer: &Answer) -> Result<(), AllocError> {
     match answer {
-        Answer::Route { nearer, owners } => {
-            let nearer = peers_text(alloc, nearer.as_slice())?;
-            let owners = peers_text(alloc, owners.as_slice())?;
-            format!(in alloc; "nearer {nearer} owners {owners}").ok()
-        }
-        Answer::Near { before, list } => {
-            let before = before_text(alloc, *before)?;
-            let list = peers_text(alloc, list.as_slice())?;
-            format!(in alloc; "before {before} list {list}").ok()
-        }
-        Answer::Found(bytes) => {
-            let bytes = bytes_text(alloc, bytes.as_slice())?;
-            format!(in alloc; "found {bytes}").ok()
-        }
-        Answer::Nothing => format!(in alloc; "nothing").ok(),
-        Answer::Stored => format!(in alloc; "stored").ok(),
-        Answer::Refused(fault) => format!(in alloc; "refused: {fault:?}").ok(),
-        Answer::Noted => format!(in alloc; "noted").ok(),
-        Answer::Silent => format!(in alloc; "silent").ok(),
+        Answer::Route { nearer, owners } => put_route(out, nearer, owners),
+        Answer::Near { before, list } => put_near(out, before, list),
+        Answer::Found(bytes) => put_found(out, bytes.as_slice()),
+        Answer::Nothing => out.push_str("nothing"),
+        Answer::Stored => out.push_str("stored"),
+        Answer::Refused(fault) => write!(out, "refused: {fault:?}"),
+        Answer::Noted => out.push_str("noted"),
+        Answer::Silent => out.push_str("silent"),
     }
 }
