@@ -1,0 +1,5 @@
+mod ReadBack
+mod Cuts
+mod OneHead
+mod OneLog
+pub mod AllLogs
