@@ -14,7 +14,7 @@ use Rattle.log_model.specs.View.{View, have_own_head_keys}
 use Rattle.log_model.specs.Vector.{Stamp, Vector, Entry, stamp_at}
 use Rattle.log_model.specs.Record.{Record}
 use Rattle.log_model.specs.Closed.{log_of}
-use Rattle.log_model.specs.Standing.{StandsAmong}
+use Rattle.log_model.specs.Standing.{StandsAmong, Stand}
 use Rattle.log_model.proofs.Lists.{here, there, in_cons, in_nothing, each, each_from, passes, in_filter, from_filter}
 use Rattle.log_model.proofs.Owners.{owner_itself}
 use Rattle.causal_order.proofs.Meeting.{to_map, from_map}
@@ -22,6 +22,7 @@ use Rattle.dht_ids.specs.declared.judge.Judged.{Judged}
 use Rattle.dhash_client.specs.declared.miss.Miss.{Miss}
 use Rattle.log_records.specs.declared.edge.Edge.{Edge}
 use Rattle.log_records.specs.declared.chain_fault.ChainFault.{ChainFault}
+use Rattle.turn_model.specs.Known.{IsKnown}
 use Rattle.agent_model.specs.Standing.{Standing, Chain, edge_at}
 use Rattle.agent_model.specs.Candidates.{BringsOf}
 use Rattle.session_model.specs.Brought.{Brought, HeadsOf, BlockOf, stamp_of, heads_of, all_heads, heads_at}
@@ -32,7 +33,7 @@ use Rattle.session_model.specs.Refreshing.{Note, RefreshEnd, Done, Fetches, Fetc
 use Rattle.session_model.specs.Refreshing.Fetches.{wants_heads, no_heads, of_heads, of_own}
 use Rattle.session_model.specs.Refreshing.FetchesAll.{all, stays, goes_on}
 use Rattle.session_laws.specs.Bringing.{StartsFrom, FetchedIsBrought}
-use Rattle.session_laws.proofs.Cuts.{StartsIn}
+use Rattle.session_laws.proofs.Cuts.{StartsIn, IsLogKnown}
 use Rattle.session_laws.proofs.OneLog.{log_brought}
 
 -- ---- owners apart
@@ -282,6 +283,14 @@ starts_in s start knew owner member from (Some t) e =
     let w = from owner member t e in
     (w.0, in_filter (λ (x : Record). eq_by_cmp owner_cmp owner x.owner) knew w.0 w.1 (subst (λ (o : PubKey). eq_by_cmp owner_cmp owner o ≡ true) (sym w.2) (owner_itself owner)), w.3, w.4)
 
+log_known : (met : List (List ℕ)) (s : Standing) (knew : List Record) (owner : PubKey) → Contains s.view.members owner → IsKnown s.view s.floor knew → Stand met knew
+    → IsLogKnown met s.view owner (stamp_at s.floor (head_key_of owner)) (log_of owner knew)
+log_known met s knew owner member is_known stand = record {
+  chain = is_known.chains owner;
+  stand = each_from (StandsAmong met) (log_of owner knew) (λ r c. each (StandsAmong met) knew r stand (from_filter (λ (x : Record). eq_by_cmp owner_cmp owner x.owner) knew r c).0);
+  ends = is_known.ends owner member;
+}
+
 pub fetched_is_brought : FetchedIsBrought
 fetched_is_brought met s start knew brought notes chains basis apart well is_known stand from are fetches =
     let owners_apart = apart_keys s.view.members s.view.former well.apart in
@@ -293,9 +302,7 @@ fetched_is_brought met s start knew brought notes chains basis apart well is_kno
           one_at_most s start c.owner p.end c d (p.just c w refl) (p.just d v (sym e));
       each = each_from (BringsOf (heads_at brought) met s.view s knew (record { started = start; chains = chains; basis = basis })) s.view.members (λ owner member.
           let p = each (HasPart s start brought chains) s.view.members owner all_parts member in
-          log_brought met apart s start knew owner (is_known.chains owner)
-          (each_from (StandsAmong met) (log_of owner knew) (λ r c. each (StandsAmong met) knew r stand (from_filter (λ (x : Record). eq_by_cmp owner_cmp owner x.owner) knew r c).0))
-          (is_known.ends owner member)
+          log_brought met apart s start knew owner (log_known met s knew owner member is_known stand)
           (starts_in s start knew owner member from (stamp_at start (head_key_of owner)) refl)
           (heads_at brought) chains basis p.fetches p.through
           (λ key bytes c. are key bytes (p.among (BlockOf key (Ok bytes)) c))

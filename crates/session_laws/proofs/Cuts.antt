@@ -169,7 +169,13 @@ known_first met apart view owner (Some f) knew of_knew stand_knew ends chain of_
 
 -- ---- what is above of a chain to a head
 
-module _ (met : List (List ℕ)) (apart : NamesTellApart met) (view : View) (owner : PubKey) (held fl : Option Stamp) (knew : List Record) (of_knew : IsChain view owner knew) (stand_knew : Stand met knew) (ends_knew : known.EndsAt fl knew) where
+-- what is known of the log: the chain that the floor names, among the blocks
+pub record IsLogKnown (met : List (List ℕ)) (view : View) (owner : PubKey) (fl : Option Stamp) (knew : List Record) : Type 0 where
+  pub chain : IsChain view owner knew
+  pub stand : Stand met knew
+  pub ends : known.EndsAt fl knew
+
+module _ (met : List (List ℕ)) (apart : NamesTellApart met) (view : View) (owner : PubKey) (held fl : Option Stamp) (knew : List Record) (k : IsLogKnown met view owner fl knew) where
   pub record IsAbove (edge : Option Edge) (head : Stamp) (chain : List Record) : Type 0 where
     pub high : List Record
     pub is : above (reach held) chain ≡ high
@@ -183,7 +189,7 @@ module _ (met : List (List ℕ)) (apart : NamesTellApart met) (view : View) (own
 
   pub above_held : (edge : Option Edge) (head : Stamp) (chain : List Record) → StartsIn held edge knew → IsChain view owner chain → Stand met chain → EndsAt head chain → PassesThrough fl chain → reach held < head.seq → IsAbove edge head chain
   above_held edge head chain from of_chain stand ends passes far =
-      let first = known_first met apart view owner fl knew of_knew stand_knew ends_knew chain of_chain stand passes in
+      let first = known_first met apart view owner fl knew k.chain k.stand k.ends chain of_chain stand passes in
       let cut = cut_at view owner held edge knew chain first.0 first.1 of_chain from in
       let linked = linked_chain view owner chain of_chain in
       let size = long owner 1 no_name chain head linked ends in

@@ -32,7 +32,7 @@ use Rattle.session_model.specs.Brought.{Brought}
 use Rattle.session_model.specs.Walks.{Walks, Came, Garbled}
 use Rattle.session_laws.specs.Bringing.{AreMet}
 use Rattle.session_laws.proofs.ReadBack.{last_seq, linked_left, linked_owner, long, nothing_ends, read_is, is_read, read_owned, read_stands}
-use Rattle.session_laws.proofs.Cuts.{divided, linked_chain, StartsIn, IsAbove, above_held}
+use Rattle.session_laws.proofs.Cuts.{divided, linked_chain, StartsIn, IsLogKnown, IsAbove, above_held}
 
 -- ---- plain facts
 
@@ -107,7 +107,7 @@ module _ (view : View) (owner : PubKey) where
 
 -- ---- one head
 
-module _ (met : List (List ℕ)) (apart : NamesTellApart met) (view : View) (owner : PubKey) (start floor : Vector) (knew : List Record) (of_knew : IsChain view owner knew) (stand_knew : Stand met knew) (ends_knew : known.EndsAt (stamp_at floor (head_key_of owner)) knew) where
+module _ (met : List (List ℕ)) (apart : NamesTellApart met) (view : View) (owner : PubKey) (start floor : Vector) (knew : List Record) (k : IsLogKnown met view owner (stamp_at floor (head_key_of owner)) knew) where
   abbrev held : Option Stamp
   held = stamp_at start (head_key_of owner)
 
@@ -138,9 +138,9 @@ module _ (met : List (List ℕ)) (apart : NamesTellApart met) (view : View) (own
   refused_garbled edge head walk are = λ prev high linked_high stand ends sound onward. is_read met apart owner (reach held) prev high head linked_high stand ends are walk
 
   of_chain : (edge : Option Edge) (head : Stamp) (chain : List Record) → StartsIn held edge knew → reach held < head.seq → MakeChain met view owner floor head chain
-      → IsAbove met apart view owner held (stamp_at floor (head_key_of owner)) knew of_knew stand_knew ends_knew edge head chain
+      → IsAbove met apart view owner held (stamp_at floor (head_key_of owner)) knew k edge head chain
   of_chain edge head chain from far makes =
-      above_held met apart view owner held (stamp_at floor (head_key_of owner)) knew of_knew stand_knew ends_knew edge head chain from makes.chain_of_log makes.stand makes.ends makes.passes far
+      above_held met apart view owner held (stamp_at floor (head_key_of owner)) knew k edge head chain from makes.chain_of_log makes.stand makes.ends makes.passes far
 
   -- so there is no chain to it
   pub passed_over : (edge : Option Edge) (head : Stamp) → StartsIn held edge knew → reach held < head.seq → IsRefused edge head → IsPassedOver met view owner floor head
@@ -207,7 +207,7 @@ module _ (met : List (List ℕ)) (apart : NamesTellApart met) (view : View) (own
             chain_of_log = subst (λ (o : PubKey). IsChain view o records) mine whole.0;
             stand = given.stand;
             ends = whole.1;
-            passes = begins_through view owner (stamp_at floor (head_key_of owner)) knew records of_knew ends_knew (subst (λ (s : Option Stamp). PassesFloor (stamp_at floor (head_key_of owner)) (reach s) records) none floor_passes);
+            passes = begins_through view owner (stamp_at floor (head_key_of owner)) knew records k.chain k.ends (subst (λ (s : Option Stamp). PassesFloor (stamp_at floor (head_key_of owner)) (reach s) records) none floor_passes);
           },
         )
 
@@ -216,18 +216,18 @@ module _ (met : List (List ℕ)) (apart : NamesTellApart met) (view : View) (own
     chain_goes_on t some r within at on =
         let w = divided knew r within in
         let parts : knew ≡ (w.0 ++ r ∷ []) ++ w.1 = w.2 ∙ sym (append_assoc w.0 (r ∷ []) w.1) in
-        let front : IsChain view owner (w.0 ++ r ∷ []) = chain_front view owner (w.0 ++ r ∷ []) w.1 (subst (IsChain view owner) parts of_knew) in
+        let front : IsChain view owner (w.0 ++ r ∷ []) = chain_front view owner (w.0 ++ r ∷ []) w.1 (subst (IsChain view owner) parts k.chain) in
         let held_is : stamp_in start records ≡ Some (own_entry r).1 = ap (λ (o : PubKey). stamp_at start (head_key_of o)) mine ∙ some ∙ ap (λ (s : Stamp). Some s) (sym at) in
         let whole = chains_go_on view start floor head w.0 r records (subst (λ (o : PubKey). IsChain view o (w.0 ++ r ∷ [])) (sym mine) front) held_is
         (extends view start floor edge head records given.sound given.onward)
         (subst (λ (o : PubKey). GoesOnFrom view (stamp_at start (head_key_of o)) (Some (as_edge r)) records) (sym mine) on) in
-        let stand_parts : Stand met (w.0 ++ r ∷ w.1) = subst (Stand met) w.2 stand_knew in (
+        let stand_parts : Stand met (w.0 ++ r ∷ w.1) = subst (Stand met) w.2 k.stand in (
           w.0 ++ r ∷ records,
           record {
             chain_of_log = subst (λ (o : PubKey). IsChain view o (w.0 ++ r ∷ records)) mine whole.0;
             stand = each_append (StandsAmong met) w.0 (r ∷ records) (each_left (StandsAmong met) w.0 (r ∷ w.1) stand_parts) ((each_right (StandsAmong met) w.0 (r ∷ w.1) stand_parts).0, given.stand);
             ends = whole.1;
-            passes = goes_through view owner (stamp_at floor (head_key_of owner)) t.seq knew w.0 w.1 records r of_knew ends_knew w.2 (ap (λ (s : Stamp). s.seq) at) (subst (λ (s : Option Stamp). PassesFloor (stamp_at floor (head_key_of owner)) (reach s) records) some floor_passes);
+            passes = goes_through view owner (stamp_at floor (head_key_of owner)) t.seq knew w.0 w.1 records r k.chain k.ends w.2 (ap (λ (s : Stamp). s.seq) at) (subst (λ (s : Option Stamp). PassesFloor (stamp_at floor (head_key_of owner)) (reach s) records) some floor_passes);
           },
         )
 

@@ -13,9 +13,7 @@ use Rattle.ivy_base.specs.Naming.{NamesTellApart, head_key_of, key_cmp}
 use Rattle.tree_model.proofs.Keys.{keys_total}
 use Rattle.log_model.specs.Vector.{Stamp, Vector, stamp_at, seq_of}
 use Rattle.log_model.specs.Record.{Record}
-use Rattle.log_model.specs.Chain.{IsChain}
 use Rattle.log_model.specs.Closed.{log_of}
-use Rattle.log_model.specs.Standing.{Stand}
 use Rattle.log_model.proofs.Lists.{here, there, in_cons, each, each_left}
 use Rattle.log_records.specs.declared.edge.Edge.{Edge}
 use Rattle.log_records.specs.declared.chain_fault.ChainFault.{ChainFault}
@@ -32,7 +30,7 @@ use Rattle.session_model.specs.Walks.Tries.{none as none_left, wants as head_wan
 use Rattle.session_model.specs.Refreshing.{Fetches, floors_own, end_of_log, chains_of}
 use Rattle.session_model.specs.Refreshing.Fetches.{wants_heads, no_heads, of_heads, of_own}
 use Rattle.session_laws.specs.Bringing.{AreMet}
-use Rattle.session_laws.proofs.Cuts.{StartsIn}
+use Rattle.session_laws.proofs.Cuts.{StartsIn, IsLogKnown}
 use Rattle.session_laws.proofs.OneHead.{starts_below, IsRefused, IsGiven, refused_came, refused_garbled, passed_over, not_taken, given_came, given_above, head_ends}
 
 -- ---- heads in their order
@@ -85,15 +83,28 @@ own_is (Some t) b before head rest e = by (nat_lt b t.seq) refl before e
 
 -- ---- what came of the heads
 
-module _ (met : List (List ℕ)) (apart : NamesTellApart met) (s : Standing) (start : Vector) (knew : List Record) (owner : PubKey) (of_knew : IsChain s.view owner (log_of owner knew)) (stand_knew : Stand met (log_of owner knew)) (ends_knew : known.EndsAt (stamp_at s.floor (head_key_of owner)) (log_of owner knew)) (from : StartsIn (stamp_at start (head_key_of owner)) (edge_at s (head_key_of owner)) (log_of owner knew)) where
+module _ (met : List (List ℕ)) (apart : NamesTellApart met) (s : Standing) (start : Vector) (knew : List Record) (owner : PubKey) (k : IsLogKnown met s.view owner (stamp_at s.floor (head_key_of owner)) (log_of owner knew)) (from : StartsIn (stamp_at start (head_key_of owner)) (edge_at s (head_key_of owner)) (log_of owner knew)) where
+  -- of the log: its name, where the fetch starts, what the floor names, what is known of the held record, and what is known
   abbrev log : Key
   log = head_key_of owner
 
+  abbrev start_seq : ℕ
+  start_seq = seq_of start (head_key_of owner)
+
+  abbrev floor_seq : ℕ
+  floor_seq = seq_of s.floor (head_key_of owner)
+
+  abbrev edge : Option Edge
+  edge = edge_at s (head_key_of owner)
+
+  abbrev own_knew : List Record
+  own_knew = log_of owner knew
+
   abbrev Refused : Stamp → Type 0
-  Refused t = IsRefused met apart s.view owner start s.floor (log_of owner knew) of_knew stand_knew ends_knew (edge_at s (head_key_of owner)) t
+  Refused t = IsRefused met apart s.view owner start s.floor own_knew k edge t
 
   abbrev Given : Stamp → List Record → Type 0
-  Given t records = IsGiven met apart s.view owner start s.floor (log_of owner knew) of_knew stand_knew ends_knew (edge_at s (head_key_of owner)) t records
+  Given t records = IsGiven met apart s.view owner start s.floor own_knew k edge t records
 
   -- a head's records were taken behind heads that were passed over, or all were
   abbrev Results : List Stamp → LogEnd → Type 0
@@ -108,68 +119,68 @@ module _ (met : List (List ℕ)) (apart : NamesTellApart met) (s : Standing) (st
   one_more t ts (Gives records) refused h = (t ∷ h.0, h.1, h.2, ap (λ (l : List Stamp). t ∷ l) h.3, (refused, h.4), h.5)
   one_more t ts GivesNone refused h = (refused, h)
 
-  results : {ts : List Stamp} {brought : List Brought} {faults : List ChainFault} {end : LogEnd} → Tries s.view owner start s.floor (edge_at s (head_key_of owner)) ts brought faults end → AreMet met brought → Results ts end
+  results : {ts : List Stamp} {brought : List Brought} {faults : List ChainFault} {end : LogEnd} → Tries s.view owner start s.floor edge ts brought faults end → AreMet met brought → Results ts end
   results none_left are = tt
   results (head_wants walk) are = tt
   results (head_misses walk) are = tt
   results (is_given {t = t} {ts = ts} walk sound onward) are =
-      ([], t, ts, refl, tt, given_came met apart s.view owner start s.floor (log_of owner knew) of_knew stand_knew ends_knew (edge_at s (head_key_of owner)) t walk are sound onward)
+      ([], t, ts, refl, tt, given_came met apart s.view owner start s.floor own_knew k edge t walk are sound onward)
   results (is_passed {t = t} {ts = ts} {brought = first} {more = more} {fault = fault} {end = end} walk some fails tries) are =
       one_more t ts end
-      (refused_came met apart s.view owner start s.floor (log_of owner knew) of_knew stand_knew ends_knew (edge_at s (head_key_of owner)) t walk (λ k b c. are k b (Contains-append_left first more _ c)) fault some fails)
-      (results tries (λ k b c. are k b (Contains-append_right first more _ c)))
+      (refused_came met apart s.view owner start s.floor own_knew k edge t walk (λ key bytes c. are key bytes (Contains-append_left first more _ c)) fault some fails)
+      (results tries (λ key bytes c. are key bytes (Contains-append_right first more _ c)))
   results (is_garbled {t = t} {ts = ts} {brought = first} {more = more} {end = end} walk tries) are =
       one_more t ts end
-      (refused_garbled met apart s.view owner start s.floor (log_of owner knew) of_knew stand_knew ends_knew (edge_at s (head_key_of owner)) t walk (λ k b c. are k b (Contains-append_left first more _ c)))
-      (results tries (λ k b c. are k b (Contains-append_right first more _ c)))
+      (refused_garbled met apart s.view owner start s.floor own_knew k edge t walk (λ key bytes c. are key bytes (Contains-append_left first more _ c)))
+      (results tries (λ key bytes c. are key bytes (Contains-append_right first more _ c)))
 
   -- ---- the candidate
 
-  low : seq_of start (head_key_of owner) ≤ seq_of s.floor (head_key_of owner)
-  low = starts_below s.view owner (stamp_at start (head_key_of owner)) (stamp_at s.floor (head_key_of owner)) (edge_at s (head_key_of owner)) (log_of owner knew) of_knew ends_knew from
+  low : start_seq ≤ floor_seq
+  low = starts_below s.view owner (stamp_at start log) (stamp_at s.floor log) edge own_knew k.chain k.ends from
 
-  over : (t : Stamp) → seq_of s.floor (head_key_of owner) < t.seq → Refused t → IsPassedOver met s.view owner s.floor t
+  over : (t : Stamp) → floor_seq < t.seq → Refused t → IsPassedOver met s.view owner s.floor t
   over t far refused =
       let le = low in
-      passed_over met apart s.view owner start s.floor (log_of owner knew) of_knew stand_knew ends_knew (edge_at s (head_key_of owner)) t from (omega (arith, le, far)) refused
+      passed_over met apart s.view owner start s.floor own_knew k edge t from (omega (arith, le, far)) refused
 
-  none_taken : (t : Stamp) (records : List Record) → edge_at s (head_key_of owner) ≡ None → Refused t → AreTaken met s.view owner start s.floor t records → ⊥
+  none_taken : (t : Stamp) (records : List Record) → edge ≡ None → Refused t → AreTaken met s.view owner start s.floor t records → ⊥
   none_taken t records no_edge refused taken =
-      not_taken met apart s.view owner start s.floor (log_of owner knew) of_knew stand_knew ends_knew t records
-      (subst (λ (e : Option Edge). IsRefused met apart s.view owner start s.floor (log_of owner knew) of_knew stand_knew ends_knew e t) no_edge refused) taken
+      not_taken met apart s.view owner start s.floor own_knew k t records
+      (subst (λ (e : Option Edge). IsRefused met apart s.view owner start s.floor own_knew k e t) no_edge refused) taken
 
   -- the floor's own records are those that are known
-  own_above : (t : Stamp) (records : List Record) → stamp_at s.floor (head_key_of owner) ≡ Some t → seq_of start (head_key_of owner) < t.seq → Given t records → records ≡ records_above start owner (log_of owner knew)
+  own_above : (t : Stamp) (records : List Record) → stamp_at s.floor log ≡ Some t → start_seq < t.seq → Given t records → records ≡ records_above start owner own_knew
   own_above t records is far given =
-      let ends : known.EndsAt (Some t) (log_of owner knew) = subst (λ (o : Option Stamp). known.EndsAt o (log_of owner knew)) is ends_knew in
-      given_above met apart s.view owner start s.floor (log_of owner knew) of_knew stand_knew ends_knew (edge_at s (head_key_of owner)) t records (log_of owner knew) from far given (record {
-        chain_of_log = of_knew;
-        stand = stand_knew;
+      let ends : known.EndsAt (Some t) own_knew = subst (λ (o : Option Stamp). known.EndsAt o own_knew) is k.ends in
+      given_above met apart s.view owner start s.floor own_knew k edge t records own_knew from far given (record {
+        chain_of_log = k.chain;
+        stand = k.stand;
         ends = ends;
-        passes = subst (λ (o : Option Stamp). PassesThrough o (log_of owner knew)) (sym is) (log_of owner knew, [], sym (append-nil (log_of owner knew)), ends);
+        passes = subst (λ (o : Option Stamp). PassesThrough o own_knew) (sym is) (log_of owner knew, [], sym (append-nil own_knew), ends);
       })
 
   module _ (heads : Key → List Stamp) where
-    own_candidate : owner ≡ s.own → IsCandidateOf heads met s.view s knew start owner (log_of owner knew)
-    own_candidate mine = by_heads (log_of owner knew) (λ records m. m.of_other mine) (own_log mine)
+    own_candidate : owner ≡ s.own → IsCandidateOf heads met s.view s knew start owner own_knew
+    own_candidate mine = by_heads own_knew (λ records m. m.of_other mine) (own_log mine)
 
-    module _ (other : owner ≡ s.own → ⊥) (tried : List Stamp) (are_tried : (t : Stamp) → Contains tried t ↔ IsTried heads s.floor (head_key_of owner) t) (order : InTryingOrder tried) where
+    module _ (other : owner ≡ s.own → ⊥) (tried : List Stamp) (are_tried : (t : Stamp) → Contains tried t ↔ IsTried heads s.floor log t) (order : InTryingOrder tried) where
       -- where all were passed over, it is what is known
-      known_candidate : AllByRecursion Refused tried → IsCandidateOf heads met s.view s knew start owner (log_of owner knew)
-      known_candidate refused = by_heads (log_of owner knew)
+      known_candidate : AllByRecursion Refused tried → IsCandidateOf heads met s.view s knew start owner own_knew
+      known_candidate refused = by_heads own_knew
           (λ records m. none_taken m.head records m.no_edge (each Refused tried m.head refused ((are_tried m.head).1 m.tried)) m.taken)
           (as_known other (λ t is. over t is.1 (each Refused tried t refused ((are_tried t).1 is))))
 
       -- else by the first whose records were taken
       module _ (passed : List Stamp) (head : Stamp) (rest : List Stamp) (is : tried ≡ passed ++ head ∷ rest) (refused : AllByRecursion Refused passed) (records : List Record) (given : Given head records) where
-        is_tried : IsTried heads s.floor (head_key_of owner) head
+        is_tried : IsTried heads s.floor log head
         is_tried = (are_tried head).0 (subst (λ (l : List Stamp). Contains l head) (sym is) (Contains-append_right passed (head ∷ rest) head (here head rest)))
 
         after : AllByRecursion (IsTriedBefore head) rest
         after = behind_after passed head rest (subst InTryingOrder is order)
 
         -- another one was passed over, or is the same, or comes after it
-        cases : (t : Stamp) → IsTried heads s.floor (head_key_of owner) t → Refused t ⊎ ((head ≡ t) ⊎ IsTriedBefore head t)
+        cases : (t : Stamp) → IsTried heads s.floor log t → Refused t ⊎ ((head ≡ t) ⊎ IsTriedBefore head t)
         cases t t_tried = elim (Contains-append_cases passed (head ∷ rest) t (subst (λ (l : List Stamp). Contains l t) is ((are_tried t).1 t_tried))) [
           | inl before ↦ inl (each Refused passed t refused before)
           | inr behind ↦ elim (in_cons head rest t behind) [
@@ -178,14 +189,14 @@ module _ (met : List (List ℕ)) (apart : NamesTellApart met) (s : Standing) (st
           ]
         ]
 
-        first : (t : Stamp) → IsTried heads s.floor (head_key_of owner) t → IsTriedBefore t head → Refused t
+        first : (t : Stamp) → IsTried heads s.floor log t → IsTriedBefore t head → Refused t
         first t t_tried before = elim (cases t t_tried) [
           | inl r ↦ r
           | inr (inl same) ↦ absurd (not_both_before t head before (subst (λ (x : Stamp). IsTriedBefore x t) (sym same) (subst (λ (x : Stamp). IsTriedBefore t x) same before)))
           | inr (inr behind) ↦ absurd (not_both_before t head before behind)
         ]
 
-        taken : edge_at s (head_key_of owner) ≡ None → AreTaken met s.view owner start s.floor head records
+        taken : edge ≡ None → AreTaken met s.view owner start s.floor head records
         taken no_edge = record {
           owned = given.owned;
           sound = subst (λ (e : Option Edge). IsSound s.view start e head records) no_edge given.sound;
@@ -193,7 +204,7 @@ module _ (met : List (List ℕ)) (apart : NamesTellApart met) (s : Standing) (st
           stand = given.stand;
         }
 
-        far : seq_of start (head_key_of owner) < head.seq
+        far : start_seq < head.seq
         far = let le = low in let more = is_tried.1 in omega (arith, le, more)
 
         not_misled : (chain : List Record) → MakeChain met s.view owner s.floor head chain → (others : List Record) → IsMisled heads met s.view s start owner others → ⊥
@@ -207,11 +218,11 @@ module _ (met : List (List ℕ)) (apart : NamesTellApart met) (s : Standing) (st
         Newest = ((chain : List Record) × IsCandidateOf heads met s.view s knew start owner chain × (records ≡ records_above start owner chain)) ⊎ IsMisled heads met s.view s start owner records
 
         new_candidate : Newest
-        new_candidate = elim (head_ends met apart s.view owner start s.floor (log_of owner knew) of_knew stand_knew ends_knew (edge_at s (head_key_of owner)) head records given from far) [
+        new_candidate = elim (head_ends met apart s.view owner start s.floor own_knew k edge head records given from far) [
           | inl w ↦ inl (
             w.0,
             by_heads w.0 (not_misled w.0 w.1) (newest head w.0 other is_tried w.1 (λ t t_tried before. over t t_tried.1 (first t t_tried before))),
-            given_above met apart s.view owner start s.floor (log_of owner knew) of_knew stand_knew ends_knew (edge_at s (head_key_of owner)) head records w.0 from far given w.1,
+            given_above met apart s.view owner start s.floor own_knew k edge head records w.0 from far given w.1,
           )
           | inr m ↦ inr (record {
             of_other = other;
@@ -242,42 +253,42 @@ module _ (met : List (List ℕ)) (apart : NamesTellApart met) (s : Standing) (st
       given_brought : (records : List Record) → HasJust (Gives records) → (chain : List Record) → IsCandidateOf heads met s.view s knew start owner chain → records ≡ records_above start owner chain → Brought_of
       given_brought records just chain is same = candidate (chain_of records) chain (just.0 (chain_of records) (here (chain_of records) [])) refl is same
 
-      nothing_brought : HasJust GivesNone → IsCandidateOf heads met s.view s knew start owner (log_of owner knew) → Brought_of
+      nothing_brought : HasJust GivesNone → IsCandidateOf heads met s.view s knew start owner own_knew → Brought_of
       nothing_brought just is = nothing (λ c within mine. let none = (just.1 c within mine).1 in omega (arith, none)) is
 
-      own_brought : (mine : owner ≡ s.own) (end : LogEnd) → end_of_log end ≡ None → Results (floors_own (stamp_at s.floor (head_key_of owner)) (seq_of start (head_key_of owner))) end → HasJust end → Brought_of
+      own_brought : (mine : owner ≡ s.own) (end : LogEnd) → end_of_log end ≡ None → Results (floors_own (stamp_at s.floor log) start_seq) end → HasJust end → Brought_of
       own_brought mine (Lacks want) through h just = cc through
       own_brought mine (Stops miss) through h just = cc through
       own_brought mine (Gives records) through h just =
-          let w = own_is (stamp_at s.floor (head_key_of owner)) (seq_of start (head_key_of owner)) h.0 h.1 h.2 h.3 in
-          given_brought records just (log_of owner knew) (own_candidate mine) (own_above h.1 records w.0 w.1 h.5)
+          let w = own_is (stamp_at s.floor log) start_seq h.0 h.1 h.2 h.3 in
+          given_brought records just own_knew (own_candidate mine) (own_above h.1 records w.0 w.1 h.5)
       own_brought mine GivesNone through h just = nothing_brought just (own_candidate mine)
 
-      module _ (other : owner ≡ s.own → ⊥) (tried : List Stamp) (are_tried : (t : Stamp) → Contains tried t ↔ IsTried heads s.floor (head_key_of owner) t) (order : InTryingOrder tried) where
+      module _ (other : owner ≡ s.own → ⊥) (tried : List Stamp) (are_tried : (t : Stamp) → Contains tried t ↔ IsTried heads s.floor log t) (order : InTryingOrder tried) where
         newest_brought : (records : List Record) → HasJust (Gives records) → (passed : List Stamp) (head : Stamp) (rest : List Stamp) (is : tried ≡ passed ++ head ∷ rest) → AllByRecursion Refused passed → Given head records → Brought_of
         newest_brought records just passed head rest is refused given = elim (new_candidate other tried are_tried order passed head rest is refused records given) [
           | inl w ↦ given_brought records just w.0 w.1 w.2
           | inr m ↦ misleading (chain_of records) (just.0 (chain_of records) (here (chain_of records) [])) refl m
         ]
 
-        other_brought : (end : LogEnd) → end_of_log end ≡ None → Results (tried ++ floors_own (stamp_at s.floor (head_key_of owner)) (seq_of start (head_key_of owner))) end → HasJust end → Brought_of
+        other_brought : (end : LogEnd) → end_of_log end ≡ None → Results (tried ++ floors_own (stamp_at s.floor log) start_seq) end → HasJust end → Brought_of
         other_brought (Lacks want) through h just = cc through
         other_brought (Stops miss) through h just = cc through
         other_brought (Gives records) through h just =
-            elim (divided_at h.0 h.2 tried (floors_own (stamp_at s.floor (head_key_of owner)) (seq_of start (head_key_of owner))) h.1 (sym h.3)) [
+            elim (divided_at h.0 h.2 tried (floors_own (stamp_at s.floor log) start_seq) h.1 (sym h.3)) [
               | inl w ↦ newest_brought records just h.0 h.1 w.0 w.1 h.4 h.5
               | inr w ↦ (
-                  let o = own_is (stamp_at s.floor (head_key_of owner)) (seq_of start (head_key_of owner)) w.0 h.1 h.2 w.2 in
+                  let o = own_is (stamp_at s.floor log) start_seq w.0 h.1 h.2 w.2 in
                   let refused : AllByRecursion Refused tried = each_left Refused tried w.0 (subst (AllByRecursion Refused) w.1 h.4) in
-                  given_brought records just (log_of owner knew) (known_candidate other tried are_tried order refused) (own_above h.1 records o.0 o.1 h.5)
+                  given_brought records just own_knew (known_candidate other tried are_tried order refused) (own_above h.1 records o.0 o.1 h.5)
                   )
             ]
         other_brought GivesNone through h just =
-            nothing_brought just (known_candidate other tried are_tried order (each_left Refused tried (floors_own (stamp_at s.floor (head_key_of owner)) (seq_of start (head_key_of owner))) h))
+            nothing_brought just (known_candidate other tried are_tried order (each_left Refused tried (floors_own (stamp_at s.floor log) start_seq) h))
 
       -- the heads that count are those that came for it
       abbrev pub HasHeads : List Brought → Type 0
-      HasHeads brought = (came : List Judged) → Contains brought (HeadsOf owner (Ok came)) → (t : Stamp) → Contains (heads (head_key_of owner)) t ↔ Contains (map stamp_of came) t
+      HasHeads brought = (came : List Judged) → Contains brought (HeadsOf owner (Ok came)) → (t : Stamp) → Contains (heads log) t ↔ Contains (map stamp_of came) t
 
       pub log_brought : {brought : List Brought} {notes : List _} {end : LogEnd} → Fetches s start owner brought notes end → end_of_log end ≡ None → AreMet met brought → HasHeads brought → HasJust end → Brought_of
       log_brought (wants_heads other) through are has just = cc through
@@ -289,5 +300,5 @@ module _ (met : List (List ℕ)) (apart : NamesTellApart met) (s : Standing) (st
             λ c. let w = (are_tried.each t).0 c in ((same t).1 w.0, w.1),
             λ w. (are_tried.each t).1 ((same t).0 w.0, w.1),
           ))
-          are_tried.order end through (results tries (λ k b c. are k b (there (HeadsOf owner (Ok came)) brought _ c))) just
+          are_tried.order end through (results tries (λ key bytes c. are key bytes (there (HeadsOf owner (Ok came)) brought _ c))) just
       log_brought (of_own brought faults end mine tries) through are has just = own_brought mine end through (results tries are) just
