@@ -2,4 +2,5 @@ mod ReadBack
 mod Cuts
 mod OneHead
 mod OneLog
-pub mod AllLogs
+mod OwnParts
+mod AllLogs
