@@ -1,5 +1,5 @@
 -- The logs of all members, each by its own part of what was brought.
-use Rattle.std.proofs.Common.{◌≡◌, ℕ, true, List, Option, Some, None, Ok, refl, sym, subst, Contains}
+use Rattle.std.proofs.Common.{◌≡◌, ℕ, true, List, [], Option, Some, None, Ok, refl, sym, subst, Contains}
 use Rattle.ivy_base.specs.declared.key.PubKey.{PubKey}
 use Rattle.ivy_base.specs.Naming.{head_key_of, owner_cmp}
 use Rattle.std.specs.Ordering.{eq_by_cmp}
@@ -7,15 +7,17 @@ use Rattle.log_model.specs.Vector.{Stamp, Vector, stamp_at}
 use Rattle.log_model.specs.Record.{Record}
 use Rattle.log_model.specs.Closed.{log_of}
 use Rattle.log_model.specs.Standing.{StandsAmong, Stand}
-use Rattle.log_model.proofs.Lists.{each, each_from, in_filter, from_filter}
+use Rattle.log_model.proofs.Lists.{here, each, each_from, in_filter, from_filter}
 use Rattle.log_model.proofs.Owners.{owner_itself}
 use Rattle.turn_model.specs.Known.{IsKnown}
 use Rattle.agent_model.specs.Standing.{Standing, Chain, edge_at}
 use Rattle.agent_model.specs.Candidates.{BringsOf}
 use Rattle.session_model.specs.Brought.{BlockOf, heads_at}
-use Rattle.session_laws.specs.Bringing.{StartsFrom, FetchedIsBrought}
+use Rattle.session_model.specs.Walks.{LogEnd}
+use Rattle.session_model.specs.Refreshing.{chains_of}
+use Rattle.session_laws.specs.Bringing.{StartsFrom, FetchedIsBrought, FloorIsBrought}
 use Rattle.session_laws.proofs.Cuts.{StartsIn, IsLogKnown}
-use Rattle.session_laws.proofs.OneLog.{log_brought}
+use Rattle.session_laws.proofs.OneLog.{log_brought, floor_brought}
 use Rattle.session_laws.proofs.OwnParts.{apart_keys, HasPart, one_at_most, chains_owned, parts, heads_same}
 
 -- ---- the law
@@ -54,3 +56,12 @@ fetched_is_brought met s start knew brought notes chains basis apart well is_kno
           (λ came found. heads_same s start owner brought chains p came found)
           (p.has, p.just));
     }
+
+pub floor_is_brought : FloorIsBrought
+floor_is_brought met s start knew brought notes chains apart well is_known stand from are fetches owner t member is far =
+    let p = each (HasPart s start brought chains) s.view.members owner (parts s start fetches refl (apart_keys s.view.members s.view.former well.apart)) member in
+    let w = floor_brought met apart s start knew owner (log_known met s knew owner member is_known stand)
+    (starts_in s start knew owner member from (stamp_at start (head_key_of owner)) refl)
+    p.fetches p.through (λ key bytes c. are key bytes (p.among (BlockOf key (Ok bytes)) c)) t is far in
+    let c : Chain = record { owner = owner; records = w.0 } in
+    (c, p.has c (subst (λ (end : LogEnd). Contains (chains_of owner end) c) (sym w.1) (here c [])), refl, w.2)

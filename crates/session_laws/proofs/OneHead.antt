@@ -194,7 +194,7 @@ module _ (met : List (List ℕ)) (apart : NamesTellApart met) (view : View) (own
     goes : GoesOnFrom view held edge records
     goes = subst (λ (o : PubKey). GoesOnFrom view (stamp_at start (head_key_of o)) edge records) mine given.sound.goes_on
 
-    floor_passes : PassesFloor (stamp_at floor (head_key_of owner)) (reach held) records
+    pub floor_passes : PassesFloor (stamp_at floor (head_key_of owner)) (reach held) records
     floor_passes = subst (λ (o : PubKey). PassesFloor (stamp_at floor (head_key_of o)) (reach (stamp_at start (head_key_of o))) records) mine given.onward.passes
 
     -- they begin the log

@@ -1,5 +1,5 @@
 -- The log of one member: which head's records were taken, if any, and what its candidate is then.
-use Rattle.std.proofs.Common.{◌≡◌, ◌⊎◌, inl, inr, ◌↔◌, ℕ, ◌<◌, ◌≤◌, Bool, true, false, cond, List, [], ◌∷◌, ◌++◌, map, Option, Some, None, Ok, refl, sym, ap, ◌∙◌, subst, arith, ltb-true, Contains}
+use Rattle.std.proofs.Common.{◌≡◌, ◌⊎◌, inl, inr, ◌↔◌, ℕ, ◌<◌, ◌≤◌, Bool, true, false, cond, List, [], ◌∷◌, ◌++◌, map, Option, Some, None, Ok, refl, sym, ap, ◌∙◌, subst, arith, ltb-true, lt-ltb, Contains}
 use Rattle.std.specs.Prelude.{nat_lt}
 use Rattle.std.specs.List.{AllByRecursion}
 use Rattle.std.specs.Ordering.{is_lt, ordering_reverse}
@@ -17,7 +17,7 @@ use Rattle.log_model.specs.Closed.{log_of}
 use Rattle.log_model.proofs.Lists.{here, there, in_cons, each, each_left}
 use Rattle.log_records.specs.declared.edge.Edge.{Edge}
 use Rattle.log_records.specs.declared.chain_fault.ChainFault.{ChainFault}
-use Rattle.log_records.specs.Batches.{IsSound}
+use Rattle.log_records.specs.Batches.{IsSound, HasRecord, PassesFloor}
 use Rattle.turn_model.specs.Basis.{Basis}
 use Rattle.turn_model.specs.Known as known
 use Rattle.turn_model.specs.Candidates.{IsTriedBefore, PassesThrough, MakeChain, IsPassedOver, IsTried, own_log, newest, as_known}
@@ -27,11 +27,11 @@ use Rattle.dht_ids.specs.declared.judge.Judged.{Judged}
 use Rattle.session_model.specs.Brought.{Brought, HeadsOf, stamp_of}
 use Rattle.session_model.specs.Walks.{InTryingOrder, Tries, LogEnd, Lacks, Stops, Gives, GivesNone}
 use Rattle.session_model.specs.Walks.Tries.{none as none_left, wants as head_wants, misses as head_misses, gives as is_given, passes as is_passed, garbled as is_garbled}
-use Rattle.session_model.specs.Refreshing.{Fetches, floors_own, end_of_log, chains_of}
+use Rattle.session_model.specs.Refreshing.{Note, Fetches, floors_own, end_of_log, chains_of}
 use Rattle.session_model.specs.Refreshing.Fetches.{wants_heads, no_heads, of_heads, of_own}
 use Rattle.session_laws.specs.Bringing.{AreMet}
 use Rattle.session_laws.proofs.Cuts.{StartsIn, IsLogKnown}
-use Rattle.session_laws.proofs.OneHead.{starts_below, IsRefused, IsGiven, refused_came, refused_garbled, passed_over, not_taken, given_came, given_above, head_ends}
+use Rattle.session_laws.proofs.OneHead.{starts_below, IsRefused, IsGiven, refused_came, refused_garbled, passed_over, not_taken, given_came, given_above, floor_passes, head_ends}
 
 -- ---- heads in their order
 
@@ -149,16 +149,45 @@ module _ (met : List (List ℕ)) (apart : NamesTellApart met) (s : Standing) (st
       not_taken met apart s.view owner start s.floor own_knew k t records
       (subst (λ (e : Option Edge). IsRefused met apart s.view owner start s.floor own_knew k e t) no_edge refused) taken
 
-  -- the floor's own records are those that are known
-  own_above : (t : Stamp) (records : List Record) → stamp_at s.floor log ≡ Some t → start_seq < t.seq → Given t records → records ≡ records_above start owner own_knew
-  own_above t records is far given =
+  -- what is known is the chain to the floor's record
+  own_makes : (t : Stamp) → stamp_at s.floor log ≡ Some t → MakeChain met s.view owner s.floor t own_knew
+  own_makes t is =
       let ends : known.EndsAt (Some t) own_knew = subst (λ (o : Option Stamp). known.EndsAt o own_knew) is k.ends in
-      given_above met apart s.view owner start s.floor own_knew k edge t records own_knew from far given (record {
+      record {
         chain_of_log = k.chain;
         stand = k.stand;
         ends = ends;
         passes = subst (λ (o : Option Stamp). PassesThrough o own_knew) (sym is) (log_of owner knew, [], sym (append-nil own_knew), ends);
-      })
+      }
+
+  -- so the records of that are those that are known
+  own_above : (t : Stamp) (records : List Record) → stamp_at s.floor log ≡ Some t → start_seq < t.seq → Given t records → records ≡ records_above start owner own_knew
+  own_above t records is far given = given_above met apart s.view owner start s.floor own_knew k edge t records own_knew from far given (own_makes t is)
+
+  -- ---- the floor's record
+
+  -- it isn't passed over, and what was taken has it
+  floor_result : (t : Stamp) → stamp_at s.floor log ≡ Some t → start_seq < t.seq → (ts : List Stamp) → Contains ts t → (end : LogEnd) → end_of_log end ≡ None → Results ts end → (records : List Record) × (end ≡ Gives records) × HasRecord t records
+  floor_result t is far ts listed (Lacks want) through h = cc through
+  floor_result t is far ts listed (Stops miss) through h = cc through
+  floor_result t is far ts listed (Gives records) through h =
+      (records, refl, subst (λ (o : Option Stamp). PassesFloor o start_seq records) is (floor_passes met apart s.view owner start s.floor own_knew k edge h.1 records h.5) far)
+  floor_result t is far ts listed GivesNone through h =
+      absurd (passed_over met apart s.view owner start s.floor own_knew k edge t from far (each Refused ts t h listed) own_knew (own_makes t is))
+
+  own_listed : (t : Stamp) → stamp_at s.floor log ≡ Some t → start_seq < t.seq → Contains (floors_own (stamp_at s.floor log) start_seq) t
+  own_listed t is far =
+      subst (λ (o : Option Stamp). Contains (floors_own o start_seq) t) (sym is)
+      (subst (λ (b : Bool). Contains (cond b (t ∷ []) []) t) (sym (lt-ltb start_seq t.seq far)) (here t []))
+
+  pub floor_brought : {brought : List Brought} {notes : List Note} {end : LogEnd} → Fetches s start owner brought notes end → end_of_log end ≡ None → AreMet met brought → (t : Stamp) → stamp_at s.floor log ≡ Some t → start_seq < t.seq
+      → (records : List Record) × (end ≡ Gives records) × HasRecord t records
+  floor_brought (wants_heads other) through are t is far = cc through
+  floor_brought (no_heads miss other) through are t is far = cc through
+  floor_brought (of_heads came tried brought faults end other are_tried tries) through are t is far =
+      floor_result t is far (tried ++ floors_own (stamp_at s.floor log) start_seq) (Contains-append_right tried (floors_own (stamp_at s.floor log) start_seq) t (own_listed t is far)) end through
+      (results tries (λ key bytes c. are key bytes (there (HeadsOf owner (Ok came)) brought _ c)))
+  floor_brought (of_own brought faults end mine tries) through are t is far = floor_result t is far (floors_own (stamp_at s.floor log) start_seq) (own_listed t is far) end through (results tries are)
 
   module _ (heads : Key → List Stamp) where
     own_candidate : owner ≡ s.own → IsCandidateOf heads met s.view s knew start owner own_knew
@@ -290,7 +319,7 @@ module _ (met : List (List ℕ)) (apart : NamesTellApart met) (s : Standing) (st
       abbrev pub HasHeads : List Brought → Type 0
       HasHeads brought = (came : List Judged) → Contains brought (HeadsOf owner (Ok came)) → (t : Stamp) → Contains (heads log) t ↔ Contains (map stamp_of came) t
 
-      pub log_brought : {brought : List Brought} {notes : List _} {end : LogEnd} → Fetches s start owner brought notes end → end_of_log end ≡ None → AreMet met brought → HasHeads brought → HasJust end → Brought_of
+      pub log_brought : {brought : List Brought} {notes : List Note} {end : LogEnd} → Fetches s start owner brought notes end → end_of_log end ≡ None → AreMet met brought → HasHeads brought → HasJust end → Brought_of
       log_brought (wants_heads other) through are has just = cc through
       log_brought (no_heads miss other) through are has just = cc through
       log_brought (of_heads came tried brought faults end other are_tried tries) through are has just =
