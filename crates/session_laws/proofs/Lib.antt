@@ -4,3 +4,5 @@ mod OneHead
 mod OneLog
 mod OwnParts
 mod AllLogs
+mod Refreshed
+mod Starting

@@ -51,13 +51,13 @@ apart_keys (k ∷ ks) more h =
 -- ---- what was brought for one log has no other's heads
 
 -- blocks alone
-abbrev HasNoHeads : List Brought → Type 0
+abbrev pub HasNoHeads : List Brought → Type 0
 HasNoHeads brought = (o : PubKey) (came : Result (List Judged) Miss) → Contains brought (HeadsOf o came) → ⊥
 
-none_yet : HasNoHeads []
+pub none_yet : HasNoHeads []
 none_yet o came c = in_nothing (HeadsOf o came) c
 
-block_first : (key : Key) (block : Result (List ℕ) Miss) (brought : List Brought) → HasNoHeads brought → HasNoHeads (BlockOf key block ∷ brought)
+pub block_first : (key : Key) (block : Result (List ℕ) Miss) (brought : List Brought) → HasNoHeads brought → HasNoHeads (BlockOf key block ∷ brought)
 block_first key block brought none o came c = elim (in_cons (BlockOf key block) brought (HeadsOf o came) c) [
   | inl e ↦ cc e
   | inr more ↦ none o came more

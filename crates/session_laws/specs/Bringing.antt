@@ -11,10 +11,10 @@ use Rattle.log_model.specs.Standing.{Stand}
 use Rattle.log_records.specs.Batches.{as_edge, HasRecord}
 use Rattle.turn_model.specs.Basis.{Basis}
 use Rattle.turn_model.specs.Known.{IsKnown}
-use Rattle.agent_model.specs.Standing.{Standing, Chain, edge_at}
+use Rattle.agent_model.specs.Standing.{Standing, Chain, Refresh, edge_at}
 use Rattle.agent_model.specs.Candidates.{Brings}
 use Rattle.session_model.specs.Brought.{Brought, BlockOf, heads_at}
-use Rattle.session_model.specs.Refreshing.{Note, FetchesAll, Done}
+use Rattle.session_model.specs.Refreshing.{Note, FetchesAll, Refreshes, Done}
 
 -- each block that was brought was met, and was asked for by its name
 abbrev pub AreMet : List (List ℕ) → List Brought → Type 0
@@ -41,3 +41,19 @@ FloorIsBrought = (met : List (List ℕ)) (s : Standing) (start : Vector) (knew :
     → FetchesAll s start s.view.members brought notes chains Done
     → (owner : PubKey) (t : Stamp) → Contains s.view.members owner → stamp_at s.floor (head_key_of owner) ≡ Some t → seq_of start (head_key_of owner) < t.seq
     → (c : Chain) × Contains chains c × (c.owner ≡ owner) × HasRecord t c.records
+
+-- ---- of a whole refresh
+
+-- A refresh that is done has brought of each member's log what its heads name.
+abbrev pub RefreshedIsBrought : Type 0
+RefreshedIsBrought = (met : List (List ℕ)) (s : Standing) (knew : List Record) (brought : List Brought) (notes : List Note) (given : Refresh)
+    → NamesTellApart met → IsView s.view → IsKnown s.view s.floor knew → Stand met knew → StartsFrom s given.started knew → AreMet met brought
+    → Refreshes s brought notes given Done → Brings (heads_at brought) met s.view s knew given
+
+-- And the floor's record, where that goes further than what it started from.
+abbrev pub FloorIsReached : Type 0
+FloorIsReached = (met : List (List ℕ)) (s : Standing) (knew : List Record) (brought : List Brought) (notes : List Note) (given : Refresh)
+    → NamesTellApart met → IsView s.view → IsKnown s.view s.floor knew → Stand met knew → StartsFrom s given.started knew → AreMet met brought
+    → Refreshes s brought notes given Done
+    → (owner : PubKey) (t : Stamp) → Contains s.view.members owner → stamp_at s.floor (head_key_of owner) ≡ Some t → seq_of given.started (head_key_of owner) < t.seq
+    → (c : Chain) × Contains given.chains c × (c.owner ≡ owner) × HasRecord t c.records

@@ -4,7 +4,8 @@
 //! For the layers above: [`fetched_is_brought`] says what a refresh that is done has brought (`specs/Bringing.antt`).
 #![tactic(auto)]
 
-ghost use Rattle.session_laws.specs.Bringing.{FetchedIsBrought, FloorIsBrought};
+ghost use Rattle.session_laws.specs.Bringing.{FetchedIsBrought, FloorIsBrought, RefreshedIsBrought, FloorIsReached};
+ghost use Rattle.session_laws.specs.Starting.{HeldIsKnown, BasisIsKnown};
 
 /// A law and no code.
 ///
@@ -13,4 +14,21 @@ ghost use Rattle.session_laws.specs.Bringing.{FetchedIsBrought, FloorIsBrought};
 pub fn fetched_is_brought()
     ensures brought { FetchedIsBrought }
     ensures floor { FloorIsBrought }
+{}
+
+/// A law and no code.
+///
+/// The same of a whole refresh, with the snapshot that it loaded first.
+pub fn refreshed_is_brought()
+    ensures brought { RefreshedIsBrought }
+    ensures floor { FloorIsReached }
+{}
+
+/// A law and no code.
+///
+/// What an agent holds, and what a loaded basis covers, ends of each member's log at a record that was known, and the edge of
+/// a held record is its own.
+pub fn starts_are_known()
+    ensures held { HeldIsKnown }
+    ensures basis { BasisIsKnown }
 {}
