@@ -28,23 +28,35 @@ use Rattle.turn_laws.proofs.Heads.{one_member, member_is}
 use Rattle.turn_laws.proofs.Starts.{Stands, front_stands, ends_with, own_stamp, good_last}
 use Rattle.log_records.specs.declared.edge.Edge.{Edge}
 use Rattle.log_records.specs.Batches.{as_edge}
-use Rattle.turn_model.specs.Basis.{Holding, HoldsAll}
+use Rattle.turn_model.specs.Basis.{Basis, Holding, HoldsAll, Knows, nothing_held}
 use Rattle.agent_model.specs.Agent.{joined}
-use Rattle.session_laws.specs.Starting.{HeldIsKnown, BasisIsKnown}
+use Rattle.agent_model.specs.Standing.{Standing, edges_of}
+use Rattle.agent_model.specs.Candidates.{StandsWithin}
+use Rattle.session_model.specs.Refreshing.{counting, start_of}
+use Rattle.session_model.specs.Refreshing.Refreshes.{loading, fetching}
+use Rattle.session_laws.specs.Bringing.{StartsFrom}
+use Rattle.session_laws.specs.Starting.{StartIsKnown}
 
 same_stamp : (a b : Stamp) → Some a ≡ Some b → a ≡ b
 same_stamp a b e = cc e
+
+no_stamp : (o : Option Stamp) (t : Stamp) → o ≡ None → o ≡ Some t → ⊥
+no_stamp None t none e = cc e
+no_stamp (Some s) t none e = cc none
+
+entry_key : (e f : Entry) (log : Key) → e ≡ f → f.0 ≡ log → e.0 ≡ log
+entry_key e f log same of_log = ap (λ (x : Entry). x.0) same ∙ of_log
 
 -- ---- a front names records of its set
 
 module _ (view : View) (owner : PubKey) (well : IsView view) (member : Contains view.members owner) where
   front_known : (known : List Record) → IsClosed view known → (t : Stamp) → stamp_at (front known) (head_key_of owner) ≡ Some t → (r : Record) × Contains known r × (r.owner ≡ owner) × ((own_entry r).1 ≡ t)
   front_known known closed t e = ⊎_elim
-      (λ none. absurd (let no_stamp = sym none ∙ e in cc no_stamp))
+      (λ none. absurd (no_stamp (stamp_at (front known) (head_key_of owner)) t none e))
       (λ f.
       let is : is_member view f.0.0 ≡ true = subst (λ (k : Key). is_member view k ≡ true) (sym f.2) (member_is view owner member) in
       let w = each (Stands view known closed) (front known) f.0 (front_stands view known closed) f.1 is in
-      let owned : w.0.owner ≡ owner = one_member view w.0.owner owner well (each (λ (q : Record). Contains view.members q.owner) known w.0 closed.members w.1) member (ap (λ (x : Entry). x.0) w.2 ∙ f.2) in
+      let owned : w.0.owner ≡ owner = one_member view w.0.owner owner well (each (λ (q : Record). Contains view.members q.owner) known w.0 closed.members w.1) member (entry_key (own_entry w.0) f.0 (head_key_of owner) w.2 f.2) in
       (w.0, w.1, owned, ap (λ (x : Entry). x.1) w.2 ∙ same_stamp f.0.1 t (sym f.3 ∙ e)))
       (found_stamp (front known) (head_key_of owner))
 
@@ -145,16 +157,16 @@ joined_front view known h all =
     ∙ ap (fold join []) (sym (map-append full_vector all.below h.held))
     ∙ ap front (sym all.whole)
 
--- ---- the laws
+-- ---- the law
 
-pub held_is_known : HeldIsKnown
+held_is_known : (s : Standing) (of : Holding) (knew : List Record) → IsView s.view → Knows s.view s.floor of knew → s.held ≡ joined of → s.edges ≡ edges_of of → StartsFrom s s.held knew
 held_is_known s of knew well knows held edges owner member t e = ⊎_elim
-    (λ nothing. absurd (let none : stamp_at s.held (head_key_of owner) ≡ None = ap (λ (v : Vector). stamp_at v (head_key_of owner)) (held ∙ ap joined nothing) in let no_stamp = sym none ∙ e in cc no_stamp))
+    (λ nothing. absurd (no_stamp (stamp_at s.held (head_key_of owner)) t (ap (λ (v : Vector). stamp_at v (head_key_of owner)) (held ∙ ap joined nothing)) e))
     (λ all. newest_known s.view owner well member knew all.below of.held all.whole knows.closed s.edges edges t
     (ap (λ (v : Vector). stamp_at v (head_key_of owner)) (sym (held ∙ joined_front s.view knew of all)) ∙ e))
     knows.holds
 
-pub basis_is_known : BasisIsKnown
+basis_is_known : (s : Standing) (b : Basis) (knew : List Record) → IsView s.view → StandsWithin s.view knew b → s.edges ≡ [] → StartsFrom s b.front knew
 basis_is_known s b knew well within none owner member t e =
     let w = front_known s.view owner well member within.0 within.1.closed t (ap (λ (v : Vector). stamp_at v (head_key_of owner)) (sym within.1.front) ∙ e) in (
       w.0,
@@ -163,3 +175,11 @@ basis_is_known s b knew well within none owner member t e =
       w.3,
       subst (λ (edges : List (Key × Edge)). IfSome (option_map (λ (x : Key × Edge). x.1) (find (λ (x : Key × Edge). same_key x.0 (head_key_of owner)) edges)) (λ x. x ≡ as_edge w.0)) (sym none) tt,
     )
+
+pub start_is_known : StartIsKnown
+start_is_known s of knew _ _ _ _ well knows held edges loaded (loading loads) = held_is_known s of knew well knows held edges
+start_is_known s of knew _ notes _ end well knows held edges loaded (fetching basis loads fetches) = by (counting s.floor basis) loaded
+  where
+    by : (o : Option Basis) → IfSome o (λ b. (of ≡ nothing_held) × StandsWithin s.view knew b) → StartsFrom s (start_of s o) knew
+    by None none = held_is_known s of knew well knows held edges
+    by (Some b) some = basis_is_known s b knew well some.1 (edges ∙ ap edges_of some.0)

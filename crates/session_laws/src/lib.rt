@@ -5,7 +5,7 @@
 #![tactic(auto)]
 
 ghost use Rattle.session_laws.specs.Bringing.{FetchedIsBrought, FloorIsBrought, RefreshedIsBrought, FloorIsReached};
-ghost use Rattle.session_laws.specs.Starting.{HeldIsKnown, BasisIsKnown};
+ghost use Rattle.session_laws.specs.Starting.{StartIsKnown};
 
 /// A law and no code.
 ///
@@ -26,9 +26,8 @@ pub fn refreshed_is_brought()
 
 /// A law and no code.
 ///
-/// What an agent holds, and what a loaded basis covers, ends of each member's log at a record that was known, and the edge of
-/// a held record is its own.
-pub fn starts_are_known()
-    ensures held { HeldIsKnown }
-    ensures basis { BasisIsKnown }
+/// What a refresh starts from, held or covered by a loaded basis, ends of each member's log at a record that was known; and the
+/// edge of a held record is its own.
+pub fn start_is_known()
+    ensures { StartIsKnown }
 {}
