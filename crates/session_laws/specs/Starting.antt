@@ -1,0 +1,18 @@
+-- From where a refresh starts: what is held, or what a loaded basis covers, ends at records that were known.
+use Rattle.std.specs.Prelude.{◌≡◌, List, IfSome}
+use Rattle.log_model.specs.View.{IsView}
+use Rattle.log_model.specs.Record.{Record}
+use Rattle.turn_model.specs.Basis.{Holding, Knows, nothing_held}
+use Rattle.agent_model.specs.Agent.{joined}
+use Rattle.agent_model.specs.Standing.{Standing, Refresh, edges_of}
+use Rattle.agent_model.specs.Candidates.{StandsWithin}
+use Rattle.session_model.specs.Brought.{Brought}
+use Rattle.session_model.specs.Refreshing.{Note, RefreshEnd, Refreshes}
+use Rattle.session_laws.specs.Bringing.{StartsFrom}
+
+-- Whatever a refresh has come to, it starts from known records, where its standing is that of an agent which knew these records and held this. A basis that it has
+-- loaded stands for a part of what was known, and comes only where nothing was held.
+abbrev pub StartIsKnown : Type 0
+StartIsKnown = (s : Standing) (of : Holding) (knew : List Record) (brought : List Brought) (notes : List Note) (given : Refresh) (end : RefreshEnd)
+    → IsView s.view → Knows s.view s.floor of knew → s.held ≡ joined of → s.edges ≡ edges_of of → IfSome given.basis (λ b. (of ≡ nothing_held) × StandsWithin s.view knew b)
+    → Refreshes s brought notes given end → StartsFrom s given.started knew
