@@ -16,7 +16,7 @@ use Rattle.turn_model.specs.Known.{EndsAt}
 use Rattle.turn_model.specs.Turn.{Candidate}
 use Rattle.candidate_laws.proofs.OneCandidate as one
 use Rattle.agent_model.specs.Standing.{Standing, Chain, Refresh}
-use Rattle.agent_model.specs.Candidates.{IsMisled, IsCandidateOf, misled, by_heads, records_above, BringsOf, candidate, misleading, nothing}
+use Rattle.agent_model.specs.Candidates.{IsCandidateOf, misled, by_heads, records_above, BringsOf, candidate, misleading, nothing}
 use Rattle.agent_laws.proofs.Fronts.{from_log}
 use Rattle.agent_laws.proofs.Rows.{is_above, chain_row, ends_above}
 
@@ -91,22 +91,28 @@ module _ (heads : Key → List Stamp) (met : List (List ℕ)) (view : View) (own
 
     told : (owner : PubKey) → BringsOf heads met view s knew brought owner → (chain : List Record) × IsTold owner chain
     told owner (candidate c chain stands owned is above) = (chain, of_chain owner chain c stands owned above is (cases_of owner chain is))
-    told owner (misleading c stands owned m) = (log_of owner knew, record {
-      is_candidate = misled c.records m;
-      goes_back = inl (log_known owner (log_of owner knew) refl);
-      goes_forth = forth owner (log_of owner knew) c stands owned (inr (record {
-        other = λ e. m.of_other (e ∙ sym same_own);
-        head = m.head;
-        stand = m.taken.stand;
-        ends = λ r d. m.taken.sound.ends;
-        makes = inl m.no_chain;
-      }));
-    })
-    told owner (nothing none is) = (log_of owner knew, record {
-      is_candidate = is;
-      goes_back = inl (log_known owner (log_of owner knew) refl);
-      goes_forth = λ c stands owned. absurd (none c stands owned);
-    })
+    told owner (misleading c stands owned m) = (
+      log_of owner knew,
+      record {
+        is_candidate = misled c.records m;
+        goes_back = inl (log_known owner (log_of owner knew) refl);
+        goes_forth = forth owner (log_of owner knew) c stands owned (inr (record {
+          other = λ e. m.of_other (e ∙ sym same_own);
+          head = m.head;
+          stand = m.taken.stand;
+          ends = λ r d. m.taken.sound.ends;
+          makes = inl m.no_chain;
+        }));
+      },
+    )
+    told owner (nothing none is) = (
+      log_of owner knew,
+      record {
+        is_candidate = is;
+        goes_back = inl (log_known owner (log_of owner knew) refl);
+        goes_forth = λ c stands owned. absurd (none c stands owned);
+      },
+    )
 
     -- of each owner's log there is a candidate
     pub choose : (owners : List PubKey) → AllByRecursion (BringsOf heads met view s knew brought) owners

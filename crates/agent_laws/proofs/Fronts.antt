@@ -1,7 +1,6 @@
 -- The front of a closed set: where all of it is held, how far it goes in a log, and which records are above a basis.
-use Rattle.std.proofs.Common.{◌≡◌, ◌⊎◌, inl, inr, ⊎_elim, ℕ, ◌+◌, ◌<◌, ◌≤◌, Bool, true, false, cond, ◌&&◌, List, [], ◌∷◌, ◌++◌, length, map, fold, Option, Some, None, refl, sym, ap, ◌∙◌, subst, arith, Contains, leb-true, ltb-true}
+use Rattle.std.proofs.Common.{◌≡◌, ⊎_elim, ℕ, ◌+◌, ◌≤◌, true, List, [], ◌∷◌, ◌++◌, length, map, fold, Option, Some, None, refl, sym, ap, ◌∙◌, subst, arith, Contains, leb-true, ltb-true}
 use Rattle.std.specs.Prelude.{IsTrue, nat_lt, nat_le}
-use Rattle.std.specs.List.{AllByRecursion}
 use Rattle.std.specs.Ordering.{eq_by_cmp}
 use Rattle.std.proofs.lemmas.List.{map-append}
 use Rattle.std.proofs.lemmas.List.Sums.{fold-append}
@@ -14,18 +13,15 @@ use Rattle.log_model.specs.View.{View, IsView, is_member}
 use Rattle.log_model.specs.Vector.{Entry, Stamp, Vector, stamp_at, reach, seq_of, Dominates, join}
 use Rattle.log_model.specs.Record.{Record}
 use Rattle.log_model.specs.Rank.{own_entry, full_vector, front}
-use Rattle.log_model.specs.Chain.{IsChain}
 use Rattle.log_model.specs.Closed.{log_of, IsClosed}
 use Rattle.log_model.proofs.Lists.{in_nothing, each, in_filter, from_filter, passes}
 use Rattle.log_model.proofs.Chains.{last_after}
 use Rattle.log_model.proofs.Owners.{owner_itself}
 use Rattle.log_model.proofs.Opening.{same_owner}
 use Rattle.log_model.proofs.Part.{Numbered, numbered, found_stamp}
-use Rattle.log_model.proofs.Later.{EndsWith}
-use Rattle.turn_model.specs.Basis.{Basis, Holding, HoldsAll, IsAboveTide}
+use Rattle.turn_model.specs.Basis.{Basis, IsAboveTide}
 use Rattle.turn_laws.proofs.Heads.{one_member, member_is}
 use Rattle.turn_laws.proofs.Starts.{Stands, front_stands, own_stamp}
-use Rattle.agent_model.specs.Agent.{joined}
 use Rattle.agent_model.specs.Standing.{dominates}
 use Rattle.agent_model.specs.Turning.{is_above}
 use Rattle.agent_laws.specs.Laws.{FrontIsJoined}

@@ -1,7 +1,6 @@
 -- What a turn goes on from, and what of the chains that were brought goes on from it.
-use Rattle.std.proofs.Common.{◌≡◌, ◌⊎◌, inl, inr, ⊎_elim, ℕ, ◌+◌, ◌-◌, ◌==◌, ◌<◌, ◌≤◌, Bool, true, false, cond, ◌&&◌, not, List, [], ◌∷◌, ◌++◌, length, length-append, map, Option, Some, None, refl, sym, ap, ◌∙◌, subst, append_assoc, arith, Contains, ltb-false, eq-eqb, eqb-true}
+use Rattle.std.proofs.Common.{◌≡◌, ◌⊎◌, inl, inr, ⊎_elim, ℕ, ◌+◌, ◌-◌, ◌==◌, ◌≤◌, Bool, true, false, cond, ◌&&◌, not, List, [], ◌∷◌, ◌++◌, length, length-append, Option, Some, None, refl, sym, ap, ◌∙◌, subst, append_assoc, arith, Contains, ltb-false, eq-eqb, eqb-true}
 use Rattle.std.specs.Prelude.{nat_lt, nat_eq}
-use Rattle.std.specs.List.{AllByRecursion}
 use Rattle.std.specs.Option.{option_map_or}
 use Rattle.std.proofs.lemmas.List.Elements.{Contains-append_left, Contains-append_right, Contains-append_cases}
 use Rattle.ivy_base.specs.declared.key.Key.{Key}
@@ -14,7 +13,7 @@ use Rattle.log_model.specs.View.{View, IsView}
 use Rattle.log_model.specs.Vector.{Stamp, Vector, stamp_at, seq_of, Dominates}
 use Rattle.log_model.specs.Record.{Record}
 use Rattle.log_model.specs.Rank.{own_entry, full_vector, front}
-use Rattle.log_model.specs.Chain.{IsGood, IsChain, IsFirst}
+use Rattle.log_model.specs.Chain.{IsChain, IsFirst}
 use Rattle.log_model.specs.Closed.{log_of, IsClosed}
 use Rattle.log_model.specs.Spelling.{HasSpelling}
 use Rattle.log_model.specs.Standing.{StandsAmong, Stand}
@@ -23,7 +22,7 @@ use Rattle.log_model.proofs.Part.{numbered}
 use Rattle.log_model.proofs.Weights.{Dominates-trans}
 use Rattle.log_records.specs.Batches.{HasRecord}
 use Rattle.log_records.proofs.Fitting.{next_by}
-use Rattle.turn_model.specs.Basis.{Basis, Holding, HoldsAll, IsAboveTide}
+use Rattle.turn_model.specs.Basis.{Holding, HoldsAll, IsAboveTide}
 use Rattle.turn_model.specs.Known.{EndsAt, IsKnown}
 use Rattle.turn_model.specs.Turn.{IsPrefixOf}
 use Rattle.turn_laws.proofs.Heads.{one_member}
@@ -34,14 +33,16 @@ use Rattle.agent_model.specs.Agent.{joined}
 use Rattle.agent_model.specs.Standing.{Chain, Refresh, dominates, go_on_from, beyond, new_in, new_records}
 use Rattle.agent_model.specs.Taking.{within}
 use Rattle.agent_model.specs.Turning.{is_above, is_there, lacks, is_behind, is_below_tide}
-use Rattle.agent_laws.proofs.Fronts.{in_log, from_log, log-append, stamp_of_log, reach_of_log, front_is_joined, far_enough, is_above_tide}
+use Rattle.agent_laws.proofs.Fronts.{in_log, from_log, log-append, stamp_of_log, reach_of_log, front_is_joined, is_above_tide}
 use Rattle.agent_laws.proofs.Lists.{in_flat_map, from_flat_map, none_passes, neither}
 use Rattle.agent_laws.proofs.Names.{prefix_to, prefix_within, has_end}
-use Rattle.agent_laws.proofs.Rows.{IsRow, is_above as row_is_above, chain_row, row_above, row_good, within_first, last_from, last_from-append, goes_after, chain_over}
+use Rattle.agent_laws.proofs.Rows.{IsRow, is_above as row_is_above, row_above, row_good, within_first, last_from, last_from-append, goes_after, chain_over}
 
 -- What a turn goes on from, of a closed part of what is known: all that is known, or nothing above the basis. It isn't refused. Of each log one chain at most was
 -- brought, a member's, and all of it counts.
 pub record IsGoing (view : View) (met : List (List ℕ)) (own : PubKey) (floor : Vector) (known : List Record) (h : Holding) (brought : Refresh) (part : List Record) : Type 0 where
+  pub well : IsView view
+  pub apart : NamesTellApart met
   pub closed : IsClosed view known
   pub by_floor : IsKnown view floor known
   pub stand : Stand met known
@@ -93,8 +94,8 @@ unless false b h = inl refl
 stamp_is : (s t : Stamp) → s.seq ≡ t.seq → s.name ≡ t.name → s ≡ t
 stamp_is s t seqs names = λ i. record { seq = seqs i; name = names i }
 
-module _ (view : View) (met : List (List ℕ)) (own : PubKey) (floor : Vector) (known : List Record) (h : Holding) (brought : Refresh) (part : List Record)
-    (well : IsView view) (apart : NamesTellApart met) (g : IsGoing view met own floor known h brought part) where
+module _ {view : View} {met : List (List ℕ)} {own : PubKey} {floor : Vector} {known : List Record} {h : Holding} {brought : Refresh} {part : List Record}
+    (g : IsGoing view met own floor known h brought part) where
   abbrev pub below : List Record
   below = g.holds.below
 
@@ -116,7 +117,7 @@ module _ (view : View) (met : List (List ℕ)) (own : PubKey) (floor : Vector) (
   log_stands owner s of_known = each_from (λ r. StandsAmong met r) (log_of owner s) (λ r c. each (λ r. StandsAmong met r) known r g.stand (of_known r (from_log owner s r c).0))
 
   pub part_prefix : (owner : PubKey) → IsPrefixOf (log_of owner part) (log_of owner known)
-  part_prefix owner = prefix_within met apart view owner (log_of owner part) (log_of owner known) (g.part_closed.chains owner) (g.closed.chains owner)
+  part_prefix owner = prefix_within met g.apart view owner (log_of owner part) (log_of owner known) (g.part_closed.chains owner) (g.closed.chains owner)
       (log_stands owner part g.of_known) (log_stands owner known (λ r c. c))
       (λ r c. let w = from_log owner part r c in in_log owner known r (g.of_known r w.0) w.1)
 
@@ -125,16 +126,16 @@ module _ (view : View) (met : List (List ℕ)) (own : PubKey) (floor : Vector) (
 
   module _ (owner : PubKey) (member : Contains view.members owner) where
     joined_stamp : stamp_at (joined h) (head_key_of owner) ≡ last_from None (log_of owner part)
-    joined_stamp = ap (λ (v : Vector). stamp_at v (head_key_of owner)) joined_is ∙ stamp_of_log view part owner well g.part_closed member
+    joined_stamp = ap (λ (v : Vector). stamp_at v (head_key_of owner)) joined_is ∙ stamp_of_log view part owner g.well g.part_closed member
 
     pub joined_reach : seq_of (joined h) (head_key_of owner) ≡ length (log_of owner part)
-    joined_reach = ap (λ (v : Vector). seq_of v (head_key_of owner)) joined_is ∙ reach_of_log view part owner well g.part_closed member
+    joined_reach = ap (λ (v : Vector). seq_of v (head_key_of owner)) joined_is ∙ reach_of_log view part owner g.well g.part_closed member
 
     pub front_stamp : stamp_at h.basis.front (head_key_of owner) ≡ last_from None (log_of owner below)
-    front_stamp = ap (λ (v : Vector). stamp_at v (head_key_of owner)) g.holds.stands.front ∙ stamp_of_log view below owner well g.holds.stands.closed member
+    front_stamp = ap (λ (v : Vector). stamp_at v (head_key_of owner)) g.holds.stands.front ∙ stamp_of_log view below owner g.well g.holds.stands.closed member
 
     front_reach : seq_of h.basis.front (head_key_of owner) ≡ length (log_of owner below)
-    front_reach = ap (λ (v : Vector). seq_of v (head_key_of owner)) g.holds.stands.front ∙ reach_of_log view below owner well g.holds.stands.closed member
+    front_reach = ap (λ (v : Vector). seq_of v (head_key_of owner)) g.holds.stands.front ∙ reach_of_log view below owner g.well g.holds.stands.closed member
 
     pub joined_from : stamp_at (joined h) (head_key_of owner) ≡ last_from (stamp_at h.basis.front (head_key_of owner)) (log_of owner h.held)
     joined_from =
@@ -187,7 +188,7 @@ module _ (view : View) (met : List (List ℕ)) (own : PubKey) (floor : Vector) (
             let logs : head_key_of c.owner ≡ head_key_of owner = ap head_key_of (sym owned) ∙ same_key_is (head_key_of r.owner) (head_key_of owner) inner.0 in (
               c,
               w.1,
-              one_member view c.owner owner well (g.members c w.1) member logs,
+              one_member view c.owner owner g.well (g.members c w.1) member logs,
               r,
               in_beyond,
               stamp_is (own_entry r).1 t (eqb-true r.seq t.seq inner.1) (same_key_is r.name t.name parts.1),
@@ -196,6 +197,7 @@ module _ (view : View) (met : List (List ℕ)) (own : PubKey) (floor : Vector) (
   -- ---- a chain that was brought
 
   module _ (c : Chain) (stands : Contains brought.chains c) where
+    -- how far its log is held; what it has beyond that; and that behind what is held
     abbrev pub to : ℕ
     to = seq_of (joined h) (head_key_of c.owner)
 
@@ -269,7 +271,7 @@ module _ (view : View) (met : List (List ℕ)) (own : PubKey) (floor : Vector) (
 
       known_by : (o : Option Stamp) → stamp_at floor (head_key_of c.owner) ≡ o → EndsAt o (log_of c.owner known) → IsPrefixOf (log_of c.owner known) full
       known_by None e none = (full, ap (λ (l : List Record). l ++ full) none)
-      known_by (Some t) e ends = prefix_to met apart view c.owner t (log_of c.owner known) full (g.closed.chains c.owner) full_chain (log_stands c.owner known (λ r d. d)) full_stands ends (has_floor t e ends)
+      known_by (Some t) e ends = prefix_to met g.apart view c.owner t (log_of c.owner known) full (g.closed.chains c.owner) full_chain (log_stands c.owner known (λ r d. d)) full_stands ends (has_floor t e ends)
 
       -- and all that is known of the log is of it
       pub known_prefix : IsPrefixOf (log_of c.owner known) full

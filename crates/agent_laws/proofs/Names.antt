@@ -1,5 +1,5 @@
 -- Chains by the names of their records: where names tell the blocks apart, a chain that has another one's last record has all of it.
-use Rattle.std.proofs.Common.{◌≡◌, ◌⊎◌, inl, inr, ⊎_elim, ℕ, List, [], ◌∷◌, ◌++◌, Option, Some, refl, sym, ap, ◌∙◌, subst, Contains}
+use Rattle.std.proofs.Common.{◌≡◌, ◌⊎◌, inl, inr, ⊎_elim, ℕ, List, [], ◌∷◌, ◌++◌, Some, refl, sym, ap, ◌∙◌, subst, Contains}
 use Rattle.std.proofs.lemmas.List.Elements.{Contains-append_left, Contains-append_right}
 use Rattle.ivy_base.specs.declared.key.PubKey.{PubKey}
 use Rattle.ivy_base.specs.Naming.{NamesTellApart}
@@ -9,7 +9,7 @@ use Rattle.log_model.specs.Record.{Record}
 use Rattle.log_model.specs.Rank.{own_entry}
 use Rattle.log_model.specs.Chain.{IsGood, IsChain}
 use Rattle.log_model.specs.Standing.{StandsAmong, Stand}
-use Rattle.log_model.proofs.Lists.{here, each, each_left}
+use Rattle.log_model.proofs.Lists.{here, each_left}
 use Rattle.log_model.proofs.Part.{chain_front}
 use Rattle.log_records.specs.Batches.{HasRecord}
 use Rattle.log_records.proofs.Batches.{passes_through}

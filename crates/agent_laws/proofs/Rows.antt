@@ -1,21 +1,20 @@
 -- Records of one log, one after the other: their numbers, and what is left of them above a number.
-use Rattle.std.proofs.Common.{◌≡◌, ◌⊎◌, inl, inr, ⊎_elim, ℕ, ◌+◌, ◌<◌, ◌≤◌, Bool, true, false, cond, List, [], ◌∷◌, ◌++◌, length, Option, Some, None, refl, sym, ap, ◌∙◌, subst, filter, arith, Contains, append_assoc}
+use Rattle.std.proofs.Common.{◌≡◌, ⊎_elim, ℕ, ◌+◌, ◌<◌, ◌≤◌, Bool, true, false, cond, List, [], ◌∷◌, ◌++◌, length, Option, Some, None, refl, sym, ap, ◌∙◌, subst, filter, arith, Contains}
 use Rattle.std.specs.Prelude.{nat_lt}
 use Rattle.std.proofs.Common.{ltb-false, ltb-true, le-ltb, lt-ltb}
-use Rattle.std.proofs.lemmas.List.{append-nil}
-use Rattle.std.proofs.lemmas.List.Elements.{Contains-append_left, Contains-append_right, Contains-append_cases, filter-append}
+use Rattle.std.proofs.lemmas.List.Elements.{Contains-append_cases, filter-append}
 use Rattle.ivy_base.specs.declared.key.PubKey.{PubKey}
 use Rattle.log_model.specs.View.{View}
 use Rattle.log_model.specs.Vector.{Stamp, Dominates}
 use Rattle.log_model.specs.Record.{Record}
 use Rattle.log_model.specs.Rank.{own_entry, full_vector}
-use Rattle.log_model.specs.Chain.{IsGood, IsFirst, Follows, GoesOn, IsChain}
+use Rattle.log_model.specs.Chain.{IsGood, GoesOn, IsChain}
 use Rattle.log_model.proofs.Lists.{here, there, in_cons, in_nothing, each, in_filter, from_filter}
-use Rattle.log_model.proofs.Part.{Numbered, numbered, numbers_from, numbers_below}
+use Rattle.log_model.proofs.Part.{Numbered, numbers_from, numbers_below}
 use Rattle.turn_model.specs.Turn.{IsPrefixOf}
 use Rattle.turn_model.specs.Known.{EndsAt}
 use Rattle.causal_order.specs.AtHand.{above}
-use Rattle.causal_order.specs.Over.{ComesNext, GoesOnFrom}
+use Rattle.causal_order.specs.Over.{GoesOnFrom}
 
 -- ---- what passes a test
 
@@ -138,8 +137,7 @@ module _ (view : View) (owner : PubKey) where
       let last = ends.1 in
       let row : IsRow view owner (before ++ last ∷ []) = subst (λ (l : List Record). IsRow view owner l) ends.2 h in
       let far = last_greatest before last row r (subst (λ (l : List Record). Contains l r) ends.2 w.0) in
-      let more = w.1 in
-      (
+      let more = w.1 in (
         above n before,
         last,
         ap (above n) ends.2 ∙ filter-append (λ (x : Record). nat_lt n x.seq) before (last ∷ []) ∙ ap (λ b. above n before ++ cond b (last ∷ []) []) (lt-ltb n last.seq (omega (arith, more, far))),

@@ -1,5 +1,5 @@
 -- What a turn takes by what is held is what it takes by the definition.
-use Rattle.std.proofs.Common.{◌≡◌, ◌⊎◌, inl, inr, ⊎_elim, ℕ, ◌+◌, ◌<◌, ◌≤◌, Bool, true, false, cond, not, List, [], ◌∷◌, ◌++◌, map, length, filter, Option, Some, None, refl, sym, ap, ◌∙◌, subst, arith, Contains, le-leb}
+use Rattle.std.proofs.Common.{◌≡◌, ◌⊎◌, inl, inr, ⊎_elim, ℕ, ◌≤◌, Bool, true, false, cond, List, [], ◌∷◌, ◌++◌, map, filter, Option, Some, None, refl, sym, ap, ◌∙◌, subst, arith, Contains, le-leb}
 use Rattle.std.specs.Prelude.{◌&&◌, is_some, IfSome, nat_le, nat_lt}
 use Rattle.std.specs.List.{AllByRecursion}
 use Rattle.std.specs.Ordering.{eq_by_cmp}
@@ -10,29 +10,27 @@ use Rattle.ivy_base.specs.Naming.{NamesTellApart, head_key_of, owner_cmp}
 use Rattle.log_model.specs.View.{View, IsView}
 use Rattle.log_model.specs.Vector.{Stamp, Vector, stamp_at, reach, seq_of}
 use Rattle.log_model.specs.Record.{Record}
-use Rattle.log_model.specs.Rank.{front}
-use Rattle.log_model.specs.Chain.{LinkedFrom}
 use Rattle.log_model.specs.Closed.{log_of, IsClosed, IsClosedPart}
 use Rattle.log_model.specs.Replay.{in_order}
-use Rattle.log_model.specs.Standing.{StandsAmong, Stand}
+use Rattle.log_model.specs.Standing.{StandsAmong}
 use Rattle.log_model.proofs.Lists.{in_nothing, each, each_from}
 use Rattle.log_model.proofs.Opening.{same_owner}
 use Rattle.log_model.proofs.Sets.{same_list, chain_ascends}
 use Rattle.log_records.specs.declared.edge.Edge.{Edge}
-use Rattle.log_records.specs.Batches.{Batch, IsBatch, AreUnder, owner_of, stamp_in, GoesOnFrom}
-use Rattle.turn_model.specs.Basis.{Basis, Holding, HoldsAll, Knows, StandsFor, IsAboveTide, nothing_held}
-use Rattle.turn_model.specs.Known.{EndsAt, IsKnown}
+use Rattle.log_records.specs.Batches.{Batch, AreUnder, owner_of, stamp_in, GoesOnFrom}
+use Rattle.turn_model.specs.Basis.{Basis, Holding, HoldsAll, Knows, IsAboveTide, nothing_held}
+use Rattle.turn_model.specs.Known.{EndsAt}
 use Rattle.causal_order.specs.AtHand.{above}
 use Rattle.turn_model.specs.Turn.{Candidate, IsAtHand, IsPrefixOf}
 use Rattle.agent_model.specs.Agent.{Agent, joined}
-use Rattle.agent_model.specs.Standing.{Standing, Chain, Refresh, chain_of, dominates, go_on_from, going_on, beyond, new_in}
-use Rattle.agent_model.specs.Candidates.{AreCandidatesOf, Brings, BringsOf, MayTurn, StandsWithin, IsCandidateOf}
-use Rattle.agent_model.specs.Taking.{TakesNew, refresh_with, within, with_new}
+use Rattle.agent_model.specs.Standing.{Standing, Chain, Refresh, chain_of, dominates, go_on_from, going_on, beyond}
+use Rattle.agent_model.specs.Candidates.{MayTurn, StandsWithin, IsCandidateOf}
+use Rattle.agent_model.specs.Taking.{TakesNew, refresh_with, with_new}
 use Rattle.agent_laws.specs.Laws.{IsGoneOn, IsTakenBy, OwnLogEndsAtFloor, TakenIsByDefinition}
-use Rattle.agent_laws.proofs.Brought.{IsTold, IsOfHead, IsBrought, choose}
+use Rattle.agent_laws.proofs.Brought.{IsTold, IsOfHead, choose}
 use Rattle.agent_laws.proofs.Going.{IsGoing, below_known}
-use Rattle.agent_laws.proofs.Hand.{Hand, ends_last, known_at_hand, candidate_at_hand, hand_above, hand_is_known, GoesOnWith}
-use Rattle.agent_laws.proofs.Lists.{in_map, from_map}
+use Rattle.agent_laws.proofs.Hand.{Hand, ends_last, known_at_hand, candidate_at_hand, hand_above, hand_is_known}
+use Rattle.agent_laws.proofs.Lists.{from_map}
 use Rattle.agent_laws.proofs.Over.{whole_part}
 use Rattle.agent_laws.proofs.Fronts.{in_log, from_log, front_is_joined, stamp_of_log}
 use Rattle.agent_laws.proofs.Rows.{IsRow, is_above, all_pass_is, row_good, chain_row, last_from, last_from-append}
@@ -174,6 +172,8 @@ module _ (heads : Key → List Stamp) (met : List (List ℕ)) (view : View) (own
 
   pub going : IsGoing view met own floor known h brought held.part
   going = record {
+    well = well;
+    apart = apart;
     closed = k.closed;
     by_floor = k.by_floor;
     stand = may.stand;
@@ -202,7 +202,7 @@ module _ (heads : Key → List Stamp) (met : List (List ℕ)) (view : View) (own
   below = going.holds.below
 
   abbrev OverFront : Record → Type 0
-  OverFront r = Hand view met own floor known h brought held.part well apart going r
+  OverFront r = Hand going r
 
   hand_to : (r : Record) → OverFront r → IsAtHand known chosen.0 r
   hand_to r hand = ⊎_elim
@@ -210,14 +210,14 @@ module _ (heads : Key → List Stamp) (met : List (List ℕ)) (view : View) (own
       (λ w.
       let t = told_of w.0 w.1 in
       inr (t.0, t.1, subst (λ (o : PubKey). IsPrefixOf (log_of o known) t.0.chain) (sym t.2) w.2.0, w.2.1))
-      (hand_is_known view met own floor known h brought held.part well apart going knew s.floor may.by_floor may.knew_before r hand
+      (hand_is_known going knew s.floor may.by_floor may.knew_before r hand
       (λ c stands. let t = told_of c stands in (t.0.chain, t.3)))
 
   to_hand : (r : Record) → IsAtHand known chosen.0 r → Contains below r ⊎ OverFront r
-  to_hand r (inl c) = known_at_hand view met own floor known h brought held.part well apart going r c
+  to_hand r (inl c) = known_at_hand going r c
   to_hand r (inr (d, stands, goes_on, c)) = ⊎_elim
-      (λ all. known_at_hand view met own floor known h brought held.part well apart going r (all r c))
-      (λ b. candidate_at_hand view met own floor known h brought held.part well apart going d.owner d.chain b goes_on r c)
+      (λ all. known_at_hand going r (all r c))
+      (λ b. candidate_at_hand going d.owner d.chain b goes_on r c)
       (is_told d stands).goes_back
 
   abbrev taken : List Record
@@ -225,8 +225,8 @@ module _ (heads : Key → List Stamp) (met : List (List ℕ)) (view : View) (own
 
   largest_part : IsClosedPart view (IsAtHand known chosen.0) taken
   largest_part = whole_part view h.basis below well going.holds.stands OverFront (IsAtHand known chosen.0)
-      (hand_above view met own floor known h brought held.part well apart going)
-      (λ r c. inl (below_known view met own floor known h brought held.part well apart going r c))
+      (hand_above going)
+      (λ r c. inl (below_known going r c))
       hand_to to_hand (in_order (h.held ++ new)) takes.part.largest
 
   all_held : HoldsAll view taken (with_new h new)
@@ -234,7 +234,7 @@ module _ (heads : Key → List Stamp) (met : List (List ℕ)) (view : View) (own
     below = below;
     stands = going.holds.stands;
     whole = refl;
-    above = each_from (IsAboveTide h.basis) (in_order (h.held ++ new)) (λ r c. hand_above view met own floor known h brought held.part well apart going r (takes.part.largest.part r c));
+    above = each_from (IsAboveTide h.basis) (in_order (h.held ++ new)) (λ r c. hand_above going r (takes.part.largest.part r c));
   }
 
   pub is_taken : IsTakenBy heads met view s knew known batch.held (with_new h new) taken
