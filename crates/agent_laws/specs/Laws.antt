@@ -1,5 +1,5 @@
 -- What follows for an agent that takes a turn.
-use Rattle.std.specs.Prelude.{◌≡◌, ℕ, List, Option, Contains}
+use Rattle.std.specs.Prelude.{◌≡◌, ◌⊎◌, ℕ, List, [], Option, Some, None, Contains}
 use Rattle.ivy_base.specs.declared.key.Key.{Key}
 use Rattle.ivy_base.specs.declared.key.PubKey.{PubKey}
 use Rattle.ivy_base.specs.Naming.{NamesTellApart, head_key_of}
@@ -9,11 +9,11 @@ use Rattle.log_model.specs.Record.{Record}
 use Rattle.log_model.specs.Rank.{front}
 use Rattle.log_model.specs.Closed.{IsClosedPart}
 use Rattle.log_records.specs.declared.edge.Edge.{Edge}
-use Rattle.log_records.specs.Batches.{Batch, IsBatch, AreUnder}
+use Rattle.log_records.specs.Batches.{Batch, AreUnder}
 use Rattle.turn_model.specs.Basis.{Basis, Holding, HoldsAll, Knows}
 use Rattle.turn_model.specs.Turn.{Candidate, IsAtHand}
-use Rattle.agent_model.specs.Agent.{Agent, joined}
-use Rattle.agent_model.specs.Standing.{Standing, going_on}
+use Rattle.agent_model.specs.Agent.{joined}
+use Rattle.agent_model.specs.Standing.{Standing}
 use Rattle.agent_model.specs.Candidates.{AreCandidatesOf, MayTurn}
 use Rattle.agent_model.specs.Taking.{TakesNew, refresh_with, with_new}
 
@@ -24,13 +24,18 @@ pub record IsTakenBy (heads : Key → List Stamp) (met : List (List ℕ)) (view 
   pub largest : IsClosedPart view (IsAtHand known candidates) taken
   pub holds : HoldsAll view taken h
 
+-- a turn goes on from what the agent holds; or, where one was loaded, from that basis with nothing above it
+abbrev pub IsGoneOn : Holding → Option Basis → Holding → Type 0
+IsGoneOn holding None h = h ≡ holding
+IsGoneOn holding (Some b) h = (h ≡ holding) ⊎ (h ≡ record { basis = b; held = [] })
+
 -- Where names tell the blocks apart, what a turn takes by what is held is what it takes by the definition: whatever the agent may know and was told.
 abbrev pub TakenIsByDefinition : Type 0
-TakenIsByDefinition = {S : Type 0} (a : Agent S) (heads : Key → List Stamp) (met : List (List ℕ)) (view : View) (own : PubKey) (s : Standing) (knew known : List Record)
+TakenIsByDefinition = (heads : Key → List Stamp) (met : List (List ℕ)) (view : View) (own : PubKey) (floor : Vector) (holding h : Holding) (s : Standing) (knew known : List Record)
     (batch : Batch) (basis : Option Basis) (edges : Key → Option Edge) (new : List Record)
-    → NamesTellApart met → IsView view → Knows view a.floor a.holding known → MayTurn heads met view own s knew known (refresh_with batch basis)
-    → IsBatch batch → AreUnder view edges batch → TakesNew view own a.floor (going_on a basis) (refresh_with batch basis) new
-    → (taken : List Record) × IsTakenBy heads met view s knew known batch.held (with_new (going_on a basis) new) taken
+    → NamesTellApart met → IsView view → Knows view floor holding known → IsGoneOn holding basis h → MayTurn heads met view own s knew known (refresh_with batch basis)
+    → AreUnder view edges batch → TakesNew view own floor h (refresh_with batch basis) new
+    → (taken : List Record) × IsTakenBy heads met view s knew known batch.held (with_new h new) taken
 
 -- ---- what is held, in place of the set
 
@@ -40,8 +45,8 @@ FrontIsJoined = (view : View) (s : List Record) (h : Holding) → HoldsAll view 
 
 -- The own log of such a set ends where the agent's floor does: a turn goes on with its own log from there.
 abbrev pub OwnLogEndsAtFloor : Type 0
-OwnLogEndsAtFloor = {S : Type 0} (a : Agent S) (heads : Key → List Stamp) (met : List (List ℕ)) (view : View) (own : PubKey) (s : Standing) (knew known : List Record)
+OwnLogEndsAtFloor = (heads : Key → List Stamp) (met : List (List ℕ)) (view : View) (own : PubKey) (floor : Vector) (holding h : Holding) (s : Standing) (knew known : List Record)
     (batch : Batch) (basis : Option Basis) (edges : Key → Option Edge) (new : List Record)
-    → NamesTellApart met → IsView view → Knows view a.floor a.holding known → MayTurn heads met view own s knew known (refresh_with batch basis)
-    → IsBatch batch → AreUnder view edges batch → TakesNew view own a.floor (going_on a basis) (refresh_with batch basis) new
-    → Contains view.members own → stamp_at (joined (with_new (going_on a basis) new)) (head_key_of own) ≡ stamp_at a.floor (head_key_of own)
+    → NamesTellApart met → IsView view → Knows view floor holding known → IsGoneOn holding basis h → MayTurn heads met view own s knew known (refresh_with batch basis)
+    → AreUnder view edges batch → TakesNew view own floor h (refresh_with batch basis) new
+    → Contains view.members own → stamp_at (joined (with_new h new)) (head_key_of own) ≡ stamp_at floor (head_key_of own)
