@@ -10,7 +10,7 @@ use Rattle.turn_model.specs.Turn.{Asked}
 use Rattle.reading_laws.proofs.Arguments.{arguments_or_not}
 use Rattle.reading_laws.proofs.Callers.{caller_or_not}
 use Rattle.reading_laws.proofs.Calls.{call_or_not, other_or_not, known_message}
-use Rattle.play_model.specs.Calls.{IsServed, IsByMessage, no_call, other_version, no_program, no_version, no_procedure, no_caller, no_arguments, null, Asks}
+use Rattle.play_model.specs.Calls.{HasProcedure, IsByMessage, no_call, other_version, no_program, no_version, no_procedure, no_caller, no_arguments, null, Asks}
 use Rattle.play_runs.specs.Messages.{EachMessageIsOne, EachMessageBecomesOne}
 use Rattle.play_runs.proofs.Replies.{one_reply, reply_or_turn, one_asked}
 
@@ -34,12 +34,12 @@ module _ (message : List ℕ) where
   null_or_not args = inr (λ e. cc e)
 
   module _ (c : CallMessage) (is : IsCall message c) where
-    of_arguments : IsServed c → (who : Identity) → IsCaller c.credential who → (args : Args) → AreArguments c.program c.procedure c.arguments args → (args ≡ call.Null) ⊎ (args ≢ call.Null) → Becomes
+    of_arguments : HasProcedure c → (who : Identity) → IsCaller c.credential who → (args : Args) → AreArguments c.program c.procedure c.arguments args → (args ≡ call.Null) ⊎ (args ≢ call.Null) → Becomes
     of_arguments served who caller args are (inl e) = inl (Some (reply c.xid (Success [])), null c who is served caller (subst (λ (a : Args). AreArguments c.program c.procedure c.arguments a) e are))
     of_arguments served who caller args are (inr some) =
         inr (c.xid, record { caller = who; args = args }, record { call = c; is_call = is; xid_is = refl; served = served; caller = caller; arguments = are; not_null = some })
 
-    of_caller : IsServed c → (who : Identity) → IsCaller c.credential who → Becomes
+    of_caller : HasProcedure c → (who : Identity) → IsCaller c.credential who → Becomes
     of_caller served who caller = elim (arguments_or_not c.procedure c.arguments) [
       | inl found ↦ of_arguments served who caller found.0 (subst (λ (p : ℕ). AreArguments p c.procedure c.arguments found.0) (sym served.program) found.1) (null_or_not found.0)
       | inr garbage ↦ inl (
@@ -48,7 +48,7 @@ module _ (message : List ℕ) where
       )
     ]
 
-    of_served : IsServed c → Becomes
+    of_served : HasProcedure c → Becomes
     of_served served = elim (caller_or_not c.credential) [
       | inl found ↦ of_caller served found.0 found.1
       | inr bad ↦ inl (Some (reply c.xid BadCredential), no_caller c is served bad)
