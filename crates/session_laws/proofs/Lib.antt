@@ -6,3 +6,6 @@ mod OwnParts
 mod AllLogs
 mod Refreshed
 mod Starting
+mod WholeTrees
+mod MadeBlocks
+mod Loading

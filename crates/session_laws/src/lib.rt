@@ -13,6 +13,7 @@
 #![tactic(auto)]
 
 ghost use Rattle.session_laws.specs.Bringing.{FetchedIsBrought, FloorIsBrought, RefreshedIsBrought, FloorIsReached};
+ghost use Rattle.session_laws.specs.Loading.{LoadedIsMade};
 ghost use Rattle.session_laws.specs.Starting.{StartIsKnown};
 
 /// A law and no code.
@@ -38,4 +39,12 @@ pub fn refreshed_is_brought()
 /// edge of a held record is its own.
 pub fn start_is_known()
     ensures { StartIsKnown }
+{}
+
+/// A law and no code.
+///
+/// Where names tell the blocks apart, what a refresh loads by the name of a snapshot's root is the basis of which it was made,
+/// if that stands for a closed set and all its blocks were met.
+pub fn loaded_is_made()
+    ensures { LoadedIsMade }
 {}
