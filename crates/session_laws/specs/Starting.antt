@@ -10,9 +10,9 @@ use Rattle.session_model.specs.Brought.{Brought}
 use Rattle.session_model.specs.Refreshing.{Note, RefreshEnd, Refreshes}
 use Rattle.session_laws.specs.Bringing.{StartsFrom}
 
--- Whatever a refresh has come to, it starts from known records, where its standing is that of an agent which knew these records and held this. A basis that it has
--- loaded stands for a part of what was known, and comes only where nothing was held.
+-- Whatever a refresh has come to, it starts from known records, where its standing is that of an agent which knew these records and held this. Where it has a
+-- snapshot to load, nothing is held; and a basis that it goes by stands for a part of what was known.
 abbrev pub StartIsKnown : Type 0
 StartIsKnown = (s : Standing) (of : Holding) (knew : List Record) (brought : List Brought) (notes : List Note) (given : Refresh) (end : RefreshEnd)
-    → IsView s.view → Knows s.view s.floor of knew → s.held ≡ joined of → s.edges ≡ edges_of of → IfSome given.basis (λ b. (of ≡ nothing_held) × StandsWithin s.view knew b)
+    → IsView s.view → Knows s.view s.floor of knew → s.held ≡ joined of → s.edges ≡ edges_of of → IfSome s.to_load (λ root. of ≡ nothing_held) → IfSome given.basis (StandsWithin s.view knew)
     → Refreshes s brought notes given end → StartsFrom s given.started knew
