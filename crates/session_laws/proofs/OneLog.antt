@@ -269,8 +269,8 @@ module _ (met : List (List ℕ)) (apart : NamesTellApart met) (s : Standing) (st
     -- ---- what the refresh brings of the log
 
     module _ (chains : List Chain) (basis : Option Basis) where
-      abbrev Brought_of : Type 0
-      Brought_of = BringsOf heads met s.view s knew (record { started = start; chains = chains; basis = basis }) owner
+      abbrev IsBroughtSo : Type 0
+      IsBroughtSo = BringsOf heads met s.view s knew (record { started = start; chains = chains; basis = basis }) owner
 
       -- the refresh has just those records of it
       abbrev pub HasJust : LogEnd → Type 0
@@ -279,13 +279,13 @@ module _ (met : List (List ℕ)) (apart : NamesTellApart met) (s : Standing) (st
       abbrev chain_of : List Record → Chain
       chain_of records = record { owner = owner; records = records }
 
-      given_brought : (records : List Record) → HasJust (Gives records) → (chain : List Record) → IsCandidateOf heads met s.view s knew start owner chain → records ≡ records_above start owner chain → Brought_of
+      given_brought : (records : List Record) → HasJust (Gives records) → (chain : List Record) → IsCandidateOf heads met s.view s knew start owner chain → records ≡ records_above start owner chain → IsBroughtSo
       given_brought records just chain is same = candidate (chain_of records) chain (just.0 (chain_of records) (here (chain_of records) [])) refl is same
 
-      nothing_brought : HasJust GivesNone → IsCandidateOf heads met s.view s knew start owner own_knew → Brought_of
+      nothing_brought : HasJust GivesNone → IsCandidateOf heads met s.view s knew start owner own_knew → IsBroughtSo
       nothing_brought just is = nothing (λ c within mine. let none = (just.1 c within mine).1 in omega (arith, none)) is
 
-      own_brought : (mine : owner ≡ s.own) (end : LogEnd) → end_of_log end ≡ None → Results (floors_own (stamp_at s.floor log) start_seq) end → HasJust end → Brought_of
+      own_brought : (mine : owner ≡ s.own) (end : LogEnd) → end_of_log end ≡ None → Results (floors_own (stamp_at s.floor log) start_seq) end → HasJust end → IsBroughtSo
       own_brought mine (Lacks want) through h just = cc through
       own_brought mine (Stops miss) through h just = cc through
       own_brought mine (Gives records) through h just =
@@ -294,13 +294,13 @@ module _ (met : List (List ℕ)) (apart : NamesTellApart met) (s : Standing) (st
       own_brought mine GivesNone through h just = nothing_brought just (own_candidate mine)
 
       module _ (other : owner ≡ s.own → ⊥) (tried : List Stamp) (are_tried : (t : Stamp) → Contains tried t ↔ IsTried heads s.floor log t) (order : InTryingOrder tried) where
-        newest_brought : (records : List Record) → HasJust (Gives records) → (passed : List Stamp) (head : Stamp) (rest : List Stamp) (is : tried ≡ passed ++ head ∷ rest) → AllByRecursion Refused passed → Given head records → Brought_of
+        newest_brought : (records : List Record) → HasJust (Gives records) → (passed : List Stamp) (head : Stamp) (rest : List Stamp) (is : tried ≡ passed ++ head ∷ rest) → AllByRecursion Refused passed → Given head records → IsBroughtSo
         newest_brought records just passed head rest is refused given = elim (new_candidate other tried are_tried order passed head rest is refused records given) [
           | inl w ↦ given_brought records just w.0 w.1 w.2
           | inr m ↦ misleading (chain_of records) (just.0 (chain_of records) (here (chain_of records) [])) refl m
         ]
 
-        other_brought : (end : LogEnd) → end_of_log end ≡ None → Results (tried ++ floors_own (stamp_at s.floor log) start_seq) end → HasJust end → Brought_of
+        other_brought : (end : LogEnd) → end_of_log end ≡ None → Results (tried ++ floors_own (stamp_at s.floor log) start_seq) end → HasJust end → IsBroughtSo
         other_brought (Lacks want) through h just = cc through
         other_brought (Stops miss) through h just = cc through
         other_brought (Gives records) through h just =
@@ -319,7 +319,7 @@ module _ (met : List (List ℕ)) (apart : NamesTellApart met) (s : Standing) (st
       abbrev pub HasHeads : List Brought → Type 0
       HasHeads brought = (came : List Judged) → Contains brought (HeadsOf owner (Ok came)) → (t : Stamp) → Contains (heads log) t ↔ Contains (map stamp_of came) t
 
-      pub log_brought : {brought : List Brought} {notes : List Note} {end : LogEnd} → Fetches s start owner brought notes end → end_of_log end ≡ None → AreMet met brought → HasHeads brought → HasJust end → Brought_of
+      pub log_brought : {brought : List Brought} {notes : List Note} {end : LogEnd} → Fetches s start owner brought notes end → end_of_log end ≡ None → AreMet met brought → HasHeads brought → HasJust end → IsBroughtSo
       log_brought (wants_heads other) through are has just = cc through
       log_brought (no_heads miss other) through are has just = cc through
       log_brought (of_heads came tried brought faults end other are_tried tries) through are has just =
