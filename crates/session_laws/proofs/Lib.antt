@@ -4,6 +4,8 @@ mod OneHead
 mod OneLog
 mod OwnParts
 mod AllLogs
+mod SortedEntries
+mod NotBehind
 mod Refreshed
 mod Starting
 mod WholeTrees

@@ -24,6 +24,7 @@ use Rattle.log_model.proofs.Lists.{each, each_right, in_filter, in_nothing}
 use Rattle.log_model.proofs.Opening.{same_owner}
 use Rattle.log_model.proofs.Owners.{owner_itself}
 use Rattle.log_model.proofs.Part.{found_stamp}
+use Rattle.log_model.proofs.Weights.{Sorted, sorted_front}
 use Rattle.turn_laws.proofs.Heads.{one_member, member_is}
 use Rattle.turn_laws.proofs.Starts.{Stands, front_stands, ends_with, own_stamp, good_last}
 use Rattle.log_records.specs.declared.edge.Edge.{Edge}
@@ -37,7 +38,7 @@ use Rattle.session_model.specs.Refreshing.LoadsFor.{some as snapshot_to_load}
 use Rattle.session_model.specs.Brought.{Brought}
 use Rattle.session_model.specs.Refreshing.Refreshes.{loading, fetching}
 use Rattle.session_laws.specs.Bringing.{StartsFrom}
-use Rattle.session_laws.specs.Starting.{StartIsKnown}
+use Rattle.session_laws.specs.Starting.{StartIsKnown, StartIsSorted}
 
 same_stamp : (a b : Stamp) → Some a ≡ Some b → a ≡ b
 same_stamp a b e = cc e
@@ -199,3 +200,17 @@ start_is_known s of knew _ notes _ end well knows held edges nothing loaded (fet
         chosen : (test : Bool) → IfSome (cond test (Some b) None) (StandsWithin s.view knew) → StartsFrom s (start_of s (cond test (Some b) None)) knew
         chosen true is_within = basis_is_known s b knew well is_within (edges ∙ ap edges_of (where_loaded load nothing))
         chosen false is_within = held_is_known s of knew well knows held edges
+
+held_is_sorted : (s : Standing) (of : Holding) (knew : List Record) → Knows s.view s.floor of knew → s.held ≡ joined of → Sorted s.held
+held_is_sorted s of knew knows held = ⊎_elim
+    (λ nothing. subst Sorted (sym (held ∙ ap joined nothing)) refl)
+    (λ all. subst Sorted (sym (held ∙ joined_front s.view knew of all)) (sorted_front knew))
+    knows.holds
+
+pub start_is_sorted : StartIsSorted
+start_is_sorted s of knew _ _ _ _ knows held loaded (loading loads) = held_is_sorted s of knew knows held
+start_is_sorted s of knew _ notes _ end knows held loaded (fetching basis loads fetches) = by (counting s.floor basis) loaded
+  where
+    by : (o : Option Basis) → IfSome o (StandsWithin s.view knew) → Sorted (start_of s o)
+    by None within = held_is_sorted s of knew knows held
+    by (Some b) within = subst Sorted (sym within.1.front) (sorted_front within.0)
