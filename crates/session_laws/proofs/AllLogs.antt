@@ -1,5 +1,5 @@
 -- The logs of all members, each by its own part of what was brought.
-use Rattle.std.proofs.Common.{◌≡◌, ℕ, true, List, [], Option, Some, None, Ok, refl, sym, subst, Contains}
+use Rattle.std.proofs.Common.{◌≡◌, ℕ, ◌<◌, true, List, [], Option, Some, None, Ok, refl, sym, subst, Contains}
 use Rattle.ivy_base.specs.declared.key.PubKey.{PubKey}
 use Rattle.ivy_base.specs.Naming.{head_key_of, owner_cmp}
 use Rattle.std.specs.Ordering.{eq_by_cmp}
@@ -15,10 +15,19 @@ use Rattle.agent_model.specs.Candidates.{BringsOf}
 use Rattle.session_model.specs.Brought.{BlockOf, heads_at}
 use Rattle.session_model.specs.Walks.{LogEnd}
 use Rattle.session_model.specs.Refreshing.{chains_of}
-use Rattle.session_laws.specs.Bringing.{StartsFrom, FetchedIsBrought, FloorIsBrought}
+use Rattle.std.specs.List.{AllByRecursion}
+use Rattle.ivy_base.specs.Naming.{NamesTellApart}
+use Rattle.log_model.specs.View.{IsView}
+use Rattle.log_model.specs.Vector.{seq_of}
+use Rattle.log_records.specs.Batches.{HasRecord}
+use Rattle.causal_order.specs.AtHand.{above}
+use Rattle.agent_model.specs.Standing.{go_on_from}
+use Rattle.session_model.specs.Brought.{Brought}
+use Rattle.session_model.specs.Refreshing.{Note, FetchesAll, Done}
+use Rattle.session_laws.specs.Bringing.{AreMet, StartsFrom, FetchedIsBrought, FloorIsBrought}
 use Rattle.session_laws.proofs.Cuts.{StartsIn, IsLogKnown}
 use Rattle.session_laws.proofs.OneLog.{log_brought, floor_brought}
-use Rattle.session_laws.proofs.OwnParts.{apart_keys, HasPart, one_at_most, chains_owned, parts, heads_same}
+use Rattle.session_laws.proofs.OwnParts.{apart_keys, HasPart, given_chain, one_at_most, chains_owned, parts, heads_same}
 
 -- ---- the law
 
@@ -57,11 +66,33 @@ fetched_is_brought met s start knew brought notes chains basis apart well is_kno
           (p.has, p.just));
     }
 
+-- the chain that has the floor's record
+pub record HasFloorChain (s : Standing) (start : Vector) (chains : List Chain) (owner : PubKey) (t : Stamp) : Type 0 where
+  pub records : List Record
+  pub within : Contains chains (given_chain s start owner records)
+  pub has : HasRecord t records
+  pub owned : AllByRecursion (λ r. r.owner ≡ owner) records
+  pub beyond : above (seq_of start (head_key_of owner)) records ≡ records
+  pub goes_on : go_on_from (stamp_at start (head_key_of owner)) records ≡ true
+
+module _ (met : List (List ℕ)) (s : Standing) (start : Vector) (knew : List Record) (brought : List Brought) (notes : List Note) (chains : List Chain) (apart : NamesTellApart met) (well : IsView s.view) (is_known : IsKnown s.view s.floor knew) (stand : Stand met knew) (from : StartsFrom s start knew) (are : AreMet met brought) (fetches : FetchesAll s start s.view.members brought notes chains Done) where
+  pub floor_chain : (owner : PubKey) (t : Stamp) → Contains s.view.members owner → stamp_at s.floor (head_key_of owner) ≡ Some t → seq_of start (head_key_of owner) < t.seq → HasFloorChain s start chains owner t
+  floor_chain owner t member is far =
+      let p = each (HasPart s start brought chains) s.view.members owner (parts s start fetches refl (apart_keys s.view.members s.view.former well.apart)) member in
+      let w = floor_brought met apart s start knew owner (log_known met s knew owner member is_known stand)
+      (starts_in s start knew owner member from (stamp_at start (head_key_of owner)) refl)
+      p.fetches p.through (λ key bytes c. are key bytes (p.among (BlockOf key (Ok bytes)) c)) t is far in
+      let c : Chain = given_chain s start owner w.records in
+      record {
+        records = w.records;
+        within = p.has c (subst (λ (end : LogEnd). Contains (chains_of owner end) c) (sym w.is) (here c []));
+        has = w.has;
+        owned = w.owned;
+        beyond = w.beyond;
+        goes_on = w.goes_on;
+      }
+
 pub floor_is_brought : FloorIsBrought
 floor_is_brought met s start knew brought notes chains apart well is_known stand from are fetches owner t member is far =
-    let p = each (HasPart s start brought chains) s.view.members owner (parts s start fetches refl (apart_keys s.view.members s.view.former well.apart)) member in
-    let w = floor_brought met apart s start knew owner (log_known met s knew owner member is_known stand)
-    (starts_in s start knew owner member from (stamp_at start (head_key_of owner)) refl)
-    p.fetches p.through (λ key bytes c. are key bytes (p.among (BlockOf key (Ok bytes)) c)) t is far in
-    let c : Chain = record { owner = owner; records = w.0 } in
-    (c, p.has c (subst (λ (end : LogEnd). Contains (chains_of owner end) c) (sym w.1) (here c [])), refl, w.2)
+    let w = floor_chain met s start knew brought notes chains apart well is_known stand from are fetches owner t member is far in
+    (given_chain s start owner w.records, w.within, refl, w.has)

@@ -4,5 +4,10 @@ mod OneHead
 mod OneLog
 mod OwnParts
 mod AllLogs
+mod SortedEntries
+mod NotBehind
 mod Refreshed
 mod Starting
+mod WholeTrees
+mod MadeBlocks
+mod Loading

@@ -1,7 +1,7 @@
 -- One head of a log, by what was read back from it: no records that end there are sound and onward, so no chain leads to it; or they were taken, and are what its chain
 -- has above the held record, or nothing is known of that record and they make no chain.
-use Rattle.std.proofs.Common.{◌≡◌, ◌⊎◌, inl, inr, ℕ, ◌+◌, ◌-◌, ◌<◌, ◌≤◌, Bool, true, false, List, [], ◌∷◌, ◌++◌, length, reverse, Option, Some, None, refl, sym, ap, ◌∙◌, subst, arith, append_assoc, Contains}
-use Rattle.std.specs.Prelude.{◌≢◌}
+use Rattle.std.proofs.Common.{◌≡◌, ◌⊎◌, inl, inr, ℕ, ◌+◌, ◌-◌, ◌<◌, ◌≤◌, Bool, true, false, List, [], ◌∷◌, ◌++◌, length, reverse, Option, Some, None, refl, sym, ap, ◌∙◌, subst, arith, append_assoc, eq-eqb, Contains}
+use Rattle.std.specs.Prelude.{◌≢◌, ◌==◌}
 use Rattle.std.specs.List.{AllByRecursion}
 use Rattle.std.proofs.lemmas.Bool.{cases_lt}
 use Rattle.std.proofs.lemmas.List.{length-append, nil_from_length}
@@ -17,14 +17,18 @@ use Rattle.log_model.specs.Part.{goes_as_far}
 use Rattle.log_model.specs.Spelling.{no_name}
 use Rattle.log_model.specs.Chain.{IsChain, LinkedFrom}
 use Rattle.log_model.specs.Standing.{StandsAmong, Stand}
-use Rattle.log_model.proofs.Lists.{there, each, each_append, each_left, each_right}
-use Rattle.log_model.proofs.Part.{far_dominates, dominates_far, chain_front, numbered, numbers_below}
+use Rattle.log_model.proofs.Lists.{both, there, each, each_append, each_left, each_right}
+use Rattle.log_model.proofs.Part.{far_dominates, dominates_far, Numbered, chain_front, numbered, numbers_below}
 use Rattle.log_records.specs.declared.edge.Edge.{Edge}
 use Rattle.log_records.specs.declared.chain_fault.ChainFault.{ChainFault}
 use Rattle.log_records.specs.declared.chain_fault.ChainFault.TheVariants.{Bad, Fork, Memory}
 use Rattle.log_records.specs.Batches.{owner_of, stamp_in, as_edge, EndsAt, GoesOnFrom, IsOnward, IsSound, ChainFails, OldestNames, PassesFloor, name_or_none}
 use Rattle.log_records.proofs.Batches.{linked, extends, chains_begin, chains_go_on, passes_through}
 use Rattle.causal_order.specs.AtHand.{above}
+use Rattle.causal_order.proofs.Starts.{above_from}
+use Rattle.agent_model.specs.Standing.{go_on_from}
+use Rattle.tree_model.specs.Tree.{same_key}
+use Rattle.tree_model.proofs.Keys.{same_key_itself}
 use Rattle.turn_model.specs.Known as known
 use Rattle.turn_model.specs.Candidates.{PassesThrough, MakeChain, IsPassedOver}
 use Rattle.agent_model.specs.Candidates.{AreTaken}
@@ -37,7 +41,7 @@ use Rattle.session_laws.proofs.Cuts.{divided, linked_chain, StartsIn, IsLogKnown
 -- ---- plain facts
 
 owned_owner : (owner : PubKey) (xs : List Record) (t : Stamp) → AllByRecursion (λ r. r.owner ≡ owner) xs → EndsAt t xs → owner_of xs ≡ owner
-owned_owner owner [] t all ends = absurd (nothing_ends owner t ends)
+owned_owner owner [] t all ends = absurd (nothing_ends t ends)
 owned_owner owner (r ∷ rs) t all ends = all.0
 
 fails_so : (view : View) (start floor : Vector) (edge : Option Edge) (head : Stamp) (chain : List Record) (fault : ChainFault) → ChainFails view start floor head edge chain fault → fault ≢ Memory
@@ -59,6 +63,17 @@ edge_or_not view t e (r ∷ rs) g = by (goes_as_far (full_vector r) (with_entry 
     by : (b : Bool) → goes_as_far (full_vector r) (with_entry e.vector (head_key_of r.owner, t)) ≡ b → GoesOnFrom view (Some t) (Some e) (r ∷ rs) ⊎ (GoesOnFrom view (Some t) (Some e) (r ∷ rs) → ⊥)
     by true far = inl (g.0, g.1, far_dominates (full_vector r) (with_entry e.vector (head_key_of r.owner, t)) far, g.3)
     by false short = inr (λ h. let far = dominates_far (full_vector r) (with_entry e.vector (head_key_of r.owner, t)) h.2 in cc (far, short))
+
+-- records that go on, by the test
+go_on : (view : View) (held : Option Stamp) (edge : Option Edge) (t : Stamp) (xs : List Record) → EndsAt t xs → GoesOnFrom view held edge xs → OldestNames held xs → go_on_from held xs ≡ true
+go_on view held edge t [] ends g names = absurd (nothing_ends t ends)
+go_on view None edge t (r ∷ rs) ends g names = eq-eqb r.seq 1 g.1.seq
+go_on view (Some h) edge t (r ∷ rs) ends g names =
+    both (r.seq == h.seq + 1) (same_key r.prev h.name) (eq-eqb r.seq (h.seq + 1) g.1) (subst (λ (k : Key). same_key r.prev k ≡ true) names (same_key_itself r.prev))
+
+linked_numbered : (owner : PubKey) (n : ℕ) (prev : Key) (xs : List Record) → LinkedFrom owner n prev xs → Numbered n xs
+linked_numbered owner n prev [] h = tt
+linked_numbered owner n prev (x ∷ xs) h = (h.2, linked_numbered owner (n + 1) x.name xs h.4)
 
 -- ---- through the floor's record
 
@@ -196,6 +211,16 @@ module _ (met : List (List ℕ)) (apart : NamesTellApart met) (view : View) (own
 
     pub floor_passes : PassesFloor (stamp_at floor (head_key_of owner)) (reach held) records
     floor_passes = subst (λ (o : PubKey). PassesFloor (stamp_at floor (head_key_of o)) (reach (stamp_at start (head_key_of o))) records) mine given.onward.passes
+
+    -- they are all above the held record, and go on from it
+    pub all_above : above (reach held) records ≡ records
+    all_above =
+        above_from (reach held) (reach held + 1) records (linked_numbered owner (reach held + 1) (name_or_none held) records
+        (subst (λ (o : PubKey). LinkedFrom o (reach (stamp_at start (head_key_of o)) + 1) (name_or_none (stamp_at start (head_key_of o))) records) mine
+        (linked view (stamp_in start records) edge records given.sound.goes_on given.onward.names))) (omega arith)
+
+    pub go_on_held : go_on_from held records ≡ true
+    go_on_held = go_on view held edge head records given.sound.ends goes (subst (λ (o : PubKey). OldestNames (stamp_at start (head_key_of o)) records) mine given.onward.names)
 
     -- they begin the log
     chain_begins : held ≡ None → HasChain head

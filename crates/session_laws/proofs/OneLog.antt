@@ -18,10 +18,11 @@ use Rattle.log_model.proofs.Lists.{here, there, in_cons, each, each_left}
 use Rattle.log_records.specs.declared.edge.Edge.{Edge}
 use Rattle.log_records.specs.declared.chain_fault.ChainFault.{ChainFault}
 use Rattle.log_records.specs.Batches.{IsSound, HasRecord, PassesFloor}
+use Rattle.causal_order.specs.AtHand.{above}
 use Rattle.turn_model.specs.Basis.{Basis}
 use Rattle.turn_model.specs.Known as known
 use Rattle.turn_model.specs.Candidates.{IsTriedBefore, PassesThrough, MakeChain, IsPassedOver, IsTried, own_log, newest, as_known}
-use Rattle.agent_model.specs.Standing.{Standing, Chain, edge_at}
+use Rattle.agent_model.specs.Standing.{Standing, Chain, edge_at, go_on_from}
 use Rattle.agent_model.specs.Candidates.{AreTaken, IsMisled, IsCandidateOf, by_heads, BringsOf, candidate, misleading, nothing, records_above}
 use Rattle.dht_ids.specs.declared.judge.Judged.{Judged}
 use Rattle.session_model.specs.Brought.{Brought, HeadsOf, stamp_of}
@@ -31,7 +32,7 @@ use Rattle.session_model.specs.Refreshing.{Note, Fetches, floors_own, end_of_log
 use Rattle.session_model.specs.Refreshing.Fetches.{wants_heads, no_heads, of_heads, of_own}
 use Rattle.session_laws.specs.Bringing.{AreMet}
 use Rattle.session_laws.proofs.Cuts.{StartsIn, IsLogKnown}
-use Rattle.session_laws.proofs.OneHead.{starts_below, IsRefused, IsGiven, refused_came, refused_garbled, passed_over, not_taken, given_came, given_above, floor_passes, head_ends}
+use Rattle.session_laws.proofs.OneHead.{starts_below, IsRefused, IsGiven, refused_came, refused_garbled, passed_over, not_taken, given_came, given_above, floor_passes, all_above, go_on_held, head_ends}
 
 -- ---- heads in their order
 
@@ -166,12 +167,27 @@ module _ (met : List (List ℕ)) (apart : NamesTellApart met) (s : Standing) (st
 
   -- ---- the floor's record
 
-  -- it isn't passed over, and what was taken has it
-  floor_result : (t : Stamp) → stamp_at s.floor log ≡ Some t → start_seq < t.seq → (ts : List Stamp) → Contains ts t → (end : LogEnd) → end_of_log end ≡ None → Results ts end → (records : List Record) × (end ≡ Gives records) × HasRecord t records
+  -- what was taken has it; and goes on from the held record
+  pub record HasFloor (t : Stamp) (end : LogEnd) : Type 0 where
+    pub records : List Record
+    pub is : end ≡ Gives records
+    pub has : HasRecord t records
+    pub owned : AllByRecursion (λ r. r.owner ≡ owner) records
+    pub beyond : above start_seq records ≡ records
+    pub goes_on : go_on_from (stamp_at start log) records ≡ true
+
+  -- it isn't passed over
+  floor_result : (t : Stamp) → stamp_at s.floor log ≡ Some t → start_seq < t.seq → (ts : List Stamp) → Contains ts t → (end : LogEnd) → end_of_log end ≡ None → Results ts end → HasFloor t end
   floor_result t is far ts listed (Lacks want) through h = cc through
   floor_result t is far ts listed (Stops miss) through h = cc through
-  floor_result t is far ts listed (Gives records) through h =
-      (records, refl, subst (λ (o : Option Stamp). PassesFloor o start_seq records) is (floor_passes met apart s.view owner start s.floor own_knew k edge h.1 records h.5) far)
+  floor_result t is far ts listed (Gives records) through h = record {
+    records = records;
+    is = refl;
+    has = subst (λ (o : Option Stamp). PassesFloor o start_seq records) is (floor_passes met apart s.view owner start s.floor own_knew k edge h.1 records h.5) far;
+    owned = h.5.owned;
+    beyond = all_above met apart s.view owner start s.floor own_knew k edge h.1 records h.5;
+    goes_on = go_on_held met apart s.view owner start s.floor own_knew k edge h.1 records h.5;
+  }
   floor_result t is far ts listed GivesNone through h =
       absurd (passed_over met apart s.view owner start s.floor own_knew k edge t from far (each Refused ts t h listed) own_knew (own_makes t is))
 
@@ -180,8 +196,7 @@ module _ (met : List (List ℕ)) (apart : NamesTellApart met) (s : Standing) (st
       subst (λ (o : Option Stamp). Contains (floors_own o start_seq) t) (sym is)
       (subst (λ (b : Bool). Contains (cond b (t ∷ []) []) t) (sym (lt-ltb start_seq t.seq far)) (here t []))
 
-  pub floor_brought : {brought : List Brought} {notes : List Note} {end : LogEnd} → Fetches s start owner brought notes end → end_of_log end ≡ None → AreMet met brought → (t : Stamp) → stamp_at s.floor log ≡ Some t → start_seq < t.seq
-      → (records : List Record) × (end ≡ Gives records) × HasRecord t records
+  pub floor_brought : {brought : List Brought} {notes : List Note} {end : LogEnd} → Fetches s start owner brought notes end → end_of_log end ≡ None → AreMet met brought → (t : Stamp) → stamp_at s.floor log ≡ Some t → start_seq < t.seq → HasFloor t end
   floor_brought (wants_heads other) through are t is far = cc through
   floor_brought (no_heads miss other) through are t is far = cc through
   floor_brought (of_heads came tried brought faults end other are_tried tries) through are t is far =
@@ -269,8 +284,8 @@ module _ (met : List (List ℕ)) (apart : NamesTellApart met) (s : Standing) (st
     -- ---- what the refresh brings of the log
 
     module _ (chains : List Chain) (basis : Option Basis) where
-      abbrev Brought_of : Type 0
-      Brought_of = BringsOf heads met s.view s knew (record { started = start; chains = chains; basis = basis }) owner
+      abbrev IsBroughtSo : Type 0
+      IsBroughtSo = BringsOf heads met s.view s knew (record { started = start; chains = chains; basis = basis }) owner
 
       -- the refresh has just those records of it
       abbrev pub HasJust : LogEnd → Type 0
@@ -279,13 +294,13 @@ module _ (met : List (List ℕ)) (apart : NamesTellApart met) (s : Standing) (st
       abbrev chain_of : List Record → Chain
       chain_of records = record { owner = owner; records = records }
 
-      given_brought : (records : List Record) → HasJust (Gives records) → (chain : List Record) → IsCandidateOf heads met s.view s knew start owner chain → records ≡ records_above start owner chain → Brought_of
+      given_brought : (records : List Record) → HasJust (Gives records) → (chain : List Record) → IsCandidateOf heads met s.view s knew start owner chain → records ≡ records_above start owner chain → IsBroughtSo
       given_brought records just chain is same = candidate (chain_of records) chain (just.0 (chain_of records) (here (chain_of records) [])) refl is same
 
-      nothing_brought : HasJust GivesNone → IsCandidateOf heads met s.view s knew start owner own_knew → Brought_of
+      nothing_brought : HasJust GivesNone → IsCandidateOf heads met s.view s knew start owner own_knew → IsBroughtSo
       nothing_brought just is = nothing (λ c within mine. let none = (just.1 c within mine).1 in omega (arith, none)) is
 
-      own_brought : (mine : owner ≡ s.own) (end : LogEnd) → end_of_log end ≡ None → Results (floors_own (stamp_at s.floor log) start_seq) end → HasJust end → Brought_of
+      own_brought : (mine : owner ≡ s.own) (end : LogEnd) → end_of_log end ≡ None → Results (floors_own (stamp_at s.floor log) start_seq) end → HasJust end → IsBroughtSo
       own_brought mine (Lacks want) through h just = cc through
       own_brought mine (Stops miss) through h just = cc through
       own_brought mine (Gives records) through h just =
@@ -294,13 +309,13 @@ module _ (met : List (List ℕ)) (apart : NamesTellApart met) (s : Standing) (st
       own_brought mine GivesNone through h just = nothing_brought just (own_candidate mine)
 
       module _ (other : owner ≡ s.own → ⊥) (tried : List Stamp) (are_tried : (t : Stamp) → Contains tried t ↔ IsTried heads s.floor log t) (order : InTryingOrder tried) where
-        newest_brought : (records : List Record) → HasJust (Gives records) → (passed : List Stamp) (head : Stamp) (rest : List Stamp) (is : tried ≡ passed ++ head ∷ rest) → AllByRecursion Refused passed → Given head records → Brought_of
+        newest_brought : (records : List Record) → HasJust (Gives records) → (passed : List Stamp) (head : Stamp) (rest : List Stamp) (is : tried ≡ passed ++ head ∷ rest) → AllByRecursion Refused passed → Given head records → IsBroughtSo
         newest_brought records just passed head rest is refused given = elim (new_candidate other tried are_tried order passed head rest is refused records given) [
           | inl w ↦ given_brought records just w.0 w.1 w.2
           | inr m ↦ misleading (chain_of records) (just.0 (chain_of records) (here (chain_of records) [])) refl m
         ]
 
-        other_brought : (end : LogEnd) → end_of_log end ≡ None → Results (tried ++ floors_own (stamp_at s.floor log) start_seq) end → HasJust end → Brought_of
+        other_brought : (end : LogEnd) → end_of_log end ≡ None → Results (tried ++ floors_own (stamp_at s.floor log) start_seq) end → HasJust end → IsBroughtSo
         other_brought (Lacks want) through h just = cc through
         other_brought (Stops miss) through h just = cc through
         other_brought (Gives records) through h just =
@@ -319,7 +334,7 @@ module _ (met : List (List ℕ)) (apart : NamesTellApart met) (s : Standing) (st
       abbrev pub HasHeads : List Brought → Type 0
       HasHeads brought = (came : List Judged) → Contains brought (HeadsOf owner (Ok came)) → (t : Stamp) → Contains (heads log) t ↔ Contains (map stamp_of came) t
 
-      pub log_brought : {brought : List Brought} {notes : List Note} {end : LogEnd} → Fetches s start owner brought notes end → end_of_log end ≡ None → AreMet met brought → HasHeads brought → HasJust end → Brought_of
+      pub log_brought : {brought : List Brought} {notes : List Note} {end : LogEnd} → Fetches s start owner brought notes end → end_of_log end ≡ None → AreMet met brought → HasHeads brought → HasJust end → IsBroughtSo
       log_brought (wants_heads other) through are has just = cc through
       log_brought (no_heads miss other) through are has just = cc through
       log_brought (of_heads came tried brought faults end other are_tried tries) through are has just =

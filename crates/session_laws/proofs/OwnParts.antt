@@ -27,6 +27,22 @@ use Rattle.session_model.specs.Refreshing.{Note, RefreshEnd, Done, Fetches, Fetc
 use Rattle.session_model.specs.Refreshing.Fetches.{wants_heads, no_heads, of_heads, of_own}
 use Rattle.session_model.specs.Refreshing.FetchesAll.{all, stays, goes_on}
 
+-- ---- lists of lists
+
+pub from_flat_map : {X Y : Type 0} (f : X → List Y) (xs : List X) (y : Y) → Contains (flat_map f xs) y → (x : X) × Contains xs x × Contains (f x) y
+from_flat_map f [] y c = absurd (in_nothing y c)
+from_flat_map f (x ∷ xs) y c = elim (Contains-append_cases (f x) (flat_map f xs) y c) [
+  | inl mine ↦ (x, here x xs, mine)
+  | inr later ↦ (let w = from_flat_map f xs y later in (w.0, there x xs w.0 w.1, w.2))
+]
+
+pub to_flat_map : {X Y : Type 0} (f : X → List Y) (xs : List X) (x : X) (y : Y) → Contains xs x → Contains (f x) y → Contains (flat_map f xs) y
+to_flat_map f [] x y c w = absurd (in_nothing x c)
+to_flat_map {Y = Y} f (z ∷ xs) x y c w = elim (in_cons z xs x c) [
+  | inl e ↦ Contains-append_left (f z) (flat_map f xs) y (subst (λ (l : List Y). Contains l y) (sym (ap f e)) w)
+  | inr later ↦ Contains-append_right (f z) (flat_map f xs) y (to_flat_map f xs x y later w)
+]
+
 -- ---- owners apart
 
 -- no two have one head key
@@ -121,8 +137,11 @@ module _ (s : Standing) (start : Vector) where
     pub has : (c : Chain) → Contains (chains_of owner end) c → Contains chains c
     pub just : (c : Chain) → Contains chains c → c.owner ≡ owner → Contains (chains_of owner end) c
 
+  abbrev pub given_chain : PubKey → List Record → Chain
+  given_chain owner records = record { owner = owner; records = records }
+
   chain_owned : (owner : PubKey) (end : LogEnd) (c : Chain) → Contains (chains_of owner end) c → c.owner ≡ owner
-  chain_owned owner (Gives records) c w = elim (in_cons (let one : Chain = record { owner = owner; records = records } in one) [] c w) [
+  chain_owned owner (Gives records) c w = elim (in_cons (given_chain owner records) [] c w) [
     | inl e ↦ sym (ap (λ (x : Chain). x.owner) e)
     | inr none ↦ absurd (in_nothing c none)
   ]
@@ -133,8 +152,8 @@ module _ (s : Standing) (start : Vector) where
   pub one_at_most : (owner : PubKey) (end : LogEnd) (c d : Chain) → Contains (chains_of owner end) c → Contains (chains_of owner end) d → c ≡ d
   one_at_most owner (Gives records) c d w v = sym (same c w) ∙ same d v
     where
-      same : (x : Chain) → Contains (chains_of owner (Gives records)) x → (let one : Chain = record { owner = owner; records = records } in one) ≡ x
-      same x u = elim (in_cons (let one : Chain = record { owner = owner; records = records } in one) [] x u) [
+      same : (x : Chain) → Contains (chains_of owner (Gives records)) x → (given_chain owner records) ≡ x
+      same x u = elim (in_cons (given_chain owner records) [] x u) [
         | inl e ↦ e
         | inr none ↦ absurd (in_nothing x none)
       ]
@@ -220,20 +239,6 @@ module _ (s : Standing) (start : Vector) where
       )
 
   -- ---- the heads that count
-
-  from_flat_map : {X Y : Type 0} (f : X → List Y) (xs : List X) (y : Y) → Contains (flat_map f xs) y → (x : X) × Contains xs x × Contains (f x) y
-  from_flat_map f [] y c = absurd (in_nothing y c)
-  from_flat_map f (x ∷ xs) y c = elim (Contains-append_cases (f x) (flat_map f xs) y c) [
-    | inl mine ↦ (x, here x xs, mine)
-    | inr later ↦ (let w = from_flat_map f xs y later in (w.0, there x xs w.0 w.1, w.2))
-  ]
-
-  to_flat_map : {X Y : Type 0} (f : X → List Y) (xs : List X) (x : X) (y : Y) → Contains xs x → Contains (f x) y → Contains (flat_map f xs) y
-  to_flat_map f [] x y c w = absurd (in_nothing x c)
-  to_flat_map {Y = Y} f (z ∷ xs) x y c w = elim (in_cons z xs x c) [
-    | inl e ↦ Contains-append_left (f z) (flat_map f xs) y (subst (λ (l : List Y). Contains l y) (sym (ap f e)) w)
-    | inr later ↦ Contains-append_right (f z) (flat_map f xs) y (to_flat_map f xs x y later w)
-  ]
 
   module _ (owner : PubKey) (brought : List Brought) (chains : List Chain) (p : HasPart brought chains owner) (came : List Judged) (found : Contains p.part (HeadsOf owner (Ok came))) where
     abbrev is_of_log : Entry → Bool

@@ -25,6 +25,10 @@ each_reverse P (x ∷ xs) h = subst (AllByRecursion P) (sym (reverse-append (x �
 
 -- ---- linked records
 
+pub nothing_ends : (t : Stamp) → EndsAt t [] → ⊥
+nothing_ends t ([], last, is, same) = cc
+nothing_ends t (b ∷ before, last, is, same) = cc
+
 -- the name of the last of them, or that before them
 abbrev pub newest_of : Key → List Record → Key
 newest_of prev [] = prev
@@ -55,10 +59,6 @@ module _ (owner : PubKey) where
       let size : length xs ≡ length (ends.0 ++ ends.1 ∷ []) = ap length ends.2 in
       let one_more = length-append ends.0 (ends.1 ∷ []) in
       omega (arith, last, same, size, one_more)
-
-  pub nothing_ends : (t : Stamp) → EndsAt t [] → ⊥
-  nothing_ends t ([], last, is, same) = cc
-  nothing_ends t (b ∷ before, last, is, same) = cc
 
   pub linked_owner : (n : ℕ) (prev : Key) (xs : List Record) (t : Stamp) → LinkedFrom owner n prev xs → EndsAt t xs → owner_of xs ≡ owner
   linked_owner n prev [] t h ends = absurd (nothing_ends t ends)

@@ -14,8 +14,9 @@ use Rattle.session_model.specs.Refreshing.{Loads, LoadsFor, LoadEnd, counting, s
 use Rattle.session_model.specs.Refreshing.Loads.{loaded, no_whole, wants, misses, garbled, goes_on}
 use Rattle.session_model.specs.Refreshing.LoadsFor.{none as nothing_to_load, some as snapshot_to_load}
 use Rattle.session_model.specs.Refreshing.Refreshes.{fetching}
-use Rattle.session_laws.specs.Bringing.{RefreshedIsBrought, FloorIsReached}
+use Rattle.session_laws.specs.Bringing.{RefreshedIsBrought, FloorIsReached, DoneIsNotBehind}
 use Rattle.session_laws.proofs.OwnParts.{HasNoHeads, none_yet, block_first}
+use Rattle.session_laws.proofs.NotBehind.{fetch_not_behind}
 use Rattle.session_laws.proofs.AllLogs.{fetched_is_brought, floor_is_brought}
 
 loads_no_heads : {todo : List (Part × Key)} {read : List (List ℕ)} {brought : List Brought} {end : LoadEnd} → Loads todo read brought end → HasNoHeads brought
@@ -49,3 +50,8 @@ refreshed_is_brought met s knew _ notes _ apart well known stand from are (fetch
 pub floor_is_reached : FloorIsReached
 floor_is_reached met s knew _ notes _ apart well known stand from are (fetching {loaded = blocks} {brought = brought} {chains = chains} basis loads fetches) owner t member is far =
     floor_is_brought met s (start_of s (counting s.floor basis)) knew brought notes chains apart well known stand from (λ key bytes c. are key bytes (Contains-append_right blocks brought (BlockOf key (Ok bytes)) c)) fetches owner t member is far
+
+pub done_is_not_behind : DoneIsNotBehind
+done_is_not_behind met s h knew _ notes _ apart well known stand from are (fetching {loaded = blocks} {brought = brought} {chains = chains} basis loads fetches) same sorted =
+    fetch_not_behind met s (start_of s (counting s.floor basis)) knew brought notes chains (counting s.floor basis) h apart well known stand from
+    (λ key bytes c. are key bytes (Contains-append_right blocks brought (BlockOf key (Ok bytes)) c)) fetches same sorted

@@ -24,25 +24,34 @@ use Rattle.log_model.proofs.Lists.{each, each_right, in_filter, in_nothing}
 use Rattle.log_model.proofs.Opening.{same_owner}
 use Rattle.log_model.proofs.Owners.{owner_itself}
 use Rattle.log_model.proofs.Part.{found_stamp}
+use Rattle.log_model.proofs.Weights.{Sorted, sorted_front}
 use Rattle.turn_laws.proofs.Heads.{one_member, member_is}
 use Rattle.turn_laws.proofs.Starts.{Stands, front_stands, ends_with, own_stamp, good_last}
 use Rattle.log_records.specs.declared.edge.Edge.{Edge}
 use Rattle.log_records.specs.Batches.{as_edge}
-use Rattle.turn_model.specs.Basis.{Basis, Holding, HoldsAll, Knows, nothing_held}
+use Rattle.turn_model.specs.Basis.{Basis, Holding, HoldsAll, Knows}
 use Rattle.agent_model.specs.Agent.{joined}
-use Rattle.agent_model.specs.Standing.{Standing, edges_of}
+use Rattle.agent_model.specs.Standing.{Standing, dominates, edges_of}
 use Rattle.agent_model.specs.Candidates.{StandsWithin}
-use Rattle.session_model.specs.Refreshing.{counting, start_of}
+use Rattle.session_model.specs.Refreshing.{LoadsFor, Loaded, counting, start_of}
+use Rattle.session_model.specs.Refreshing.LoadsFor.{some as snapshot_to_load}
+use Rattle.session_model.specs.Brought.{Brought}
 use Rattle.session_model.specs.Refreshing.Refreshes.{loading, fetching}
 use Rattle.session_laws.specs.Bringing.{StartsFrom}
-use Rattle.session_laws.specs.Starting.{StartIsKnown}
+use Rattle.session_laws.specs.Starting.{StartIsKnown, StartIsSorted}
 
 same_stamp : (a b : Stamp) → Some a ≡ Some b → a ≡ b
 same_stamp a b e = cc e
 
+one_stamp : (o : Option Stamp) (a b : Stamp) → o ≡ Some a → o ≡ Some b → a ≡ b
+one_stamp o a b is also = same_stamp a b (sym is ∙ also)
+
 no_stamp : (o : Option Stamp) (t : Stamp) → o ≡ None → o ≡ Some t → ⊥
 no_stamp None t none e = cc e
 no_stamp (Some s) t none e = cc none
+
+entry_stamp : (e f : Entry) (t : Stamp) → e ≡ f → f.1 ≡ t → e.1 ≡ t
+entry_stamp e f t same is = ap (λ (x : Entry). x.1) same ∙ is
 
 entry_key : (e f : Entry) (log : Key) → e ≡ f → f.0 ≡ log → e.0 ≡ log
 entry_key e f log same of_log = ap (λ (x : Entry). x.0) same ∙ of_log
@@ -57,7 +66,7 @@ module _ (view : View) (owner : PubKey) (well : IsView view) (member : Contains 
       let is : is_member view f.0.0 ≡ true = subst (λ (k : Key). is_member view k ≡ true) (sym f.2) (member_is view owner member) in
       let w = each (Stands view known closed) (front known) f.0 (front_stands view known closed) f.1 is in
       let owned : w.0.owner ≡ owner = one_member view w.0.owner owner well (each (λ (q : Record). Contains view.members q.owner) known w.0 closed.members w.1) member (entry_key (own_entry w.0) f.0 (head_key_of owner) w.2 f.2) in
-      (w.0, w.1, owned, ap (λ (x : Entry). x.1) w.2 ∙ same_stamp f.0.1 t (sym f.3 ∙ e)))
+      (w.0, w.1, owned, entry_stamp (own_entry w.0) f.0 t w.2 (one_stamp (stamp_at (front known) (head_key_of owner)) f.0.1 t f.3 e)))
       (found_stamp (front known) (head_key_of owner))
 
   -- ---- edges of the records that are held
@@ -176,10 +185,32 @@ basis_is_known s b knew well within none owner member t e =
       subst (λ (edges : List (Key × Edge)). IfSome (option_map (λ (x : Key × Edge). x.1) (find (λ (x : Key × Edge). same_key x.0 (head_key_of owner)) edges)) (λ x. x ≡ as_edge w.0)) (sym none) tt,
     )
 
+-- a basis is loaded only where there is a snapshot
+where_loaded : {P : Type 0} {root : Option Key} {brought : List Brought} {b : Basis} → LoadsFor root brought (Loaded (Some b)) → IfSome root (λ r. P) → P
+where_loaded (snapshot_to_load loads) h = h
+
 pub start_is_known : StartIsKnown
-start_is_known s of knew _ _ _ _ well knows held edges loaded (loading loads) = held_is_known s of knew well knows held edges
-start_is_known s of knew _ notes _ end well knows held edges loaded (fetching basis loads fetches) = by (counting s.floor basis) loaded
+start_is_known s of knew _ _ _ _ well knows held edges nothing loaded (loading loads) = held_is_known s of knew well knows held edges
+start_is_known s of knew _ notes _ end well knows held edges nothing loaded (fetching {loaded = blocks} basis loads fetches) = by basis loads loaded
   where
-    by : (o : Option Basis) → IfSome o (λ b. (of ≡ nothing_held) × StandsWithin s.view knew b) → StartsFrom s (start_of s o) knew
-    by None none = held_is_known s of knew well knows held edges
-    by (Some b) some = basis_is_known s b knew well some.1 (edges ∙ ap edges_of some.0)
+    by : (o : Option Basis) → LoadsFor s.to_load blocks (Loaded o) → IfSome (counting s.floor o) (StandsWithin s.view knew) → StartsFrom s (start_of s (counting s.floor o)) knew
+    by None load within = held_is_known s of knew well knows held edges
+    by (Some b) load within = chosen (dominates s.floor b.front) within
+      where
+        chosen : (test : Bool) → IfSome (cond test (Some b) None) (StandsWithin s.view knew) → StartsFrom s (start_of s (cond test (Some b) None)) knew
+        chosen true is_within = basis_is_known s b knew well is_within (edges ∙ ap edges_of (where_loaded load nothing))
+        chosen false is_within = held_is_known s of knew well knows held edges
+
+held_is_sorted : (s : Standing) (of : Holding) (knew : List Record) → Knows s.view s.floor of knew → s.held ≡ joined of → Sorted s.held
+held_is_sorted s of knew knows held = ⊎_elim
+    (λ nothing. subst Sorted (sym (held ∙ ap joined nothing)) refl)
+    (λ all. subst Sorted (sym (held ∙ joined_front s.view knew of all)) (sorted_front knew))
+    knows.holds
+
+pub start_is_sorted : StartIsSorted
+start_is_sorted s of knew _ _ _ _ knows held loaded (loading loads) = held_is_sorted s of knew knows held
+start_is_sorted s of knew _ notes _ end knows held loaded (fetching basis loads fetches) = by (counting s.floor basis) loaded
+  where
+    by : (o : Option Basis) → IfSome o (StandsWithin s.view knew) → Sorted (start_of s o)
+    by None within = held_is_sorted s of knew knows held
+    by (Some b) within = subst Sorted (sym within.1.front) (sorted_front within.0)

@@ -1,18 +1,21 @@
 -- What a refresh that is done has brought, by the heads that came and the blocks that were met.
-use Rattle.std.specs.Prelude.{◌≡◌, ℕ, ◌<◌, List, Contains, Ok, IfSome, Some, Option}
+use Rattle.std.specs.Prelude.{◌≡◌, ℕ, ◌<◌, List, Contains, Ok, IfSome, IsTrue, Some, Option, false}
+use Rattle.std.specs.FinMap.Entries.{is_sorted}
 use Rattle.ivy_base.specs.declared.key.Key.{Key}
 use Rattle.ivy_base.specs.declared.key.PubKey.{PubKey}
-use Rattle.ivy_base.specs.Naming.{NamesTellApart, head_key_of, name}
+use Rattle.ivy_base.specs.Naming.{NamesTellApart, head_key_of, key_cmp, name}
 use Rattle.log_model.specs.View.{IsView}
 use Rattle.log_model.specs.Vector.{Stamp, Vector, stamp_at, seq_of}
 use Rattle.log_model.specs.Record.{Record}
 use Rattle.log_model.specs.Rank.{own_entry}
 use Rattle.log_model.specs.Standing.{Stand}
 use Rattle.log_records.specs.Batches.{as_edge, HasRecord}
-use Rattle.turn_model.specs.Basis.{Basis}
+use Rattle.turn_model.specs.Basis.{Basis, Holding}
 use Rattle.turn_model.specs.Known.{IsKnown}
+use Rattle.agent_model.specs.Agent.{joined}
 use Rattle.agent_model.specs.Standing.{Standing, Chain, Refresh, edge_at}
 use Rattle.agent_model.specs.Candidates.{Brings}
+use Rattle.agent_model.specs.Turning.{is_behind}
 use Rattle.session_model.specs.Brought.{Brought, BlockOf, heads_at}
 use Rattle.session_model.specs.Refreshing.{Note, FetchesAll, Refreshes, Done}
 
@@ -57,3 +60,9 @@ FloorIsReached = (met : List (List ℕ)) (s : Standing) (knew : List Record) (br
     → Refreshes s brought notes given Done
     → (owner : PubKey) (t : Stamp) → Contains s.view.members owner → stamp_at s.floor (head_key_of owner) ≡ Some t → seq_of given.started (head_key_of owner) < t.seq
     → (c : Chain) × Contains given.chains c × (c.owner ≡ owner) × HasRecord t c.records
+
+-- An agent that goes on from what the refresh started from, with the same floor, isn't behind.
+abbrev pub DoneIsNotBehind : Type 0
+DoneIsNotBehind = (met : List (List ℕ)) (s : Standing) (h : Holding) (knew : List Record) (brought : List Brought) (notes : List Note) (given : Refresh)
+    → NamesTellApart met → IsView s.view → IsKnown s.view s.floor knew → Stand met knew → StartsFrom s given.started knew → AreMet met brought
+    → Refreshes s brought notes given Done → joined h ≡ given.started → IsTrue (is_sorted key_cmp given.started) → is_behind s.view s.own s.floor h given ≡ false

@@ -1,19 +1,24 @@
-//! What follows for a session: what a refresh that is done has brought, and from where it starts.
+//! What follows for a session: from where its refresh starts, what that loads, and what it has brought when it is done.
 //!
 //! Layer: laws and no code, over the definitions of `session_model` and `agent_model`; below the code of sessions and the laws
 //! of the world.
-//! For the layers above: where names tell the blocks apart, a refresh that is done has brought what a turn is held to by
-//! `agent_model` (`Brings`), of each member's log; and the floor's record, where the floor goes further than what the refresh
-//! started from, so that it isn't passed over. Both ask that the refresh starts from known records, which is so of what an
-//! agent holds and of what a loaded basis covers.
-//! Definitions: `specs/Bringing.antt` (`AreMet`, `StartsFrom`), with the laws on what is brought; `specs/Starting.antt`.
-//! Lemmas: `proofs/ReadBack.antt`, that a walk back by names reads the linked records that end at the name;
-//! `proofs/Cuts.antt`, that a chain is sound and onward above the held record; `proofs/OneHead.antt`, `proofs/OneLog.antt`,
-//! `proofs/OwnParts.antt`, `proofs/AllLogs.antt`: a head, a log, each log's part of what was brought, all of them.
+//! For the layers above, where names tell the blocks apart: a refresh that is done has brought of each member's log what
+//! `agent_model` holds a turn to (`Brings`), and the floor's record where the floor goes further than what it started from, so
+//! that its own agent isn't behind (`is_behind`). All ask that it starts from known records, which it does
+//! (`start_is_known`), also where it goes by a basis, since what it loads is what was made (`loaded_is_made`).
+//! Definitions: `specs/Bringing.antt` (`AreMet`, `StartsFrom`, and the laws on what is brought), `specs/Starting.antt`,
+//! `specs/Loading.antt` (`IsSnapshotOf`).
+//! Lemmas, each file on those before it: `proofs/ReadBack.antt`, that a walk back by names reads the linked records that end at
+//! the name; `proofs/Cuts.antt`, that a chain is sound and onward above the held record; `proofs/OneHead.antt`,
+//! `proofs/OneLog.antt`, `proofs/OwnParts.antt`, `proofs/AllLogs.antt`: one head, one log, each log's part of what was brought,
+//! all logs; `proofs/NotBehind.antt`, `proofs/Refreshed.antt`. By themselves: `proofs/Starting.antt`; `proofs/Loading.antt`
+//! over `proofs/WholeTrees.antt` (trees that operations make have the facts of a snapshot's tree) and `proofs/MadeBlocks.antt`;
+//! `proofs/SortedEntries.antt`.
 #![tactic(auto)]
 
-ghost use Rattle.session_laws.specs.Bringing.{FetchedIsBrought, FloorIsBrought, RefreshedIsBrought, FloorIsReached};
-ghost use Rattle.session_laws.specs.Starting.{StartIsKnown};
+ghost use Rattle.session_laws.specs.Bringing.{FetchedIsBrought, FloorIsBrought, RefreshedIsBrought, FloorIsReached, DoneIsNotBehind};
+ghost use Rattle.session_laws.specs.Loading.{LoadedIsMade, BasisIsKnown};
+ghost use Rattle.session_laws.specs.Starting.{StartIsKnown, StartIsSorted};
 
 /// A law and no code.
 ///
@@ -26,16 +31,28 @@ pub fn fetched_is_brought()
 
 /// A law and no code.
 ///
-/// The same of a whole refresh, with the snapshot that it loaded first.
+/// The same of a whole refresh, with the snapshot that it loaded first; so an agent that goes on from what it started from, and
+/// has the same floor, isn't behind.
 pub fn refreshed_is_brought()
     ensures brought { RefreshedIsBrought }
     ensures floor { FloorIsReached }
+    ensures caught_up { DoneIsNotBehind }
 {}
 
 /// A law and no code.
 ///
-/// What a refresh starts from, held or covered by a loaded basis, ends of each member's log at a record that was known; and the
-/// edge of a held record is its own.
+/// What a refresh starts from, held or covered by a loaded basis, ends of each member's log at a record that was known, and the
+/// edge of a held record is its own; it has each log once.
 pub fn start_is_known()
-    ensures { StartIsKnown }
+    ensures known { StartIsKnown }
+    ensures sorted { StartIsSorted }
+{}
+
+/// A law and no code.
+///
+/// Where names tell the blocks apart, what a refresh loads by a snapshot's name is the basis of which that was made; so a basis
+/// that it goes by stands for a part of what was known.
+pub fn loaded_is_made()
+    ensures made { LoadedIsMade }
+    ensures known { BasisIsKnown }
 {}
