@@ -1,0 +1,4 @@
+pub mod Serving
+pub mod Given
+pub mod Newest
+pub mod Laws
