@@ -1,8 +1,9 @@
 -- The front of a set, or of what is held, with what a turn writes behind it: that front, with the own log's newest record.
 use Rattle.std.proofs.Common.{◌≡◌, ℕ, ◌+◌, ◌<◌, Bool, true, false, cond, not, List, [], ◌∷◌, ◌++◌, map, Option, Some, None, refl, sym, ap, ◌∙◌, subst, arith}
-use Rattle.std.specs.Prelude.{fold, IsTrue}
+use Rattle.std.specs.Prelude.{fold}
 use Rattle.std.specs.Cmp.{eq_by_cmp_equiv, ranked}
 use Rattle.std.specs.List.{last_or}
+use Rattle.std.specs.Option.{option_map_or}
 use Rattle.std.specs.Ordering.{eq_by_cmp, is_lt, is_eq, nat_cmp}
 use Rattle.std.specs.declared.cmp.Ordering.{Ordering}
 use Rattle.std.specs.declared.cmp.Ordering.TheVariants.{Less, Equal, Greater}
@@ -21,13 +22,12 @@ use Rattle.log_model.specs.Rank.{own_entry, full_vector, front}
 use Rattle.log_model.specs.Vector.{Stamp, Vector, stamp_at, seq_of, reach, later, later_or, with_entry, join, without_log}
 use Rattle.log_model.proofs.Vectors.{stamp_at-with_entry}
 use Rattle.log_model.proofs.Weights.{Sorted, sorted_with_entry, sorted_front}
-use Rattle.log_model.specs.Spelling.{new_record}
+use Rattle.log_model.specs.Spelling.{new_record, no_name}
 use Rattle.turn_laws.proofs.Starts.{stamp_at-without_log, sorted_without_log}
-use Rattle.turn_model.specs.Basis.{Holding}
-use Rattle.turn_model.specs.Turn.{appended, linked, own_seq, own_name}
+use Rattle.turn_model.specs.Turn.{linked, own_seq, own_name}
 use Rattle.agent_model.specs.Agent.{joined}
-use Rattle.agent_model.specs.Turning.{with_held}
 use Rattle.turn_answers.specs.Newest.{newest_stamp, with_newest}
+use Rattle.turn_answers.specs.Appended.{AppendedFront, HeldFront, written_over}
 
 -- ---- a join, log by log
 
@@ -163,18 +163,16 @@ module _ (own : PubKey) (f : Vector) (sorted : Sorted f) where
       ∙ ap (λ (o : Option Stamp). with_newest own o f) (sym newest.1)
 
 -- the front of a set with what a turn appends
-pub appended_front : (own : PubKey) (now : Moment) (s : List Record) (ops : List Op)
-    → front (appended own now s ops) ≡ with_newest own (newest_stamp (linked own (without_log (head_key_of own) (front s)) now (own_seq own s + 1) (own_name own s) ops)) (front s)
+pub appended_front : AppendedFront
 appended_front own now s ops =
-    let more : List Record = linked own (without_log (head_key_of own) (front s)) now (own_seq own s + 1) (own_name own s) ops in
+    let more : List Record = written_over own now (front s) ops in
     ap (λ (vs : List Vector). fold join [] vs) (map-append full_vector s more) ∙ fold-append join [] (map full_vector s) (map full_vector more)
     ∙ joined_front own (front s) (sorted_front s) now (own_seq own s + 1) (own_name own s) ops (omega arith)
 
 -- the front of what is held with what a turn writes
-pub held_front : (own : PubKey) (now : Moment) (h : Holding) (seq : ℕ) (prev : Key) (ops : List Op) → IsTrue (is_sorted key_cmp (joined h)) → seq_of (joined h) (head_key_of own) < seq
-    → joined (with_held h (linked own (without_log (head_key_of own) (joined h)) now seq prev ops))
-      ≡ with_newest own (newest_stamp (linked own (without_log (head_key_of own) (joined h)) now seq prev ops)) (joined h)
-held_front own now h seq prev ops sorted after =
-    let more : List Record = linked own (without_log (head_key_of own) (joined h)) now seq prev ops in
+pub held_front : HeldFront
+held_front own now h ops sorted =
+    let log : Key = head_key_of own in
+    let more : List Record = written_over own now (joined h) ops in
     ap (λ (vs : List Vector). fold join h.basis.front vs) (map-append full_vector h.held more) ∙ fold-append join h.basis.front (map full_vector h.held) (map full_vector more)
-    ∙ joined_front own (joined h) sorted now seq prev ops after
+    ∙ joined_front own (joined h) sorted now (seq_of (joined h) log + 1) (option_map_or (λ t. t.name) (stamp_at (joined h) log) no_name) ops (omega arith)

@@ -19,7 +19,7 @@ use Rattle.log_model.specs.View.{View}
 use Rattle.agent_model.specs.Agent.{Agent, Signing}
 use Rattle.agent_model.specs.Turning.{inputs, inputs_before}
 use Rattle.turn_answers.specs.Serving.{Served, Replies, Writes, is_full, serve_on, serve_plan, turned_by}
-use Rattle.turn_answers.specs.Laws.{MayBeWritten, with_save}
+use Rattle.turn_answers.specs.Laws.{IsPlanned, with_save}
 
 -- ---- the turn
 
@@ -113,11 +113,11 @@ plan_written a seq args (Operations said) ops e =
       planned = ap (λ (l : List Op). Operations l) w.same;
     }
 
-pub writes_are_planned : (a : Inputs) (t : Tree) (seq : ℕ) (asked : Asked) (now : Moment) (ops : List Op) → serve_on a t seq asked now ≡ Writes ops → MayBeWritten a t seq asked now ops
+pub writes_are_planned : (a : Inputs) (t : Tree) (seq : ℕ) (asked : Asked) (now : Moment) (ops : List Op) → serve_on a t seq asked now ≡ Writes ops → IsPlanned a t seq asked now ops
 writes_are_planned a t seq asked now ops = by (is_changing asked.args) refl
   where
     by : (changes : Bool) → is_changing asked.args ≡ changes
-        → cond changes (serve_plan a seq asked.args (plan t a.view asked.caller asked.args now a.own (seq + 1))) (Replies (answer t a.view asked.caller asked.args)) ≡ Writes ops → MayBeWritten a t seq asked now ops
+        → cond changes (serve_plan a seq asked.args (plan t a.view asked.caller asked.args now a.own (seq + 1))) (Replies (answer t a.view asked.caller asked.args)) ≡ Writes ops → IsPlanned a t seq asked now ops
     by true is e =
         let p : PlansWritten a seq (plan t a.view asked.caller asked.args now a.own (seq + 1)) ops = plan_written a seq asked.args (plan t a.view asked.caller asked.args now a.own (seq + 1)) ops e in
         record { unfailed = p.unfailed; is_left = p.is_left; few = p.few; changing = is; planned = p.planned }

@@ -1,27 +1,17 @@
 -- What follows for a turn from what is served on its set's tree.
-use Rattle.std.specs.Prelude.{◌≡◌, ℕ, ◌+◌, ◌<◌, ◌≤◌, Bool, true, false, ◌||◌, List, length, IsTrue}
-use Rattle.std.specs.FinMap.Entries.{is_sorted}
-use Rattle.ivy_base.specs.declared.key.Key.{Key}
-use Rattle.ivy_base.specs.declared.key.PubKey.{PubKey}
+use Rattle.std.specs.Prelude.{◌≡◌, ℕ, ◌+◌, ◌<◌, ◌≤◌, Bool, true, false, ◌||◌, List, length}
 use Rattle.ivy_base.specs.declared.operation.Moment.{Moment}
 use Rattle.ivy_base.specs.declared.operation.Op.{Op}
-use Rattle.ivy_base.specs.Naming.{head_key_of, key_cmp}
 use Rattle.tree_model.specs.Tree.{Tree}
-use Rattle.log_model.specs.Rank.{front}
 use Rattle.log_model.specs.Record.{Record}
 use Rattle.log_model.specs.Replay.{replay}
 use Rattle.log_model.specs.Spelling.{most_records}
-use Rattle.log_model.specs.Vector.{seq_of, without_log}
 use Rattle.nfs_model.specs.declared.replies.NfsStatus.TheVariants.{ServerFault}
 use Rattle.nfs_model.specs.declared.replies.Reply.{Reply}
 use Rattle.nfs_model.specs.declared.replies.Reply.TheVariants.{Refused}
 use Rattle.nfs_model.specs.Changing.{is_changing, Operations, plan}
-use Rattle.turn_model.specs.Basis.{Holding}
-use Rattle.turn_model.specs.Turn.{Agent as Inputs, Asked, bare_tail, appended, linked, own_name, own_seq, turn_on}
-use Rattle.agent_model.specs.Agent.{joined}
-use Rattle.agent_model.specs.Turning.{with_held}
+use Rattle.turn_model.specs.Turn.{Agent as Inputs, Asked, bare_tail, own_seq, turn_on}
 use Rattle.turn_answers.specs.Serving.{Served, Replies, Writes, serve_on, turned_by}
-use Rattle.turn_answers.specs.Newest.{newest_stamp, with_newest}
 
 -- A turn on a set is what is served on its replay, from where the own log ends in the set.
 abbrev pub TurnIsServed : Type 0
@@ -49,26 +39,13 @@ WritesAreSaved = (a : Inputs) (s : List Record) (asked : Asked) (now : Moment) (
 -- ---- what is written
 
 -- no save has failed, a signature and numbers are left, and the call is a changing one with that plan
-pub record MayBeWritten (a : Inputs) (t : Tree) (seq : ℕ) (asked : Asked) (now : Moment) (ops : List Op) : Type 0 where
+pub record IsPlanned (a : Inputs) (t : Tree) (seq : ℕ) (asked : Asked) (now : Moment) (ops : List Op) : Type 0 where
   pub unfailed : a.has_failed ≡ false
   pub is_left : 0 < a.leaves
   pub few : seq + length ops ≤ most_records
   pub changing : is_changing asked.args ≡ true
   pub planned : plan t a.view asked.caller asked.args now a.own (seq + 1) ≡ Operations ops
 
--- What is to be written is planned, and may be written.
+-- What is to be written is planned so.
 abbrev pub WritesArePlanned : Type 0
-WritesArePlanned = (a : Inputs) (t : Tree) (seq : ℕ) (asked : Asked) (now : Moment) (ops : List Op) → serve_on a t seq asked now ≡ Writes ops → MayBeWritten a t seq asked now ops
-
--- ---- fronts
-
--- With what is appended to a set, its front has the own log's newest record.
-abbrev pub AppendedFront : Type 0
-AppendedFront = (own : PubKey) (now : Moment) (s : List Record) (ops : List Op)
-    → front (appended own now s ops) ≡ with_newest own (newest_stamp (linked own (without_log (head_key_of own) (front s)) now (own_seq own s + 1) (own_name own s) ops)) (front s)
-
--- So has the front of what is held, where the records are numbered on from it.
-abbrev pub HeldFront : Type 0
-HeldFront = (own : PubKey) (now : Moment) (h : Holding) (seq : ℕ) (prev : Key) (ops : List Op) → IsTrue (is_sorted key_cmp (joined h)) → seq_of (joined h) (head_key_of own) < seq
-    → joined (with_held h (linked own (without_log (head_key_of own) (joined h)) now seq prev ops))
-      ≡ with_newest own (newest_stamp (linked own (without_log (head_key_of own) (joined h)) now seq prev ops)) (joined h)
+WritesArePlanned = (a : Inputs) (t : Tree) (seq : ℕ) (asked : Asked) (now : Moment) (ops : List Op) → serve_on a t seq asked now ≡ Writes ops → IsPlanned a t seq asked now ops

@@ -2,3 +2,4 @@ pub mod Serving
 pub mod Given
 pub mod Newest
 pub mod Laws
+pub mod Appended
