@@ -1,5 +1,5 @@
 -- The front of a set, or of what is held, with what a turn writes behind it: that front, with the own log's newest record.
-use Rattle.std.proofs.Common.{◌≡◌, ℕ, ◌+◌, ◌<◌, Bool, true, false, cond, not, List, [], ◌∷◌, ◌++◌, map, Option, Some, None, refl, sym, ap, ◌∙◌, subst, arith}
+use Rattle.std.proofs.Common.{◌≡◌, ℕ, ◌+◌, ◌<◌, Bool, true, false, cond, not, List, [], ◌∷◌, ◌++◌, length, map, Option, Some, None, refl, sym, ap, ◌∙◌, subst, arith}
 use Rattle.std.specs.Prelude.{fold}
 use Rattle.std.specs.Cmp.{eq_by_cmp_equiv, ranked}
 use Rattle.std.specs.List.{last_or}
@@ -27,7 +27,7 @@ use Rattle.turn_laws.proofs.Starts.{stamp_at-without_log, sorted_without_log}
 use Rattle.turn_model.specs.Turn.{linked, own_seq, own_name}
 use Rattle.agent_model.specs.Agent.{joined}
 use Rattle.turn_answers.specs.Newest.{newest_stamp, with_newest}
-use Rattle.turn_answers.specs.Appended.{AppendedFront, HeldFront, written_over}
+use Rattle.turn_answers.specs.Appended.{AppendedFront, HeldFront, NewestIsLast, NewestIsReached, written_over}
 
 -- ---- a join, log by log
 
@@ -176,3 +176,37 @@ held_front own now h ops sorted =
     let more : List Record = written_over own now (joined h) ops in
     ap (λ (vs : List Vector). fold join h.basis.front vs) (map-append full_vector h.held more) ∙ fold-append join h.basis.front (map full_vector h.held) (map full_vector more)
     ∙ joined_front own (joined h) sorted now (seq_of (joined h) log + 1) (option_map_or (λ t. t.name) (stamp_at (joined h) log) no_name) ops (omega arith)
+
+-- ---- the newest one
+
+some_is : (s t : Stamp) → Some s ≡ Some t → s ≡ t
+some_is s t e = cc e
+
+last_from : (r : Record) (rs : List Record) (t : Stamp) → last_or (Some (own_entry r).1) (map (λ x. (own_entry x).1) rs) ≡ Some t
+    → (before : List Record) × (last : Record) × (r ∷ rs ≡ before ++ last ∷ []) × ((own_entry last).1 ≡ t)
+last_from r [] t e = ([], r, refl, some_is (own_entry r).1 t e)
+last_from r (q ∷ rs) t e =
+    let more = last_from q rs t e in
+    (r ∷ more.0, more.1, ap (λ (l : List Record). r ∷ l) more.2, more.3)
+
+pub newest_is_last : NewestIsLast
+newest_is_last [] t e = absurd (cc e)
+newest_is_last (r ∷ rs) t e = last_from r rs t e
+
+reached_from : (own : PubKey) (v : Vector) (now : Moment) (s t : Stamp) (n : ℕ) (prev : Key) (ops : List Op) → s.seq + 1 ≡ n
+    → last_or (Some s) (map (λ x. (own_entry x).1) (linked own v now n prev ops)) ≡ Some t → t.seq ≡ s.seq + length ops
+reached_from own v now s t n prev [] next e =
+    let same : s.seq ≡ t.seq = ap (λ (x : Stamp). x.seq) (some_is s t e) in omega (arith, same)
+reached_from own v now s t n prev (op ∷ ops) next e =
+    let r : Record = new_record own n prev v now op in
+    let more = reached_from own v now (own_entry r).1 t (n + 1) r.name ops refl e in
+    omega (arith, next, more)
+
+pub newest_is_reached : NewestIsReached
+newest_is_reached own now f [] t e = absurd (cc e)
+newest_is_reached own now f (op ∷ ops) t e =
+    let log : Key = head_key_of own in
+    let n : ℕ = seq_of f log + 1 in
+    let r : Record = new_record own n (option_map_or (λ x. x.name) (stamp_at f log) no_name) (without_log log f) now op in
+    let more = reached_from own (without_log log f) now (own_entry r).1 t (n + 1) r.name ops refl e in
+    (omega (arith, more), omega arith)

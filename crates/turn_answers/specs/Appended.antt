@@ -1,5 +1,5 @@
 -- What a turn writes over a front, and what follows for it.
-use Rattle.std.specs.Prelude.{◌≡◌, ℕ, ◌+◌, ◌≤◌, List, ◌++◌, length, IsTrue}
+use Rattle.std.specs.Prelude.{◌≡◌, ℕ, ◌+◌, ◌≤◌, List, [], ◌∷◌, ◌++◌, length, Some, IsTrue}
 use Rattle.std.specs.List.{AllByRecursion}
 use Rattle.std.specs.Option.{option_map_or}
 use Rattle.std.specs.Ordering.{is_lt}
@@ -12,11 +12,11 @@ use Rattle.tree_model.specs.Tree.{Tree}
 use Rattle.log_model.specs.Chain.{IsGood, AllMayBeWritten}
 use Rattle.log_model.specs.Closed.{IsAscending, IsClosed}
 use Rattle.log_model.specs.Laws.{NumbersAreKeys}
-use Rattle.log_model.specs.Rank.{front, record_cmp}
+use Rattle.log_model.specs.Rank.{front, own_entry, record_cmp}
 use Rattle.log_model.specs.Record.{Record}
 use Rattle.log_model.specs.Replay.{replay}
 use Rattle.log_model.specs.Spelling.{HasSpelling, IsMoment, no_name}
-use Rattle.log_model.specs.Vector.{Vector, seq_of, stamp_at, without_log}
+use Rattle.log_model.specs.Vector.{Stamp, Vector, seq_of, stamp_at, without_log}
 use Rattle.log_model.specs.View.{View, IsView, is_named}
 use Rattle.nfs_model.specs.Arguments.{ArgumentsFit}
 use Rattle.turn_model.specs.Basis.{Holding, HoldsAll, kept_tree}
@@ -43,6 +43,15 @@ AppendedFront = (own : PubKey) (now : Moment) (s : List Record) (ops : List Op) 
 abbrev pub HeldFront : Type 0
 HeldFront = (own : PubKey) (now : Moment) (h : Holding) (ops : List Op) → IsTrue (is_sorted key_cmp (joined h))
     → joined (with_held h (written_over own now (joined h) ops)) ≡ with_newest own (newest_stamp (written_over own now (joined h) ops)) (joined h)
+
+-- The newest of some records is the last one.
+abbrev pub NewestIsLast : Type 0
+NewestIsLast = (records : List Record) (t : Stamp) → newest_stamp records ≡ Some t → (before : List Record) × (last : Record) × (records ≡ before ++ last ∷ []) × ((own_entry last).1 ≡ t)
+
+-- It has the number to which the own log goes then.
+abbrev pub NewestIsReached : Type 0
+NewestIsReached = (own : PubKey) (now : Moment) (f : Vector) (ops : List Op) (t : Stamp) → newest_stamp (written_over own now f ops) ≡ Some t
+    → (t.seq ≡ seq_of f (head_key_of own) + length ops) × (1 ≤ length ops)
 
 -- ---- the records, whether or not names tell apart
 

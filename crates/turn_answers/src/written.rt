@@ -1,10 +1,14 @@
 //! The records of planned operations, and what is to be published for them.
 
 ghost use Rattle.std.specs.Prelude.{◌≡◌, ◌+◌, ◌<◌, ◌≤◌, ◌^◌, length, map, option_map, IfOk, IfSome};
+ghost use Rattle.std.specs.Option.{option_map_or};
 ghost use Rattle.agent_model.specs.Agent.{record_post};
-ghost use Rattle.log_model.specs.Spelling.{new_record};
+ghost use Rattle.ivy_base.specs.Naming.{head_key_of};
+ghost use Rattle.log_model.specs.Spelling.{new_record, no_name};
+ghost use Rattle.log_model.specs.Vector.{seq_of, stamp_at};
 ghost use Rattle.log_records.specs.Records.{record_of, records_of};
 ghost use Rattle.turn_model.specs.Turn.{linked};
+ghost use Rattle.turn_answers.specs.Appended.{written_over};
 ghost use Rattle.turn_answers.specs.Newest.{newest_stamp, stamp_of, with_newest};
 
 use dht_ids::{Post, PostKind};
@@ -12,6 +16,9 @@ use ivy_base::{Key, Memory, Moment, Op, PubKey, head_key, name_of};
 use log_records::Record;
 use std::alloc::Global;
 use version_vectors::{Entry, Vector};
+
+/// In place of a name, where there is none.
+const NO_NAME: Key = Key([0; 20]);
 
 /// A record by which others stand: the newest one of a log.
 #[derive(Clone, Copy, Debug)]
@@ -59,6 +66,40 @@ pub fn write_records(
         posts.push(post)?;
     }
     Ok(Written { records, posts })
+}
+
+/// The records of the operations over a front, and their posts: the first one behind the front's record of the own log, and
+/// each citing all else of the front. The error is that of [`write_records`].
+pub fn write_over(
+    alloc: Global,
+    own: &PubKey,
+    front: &Vector,
+    now: Moment,
+    ops: Vec<Op>,
+) -> Result<Written, Memory>
+    requires { seq_of front.now (head_key_of own.now) + length ops.items < 2 ^ 32 }
+    ensures records { IfOk result (λ w. records_of w.records.items ≡ written_over own.now now front.now ops.items) }
+    ensures posts { IfOk result (λ w. w.posts.items ≡ map record_post (records_of w.records.items)) }
+{
+    let cited = front.without(alloc, &head_key(own))?;
+    write_records(alloc, own, &cited, now, newest_own(front, own), ops)
+}
+
+/// The front's record of the own log; number 0 and no name where it has none.
+fn newest_own(front: &Vector, own: &PubKey) -> Before
+    ensures seq { result.seq ≡ seq_of front.now (head_key_of own.now) }
+    ensures name { result.name ≡ option_map_or (λ t. t.name) (stamp_at front.now (head_key_of own.now)) no_name }
+{
+    match front.get(&head_key(own)) {
+        Some(entry) => Before {
+            seq: entry.seq,
+            name: entry.name,
+        },
+        None => Before {
+            seq: 0,
+            name: NO_NAME,
+        },
+    }
 }
 
 /// The operation's record, behind `before`, and its post.
