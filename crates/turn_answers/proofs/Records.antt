@@ -1,6 +1,6 @@
 -- The records that a turn writes over a front: good ones, the next ones of the own log, behind all that the front knows.
-use Rattle.std.proofs.Common.{◌≡◌, ◌⊎◌, ⊎_elim, ℕ, ◌+◌, ◌<◌, ◌≤◌, ◌^◌, suc, cond, not, List, [], ◌∷◌, ◌++◌, length, map, Option, Some, None, refl, sym, ap, ◌∙◌, subst, arith, Contains}
-use Rattle.std.specs.Prelude.{IsTrue, fold}
+use Rattle.std.proofs.Common.{◌≡◌, ⊎_elim, ℕ, ◌+◌, ◌<◌, ◌≤◌, ◌^◌, suc, cond, not, List, [], ◌∷◌, ◌++◌, length, map, Option, None, refl, sym, ap, ◌∙◌, subst, arith}
+use Rattle.std.specs.Prelude.{IsTrue}
 use Rattle.std.specs.List.{AllByRecursion}
 use Rattle.std.specs.Option.{option_map_or}
 use Rattle.std.proofs.lemmas.List.{map-append}
@@ -17,9 +17,9 @@ use Rattle.log_model.specs.Chain.{IsGood, MayBeWritten, AllMayBeWritten}
 use Rattle.log_model.specs.Closed.{IsAscending, IsClosed}
 use Rattle.log_model.specs.Rank.{own_entry, full_vector, front, weight}
 use Rattle.log_model.specs.Record.{Record}
-use Rattle.log_model.specs.Replay.{effect, replay}
+use Rattle.log_model.specs.Replay.{effect}
 use Rattle.log_model.specs.Spelling.{new_record, record_block, no_name, HasSpelling, IsKey, IsMoment}
-use Rattle.log_model.specs.Vector.{Entry, Stamp, Vector, join, reach, seq_of, stamp_at, weight_of, without_log, Dominates}
+use Rattle.log_model.specs.Vector.{Entry, Stamp, Vector, reach, seq_of, stamp_at, weight_of, without_log, Dominates}
 use Rattle.log_model.specs.View.{View, IsView, is_named}
 use Rattle.log_model.proofs.Lists.{each, each_append, each_from}
 use Rattle.log_model.proofs.Later.{apply_more, good_of, replay_more}
@@ -29,8 +29,8 @@ use Rattle.log_model.proofs.Weights.{Sorted, joins_reach, sorted_front, sorted_w
 use Rattle.turn_laws.proofs.Entries.{each_without_log}
 use Rattle.turn_laws.proofs.Heads.{short_named}
 use Rattle.turn_laws.proofs.Starts.{stamp_at-without_log, sorted_without_log}
-use Rattle.turn_model.specs.Basis.{Holding, HoldsAll, kept_tree}
-use Rattle.turn_model.specs.Turn.{appended, linked}
+use Rattle.turn_model.specs.Basis.{Holding, kept_tree}
+use Rattle.turn_model.specs.Turn.{linked}
 use Rattle.turn_model.proofs.Kept.{kept_tree_is_replay}
 use Rattle.turn_model.proofs.Plans.{plan_may_be_written}
 use Rattle.agent_model.specs.Agent.{joined}
@@ -209,7 +209,7 @@ pub written_is_appended : WrittenIsAppended
 written_is_appended view own now s h ops closed holds same = (
   ap (λ (f : Vector). s ++ written_over own now f ops) (sym same),
   ap (λ (f : Vector). kept_tree (with_held h (written_over own now f ops))) (sym same)
-  ∙ held_more h (written_over own now (front s) ops)
-  ∙ ap (λ (t : Tree). apply_all t (map effect (written_over own now (front s) ops))) (kept_tree_is_replay view s h closed holds)
-  ∙ sym (replay_more s (written_over own now (front s) ops) closed.ascending (appended_ascends view own now s ops closed)),
+      ∙ held_more h (written_over own now (front s) ops)
+      ∙ ap (λ (t : Tree). apply_all t (map effect (written_over own now (front s) ops))) (kept_tree_is_replay view s h closed holds)
+      ∙ sym (replay_more s (written_over own now (front s) ops) closed.ascending (appended_ascends view own now s ops closed)),
 )

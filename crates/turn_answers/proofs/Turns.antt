@@ -1,5 +1,5 @@
 -- A turn, by what is served on its set's tree.
-use Rattle.std.proofs.Common.{◌≡◌, ℕ, ◌+◌, ◌<◌, ◌≤◌, Bool, true, false, cond, zero, suc, List, length, refl, sym, ap, ◌∙◌, arith}
+use Rattle.std.proofs.Common.{◌≡◌, ℕ, ◌+◌, ◌<◌, ◌≤◌, Bool, true, false, cond, zero, suc, List, length, refl, ap, ◌∙◌, arith}
 use Rattle.std.specs.Prelude.{nat_lt, ◌==◌, ◌||◌}
 use Rattle.std.proofs.lemmas.Bool.{ltb-false}
 use Rattle.ivy_base.specs.declared.operation.Moment.{Moment}
@@ -32,7 +32,7 @@ turn_is_served a s asked now =
 
     by_tests : (ops : List Op) (full failed : Bool)
         → cond full (left (Refused RoFs (bare_tail asked.args))) (cond failed (left (Refused ServerFault (bare_tail asked.args))) (turned_by a s asked now (Writes ops)))
-          ≡ turned_by a s asked now (cond full (Replies (Refused RoFs (bare_tail asked.args))) (cond failed (Replies (Refused ServerFault (bare_tail asked.args))) (Writes ops)))
+        ≡ turned_by a s asked now (cond full (Replies (Refused RoFs (bare_tail asked.args))) (cond failed (Replies (Refused ServerFault (bare_tail asked.args))) (Writes ops)))
     by_tests ops true failed = refl
     by_tests ops false true = refl
     by_tests ops false false = refl

@@ -11,7 +11,7 @@ use Rattle.nfs_model.specs.declared.replies.Reply.{Reply}
 use Rattle.nfs_model.specs.declared.replies.Reply.TheVariants.{Refused}
 use Rattle.nfs_model.specs.Changing.{is_changing, Operations, plan}
 use Rattle.turn_model.specs.Turn.{Agent as Inputs, Asked, bare_tail, own_seq, turn_on}
-use Rattle.turn_answers.specs.Serving.{Served, Replies, Writes, serve_on, turned_by}
+use Rattle.turn_answers.specs.Serving.{Replies, Writes, serve_on, turned_by}
 
 -- A turn on a set is what is served on its replay, from where the own log ends in the set.
 abbrev pub TurnIsServed : Type 0
