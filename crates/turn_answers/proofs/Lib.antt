@@ -1,0 +1,4 @@
+pub mod Turns
+pub mod Fronts
+pub mod Records
+mod Newest
