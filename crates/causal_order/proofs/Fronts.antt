@@ -191,7 +191,7 @@ module _ (k : Key) where
 
   -- ---- an entry of a sorted vector is the one of its log
 
-  stamp_there : (v : Vector) (t : Stamp) → Sorted v → Contains v (k, t) → stamp_at v k ≡ Some t
+  pub stamp_there : (v : Vector) (t : Stamp) → Sorted v → Contains v (k, t) → stamp_at v k ≡ Some t
   stamp_there [] t h c = absurd (in_nothing (k, t) c)
   stamp_there (d ∷ v) t h c =
       let parts = both_true (below_all key_cmp d.0 v) (is_sorted key_cmp v) h in
