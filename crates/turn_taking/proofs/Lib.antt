@@ -8,3 +8,7 @@ pub mod NameLemmas
 pub mod Loops
 pub mod Newly
 pub mod HeldFront
+pub mod Parts
+pub mod Dominating
+pub mod Brought
+pub mod TurnTaken

@@ -4,6 +4,7 @@ use Rattle.std.specs.Prelude.{flat_map, nat_le}
 use Rattle.std.specs.List.{AllByRecursion}
 use Rattle.std.specs.Ordering.{eq_by_cmp}
 use Rattle.std.proofs.lemmas.Bool.{cases_lt}
+use Rattle.std.proofs.lemmas.Grind.{flat_map-append}
 use Rattle.std.proofs.lemmas.List.{append-nil, take_all}
 use Rattle.ivy_base.specs.declared.key.Key.{Key}
 use Rattle.ivy_base.specs.declared.key.PubKey.{PubKey}
@@ -58,7 +59,7 @@ nothing_either true l e = e
 nothing_either false l e = refl
 
 module _ (t : Option Stamp) (m : ℕ) where
-  abbrev going : List Record → List Record
+  abbrev pub going : List Record → List Record
   going l = cond (go_on_from t l) l []
 
   kept_of : (b : Bool) (l : List Record) → filter (up_to m) l ≡ [] → filter (up_to m) (cond b l []) ≡ []
@@ -89,6 +90,27 @@ next_drop n zero rs h = (n, h)
 next_drop n (suc k) [] h = (n, tt)
 next_drop n (suc k) (r ∷ rs) h = next_drop (n + 1) k rs h.1
 
+-- ---- of the own chain
+
+module _ (view : View) (front : Vector) (m : ℕ) (c : List Record) (linked : IsLinked view c) where
+  of_some : (l : List Record) → l ≡ filter (up_to m) c
+      → going (stamp_at front (head_key_of (owner_of c))) m (filter (behind (seq_of front (head_key_of (owner_of c)))) l) ≡ flat_map (λ d. beyond front (as_chain d)) (some_of l)
+  of_some [] e = nothing_either (go_on_from (stamp_at front (head_key_of (owner_of c))) []) [] refl
+  of_some (r ∷ ls) e =
+      let within : Contains c r = (from_filter (up_to m) c r (subst (λ (l : List Record). Contains l r) e (here r ls))).0 in
+      let owned : r.owner ≡ owner_of c = (each (IsGood view (owner_of c)) c r (linked_good view c linked) within).owned in
+      ap (λ (o : PubKey). going (stamp_at front (head_key_of o)) m (filter (behind (seq_of front (head_key_of o))) (r ∷ ls))) (sym owned) ∙ sym (append-nil (beyond front (as_chain (r ∷ ls))))
+
+  own_new : filter (up_to m) (beyond front (as_chain c)) ≡ flat_map (λ d. beyond front (as_chain d)) (some_of (filter (up_to m) c))
+  own_new =
+      let f = seq_of front (head_key_of (owner_of c)) in
+      let t = stamp_at front (head_key_of (owner_of c)) in
+      let n = linked_numbered view c linked in
+      let k = min (f - n.0) (length c) in
+      let rest = subst AreNumbered (sym (counted n.0 f c n.1 k refl).1) (next_drop n.0 k c n.1) in
+      up_to_going t m rest.0 (filter (behind f) c) rest.1
+      ∙ ap (going t m) (twice (up_to m) (behind f) c) ∙ of_some (filter (up_to m) c) refl
+
 module _ (view : View) (own : PubKey) (floor : Vector) where
   -- ---- what is left of a linked chain are its first records
 
@@ -116,10 +138,6 @@ module _ (view : View) (own : PubKey) (floor : Vector) where
         by (suc k) d e = subst (λ (x : List Record). AllByRecursion (Q c) (some_of (take (suc k) x))) (sym e) (single (take (suc k) c) (h k))
 
   -- ---- the chains that are left
-
-  module _ (chains : List (List Record)) where
-    abbrev left : List Record → List (List Record)
-    left c = some_of (within own floor (as_chain c))
 
   append_each : {X : Type 0} (P : X → Type 0) (xs ys : List X) → AllByRecursion P xs → AllByRecursion P ys → AllByRecursion P (xs ++ ys)
   append_each P [] ys h g = g
@@ -163,16 +181,20 @@ module _ (view : View) (own : PubKey) (floor : Vector) where
 
   -- ---- what is new of them
 
+  whole_new : (front : Vector) (d : List Record) → IsLinked view d → beyond front (as_chain d) ≡ flat_map (λ e. beyond front (as_chain e)) (some_of d)
+  whole_new front [] l = absurd l
+  whole_new front (r ∷ rs) l = sym (append-nil (beyond front (as_chain (r ∷ rs))))
+
   new_of_left : (h : Holding) (c : List Record) → IsLinked view c → new_in own floor h (as_chain c) ≡ flat_map (λ d. beyond (joined h) (as_chain d)) (some_of (within own floor (as_chain c)))
   new_of_left h c linked = by (eq_by_cmp owner_cmp own (owner_of c))
     where
-      whole : (d : List Record) → IsLinked view d → beyond (joined h) (as_chain d) ≡ flat_map (λ e. beyond (joined h) (as_chain e)) (some_of d)
-      whole [] l = absurd l
-      whole (r ∷ rs) l = sym (append-nil (beyond (joined h) (as_chain (r ∷ rs))))
+      by : (b : Bool) → cond b (filter (up_to (seq_of floor (head_key_of (owner_of c)))) (beyond (joined h) (as_chain c))) (beyond (joined h) (as_chain c))
+          ≡ flat_map (λ d. beyond (joined h) (as_chain d)) (some_of (cond b (filter (up_to (seq_of floor (head_key_of (owner_of c)))) c) c))
+      by true = own_new view (joined h) (seq_of floor (head_key_of (owner_of c))) c linked
+      by false = whole_new (joined h) c linked
 
-      m : ℕ
-      m = seq_of floor (head_key_of (owner_of c))
-
-      by : (b : Bool) → cond b (filter (up_to m) (beyond (joined h) (as_chain c))) (beyond (joined h) (as_chain c)) ≡ flat_map (λ d. beyond (joined h) (as_chain d)) (some_of (cond b (filter (up_to m) c) c))
-      by true = ?
-      by false = whole c linked
+  pub new_of_all : (h : Holding) (chains : List (List Record)) → AllByRecursion (IsLinked view) chains → flat_map (new_in own floor h) (map as_chain chains) ≡ new_of (joined h) (all_within own floor chains)
+  new_of_all h [] linked = refl
+  new_of_all h (c ∷ cs) linked =
+      (λ i. new_of_left h c linked.0 i ++ new_of_all h cs linked.1 i)
+      ∙ sym (flat_map-append (λ d. beyond (joined h) (as_chain d)) (some_of (within own floor (as_chain c))) (all_within own floor cs))

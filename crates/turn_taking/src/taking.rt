@@ -3,6 +3,7 @@
 ghost use Rattle.std.specs.Prelude.{◌≡◌, Contains, Option, IfOk};
 ghost use Rattle.std.specs.List.{AllByRecursion};
 ghost use Rattle.agent_model.specs.Agent.{joined};
+ghost use Rattle.agent_model.specs.Standing.{dominates};
 ghost use Rattle.causal_order.specs.Over.{IsClosed};
 ghost use Rattle.ivy_base.specs.declared.key.Key.{Key};
 ghost use Rattle.log_records.specs.Batches.{owner_of, AreUnder};
@@ -66,10 +67,23 @@ pub fn take(alloc: Global, held: &Held<'_>, batch: Batch) -> Result<Taken, Memor
     requires members { AllByRecursion (λ c. Contains held.now.view.now.members (owner_of c.1)) batch.chains }
     ensures { IfOk result (λ taken. (h : Holding) → IsHeld held.now h → Takes held.now.view.now held.now.own.now held.now.floor.now batch h taken) }
 {
-    if !held.front.dominates(batch.started()) {
+    // That these are a view and a vector, so that each log is one member's and has one entry.
+    let _ = held.view.members();
+    let _ = held.base.len();
+    if !is_caught_up(held, &batch) {
         return Ok(Taken::Behind);
     }
     take_chains(alloc, held, batch.into_chains())
+}
+
+/// Whether what is held goes as far as what the refresh began with.
+fn is_caught_up(held: &Held<'_>, batch: &Batch) -> bool
+    ensures { result ≡ dominates held.now.front.now batch.now.held }
+{
+    let started = batch.started();
+    // That it is a vector, so that each log has one entry.
+    let _ = started.len();
+    held.front.dominates(started)
 }
 
 /// What a turn takes of the chains, where what is held goes as far as what the refresh began with. The error is want of
