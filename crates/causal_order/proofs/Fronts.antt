@@ -191,7 +191,7 @@ module _ (k : Key) where
 
   -- ---- an entry of a sorted vector is the one of its log
 
-  stamp_there : (v : Vector) (t : Stamp) → Sorted v → Contains v (k, t) → stamp_at v k ≡ Some t
+  pub stamp_there : (v : Vector) (t : Stamp) → Sorted v → Contains v (k, t) → stamp_at v k ≡ Some t
   stamp_there [] t h c = absurd (in_nothing (k, t) c)
   stamp_there (d ∷ v) t h c =
       let parts = both_true (below_all key_cmp d.0 v) (is_sorted key_cmp v) h in
@@ -261,3 +261,29 @@ join_of_fronts s t single =
 
 pub fronts_join : FrontsJoin
 fronts_join = join_of_fronts
+
+-- ---- records joined in any order
+
+at_stamp : (o : Option Stamp) → IsLatest (λ t. o ≡ Some t) o
+at_stamp o = record {
+  upper = λ t e. subst (λ (p : Option Stamp). Reaches p t) (sym e) (itself t);
+  held = λ t e. e;
+}
+
+sorted_records : (v : Vector) (s : List Record) → Sorted v → Sorted (fold join v (map full_vector s))
+sorted_records v [] h = h
+sorted_records v (r ∷ s) h = sorted_records (join v (full_vector r)) s (sorted_join v (full_vector r) h)
+
+-- onto a vector the same records may be joined in any order, and each any number of times
+pub joins_any_order : (v : Vector) (s t : List Record) → Sorted v → ((r : Record) → Contains s r → Contains t r) → ((r : Record) → Contains t r → Contains s r)
+    → fold join v (map full_vector s) ≡ fold join v (map full_vector t)
+joins_any_order v s t sorted to from =
+    same_entries key_cmp keys_total exact_keys (fold join v (map full_vector s)) (fold join v (map full_vector t))
+    (from_test _ (sorted_records v s sorted)) (from_test _ (sorted_records v t sorted))
+    (λ k. one_latest (λ x. (stamp_at v k ≡ Some x) ⊎ Cited k t x) _ _ (moved k) (latest-joins k (λ x. stamp_at v k ≡ Some x) v t (at_stamp (stamp_at v k))))
+  where
+    moved : (k : Key) → IsLatest (λ x. (stamp_at v k ≡ Some x) ⊎ Cited k t x) (stamp_at (fold join v (map full_vector s)) k)
+    moved k = same_latest (λ x. (stamp_at v k ≡ Some x) ⊎ Cited k s x) (λ x. (stamp_at v k ≡ Some x) ⊎ Cited k t x) (stamp_at (fold join v (map full_vector s)) k)
+        (λ x. ⊎_elim (λ p. inl p) (λ c. inr (c.0, to c.0 c.1, c.2)))
+        (λ x. ⊎_elim (λ p. inl p) (λ c. inr (c.0, from c.0 c.1, c.2)))
+        (latest-joins k (λ x. stamp_at v k ≡ Some x) v s (at_stamp (stamp_at v k)))

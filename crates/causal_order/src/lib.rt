@@ -6,8 +6,9 @@
 //! held and of the chains that go on from it, each new record once and ascending by rank (`IsNewPart`). Over a basis
 //! whose front is given, what is at or under the front counts as known: an entry below it by its number, and the
 //! front's own by number and name; over the empty front this is the closed part of `log_model`
-//! ([`closed_sets_are_lawful`]). A chain that doesn't go on from what is held of its log is left out. Where memory is
-//! short nothing has changed but that the batch is gone.
+//! ([`closed_sets_are_lawful`]). A chain that doesn't go on from what is held of its log is left out.
+//! [`closed_part_of`] is the same of chains that were looked at, or shortened, before. Where memory is short nothing has
+//! changed but that the batch is gone.
 //!
 //! Inside, of each member's log is kept where its known records are, and what is still to be seen of its chain (`log`);
 //! `start` sets that out. Then the least of the next records of all logs is taken, if all that it cites is known, or
@@ -33,4 +34,4 @@ mod pass;
 mod start;
 
 pub use laws::{batches_are_fetched, closed_sets_are_lawful};
-pub use part::closed_part;
+pub use part::{closed_part, closed_part_of};

@@ -1,0 +1,14 @@
+pub mod Counting
+pub mod Rows
+pub mod Slices
+pub mod Within
+pub mod There
+pub mod Above
+pub mod NameLemmas
+pub mod Loops
+pub mod Newly
+pub mod HeldFront
+pub mod Parts
+pub mod Dominating
+pub mod Brought
+pub mod TurnTaken

@@ -1,1 +1,4 @@
 pub mod Taking
+pub mod Chains
+pub mod Naming
+pub mod Steps

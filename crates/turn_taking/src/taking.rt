@@ -1,17 +1,28 @@
 //! The new records of a turn.
 
-ghost use Rattle.std.specs.Prelude.{◌≡◌, Contains, IfOk};
+ghost use Rattle.std.specs.Prelude.{◌≡◌, Contains, Option, IfOk};
 ghost use Rattle.std.specs.List.{AllByRecursion};
 ghost use Rattle.agent_model.specs.Agent.{joined};
+ghost use Rattle.agent_model.specs.Standing.{dominates};
 ghost use Rattle.causal_order.specs.Over.{IsClosed};
 ghost use Rattle.ivy_base.specs.declared.key.Key.{Key};
 ghost use Rattle.log_records.specs.Batches.{owner_of, AreUnder};
+ghost use Rattle.log_records.specs.declared.edge.Edge.{Edge};
 ghost use Rattle.log_records.specs.Records.{records_of};
 ghost use Rattle.turn_model.specs.Basis.{Holding};
+ghost use Rattle.causal_order.specs.Started.{HaveOwnOwners};
+ghost use Rattle.turn_taking.specs.Chains.{IsWhole, chains_in};
+ghost use Rattle.turn_taking.specs.Steps.{AreNear, AreTaken, TakesOf};
 ghost use Rattle.turn_taking.specs.Taking.{IsHeld, IsWithin, Takes};
 
+use crate::cutting::all_within;
+use crate::fronts::front_with;
+use crate::lacking::lacks_one;
+use crate::names::all_names;
+use crate::tide::are_above;
+use causal_order::closed_part_of;
 use ivy_base::{Memory, PubKey};
-use log_records::{Batch, Record};
+use log_records::{Batch, Chain, Record};
 use std::alloc::Global;
 use version_vectors::Vector;
 use view_blocks::View;
@@ -56,5 +67,59 @@ pub fn take(alloc: Global, held: &Held<'_>, batch: Batch) -> Result<Taken, Memor
     requires members { AllByRecursion (λ c. Contains held.now.view.now.members (owner_of c.1)) batch.chains }
     ensures { IfOk result (λ taken. (h : Holding) → IsHeld held.now h → Takes held.now.view.now held.now.own.now held.now.floor.now batch h taken) }
 {
-    unimplemented!()
+    // That these are a view and a vector, so that each log is one member's and has one entry.
+    let _ = held.view.members();
+    let _ = held.base.len();
+    if !is_caught_up(held, &batch) {
+        return Ok(Taken::Behind);
+    }
+    take_chains(alloc, held, batch.into_chains())
+}
+
+/// Whether what is held goes as far as what the refresh began with.
+fn is_caught_up(held: &Held<'_>, batch: &Batch) -> bool
+    ensures { result ≡ dominates held.now.front.now batch.now.held }
+{
+    let started = batch.started();
+    // That it is a vector, so that each log has one entry.
+    let _ = started.len();
+    held.front.dominates(started)
+}
+
+/// What a turn takes of the chains, where what is held goes as far as what the refresh began with. The error is want of
+/// memory.
+fn take_chains(alloc: Global, held: &Held<'_>, chains: Vec<Chain>) -> Result<Taken, Memory>
+    requires closed { IsClosed held.now.view.now held.now.base.now (records_of held.now.records.now) }
+    requires whole { AllByRecursion (IsWhole held.now.view.now) chains.items }
+    requires apart { HaveOwnOwners (chains_in chains.items) }
+    requires near { AreNear held.now (chains_in chains.items) }
+    ensures { IfOk result (TakesOf held.now (chains_in chains.items)) }
+{
+    let left = all_within(alloc, held, chains)?;
+    if lacks_one(held, &left) {
+        return Ok(Taken::Behind);
+    }
+    if !are_above(held, &left) {
+        return Ok(Taken::BelowTide);
+    }
+    let (records, front) = take_new(alloc, held, left)?;
+    Ok(Taken::New(records, front))
+}
+
+/// The new records of the chains, and the front of all that is held with them. The error is want of memory.
+fn take_new(
+    alloc: Global,
+    held: &Held<'_>,
+    chains: Vec<Chain>,
+) -> Result<(Vec<Record>, Vector), Memory>
+    requires closed { IsClosed held.now.view.now held.now.base.now (records_of held.now.records.now) }
+    requires whole { AllByRecursion (IsWhole held.now.view.now) chains.items }
+    requires apart { HaveOwnOwners (chains_in chains.items) }
+    requires near { AreNear held.now (chains_in chains.items) }
+    ensures { IfOk result (λ new. AreTaken held.now (chains_in chains.items) (records_of new.0.items) new.1) }
+{
+    let names = all_names(alloc, &chains)?;
+    let records = closed_part_of(alloc, held.view, held.base, held.records, chains)?;
+    let front = front_with(alloc, held.front, &names, &records)?;
+    Ok((records, front))
 }
