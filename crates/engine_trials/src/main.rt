@@ -4,6 +4,7 @@
 //! - `start`: a new engine
 //! - `append N`: so many records, each behind all others, by a call each
 //! - `row N`: so many records behind all others, by one call; 0 is an empty one
+//! - `read N`: so many empty calls
 //! - `absorb P ..`: by one call, a record for each of these places among those that are held, which ascend; none is an
 //!   empty call
 //! - `undo`: the last call that stands is taken back

@@ -14,8 +14,9 @@ use version_vectors::Vector;
 /// Whose records these are.
 pub const OWNER: PubKey = PubKey([7; 60]);
 
-/// How far the number of a record is from that of the one before it, so that others go between them.
-pub const SPACE: u32 = 1024;
+/// How far the number of a record is from that of the one before it, so that others go between them, and there is room for
+/// 100,000.
+pub const SPACE: u32 = 10;
 
 /// How many names there are in the root.
 const NAMES: u32 = 5;

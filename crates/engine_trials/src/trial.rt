@@ -92,16 +92,28 @@ impl Trial {
     fn last_ones(&mut self, alloc: Global, count: u32) -> Option<Vec<Record>>
         ensures { IfSome result (λ row. IsRow (records_of row.items)) }
     {
-        let mut seq = match self.engine.records().last() {
+        let last = match self.engine.records().last() {
             Some(record) => record.seq,
             None => 1,
         };
-        let mut row = Vec::new(alloc);
-        'records: for _n in 0..count {
-            seq = seq.checked_add(SPACE)?;
-            row = merged(alloc, row, self.made(alloc, seq).ok()?).ok()?;
+        self.row_behind(alloc, last, count)
+    }
+
+    // A row of so many records behind that number: two halves in one.
+    fn row_behind(&mut self, alloc: Global, last: u32, count: u32) -> Option<Vec<Record>>
+        ensures { IfSome result (λ row. IsRow (records_of row.items)) }
+    {
+        match count {
+            0 => Some(Vec::new(alloc)),
+            1 => self.made(alloc, last.checked_add(SPACE)?).ok(),
+            _ => {
+                let half = count / 2;
+                let first = self.row_behind(alloc, last, half)?;
+                let between = last.checked_add(SPACE.checked_mul(half)?)?;
+                let rest = self.row_behind(alloc, between, count - half)?;
+                merged(alloc, first, rest).ok()
+            }
         }
-        Some(row)
     }
 
     // Takes records in that are behind all others, and says how many were applied.
@@ -149,6 +161,15 @@ impl Trial {
         for _n in 0..count {
             let row = self.last_ones(alloc, 1)?;
             applied = applied.checked_add(self.append_row(alloc, row, steps)?)?;
+        }
+        Some(applied)
+    }
+
+    // So many empty calls.
+    fn read<L: Ledger>(&mut self, alloc: Global, count: u32, steps: &mut Steps<L>) -> Option<u64> {
+        let mut applied = 0u64;
+        for _n in 0..count {
+            applied = applied.checked_add(self.absorb_row(alloc, Vec::new(alloc), steps)?)?;
         }
         Some(applied)
     }
@@ -210,6 +231,7 @@ impl Trial {
                 let row = self.last_ones(alloc, number_of_word(words.next())?)?;
                 self.append_row(alloc, row, steps)?
             }
+            "read" => self.read(alloc, number_of_word(words.next())?, steps)?,
             "absorb" => self.absorb(alloc, line, steps)?,
             "undo" => return self.undo(alloc),
             _ => return None,
