@@ -1,23 +1,21 @@
 -- When new records are above a basis: if the first of a chain is, then the later ones are.
-use Rattle.std.proofs.Common.{◌≡◌, ⊎_elim, ℕ, zero, suc, ◌+◌, ◌-◌, ◌<◌, ◌≤◌, min, Bool, true, false, cond, ◌&&◌, List, [], ◌∷◌, length, drop, filter, map, refl, sym, ap, ◌∙◌, subst, arith, Contains, Some, None, lt-ltb, ltb-true, le-leb, leb-true}
-use Rattle.std.specs.Prelude.{nat_le, nat_lt, IsTrue}
-use Rattle.std.specs.List.{AllByRecursion, list_all, slice_get}
-use Rattle.std.specs.FinMap.Entries.{is_sorted}
+use Rattle.std.proofs.Common.{◌≡◌, ⊎_elim, ℕ, zero, suc, ◌+◌, ◌-◌, ◌<◌, ◌≤◌, min, Bool, true, false, cond, ◌&&◌, List, [], ◌∷◌, length, drop, refl, sym, ap, ◌∙◌, subst, arith, Some, None, lt-ltb, ltb-true, le-leb, leb-true}
+use Rattle.std.specs.Prelude.{nat_le, nat_lt}
+use Rattle.std.specs.List.{list_all, slice_get}
 use Rattle.ivy_base.specs.declared.key.Key.{Key}
 use Rattle.ivy_base.specs.declared.key.PubKey.{PubKey}
-use Rattle.ivy_base.specs.Naming.{head_key_of, key_cmp}
+use Rattle.ivy_base.specs.Naming.{head_key_of}
 use Rattle.tree_model.specs.Tree.{same_key}
-use Rattle.tree_model.proofs.Keys.{same_key_is, same_key_itself}
 use Rattle.tree_model.proofs.Sound.{both_true}
 use Rattle.log_model.specs.View.{View}
-use Rattle.log_model.specs.Vector.{Entry, Vector, stamp_at, seq_of, Dominates}
+use Rattle.log_model.specs.Vector.{Vector, stamp_at, seq_of, Dominates}
 use Rattle.log_model.specs.Record.{Record}
 use Rattle.log_model.specs.Rank.{full_vector}
 use Rattle.log_model.specs.Chain.{GoesOn, IsGood}
 use Rattle.log_model.proofs.Later.{seq_with}
 use Rattle.log_model.proofs.Lists.{both}
 use Rattle.version_vectors.specs.declared.entry.Entry as kept_entry
-use Rattle.version_vectors.specs.Entries.{stamped, vector_of}
+use Rattle.version_vectors.specs.Entries.{vector_of}
 use Rattle.log_records.specs.declared.record.Record as kept
 use Rattle.log_records.specs.Batches.{owner_of}
 use Rattle.log_records.specs.Records.{record_of, records_of}

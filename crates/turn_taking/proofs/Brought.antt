@@ -1,18 +1,18 @@
 -- The chains of a batch, as they are kept: whole, near, and each of a log of its own.
-use Rattle.std.proofs.Common.{◌≡◌, ⊎_elim, ℕ, ◌+◌, ◌≤◌, true, List, [], ◌∷◌, ◌++◌, map, refl, sym, ap, ◌∙◌, subst, arith, Contains, Option, Some, None}
+use Rattle.std.proofs.Common.{◌≡◌, ℕ, ◌≤◌, List, [], ◌∷◌, sym, ap, ◌∙◌, subst, arith, Contains, Option, Some, None}
 use Rattle.std.specs.List.{AllByRecursion}
 use Rattle.ivy_base.specs.declared.key.Key.{Key}
 use Rattle.ivy_base.specs.declared.key.PubKey.{PubKey}
 use Rattle.ivy_base.specs.Naming.{head_key_of}
 use Rattle.log_model.specs.View.{View}
-use Rattle.log_model.specs.Vector.{Dominates, Stamp, Vector, reach, seq_of}
+use Rattle.log_model.specs.Vector.{Stamp, Vector, reach, seq_of}
 use Rattle.log_model.specs.Record.{Record}
 use Rattle.log_records.specs.declared.batch.Chain.{Chain}
 use Rattle.log_records.specs.declared.edge.Edge.{Edge}
 use Rattle.log_records.specs.Batches.{AreUnder, Batch, EndsAt, Extends, GoesOnFrom, IsBatch, owner_of, stamp_in}
 use Rattle.log_records.specs.Kept.{chain_of, chains_of}
 use Rattle.log_records.specs.Records.{records_of}
-use Rattle.causal_order.specs.AtHand.{BeginsBy, IsFetched, IsLinked, held_to}
+use Rattle.causal_order.specs.AtHand.{BeginsBy, IsFetched, held_to}
 use Rattle.causal_order.specs.Kept.{newest_name}
 use Rattle.causal_order.proofs.Beginning.{are_fetched}
 use Rattle.causal_order.proofs.Fetched.{batches_are_fetched}

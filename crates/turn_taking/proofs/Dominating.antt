@@ -1,9 +1,9 @@
 -- The test whether a vector goes as far as another one.
-use Rattle.std.proofs.Common.{◌≡◌, ◌↔◌, ⊎_elim, ℕ, ◌≤◌, Bool, true, false, ◌&&◌, ◌||◌, List, [], ◌∷◌, refl, sym, ap, ◌∙◌, subst, arith, Contains, Some, None, le-leb, leb-true}
+use Rattle.std.proofs.Common.{◌≡◌, ◌↔◌, ⊎_elim, ◌≤◌, Bool, true, false, ◌&&◌, ◌||◌, List, [], ◌∷◌, refl, sym, ap, arith, le-leb, leb-true}
 use Rattle.std.specs.Prelude.{IsTrue, nat_le, not}
 use Rattle.std.specs.List.{list_all, list_any}
 use Rattle.ivy_base.specs.declared.key.Key.{Key}
-use Rattle.log_model.specs.Vector.{Dominates, Entry, Vector, reach, seq_of, stamp_at}
+use Rattle.log_model.specs.Vector.{Dominates, Entry, Vector, reach, seq_of}
 use Rattle.log_model.proofs.Lists.{all_pass, passes}
 use Rattle.log_model.proofs.Part.{found_stamp}
 use Rattle.log_model.proofs.Weights.{Sorted}

@@ -1,16 +1,16 @@
 -- How far the front of a closed set over a basis goes.
-use Rattle.std.proofs.Common.{◌≡◌, ◌⊎◌, inl, inr, ⊎_elim, ℕ, ◌+◌, ◌<◌, ◌≤◌, true, List, [], ◌∷◌, ◌++◌, length, map, refl, sym, ap, ◌∙◌, subst, arith, Contains, Option, Some, None}
+use Rattle.std.proofs.Common.{◌≡◌, ⊎_elim, ℕ, ◌+◌, ◌<◌, ◌≤◌, true, List, [], ◌∷◌, length, map, refl, sym, ap, ◌∙◌, subst, arith, Contains}
 use Rattle.std.specs.Prelude.{IsTrue, fold}
 use Rattle.std.specs.List.{AllByRecursion}
 use Rattle.ivy_base.specs.declared.key.Key.{Key}
 use Rattle.ivy_base.specs.declared.key.PubKey.{PubKey}
 use Rattle.ivy_base.specs.Naming.{head_key_of}
 use Rattle.log_model.specs.View.{View, IsView, is_member, is_named}
-use Rattle.log_model.specs.Vector.{Entry, Stamp, Vector, join, reach, seq_of, stamp_at}
+use Rattle.log_model.specs.Vector.{Entry, Vector, join, reach, seq_of, stamp_at}
 use Rattle.log_model.specs.Record.{Record}
 use Rattle.log_model.specs.Rank.{full_vector, own_entry}
 use Rattle.log_model.specs.Chain.{IsGood}
-use Rattle.log_model.specs.Closed.{IsCause, log_of}
+use Rattle.log_model.specs.Closed.{log_of}
 use Rattle.log_model.proofs.Lists.{each, each_from}
 use Rattle.log_model.proofs.Part.{found_stamp, numbers_below}
 use Rattle.log_model.proofs.Weights.{Sorted}

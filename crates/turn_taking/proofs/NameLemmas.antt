@@ -1,21 +1,20 @@
 -- The names of records, by their numbers.
-use Rattle.std.proofs.Common.{◌≡◌, ⊎_elim, ℕ, zero, suc, ◌+◌, ◌-◌, ◌<◌, ◌≤◌, ◌==◌, Bool, true, false, cond, List, [], ◌∷◌, ◌++◌, length, get_or, take, map, refl, sym, ap, ◌∙◌, subst, arith, Contains, Option, Some, None, eq-eqb}
-use Rattle.std.specs.Prelude.{option_map, find, fold}
+use Rattle.std.proofs.Common.{◌≡◌, ⊎_elim, ℕ, zero, suc, ◌+◌, ◌-◌, ◌<◌, ◌≤◌, ◌==◌, Bool, true, false, cond, List, [], ◌∷◌, ◌++◌, length, get_or, take, map, refl, sym, ap, ◌∙◌, subst, arith, Contains, Option, Some, None, Bor, eq-eqb, ltb-true}
+use Rattle.std.specs.Prelude.{IfSome, option_map, find, fold, is_some, nat_lt}
+use Rattle.std.specs.Option.{option_copied}
 use Rattle.std.specs.List.{AllByRecursion, slice_get}
-use Rattle.std.proofs.lemmas.Bool.{cases_lt, eqb-true}
+use Rattle.std.proofs.lemmas.Bool.{cases_lt, eqb-true, ltb-false}
 use Rattle.std.proofs.lemmas.List.{length-map, map-append, take_more, take_all}
 use Rattle.std.proofs.lemmas.List.Sums.{fold-append}
 use Rattle.std.proofs.lemmas.Option.{slice_get_past}
 use Rattle.ivy_base.specs.declared.key.Key.{Key}
-use Rattle.ivy_base.specs.declared.key.PubKey.{PubKey}
 use Rattle.ivy_base.specs.Naming.{head_key_of}
 use Rattle.log_model.specs.Record.{Record}
 use Rattle.log_model.specs.Rank.{full_vector}
 use Rattle.log_model.specs.Vector.{Vector, join}
-use Rattle.log_model.proofs.Lists.{here, in_cons, in_nothing, each}
+use Rattle.log_model.proofs.Lists.{in_cons, in_nothing, each}
 use Rattle.log_records.specs.declared.batch.Chain.{Chain}
 use Rattle.log_records.specs.declared.record.Record as kept
-use Rattle.log_records.specs.Batches.{owner_of}
 use Rattle.log_records.specs.Records.{record_of, records_of}
 use Rattle.agent_model.specs.Turning.{AreNext}
 use Rattle.turn_taking.specs.Chains.{AreNamed, AreNumbered, chains_in}
@@ -79,6 +78,12 @@ module _ (names : Names) (rs : List Record) (number : ℕ) (is : AreNamesOf name
 
   pub past_last : (keys : List Key) (i : ℕ) → keys ≡ names.names.items → names.first ≤ number → i ≡ number - names.first → length keys ≤ i → None ≡ name_of rs number
   past_last keys i same le is_place past = sym (slice_get_past keys i past) ∙ ap (λ n. slice_get keys n) is_place ∙ here_or keys same le
+
+  -- what stands there, if there is something
+  pub looked_up : (keys : List Key) (i : ℕ) (o : Option (Bor Key)) → keys ≡ names.names.items → names.first ≤ number → i ≡ number - names.first → is_some o ≡ nat_lt i (length keys) → IfSome o (λ x. x.now ≡ get_or keys i x.now)
+      → option_copied o ≡ name_of rs number
+  looked_up keys i None same le is_place some at = past_last keys i same le is_place (ltb-false i (length keys) (sym some))
+  looked_up keys i (Some x) same le is_place some at = ap (λ (k : Key). Some k) at ∙ at_index keys i x.now same le is_place (ltb-true i (length keys) (sym some))
 
 -- ---- one name more
 

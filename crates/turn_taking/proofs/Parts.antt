@@ -1,5 +1,5 @@
 -- The new records of a closed part of chains: where they come from, and what they are.
-use Rattle.std.proofs.Common.{◌≡◌, ◌⊎◌, inl, inr, ⊎_elim, ℕ, ◌+◌, ◌<◌, ◌≤◌, List, [], ◌∷◌, ◌++◌, length, filter, map, refl, sym, ap, ◌∙◌, subst, arith, Contains, Option, Some, None}
+use Rattle.std.proofs.Common.{◌≡◌, inl, inr, ⊎_elim, List, [], ◌∷◌, ◌++◌, map, refl, sym, ap, ◌∙◌, subst, Contains, Option, None}
 use Rattle.std.specs.Prelude.{IfSome, flat_map, fold, nat_lt}
 use Rattle.std.specs.List.{AllByRecursion}
 use Rattle.std.proofs.lemmas.List.{map-append}
@@ -8,8 +8,8 @@ use Rattle.std.proofs.lemmas.List.Sums.{fold-append}
 use Rattle.ivy_base.specs.declared.key.Key.{Key}
 use Rattle.ivy_base.specs.declared.key.PubKey.{PubKey}
 use Rattle.ivy_base.specs.Naming.{head_key_of}
-use Rattle.log_model.specs.View.{View, IsView}
-use Rattle.log_model.specs.Vector.{Vector, join, seq_of}
+use Rattle.log_model.specs.View.{View}
+use Rattle.log_model.specs.Vector.{Vector, join}
 use Rattle.log_model.specs.Record.{Record}
 use Rattle.log_model.specs.Rank.{full_vector}
 use Rattle.log_model.specs.Replay.{in_order}
@@ -21,12 +21,12 @@ use Rattle.log_model.proofs.Weights.{Sorted}
 use Rattle.log_records.specs.declared.batch.Chain.{Chain}
 use Rattle.log_records.specs.Batches.{owner_of}
 use Rattle.log_records.specs.Records.{records_of}
-use Rattle.causal_order.specs.AtHand.{BeginsBy, IsAtHand, IsFetched, IsLinked, IsNewPart, held_to, news}
+use Rattle.causal_order.specs.AtHand.{BeginsBy, IsAtHand, IsFetched, IsLinked, IsNewPart, held_to}
 use Rattle.causal_order.specs.Kept.{newest_name}
 use Rattle.causal_order.specs.Over.{IsClosed}
 use Rattle.causal_order.specs.Started.{HaveOwnOwners}
 use Rattle.causal_order.proofs.Fronts.{joins_any_order}
-use Rattle.turn_taking.specs.Chains.{IsRow, IsWhole, all_within, as_chain, chains_in, some_of}
+use Rattle.turn_taking.specs.Chains.{IsRow, IsWhole, chains_in, some_of}
 use Rattle.turn_taking.specs.Naming.{AllNamesOf, AreNamesOf, HasNameOf}
 use Rattle.turn_taking.specs.declared.names.Names.{Names}
 use Rattle.turn_taking.proofs.HeldFront.{good_in}

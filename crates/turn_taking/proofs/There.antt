@@ -1,5 +1,5 @@
 -- Whether a record is among a chain's new ones, by its number and name.
-use Rattle.std.proofs.Common.{◌≡◌, ◌⊎◌, inl, inr, ⊎_elim, ℕ, zero, suc, ◌+◌, ◌-◌, ◌<◌, ◌≤◌, ◌==◌, Bool, true, false, cond, ◌&&◌, ◌||◌, List, [], ◌∷◌, ◌++◌, length, get_or, filter, map, refl, sym, ap, ◌∙◌, subst, arith, Contains, eq-eqb, ltb-true}
+use Rattle.std.proofs.Common.{◌≡◌, ◌⊎◌, inl, inr, ⊎_elim, ℕ, zero, suc, ◌+◌, ◌-◌, ◌<◌, ◌≤◌, ◌==◌, Bool, true, false, cond, ◌&&◌, ◌||◌, List, [], ◌∷◌, length, get_or, filter, refl, sym, ap, ◌∙◌, subst, arith, Contains, eq-eqb}
 use Rattle.std.specs.Prelude.{flat_map, nat_lt}
 use Rattle.std.specs.List.{AllByRecursion, list_any}
 use Rattle.std.proofs.lemmas.List.{length-map}
@@ -23,7 +23,7 @@ use Rattle.causal_order.specs.AtHand.{IsLinked}
 use Rattle.turn_laws.proofs.Heads.{one_member}
 use Rattle.agent_model.specs.Standing.{beyond, go_on_from}
 use Rattle.agent_model.specs.Turning.{AreNext, is_there}
-use Rattle.turn_taking.specs.Chains.{AreNumbered, as_chain, new_of}
+use Rattle.turn_taking.specs.Chains.{AreNumbered, as_chain}
 use Rattle.turn_taking.proofs.Counting.{behind, not_lt}
 use Rattle.turn_taking.proofs.Rows.{linked_good}
 use Rattle.turn_taking.proofs.Slices.{at_place}

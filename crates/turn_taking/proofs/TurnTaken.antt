@@ -1,17 +1,16 @@
 -- What was taken of the chains is what the turn takes of the batch.
-use Rattle.std.proofs.Common.{◌≡◌, ⊎_elim, ℕ, ◌+◌, ◌≤◌, Bool, true, false, cond, not, ◌||◌, List, [], ◌∷◌, ◌++◌, filter, map, refl, sym, ap, ◌∙◌, subst, arith, Contains, Option, Some, None, leb-true}
-use Rattle.std.specs.Prelude.{IsTrue, flat_map, fold}
+use Rattle.std.proofs.Common.{◌≡◌, ⊎_elim, ◌≤◌, Bool, true, false, cond, not, ◌||◌, List, [], ◌∷◌, ◌++◌, filter, map, refl, sym, ap, ◌∙◌, subst, arith, Contains, None, leb-true}
+use Rattle.std.specs.Prelude.{flat_map, fold}
 use Rattle.std.specs.List.{AllByRecursion, list_all, list_any}
 use Rattle.std.specs.Ordering.{eq_by_cmp}
 use Rattle.std.proofs.lemmas.List.Elements.{Contains-append_cases}
-use Rattle.ivy_base.specs.declared.key.Key.{Key}
 use Rattle.ivy_base.specs.declared.key.PubKey.{PubKey}
 use Rattle.ivy_base.specs.Naming.{head_key_of, owner_cmp}
 use Rattle.tree_model.specs.Apply.{empty_tree}
-use Rattle.log_model.specs.View.{View, IsView, is_named}
-use Rattle.log_model.specs.Vector.{Dominates, Stamp, Vector, join, reach, seq_of, stamp_at, later_or}
+use Rattle.log_model.specs.View.{View, IsView}
+use Rattle.log_model.specs.Vector.{Dominates, Stamp, Vector, join, seq_of, stamp_at}
 use Rattle.log_model.specs.Record.{Record}
-use Rattle.log_model.specs.Rank.{full_vector, own_entry}
+use Rattle.log_model.specs.Rank.{full_vector}
 use Rattle.log_model.specs.Replay.{in_order}
 use Rattle.log_model.specs.Chain.{IsGood}
 use Rattle.log_model.proofs.Lists.{each, from_filter}
@@ -24,13 +23,13 @@ use Rattle.log_records.specs.Records.{records_of}
 use Rattle.causal_order.specs.AtHand.{IsLinked, IsNewPart, held_to}
 use Rattle.causal_order.specs.Over.{IsClosed}
 use Rattle.causal_order.proofs.Meeting.{from_map}
-use Rattle.turn_model.specs.Basis.{Basis, Holding}
+use Rattle.turn_model.specs.Basis.{Holding}
 use Rattle.agent_model.specs.Agent.{joined}
 use Rattle.agent_model.specs.Standing.{Chain as Brought, chain_of, dominates, new_in, new_records}
-use Rattle.agent_model.specs.Taking.{refresh_with, with_new, within}
+use Rattle.agent_model.specs.Taking.{refresh_with, within}
 use Rattle.agent_model.specs.Turning.{is_behind, is_below_tide, lacks}
-use Rattle.turn_taking.specs.Chains.{all_within, as_chain, is_over, new_of, some_of}
-use Rattle.turn_taking.specs.Steps.{AreTaken, TakesOf, are_above, lacks_one}
+use Rattle.turn_taking.specs.Chains.{all_within, as_chain, is_over, new_of}
+use Rattle.turn_taking.specs.Steps.{TakesOf, are_above, lacks_one}
 use Rattle.turn_taking.specs.Taking.{IsHeld, IsWithin, Takes}
 use Rattle.turn_taking.specs.declared.taking.Held.{Held}
 use Rattle.turn_taking.specs.declared.taking.Taken.{Taken}
@@ -128,10 +127,10 @@ module _ (held : Held) (b : Batch) (is_front : (h : Holding) → IsHeld held h �
             let good = good_in held.view.now held.base.now (records_of held.records.now) closed r c in
             let front : Vector = fold join held.base.now (map full_vector (records_of held.records.now)) in
             let reached : seq_of (full_vector r) (head_key_of r.owner) ≤ seq_of front (head_key_of r.owner) =
-                each (λ q. Dominates front (full_vector q)) (records_of held.records.now) r (each_dominated front (records_of held.records.now) (joins_reach (map full_vector (records_of held.records.now)) held.base.now)) c (head_key_of r.owner) in
+            each (λ q. Dominates front (full_vector q)) (records_of held.records.now) r (each_dominated front (records_of held.records.now) (joins_reach (map full_vector (records_of held.records.now)) held.base.now)) c (head_key_of r.owner) in
             let own = own_reach r good.spelled.of_others in
             let same : seq_of front (head_key_of r.owner) ≡ seq_of held.front.now (head_key_of held.own.now) =
-                (λ i. seq_of (sym (front_is held is_front) i) (head_key_of (mine i))) in
+            (λ i. seq_of (sym (front_is held is_front) i) (head_key_of (mine i))) in
             let low = within_front.own_log in
             omega (arith, reached, own, same, low)
 
@@ -162,7 +161,7 @@ module _ (held : Held) (b : Batch) (is_front : (h : Holding) → IsHeld held h �
         part_is h is =
             let cs : List (List Record) = map (λ d. within held.own.now held.floor.now (as_chain d)) brought_of in
             let same : cs ≡ map (within held.own.now held.floor.now) (map chain_of b.chains) =
-                sym (map_both (within held.own.now held.floor.now) brought_of) ∙ ap (λ (l : List Brought). map (within held.own.now held.floor.now) l) (sym (as_brought b.chains)) in
+            sym (map_both (within held.own.now held.floor.now) brought_of) ∙ ap (λ (l : List Brought). map (within held.own.now held.floor.now) l) (sym (as_brought b.chains)) in
             subst (λ (l : List (List Record)). IsNewPart held.view.now h.basis.front h.held l new) same
             (subst (λ (v : Vector). IsNewPart held.view.now v h.held cs new) (sym is.base)
             (subst (λ (l : List Record). IsNewPart held.view.now held.base.now l cs new) (sym is.records)

@@ -1,11 +1,9 @@
 -- What is left of chains within the floor.
-use Rattle.std.proofs.Common.{◌≡◌, ⊎_elim, ℕ, zero, suc, ◌+◌, ◌-◌, ◌<◌, ◌≤◌, min, Bool, true, false, cond, List, [], ◌∷◌, ◌++◌, length, take, drop, get_or, filter, map, refl, sym, ap, ◌∙◌, subst, arith, Option, Some, None, Contains}
-use Rattle.std.specs.Prelude.{flat_map, IsTrue}
+use Rattle.std.proofs.Common.{◌≡◌, ℕ, zero, suc, ◌-◌, ◌<◌, ◌≤◌, min, Bool, true, false, cond, List, [], ◌∷◌, ◌++◌, length, take, get_or, filter, refl, sym, ap, ◌∙◌, subst, arith, Option, Some, None, Contains}
 use Rattle.std.specs.List.{AllByRecursion}
 use Rattle.std.specs.Ordering.{eq_by_cmp}
 use Rattle.std.proofs.lemmas.List.{map-append, append-nil, length-map}
 use Rattle.std.proofs.lemmas.Grind.{flat_map-append}
-use Rattle.std.proofs.lemmas.Bool.{cases_lt}
 use Rattle.ivy_base.specs.declared.key.Key.{Key}
 use Rattle.ivy_base.specs.declared.key.PubKey.{PubKey}
 use Rattle.ivy_base.specs.Naming.{head_key_of, owner_cmp}
@@ -22,7 +20,6 @@ use Rattle.log_records.specs.Records.{record_of, records_of}
 use Rattle.causal_order.specs.AtHand.{IsLinked}
 use Rattle.dht_ids.specs.declared.judge.Judged.{Judged}
 use Rattle.agent_model.specs.Taking.{within}
-use Rattle.agent_model.specs.Turning.{AreNext}
 use Rattle.turn_taking.specs.Chains.{AreNamed, AreNumbered, IsRow, IsWhole, IsLeft, IsLeftRow, all_within, as_chain, chains_in, some_of}
 use Rattle.turn_taking.proofs.Counting.{up_to, counted}
 use Rattle.turn_taking.proofs.Rows.{linked_take, numbered_take, owner_take, named_take}

@@ -1,5 +1,5 @@
 -- What is held, as the code has it, and what a turn takes.
-use Rattle.std.specs.Prelude.{◌≡◌, ◌≤◌, ℕ, true, false, IsTrue, None}
+use Rattle.std.specs.Prelude.{◌≡◌, ◌≤◌, true, false, IsTrue, None}
 use Rattle.std.specs.List.{AllByRecursion}
 use Rattle.ivy_base.specs.declared.key.PubKey.{PubKey}
 use Rattle.ivy_base.specs.Naming.{head_key_of}

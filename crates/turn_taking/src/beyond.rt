@@ -24,7 +24,7 @@ pub fn beyond<'a>(front: &Vector, log: &Key, records: &'a [Record]) -> &'a [Reco
     if go_on_from(front.get(log), rest) {
         rest
     } else {
-        &rest[..0]
+        &[]
     }
 }
 

@@ -29,13 +29,8 @@ impl Names {
     pub fn name_of(&self, number: u32) -> Option<Key>
         ensures { (records : List Seen) → AreNamesOf self.now records → result ≡ name_of records number }
     {
-        let names = self.names.as_slice();
-        let at = number.checked_sub(self.first)? as usize;
-        if at < names.len() {
-            Some(names[at])
-        } else {
-            None
-        }
+        let at = number.checked_sub(self.first)?;
+        self.names.as_slice().get(at as usize).copied()
     }
 }
 

@@ -55,8 +55,18 @@ pub enum Taken {
     New(Vec<Record>, Vector),
 }
 
-/// What a turn that goes on from what is held takes of the batch, which was fetched under the view, of its members. The error
-/// is want of memory.
+/// What a turn that goes on from what is held takes of the batch, whose chains were fetched under the view and are of its
+/// members' logs.
+///
+/// It is `Behind` exactly where the refresh began with more than is held by now, or where of some member's log the record that
+/// the floor names is neither held nor new; else `BelowTide` exactly where a new record isn't above the basis; and else the new
+/// records of the largest closed part, and the front of all that is held with them. New are the records of a chain beyond
+/// `front`, if they go on from it, and of the own log only those that the floor names.
+///
+/// `records` are closed over `base`, and `front` is that of both. `base` and `front` name logs of the view alone, and of the own
+/// log they go no further than the floor; so does the front that is given back.
+///
+/// The error is want of memory; what is held has not changed, whatever comes.
 pub fn take(alloc: Global, held: &Held<'_>, batch: Batch) -> Result<Taken, Memory>
     requires closed { IsClosed held.now.view.now held.now.base.now (records_of held.now.records.now) }
     requires front { (h : Holding) → IsHeld held.now h → held.now.front.now ≡ joined h }

@@ -1,4 +1,4 @@
-use Rattle.std.proofs.Common.{◌≡◌, true, false, List, drop, take, length, filter, ap, sym, ◌∙◌, ◌-◌}
+use Rattle.std.proofs.Common.{true, false, List, drop, filter, ap, sym, ◌∙◌}
 use Rattle.std.proofs.lemmas.List.{take_rest}
 use Rattle.log_records.specs.Records.{records_of}
 use Rattle.log_records.specs.declared.record.Record.{Record}

@@ -1,4 +1,4 @@
-use Rattle.std.proofs.Common.{◌-◌, min, ap, ◌∙◌, length}
+use Rattle.std.proofs.Common.{min, ap, ◌∙◌, length}
 use Rattle.turn_taking.proofs.Slices.{counted_items}
 use Rattle.turn_taking.proofs.numbers.count_to.Goals as goal
 

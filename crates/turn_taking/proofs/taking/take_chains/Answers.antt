@@ -1,7 +1,6 @@
 use Rattle.std.proofs.Common.{List, ap, subst, sym, ◌∙◌}
 use Rattle.log_model.specs.Record.{Record}
 use Rattle.log_records.specs.declared.batch.Chain.{Chain}
-use Rattle.log_records.specs.Batches.{owner_of}
 use Rattle.log_records.specs.Records.{records_of}
 use Rattle.causal_order.specs.AtHand.{held_to}
 use Rattle.causal_order.specs.Started.{HaveOwnOwners}

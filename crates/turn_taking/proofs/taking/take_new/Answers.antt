@@ -1,4 +1,4 @@
-use Rattle.std.proofs.Common.{List, ap, subst, sym}
+use Rattle.std.proofs.Common.{List, subst, sym}
 use Rattle.std.specs.List.{AllByRecursion}
 use Rattle.log_model.specs.Spelling.{HasSpelling}
 use Rattle.log_records.specs.declared.batch.Chain.{Chain}
@@ -25,7 +25,7 @@ front_with-requires-clause-named c =
     let chains = chains_in c.args.chains.items in
     let names = subst (λ (cs : List Chain). AllNamesOf c.in_ok-names.names.items (chains_in cs)) c.deref.ensures.value c.in_ok-names.ensures in
     let named = new_named view c.args.held.now.base.now (records_of c.args.held.now.records.now) chains (records_of c.in_ok-records.records.items) c.in_ok-records.ensures c.in_ok-names.names.items
-        names c.requires.apart (all_linked view c.args.chains.items c.requires.whole) in
+    names c.requires.apart (all_linked view c.args.chains.items c.requires.whole) in
     subst (λ (ns : List Names). AllByRecursion (HasNameOf ns) (records_of c.deref-3.result.now)) (sym c.deref-2.ensures.value)
     (subst (λ (rs : List Record). AllByRecursion (HasNameOf c.in_ok-names.names.items) (records_of rs)) (sym c.deref-3.ensures.value) named)
 
