@@ -1,4 +1,5 @@
 pub mod Turns
 pub mod Fronts
 pub mod Records
+pub mod Closing
 mod Newest

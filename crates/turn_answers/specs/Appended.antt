@@ -1,9 +1,10 @@
 -- What a turn writes over a front, and what follows for it.
-use Rattle.std.specs.Prelude.{◌≡◌, ℕ, ◌+◌, ◌≤◌, List, [], ◌∷◌, ◌++◌, length, Some, IsTrue}
+use Rattle.std.specs.Prelude.{◌≡◌, ℕ, ◌+◌, ◌≤◌, List, [], ◌∷◌, ◌++◌, length, Some, IsTrue, Contains}
 use Rattle.std.specs.List.{AllByRecursion}
 use Rattle.std.specs.Option.{option_map_or}
 use Rattle.std.specs.Ordering.{is_lt}
 use Rattle.std.specs.FinMap.Entries.{is_sorted}
+use Rattle.causal_order.specs.Over as over
 use Rattle.ivy_base.specs.declared.key.PubKey.{PubKey}
 use Rattle.ivy_base.specs.declared.operation.Moment.{Moment}
 use Rattle.ivy_base.specs.declared.operation.Op.{Op}
@@ -80,6 +81,12 @@ abbrev pub WrittenGoBehind : Type 0
 WrittenGoBehind = (own : PubKey) (now : Moment) (h : Holding) (ops : List Op) → IsTrue (is_sorted key_cmp (joined h)) → AllByRecursion HasSpelling h.held
     → IsAscending (written_over own now (joined h) ops)
     × AllByRecursion (λ r. AllByRecursion (λ q. IsTrue (is_lt (record_cmp q r))) h.held) (written_over own now (joined h) ops)
+
+-- What is held over the basis's front is closed with them, where it is without.
+abbrev pub WrittenIsClosed : Type 0
+WrittenIsClosed = (view : View) (own : PubKey) (now : Moment) (h : Holding) (ops : List Op) → IsView view → Contains view.members own → IsTrue (is_sorted key_cmp h.basis.front)
+    → MayBeCited view (joined h) → over.IsClosed view h.basis.front h.held → IsMoment now → 1 ≤ seq_of (joined h) (head_key_of own)
+    → AllMayBeWritten own (seq_of (joined h) (head_key_of own) + 1) ops → over.IsClosed view h.basis.front (h.held ++ written_over own now (joined h) ops)
 
 -- ---- the set, where all of it is held
 

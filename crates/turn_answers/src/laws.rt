@@ -1,7 +1,7 @@
 //! What follows for turns from what is served, and for the records that they write.
 
 ghost use Rattle.turn_answers.specs.Laws.{RepliesWhateverIsSaved, TurnIsServed, WritesArePlanned, WritesAreSaved};
-ghost use Rattle.turn_answers.specs.Appended.{AppendedFront, HeldFront, NewestIsLast, NewestIsReached, WrittenAreGood, WrittenAreNext, WrittenGoBehind, WrittenIsAppended, WritesMayStand};
+ghost use Rattle.turn_answers.specs.Appended.{AppendedFront, HeldFront, NewestIsLast, NewestIsReached, WrittenAreGood, WrittenAreNext, WrittenGoBehind, WrittenIsAppended, WrittenIsClosed, WritesMayStand};
 
 /// A law and no code: a turn on a set is what is served on its replay; where that is a reply, the turn gives it whatever
 /// would become of a save; and where operations are written, they are planned, and only a save that fails changes the reply.
@@ -13,12 +13,14 @@ pub fn turns_are_served()
 {}
 
 /// A law and no code: what is to be written may be written; over a front that the agent may cite, its records are good, the
-/// next ones of the own log, and go behind all that is held. Where all of a set is held, the set with them is held then.
+/// next ones of the own log, and go behind all that is held, which stays closed. Where all of a set is held, the set with
+/// them is held then.
 pub fn written_records_go_on()
     ensures may_stand { WritesMayStand }
     ensures good { WrittenAreGood }
     ensures next { WrittenAreNext }
     ensures behind { WrittenGoBehind }
+    ensures closed { WrittenIsClosed }
     ensures held { WrittenIsAppended }
 {}
 

@@ -1,3 +1,4 @@
+use Rattle.turn_answers.proofs.Closing.{written_is_closed}
 use Rattle.turn_answers.proofs.Records.{writes_may_stand, written_are_good, written_are_next, written_go_behind, written_is_appended}
 use Rattle.turn_answers.proofs.laws.written_records_go_on.Goals as goal
 
@@ -15,3 +16,6 @@ returns-clause-behind c = written_go_behind
 
 pub returns-clause-held : goal.returns-clause-held
 returns-clause-held c = written_is_appended
+
+pub returns-clause-closed : goal.returns-clause-closed
+returns-clause-closed c = written_is_closed
