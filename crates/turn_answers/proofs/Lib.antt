@@ -2,4 +2,5 @@ pub mod Turns
 pub mod Fronts
 pub mod Records
 pub mod Closing
+pub mod Cited
 mod Newest

@@ -1,5 +1,5 @@
 -- The records that a turn writes over a front: good ones, the next ones of the own log, behind all that the front knows.
-use Rattle.std.proofs.Common.{◌≡◌, ⊎_elim, ℕ, ◌+◌, ◌<◌, ◌≤◌, ◌^◌, suc, cond, not, List, [], ◌∷◌, ◌++◌, length, map, Option, None, refl, sym, ap, ◌∙◌, subst, arith}
+use Rattle.std.proofs.Common.{◌≡◌, inr, ⊎_elim, ℕ, ◌+◌, ◌<◌, ◌≤◌, ◌^◌, suc, cond, not, List, [], ◌∷◌, ◌++◌, length, map, Option, None, refl, sym, ap, ◌∙◌, subst, arith}
 use Rattle.std.specs.Prelude.{IsTrue}
 use Rattle.std.specs.List.{AllByRecursion}
 use Rattle.std.specs.Option.{option_map_or}
@@ -22,10 +22,11 @@ use Rattle.log_model.specs.Spelling.{new_record, record_block, no_name, HasSpell
 use Rattle.log_model.specs.Vector.{Entry, Stamp, Vector, reach, seq_of, stamp_at, weight_of, without_log, Dominates}
 use Rattle.log_model.specs.View.{View, IsView, is_named}
 use Rattle.log_model.proofs.Lists.{each, each_append, each_from}
-use Rattle.log_model.proofs.Later.{apply_more, good_of, replay_more}
+use Rattle.log_model.proofs.Later.{apply_more, good_of, name_is_key, replay_more}
 use Rattle.log_model.proofs.Part.{found_stamp}
 use Rattle.log_model.proofs.Sets.{IsBefore, lighter_is_before}
 use Rattle.log_model.proofs.Weights.{Sorted, joins_reach, sorted_front, sorted_with_entry, weight-full_vector, weight-mono, weight_by_log, no_heavier_than_front}
+use Rattle.log_records.proofs.Sizes.{short_records}
 use Rattle.turn_laws.proofs.Entries.{each_without_log}
 use Rattle.turn_laws.proofs.Heads.{short_named}
 use Rattle.turn_laws.proofs.Starts.{stamp_at-without_log, sorted_without_log}
@@ -35,7 +36,7 @@ use Rattle.turn_model.proofs.Kept.{kept_tree_is_replay}
 use Rattle.turn_model.proofs.Plans.{plan_may_be_written}
 use Rattle.agent_model.specs.Agent.{joined}
 use Rattle.agent_model.specs.Turning.{AreNext, with_held}
-use Rattle.turn_answers.specs.Appended.{MayBeCited, WrittenAreGood, WrittenAreNext, WrittenGoBehind, WrittenIsAppended, WritesMayStand, written_over}
+use Rattle.turn_answers.specs.Appended.{MayBeCited, PostsAreNamed, WrittenAreGood, WrittenAreNext, WrittenGoBehind, WrittenIsAppended, WritesMayStand, written_over}
 use Rattle.turn_answers.proofs.Turns.{writes_are_planned}
 
 pub writes_may_stand : WritesMayStand
@@ -213,3 +214,9 @@ written_is_appended view own now s h ops closed holds same = (
       ∙ ap (λ (t : Tree). apply_all t (map effect (written_over own now (front s) ops))) (kept_tree_is_replay view s h closed holds)
       ∙ sym (replay_more s (written_over own now (front s) ops) closed.ascending (appended_ascends view own now s ops closed)),
 )
+
+-- ---- posts
+
+pub posts_are_named : PostsAreNamed
+posts_are_named [] spelled = tt
+posts_are_named (r ∷ rs) spelled = ((name_is_key r spelled.0, inr spelled.0.named, short_records r spelled.0), posts_are_named rs spelled.1)
