@@ -1,5 +1,5 @@
 -- The records that a turn writes over a front: good ones, the next ones of the own log, behind all that the front knows.
-use Rattle.std.proofs.Common.{◌≡◌, ⊎_elim, ℕ, ◌+◌, ◌<◌, ◌≤◌, ◌^◌, suc, cond, not, List, [], ◌∷◌, ◌++◌, length, map, Option, None, refl, sym, ap, ◌∙◌, subst, arith}
+use Rattle.std.proofs.Common.{◌≡◌, inr, ⊎_elim, ℕ, ◌+◌, ◌<◌, ◌≤◌, ◌^◌, suc, cond, not, List, [], ◌∷◌, ◌++◌, length, map, Option, None, refl, sym, ap, ◌∙◌, subst, arith}
 use Rattle.std.specs.Prelude.{IsTrue}
 use Rattle.std.specs.List.{AllByRecursion}
 use Rattle.std.specs.Option.{option_map_or}
@@ -22,10 +22,11 @@ use Rattle.log_model.specs.Spelling.{new_record, record_block, no_name, HasSpell
 use Rattle.log_model.specs.Vector.{Entry, Stamp, Vector, reach, seq_of, stamp_at, weight_of, without_log, Dominates}
 use Rattle.log_model.specs.View.{View, IsView, is_named}
 use Rattle.log_model.proofs.Lists.{each, each_append, each_from}
-use Rattle.log_model.proofs.Later.{apply_more, good_of, replay_more}
+use Rattle.log_model.proofs.Later.{apply_more, good_of, name_is_key, replay_more}
 use Rattle.log_model.proofs.Part.{found_stamp}
 use Rattle.log_model.proofs.Sets.{IsBefore, lighter_is_before}
 use Rattle.log_model.proofs.Weights.{Sorted, joins_reach, sorted_front, sorted_with_entry, weight-full_vector, weight-mono, weight_by_log, no_heavier_than_front}
+use Rattle.log_records.proofs.Sizes.{short_records}
 use Rattle.turn_laws.proofs.Entries.{each_without_log}
 use Rattle.turn_laws.proofs.Heads.{short_named}
 use Rattle.turn_laws.proofs.Starts.{stamp_at-without_log, sorted_without_log}
@@ -35,7 +36,7 @@ use Rattle.turn_model.proofs.Kept.{kept_tree_is_replay}
 use Rattle.turn_model.proofs.Plans.{plan_may_be_written}
 use Rattle.agent_model.specs.Agent.{joined}
 use Rattle.agent_model.specs.Turning.{AreNext, with_held}
-use Rattle.turn_answers.specs.Appended.{MayBeCited, WrittenAreGood, WrittenAreNext, WrittenGoBehind, WrittenIsAppended, WritesMayStand, written_over}
+use Rattle.turn_answers.specs.Appended.{MayBeCited, PostsAreNamed, WrittenAreGood, WrittenAreNext, WrittenGoBehind, WrittenIsAppended, WritesMayStand, written_over}
 use Rattle.turn_answers.proofs.Turns.{writes_are_planned}
 
 pub writes_may_stand : WritesMayStand
@@ -47,23 +48,23 @@ writes_may_stand a t seq asked now ops keys caller fits moment e =
 -- ---- good records
 
 -- a name is a key, by the digest alone
-name_of_new : (own : PubKey) (n : ℕ) (prev : Key) (v : Vector) (now : Moment) (op : Op) → IsKey (new_record own n prev v now op).name
+pub name_of_new : (own : PubKey) (n : ℕ) (prev : Key) (v : Vector) (now : Moment) (op : Op) → IsKey (new_record own n prev v now op).name
 name_of_new own n prev v now op =
     let r : Record = new_record own n prev v now op in
     record { size = length-name (record_block r); each = bytes-name (record_block r) }
 
-abbrev IsSpelled : Entry → Type 0
+abbrev pub IsSpelled : Entry → Type 0
 IsSpelled e = IsKey e.0 × (1 ≤ e.1.seq) × (e.1.seq < 2 ^ 32) × IsKey e.1.name
 
 -- what a good record of the own log may cite
-record MayCite (view : View) (own : PubKey) (v : Vector) : Type 0 where
-  in_order : Sorted v
-  of_others : stamp_at v (head_key_of own) ≡ None
-  entries : AllByRecursion IsSpelled v
-  short : length v ≤ 32
-  named : AllByRecursion (λ e. IsTrue (is_named view e.0)) v
+pub record MayCite (view : View) (own : PubKey) (v : Vector) : Type 0 where
+  pub in_order : Sorted v
+  pub of_others : stamp_at v (head_key_of own) ≡ None
+  pub entries : AllByRecursion IsSpelled v
+  pub short : length v ≤ 32
+  pub named : AllByRecursion (λ e. IsTrue (is_named view e.0)) v
 
-new_is_good : (view : View) (own : PubKey) (n : ℕ) (prev : Key) (v : Vector) (now : Moment) (op : Op) → MayCite view own v → IsMoment now → 2 ≤ n → IsKey prev → MayBeWritten own n op → IsGood view own (new_record own n prev v now op)
+pub new_is_good : (view : View) (own : PubKey) (n : ℕ) (prev : Key) (v : Vector) (now : Moment) (op : Op) → MayCite view own v → IsMoment now → 2 ≤ n → IsKey prev → MayBeWritten own n op → IsGood view own (new_record own n prev v now op)
 new_is_good view own n prev v now op cites moment later key may = record {
   owned = refl;
   spelled = record {
@@ -100,7 +101,7 @@ newest_is_key f log spelled begun = ⊎_elim
     (found_stamp f log)
 
 -- a front without the own log may be cited
-may_cite : (view : View) (own : PubKey) (f : Vector) → IsView view → MayBeCited view f → MayCite view own (without_log (head_key_of own) f)
+pub may_cite : (view : View) (own : PubKey) (f : Vector) → IsView view → MayBeCited view f → MayCite view own (without_log (head_key_of own) f)
 may_cite view own f well cited =
     let log : Key = head_key_of own in
     let sorted : Sorted (without_log log f) = sorted_without_log log f cited.whole.in_order in
@@ -161,13 +162,13 @@ module _ (own : PubKey) (v : Vector) (now : Moment) where
       )
 
   -- and ascend with them, where they do
-  ascend_with : (s : List Record) (n : ℕ) (prev : Key) (ops : List Op) → IsAscending s → AllByRecursion (λ q. weight q < n + weight_of v) s → IsAscending (s ++ linked own v now n prev ops)
+  pub ascend_with : (s : List Record) (n : ℕ) (prev : Key) (ops : List Op) → IsAscending s → AllByRecursion (λ q. weight q < n + weight_of v) s → IsAscending (s ++ linked own v now n prev ops)
   ascend_with [] n prev ops up light = all_ascend n prev ops
   ascend_with (x ∷ s) n prev ops up light =
       (each_append (IsBefore x) s (linked own v now n prev ops) up.0 (before_all x n prev ops light.0), ascend_with s n prev ops up.1 light.1)
 
 -- none of these records weighs more than a vector that goes as far as each
-none_heavier : (s : List Record) (f : Vector) → Sorted f → AllByRecursion HasSpelling s → AllByRecursion (λ w. Dominates f w) (map full_vector s) → AllByRecursion (λ q. weight q ≤ weight_of f) s
+pub none_heavier : (s : List Record) (f : Vector) → Sorted f → AllByRecursion HasSpelling s → AllByRecursion (λ w. Dominates f w) (map full_vector s) → AllByRecursion (λ q. weight q ≤ weight_of f) s
 none_heavier [] f sorted spelled far = tt
 none_heavier (q ∷ s) f sorted spelled far =
     let same = weight-full_vector q spelled.0 in
@@ -176,7 +177,7 @@ none_heavier (q ∷ s) f sorted spelled far =
     (omega arith, none_heavier s f sorted spelled.1 far.1)
 
 -- so each is lighter than the next record over that vector
-all_lighter : (own : PubKey) (s : List Record) (f : Vector) → Sorted f → AllByRecursion (λ q. weight q ≤ weight_of f) s → AllByRecursion (λ q. weight q < seq_of f (head_key_of own) + 1 + weight_of (without_log (head_key_of own) f)) s
+pub all_lighter : (own : PubKey) (s : List Record) (f : Vector) → Sorted f → AllByRecursion (λ q. weight q ≤ weight_of f) s → AllByRecursion (λ q. weight q < seq_of f (head_key_of own) + 1 + weight_of (without_log (head_key_of own) f)) s
 all_lighter own s f sorted light =
     let parts = weight_by_log (head_key_of own) f sorted in
     each_from (λ q. weight q < seq_of f (head_key_of own) + 1 + weight_of (without_log (head_key_of own) f)) s
@@ -213,3 +214,9 @@ written_is_appended view own now s h ops closed holds same = (
       ∙ ap (λ (t : Tree). apply_all t (map effect (written_over own now (front s) ops))) (kept_tree_is_replay view s h closed holds)
       ∙ sym (replay_more s (written_over own now (front s) ops) closed.ascending (appended_ascends view own now s ops closed)),
 )
+
+-- ---- posts
+
+pub posts_are_named : PostsAreNamed
+posts_are_named [] spelled = tt
+posts_are_named (r ∷ rs) spelled = ((name_is_key r spelled.0, inr spelled.0.named, short_records r spelled.0), posts_are_named rs spelled.1)

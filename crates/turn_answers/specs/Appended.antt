@@ -1,9 +1,10 @@
 -- What a turn writes over a front, and what follows for it.
-use Rattle.std.specs.Prelude.{◌≡◌, ℕ, ◌+◌, ◌≤◌, List, [], ◌∷◌, ◌++◌, length, Some, IsTrue}
+use Rattle.std.specs.Prelude.{◌≡◌, ℕ, ◌+◌, ◌≤◌, List, [], ◌∷◌, ◌++◌, length, map, Some, IsTrue, Contains}
 use Rattle.std.specs.List.{AllByRecursion}
 use Rattle.std.specs.Option.{option_map_or}
 use Rattle.std.specs.Ordering.{is_lt}
 use Rattle.std.specs.FinMap.Entries.{is_sorted}
+use Rattle.causal_order.specs.Over as over
 use Rattle.ivy_base.specs.declared.key.PubKey.{PubKey}
 use Rattle.ivy_base.specs.declared.operation.Moment.{Moment}
 use Rattle.ivy_base.specs.declared.operation.Op.{Op}
@@ -15,7 +16,7 @@ use Rattle.log_model.specs.Laws.{NumbersAreKeys}
 use Rattle.log_model.specs.Rank.{front, own_entry, record_cmp}
 use Rattle.log_model.specs.Record.{Record}
 use Rattle.log_model.specs.Replay.{replay}
-use Rattle.log_model.specs.Spelling.{HasSpelling, IsMoment, no_name}
+use Rattle.log_model.specs.Spelling.{HasSpelling, IsKey, IsMoment, longest_record, no_name}
 use Rattle.log_model.specs.Vector.{Stamp, Vector, seq_of, stamp_at, without_log}
 use Rattle.log_model.specs.View.{View, IsView, is_named}
 use Rattle.nfs_model.specs.Arguments.{ArgumentsFit}
@@ -23,7 +24,8 @@ use Rattle.turn_model.specs.Basis.{Holding, HoldsAll, kept_tree}
 use Rattle.turn_model.specs.Turn.{Agent as Inputs, Asked, appended, linked}
 use Rattle.version_vectors.specs.Vectors.{IsVector}
 use Rattle.wire_model.specs.Rpc.{IsIdentity}
-use Rattle.agent_model.specs.Agent.{joined}
+use Rattle.agent_model.specs.Agent.{joined, record_post}
+use Rattle.agent_model.specs.SavedBytes.{HasItsName}
 use Rattle.agent_model.specs.Turning.{AreNext, with_held}
 use Rattle.turn_answers.specs.Newest.{newest_stamp, with_newest}
 use Rattle.turn_answers.specs.Serving.{Writes, serve_on}
@@ -70,6 +72,16 @@ abbrev pub WrittenAreGood : Type 0
 WrittenAreGood = (view : View) (own : PubKey) (now : Moment) (f : Vector) (ops : List Op) → IsView view → MayBeCited view f → IsMoment now → 1 ≤ seq_of f (head_key_of own)
     → AllMayBeWritten own (seq_of f (head_key_of own) + 1) ops → AllByRecursion (IsGood view own) (written_over own now f ops)
 
+-- With the newest of good records the front may be cited too.
+abbrev pub WithNewestMayBeCited : Type 0
+WithNewestMayBeCited = (view : View) (own : PubKey) (records : List Record) (f : Vector) → Contains view.members own → AllByRecursion (IsGood view own) records → MayBeCited view f
+    → MayBeCited view (with_newest own (newest_stamp records) f)
+
+-- The posts of records that have a spelling are under their blocks' names, and short.
+abbrev pub PostsAreNamed : Type 0
+PostsAreNamed = (records : List Record) → AllByRecursion HasSpelling records
+    → AllByRecursion (λ p. IsKey p.key × HasItsName p × (length p.bytes ≤ longest_record)) (map record_post records)
+
 -- There is one for each operation, and they are numbered on.
 abbrev pub WrittenAreNext : Type 0
 WrittenAreNext = (own : PubKey) (now : Moment) (f : Vector) (ops : List Op)
@@ -80,6 +92,12 @@ abbrev pub WrittenGoBehind : Type 0
 WrittenGoBehind = (own : PubKey) (now : Moment) (h : Holding) (ops : List Op) → IsTrue (is_sorted key_cmp (joined h)) → AllByRecursion HasSpelling h.held
     → IsAscending (written_over own now (joined h) ops)
     × AllByRecursion (λ r. AllByRecursion (λ q. IsTrue (is_lt (record_cmp q r))) h.held) (written_over own now (joined h) ops)
+
+-- What is held over the basis's front is closed with them, where it is without.
+abbrev pub WrittenIsClosed : Type 0
+WrittenIsClosed = (view : View) (own : PubKey) (now : Moment) (h : Holding) (ops : List Op) → IsView view → Contains view.members own → IsTrue (is_sorted key_cmp h.basis.front)
+    → MayBeCited view (joined h) → over.IsClosed view h.basis.front h.held → IsMoment now → 1 ≤ seq_of (joined h) (head_key_of own)
+    → AllMayBeWritten own (seq_of (joined h) (head_key_of own) + 1) ops → over.IsClosed view h.basis.front (h.held ++ written_over own now (joined h) ops)
 
 -- ---- the set, where all of it is held
 

@@ -8,11 +8,15 @@
 //! served on its replay. Whether a save fails is seen only once it is tried: where nothing is to be written the reply is the
 //! same whichever comes, and where something is, a save that fails makes the reply the fault of the server and leaves the set.
 //! [`write_records`] makes of the operations the records of `turn_model` (`linked`) and the posts of `agent_model`
-//! (`record_post`), and [`front_with`] the front with the newest of them ([`newest_of`]), which is the front of the set, and
-//! of what is held, with all of them ([`fronts_have_the_newest`]). Where memory is short nothing was made.
+//! (`record_post`), [`write_over`] those over a front (`written_over`, `specs/Appended.antt`). Whether or not names tell
+//! apart, these are good records, the next ones of the own log, and go behind all that is held, which stays closed; and where
+//! all of a set is held, the set with what its turn appends is held then ([`written_records_go_on`]). [`front_with`] is the
+//! front with the newest of them ([`newest_of`]), which is the front of the set, and of what is held, with all of them
+//! ([`fronts_have_the_newest`]). Where memory is short nothing was made.
 //!
 //! Inside, `kinds` tells the changing procedures and the tails of refusals. Definitions: `specs/Serving.antt`,
-//! `specs/Newest.antt`; `specs/Given.antt` has what the code's types stand for, `specs/Laws.antt` the laws.
+//! `specs/Newest.antt`, and `specs/Given.antt`, what the code's types stand for; laws: `specs/Laws.antt`,
+//! `specs/Appended.antt`.
 //!
 //! Costs: a call is answered, or planned, once; the tree isn't copied. Each record is written and hashed once: its name goes
 //! into the next record and its post, and its block into the post.

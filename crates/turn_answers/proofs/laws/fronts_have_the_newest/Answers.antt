@@ -1,3 +1,4 @@
+use Rattle.turn_answers.proofs.Cited.{with_newest_may_be_cited}
 use Rattle.turn_answers.proofs.Fronts.{appended_front, held_front, newest_is_last, newest_is_reached}
 use Rattle.turn_answers.proofs.laws.fronts_have_the_newest.Goals as goal
 
@@ -12,3 +13,6 @@ returns-clause-last c = newest_is_last
 
 pub returns-clause-reached : goal.returns-clause-reached
 returns-clause-reached c = newest_is_reached
+
+pub returns-clause-cited : goal.returns-clause-cited
+returns-clause-cited c = with_newest_may_be_cited

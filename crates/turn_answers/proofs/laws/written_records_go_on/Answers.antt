@@ -1,4 +1,5 @@
-use Rattle.turn_answers.proofs.Records.{writes_may_stand, written_are_good, written_are_next, written_go_behind, written_is_appended}
+use Rattle.turn_answers.proofs.Closing.{written_is_closed}
+use Rattle.turn_answers.proofs.Records.{posts_are_named, writes_may_stand, written_are_good, written_are_next, written_go_behind, written_is_appended}
 use Rattle.turn_answers.proofs.laws.written_records_go_on.Goals as goal
 
 pub returns-clause-may_stand : goal.returns-clause-may_stand
@@ -15,3 +16,9 @@ returns-clause-behind c = written_go_behind
 
 pub returns-clause-held : goal.returns-clause-held
 returns-clause-held c = written_is_appended
+
+pub returns-clause-closed : goal.returns-clause-closed
+returns-clause-closed c = written_is_closed
+
+pub returns-clause-posts : goal.returns-clause-posts
+returns-clause-posts c = posts_are_named
