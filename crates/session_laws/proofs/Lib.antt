@@ -6,8 +6,8 @@ mod OwnParts
 mod AllLogs
 mod SortedEntries
 mod NotBehind
-mod Refreshed
-mod Starting
+pub mod Refreshed
+pub mod Starting
 mod WholeTrees
 mod MadeBlocks
-mod Loading
+pub mod Loading

@@ -9,3 +9,4 @@ pub mod AskedLookups
 pub mod AskedCourses
 pub mod AskedGets
 pub mod Still
+pub mod Bringing

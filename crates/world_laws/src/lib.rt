@@ -7,7 +7,7 @@
 #![tactic(auto)]
 
 ghost use Rattle.world_laws.specs.Kinds.{LineHasOneKind};
-ghost use Rattle.world_laws.specs.Laws.{ClashIsDecided, FewerStayApart, GetsAreOne, MetGrows, PutsAreOne, StillLinesChangeNothing, UpperLeavesSignOnce};
+ghost use Rattle.world_laws.specs.Laws.{ClashIsDecided, FewerStayApart, GetsAreOne, MetGrows, PutsAreOne, RefreshBrings, RefreshMayTurn, StillLinesChangeNothing, UpperLeavesSignOnce};
 
 /// A law and no code: of any blocks, names tell them apart, or two of them clash.
 pub fn clashes_are_decided()
@@ -44,4 +44,11 @@ pub fn gets_are_one()
 /// A law and no code: a line that shows something, or sets the moment or a loss to come, changes nothing else.
 pub fn still_lines_change_nothing()
     ensures { StillLinesChangeNothing }
+{}
+
+/// A law and no code: where names tell the blocks apart, a refresh that is done has brought what its heads name, and its turn may
+/// be held to the definition.
+pub fn done_refreshes_bring()
+    ensures brings { RefreshBrings }
+    ensures may_turn { RefreshMayTurn }
 {}
