@@ -2,10 +2,10 @@ mod ReadBack
 mod Cuts
 mod OneHead
 mod OneLog
-mod OwnParts
+pub mod OwnParts
 mod AllLogs
-mod SortedEntries
-mod NotBehind
+pub mod SortedEntries
+pub mod NotBehind
 pub mod Refreshed
 pub mod Starting
 mod WholeTrees

@@ -30,7 +30,7 @@ use Rattle.world_model.specs.Steps.{Scene}
 use Rattle.world_laws.specs.Keeps.{IsInHand, IsKeptSo, IsSavedWell, IsSound, IsSoundIn, IsSoundSession, Keeps}
 use Rattle.world_laws.specs.Laws.{RefreshBrings, RefreshMayTurn}
 
-some_same : (p q : Participant) → Some p ≡ Some q → p ≡ q
+pub some_same : (p q : Participant) → Some p ≡ Some q → p ≡ q
 some_same p q e = cc e
 
 -- the participant that is found by a name stands in the world, and has that name
@@ -74,7 +74,7 @@ module _ (c : Scene) (keeps : Keeps (c.world, c.story)) (apart : NamesTellApart 
   met_named : (b : List ℕ) → Contains c.world.met b → Contains (named_bytes c.world) b
   met_named b h = Contains-append_left c.world.met (map (λ q. (own q.agent).0) c.world.participants) b h
 
-  met_apart : NamesTellApart c.world.met
+  pub met_apart : NamesTellApart c.world.met
   met_apart a b in_a in_b same = apart a b (met_named a in_a) (met_named b in_b) same
 
   pub in_a_view : IsView c.session.standing.view
@@ -84,28 +84,28 @@ module _ (c : Scene) (keeps : Keeps (c.world, c.story)) (apart : NamesTellApart 
   agent_sound = subst (IsSoundIn c.world.met p (knowing_of c.story p.name)) in_view
       (each (λ (q : Participant). IsSoundIn c.world.met q (knowing_of c.story q.name) q.agent.view) c.world.participants p (keeps.sound apart).agents is_named.0)
 
-  knew_before : (q : Record) → Contains c.began.knew q → Contains (known_of c.story p.name) q
+  pub knew_before : (q : Record) → Contains c.began.knew q → Contains (known_of c.story p.name) q
   knew_before q h = subst (λ (name : List ℕ). Contains (known_of c.story name) q) (sym is_named.1) (sound.known q h)
 
-  known_stand : Stand (named_bytes c.world) (known_of c.story p.name)
+  pub known_stand : Stand (named_bytes c.world) (known_of c.story p.name)
   known_stand = each_from (StandsAmong (named_bytes c.world)) (known_of c.story p.name)
       (λ q h. met_named (record_block q) (each (StandsAmong c.world.met) (known_of c.story p.name) q agent_sound.stand h))
 
-  knew_stand : Stand (named_bytes c.world) c.began.knew
+  pub knew_stand : Stand (named_bytes c.world) c.began.knew
   knew_stand = each_from (StandsAmong (named_bytes c.world)) c.began.knew (λ q h. each (StandsAmong (named_bytes c.world)) (known_of c.story p.name) q known_stand (knew_before q h))
 
-  are_met : AreMet c.world.met (brought_in c.session.parts)
+  pub are_met : AreMet c.world.met (brought_in c.session.parts)
   are_met key bytes h = ((sound.blocks key bytes h).1, (sound.blocks key bytes h).0)
 
-  are_named : AreMet (named_bytes c.world) (brought_in c.session.parts)
+  pub are_named : AreMet (named_bytes c.world) (brought_in c.session.parts)
   are_named key bytes h = (met_named bytes (are_met key bytes h).0, (are_met key bytes h).1)
 
   module _ (notes : List Note) (given : Refresh) (done : HasRefreshed c.session notes given) where
-    basis_known : IfSome given.basis (StandsWithin c.session.standing.view c.began.knew)
+    pub basis_known : IfSome given.basis (StandsWithin c.session.standing.view c.began.knew)
     basis_known = basis_is_known c.world.met c.session.standing c.began.knew (brought_in c.session.parts) notes given Done met_apart are_met
         (only_made (sound.of ≡ nothing_held) (IsSnapshotOf c.world.met c.session.standing.view c.began.knew) c.session.standing.to_load sound.to_load) done.1
 
-    starts : StartsFrom c.session.standing given.started c.began.knew
+    pub starts : StartsFrom c.session.standing given.started c.began.knew
     starts = start_is_known c.session.standing sound.of c.began.knew (brought_in c.session.parts) notes given Done in_a_view sound.knows sound.held sound.edges
         (only_held (sound.of ≡ nothing_held) (IsSnapshotOf c.world.met c.session.standing.view c.began.knew) c.session.standing.to_load sound.to_load) basis_known done.1
 

@@ -10,3 +10,5 @@ pub mod AskedCourses
 pub mod AskedGets
 pub mod Still
 pub mod Bringing
+pub mod NotRefused
+pub mod SecondTurns

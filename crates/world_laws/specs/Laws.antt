@@ -246,7 +246,7 @@ RefreshEndsInTurn = (c next : Scene) (r : ℕ) (notes : List Note) (given : Refr
 -- A session begins anew once at most: its second turn isn't refused.
 abbrev pub SecondTurnIsAnswered : Type 0
 SecondTurnIsAnswered = (c : Scene) (p : Participant) (r : ℕ) (view : View) (end : TurnEnd) (after : Agent) (saving : Option Kept) (t : Session) → Keeps (c.world, c.story) → NamesTellApart (named_bytes c.world)
-    → c.world.replicas ≡ Some r → IsInHand c r → participant c.world c.session.by ≡ Some p → TakesTurn c.world.now p.agent view (fails_next p.keeper) c.session end after saving t → IsRefusal end → c.session.starts ≡ 0
+    → c.world.replicas ≡ Some r → IsInHand c r → participant c.world c.session.by ≡ Some p → p.agent.view ≡ Some view → TakesTurn c.world.now p.agent view (fails_next p.keeper) c.session end after saving t → IsRefusal end → c.session.starts ≡ 0
 
 -- where the session began with no snapshot to load and no basis the turn is answered at once
 abbrev pub FreshTurnsAreAnswered : Type 0

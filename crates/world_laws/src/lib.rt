@@ -7,7 +7,7 @@
 #![tactic(auto)]
 
 ghost use Rattle.world_laws.specs.Kinds.{LineHasOneKind};
-ghost use Rattle.world_laws.specs.Laws.{ClashIsDecided, FewerStayApart, GetsAreOne, MetGrows, PutsAreOne, RefreshBrings, RefreshMayTurn, StillLinesChangeNothing, UpperLeavesSignOnce};
+ghost use Rattle.world_laws.specs.Laws.{ClashIsDecided, FewerStayApart, GetsAreOne, MetGrows, PutsAreOne, RefreshBrings, RefreshMayTurn, SecondTurnIsAnswered, StillLinesChangeNothing, UpperLeavesSignOnce};
 
 /// A law and no code: of any blocks, names tell them apart, or two of them clash.
 pub fn clashes_are_decided()
@@ -51,4 +51,9 @@ pub fn still_lines_change_nothing()
 pub fn done_refreshes_bring()
     ensures brings { RefreshBrings }
     ensures may_turn { RefreshMayTurn }
+{}
+
+/// A law and no code: a session begins anew once at most, since its second turn isn't refused.
+pub fn second_turns_are_answered()
+    ensures { SecondTurnIsAnswered }
 {}
