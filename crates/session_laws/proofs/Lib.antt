@@ -11,3 +11,5 @@ pub mod Starting
 mod WholeTrees
 mod MadeBlocks
 pub mod Loading
+mod OneCourse
+pub mod OneRefresh

@@ -18,6 +18,7 @@
 
 ghost use Rattle.session_laws.specs.Bringing.{FetchedIsBrought, FloorIsBrought, RefreshedIsBrought, FloorIsReached, DoneIsNotBehind};
 ghost use Rattle.session_laws.specs.Loading.{LoadedIsMade, BasisIsKnown};
+ghost use Rattle.session_laws.specs.Once.{RefreshIsOne};
 ghost use Rattle.session_laws.specs.Starting.{StartIsKnown, StartIsSorted};
 
 /// A law and no code.
@@ -55,4 +56,12 @@ pub fn start_is_known()
 pub fn loaded_is_made()
     ensures made { LoadedIsMade }
     ensures known { BasisIsKnown }
+{}
+
+/// A law and no code.
+///
+/// Where names tell the blocks apart, what a refresh was brought tells what it notes, what it gives and how it stands; so one
+/// that is done wants nothing more.
+pub fn refreshes_are_one()
+    ensures { RefreshIsOne }
 {}
