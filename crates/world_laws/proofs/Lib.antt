@@ -12,3 +12,4 @@ pub mod Still
 pub mod Bringing
 pub mod NotRefused
 pub mod SecondTurns
+pub mod DoneSteps

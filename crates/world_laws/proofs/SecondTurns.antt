@@ -155,7 +155,7 @@ module _ (c : Scene) (keeps : Keeps (c.world, c.story)) (apart : NamesTellApart 
 
 -- ---- the law
 
-abbrev IsFreshNow : Agent → Type 0
+abbrev pub IsFreshNow : Agent → Type 0
 IsFreshNow a = (a.to_load ≡ None) × (a.holding.basis ≡ fresh_basis)
 
 -- after it began anew

@@ -7,7 +7,7 @@
 #![tactic(auto)]
 
 ghost use Rattle.world_laws.specs.Kinds.{LineHasOneKind};
-ghost use Rattle.world_laws.specs.Laws.{ClashIsDecided, FewerStayApart, GetsAreOne, MetGrows, PutsAreOne, RefreshBrings, RefreshMayTurn, SecondTurnIsAnswered, StillLinesChangeNothing, UpperLeavesSignOnce};
+ghost use Rattle.world_laws.specs.Laws.{ClashIsDecided, FewerStayApart, FreshTurnsAreAnswered, GetsAreOne, MetGrows, PutsAreOne, RefreshBrings, RefreshEndsInTurn, RefreshMayTurn, SecondTurnIsAnswered, StillLinesChangeNothing, UpperLeavesSignOnce};
 
 /// A law and no code: of any blocks, names tell them apart, or two of them clash.
 pub fn clashes_are_decided()
@@ -56,4 +56,11 @@ pub fn done_refreshes_bring()
 /// A law and no code: a session begins anew once at most, since its second turn isn't refused.
 pub fn second_turns_are_answered()
     ensures { SecondTurnIsAnswered }
+{}
+
+/// A law and no code: once a refresh is done, the next step of its session is its turn, or memory is wanting. The turn is
+/// answered, or the session begins anew; where it began with no snapshot to load and no basis, it is answered.
+pub fn done_refreshes_have_turns()
+    ensures turns { RefreshEndsInTurn }
+    ensures fresh { FreshTurnsAreAnswered }
 {}
