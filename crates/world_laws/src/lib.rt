@@ -1,9 +1,16 @@
 //! What holds of each world that a script reaches, of each reply, and of runs.
 //!
-//! Layer: statements and their first laws, above `world_model`; below the crates that prove the others and play scripts.
+//! Layer: statements and their first laws, above `world_model` and `session_laws`; below the crates that prove the others and
+//! play scripts.
 //! Statements, in reading order: `specs/Headline.antt` (each reply), `specs/Causes.antt` (why a session says what it
 //! says), `specs/Keeps.antt` (each world), `specs/Kinds.antt` (which lines are
 //! refused), `specs/Laws.antt` (steps and runs), `specs/Calm.antt` (rings that change little).
+//! For the layers above, of a session in a world that keeps what it should (`Keeps`), where names tell the blocks apart: a
+//! refresh that is done brings what its heads name, and its turn may be held to the definition; its next step is that turn, and
+//! no other; a turn is refused once at most, and never where the session began with no snapshot to load and no basis.
+//! Lemmas to cite: `proofs/Bringing.antt` (what `Keeps` says of a session and its agent), `proofs/NotRefused.antt` (an agent
+//! that holds all that it knows isn't behind, and one without a basis isn't below the tide), `proofs/SecondTurns.antt`,
+//! `proofs/DoneSteps.antt`. Nothing here runs, so there are no costs.
 #![tactic(auto)]
 
 ghost use Rattle.world_laws.specs.Kinds.{LineHasOneKind};
