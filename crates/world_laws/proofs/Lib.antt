@@ -13,3 +13,6 @@ pub mod Bringing
 pub mod NotRefused
 pub mod SecondTurns
 pub mod DoneSteps
+pub mod FirstWorld
+pub mod Alike
+pub mod OtherLogs

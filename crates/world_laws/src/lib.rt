@@ -14,7 +14,7 @@
 #![tactic(auto)]
 
 ghost use Rattle.world_laws.specs.Kinds.{LineHasOneKind};
-ghost use Rattle.world_laws.specs.Laws.{ClashIsDecided, FewerStayApart, FreshTurnsAreAnswered, GetsAreOne, MetGrows, PutsAreOne, RefreshBrings, RefreshEndsInTurn, RefreshMayTurn, SecondTurnIsAnswered, StillLinesChangeNothing, UpperLeavesSignOnce};
+ghost use Rattle.world_laws.specs.Laws.{AlikeTurnsAnswerAlike, ClashIsDecided, EmptyKeeps, FewerStayApart, FreshTurnsAreAnswered, GetsAreOne, MetGrows, OtherLogsDontCount, PutsAreOne, RefreshBrings, RefreshEndsInTurn, RefreshMayTurn, SecondTurnIsAnswered, StillLinesChangeNothing, UpperLeavesSignOnce};
 
 /// A law and no code: of any blocks, names tell them apart, or two of them clash.
 pub fn clashes_are_decided()
@@ -70,4 +70,20 @@ pub fn second_turns_are_answered()
 pub fn done_refreshes_have_turns()
     ensures turns { RefreshEndsInTurn }
     ensures fresh { FreshTurnsAreAnswered }
+{}
+
+/// A law and no code: a script begins in a world that keeps what it should.
+pub fn scripts_begin_well()
+    ensures { EmptyKeeps }
+{}
+
+/// A law and no code: where two worlds have the same heads and the same records' blocks of a view's members, a turn in that view
+/// has the same candidates, whatever other logs there are.
+pub fn other_logs_dont_count()
+    ensures { OtherLogsDontCount }
+{}
+
+/// A law and no code: two turns of equal views, agents, sets, calls and moments give equal replies.
+pub fn alike_turns_answer_alike()
+    ensures { AlikeTurnsAnswerAlike }
 {}
