@@ -2,12 +2,14 @@ mod ReadBack
 mod Cuts
 mod OneHead
 mod OneLog
-mod OwnParts
+pub mod OwnParts
 mod AllLogs
-mod SortedEntries
-mod NotBehind
-mod Refreshed
-mod Starting
+pub mod SortedEntries
+pub mod NotBehind
+pub mod Refreshed
+pub mod Starting
 mod WholeTrees
 mod MadeBlocks
-mod Loading
+pub mod Loading
+mod OneCourse
+pub mod OneRefresh

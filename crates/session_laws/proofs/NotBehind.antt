@@ -34,7 +34,7 @@ as_far v sorted = all_pass (λ (e : Entry). nat_le e.1.seq (seq_of v e.0)) v (λ
     let same : seq_of v e.0 ≡ e.1.seq = ap reach found in
     le-leb e.1.seq (seq_of v e.0) (omega (arith, same)))
 
-none_passes : {X : Type 0} (test : X → Bool) (xs : List X) → AllByRecursion (λ x. test x ≡ false) xs → list_any test xs ≡ false
+pub none_passes : {X : Type 0} (test : X → Bool) (xs : List X) → AllByRecursion (λ x. test x ≡ false) xs → list_any test xs ≡ false
 none_passes test [] h = refl
 none_passes test (x ∷ xs) h = neither (test x) (list_any test xs) h.0 (none_passes test xs h.1)
   where

@@ -41,7 +41,7 @@ is_less Less h = refl
 is_less Equal h = cc
 is_less Greater h = cc
 
-not_both_before : (s t : Stamp) → IsTriedBefore s t → IsTriedBefore t s → ⊥
+pub not_both_before : (s t : Stamp) → IsTriedBefore s t → IsTriedBefore t s → ⊥
 not_both_before s t (inl f) (inl g) = omega (arith, f, g)
 not_both_before s t (inl f) (inr g) = omega (arith, f, g.0)
 not_both_before s t (inr f) (inl g) = omega (arith, f.0, g)

@@ -159,7 +159,7 @@ module _ (view : View) (owner : PubKey) (well : IsView view) (member : Contains 
         )
 
 -- how far all that is held goes is the front of what is known
-joined_front : (view : View) (known : List Record) (h : Holding) → HoldsAll view known h → joined h ≡ front known
+pub joined_front : (view : View) (known : List Record) (h : Holding) → HoldsAll view known h → joined h ≡ front known
 joined_front view known h all =
     ap (λ (v : Vector). fold join v (map full_vector h.held)) all.stands.front
     ∙ sym (fold-append join [] (map full_vector all.below) (map full_vector h.held))

@@ -1,3 +1,4 @@
 pub mod Bringing
 pub mod Starting
 pub mod Loading
+pub mod Once

@@ -5,19 +5,21 @@
 //! For the layers above, where names tell the blocks apart: a refresh that is done has brought of each member's log what
 //! `agent_model` holds a turn to (`Brings`), and the floor's record where the floor goes further than what it started from, so
 //! that its own agent isn't behind (`is_behind`). All ask that it starts from known records, which it does
-//! (`start_is_known`), also where it goes by a basis, since what it loads is what was made (`loaded_is_made`).
+//! (`start_is_known`), also where it goes by a basis, since what it loads is what was made (`loaded_is_made`). What a refresh was
+//! brought tells how it stands (`refreshes_are_one`), so one that is done wants nothing more.
 //! Definitions: `specs/Bringing.antt` (`AreMet`, `StartsFrom`, and the laws on what is brought), `specs/Starting.antt`,
-//! `specs/Loading.antt` (`IsSnapshotOf`).
+//! `specs/Loading.antt` (`IsSnapshotOf`), `specs/Once.antt`.
 //! Lemmas, each file on those before it: `proofs/ReadBack.antt`, that a walk back by names reads the linked records that end at
 //! the name; `proofs/Cuts.antt`, that a chain is sound and onward above the held record; `proofs/OneHead.antt`,
 //! `proofs/OneLog.antt`, `proofs/OwnParts.antt`, `proofs/AllLogs.antt`: one head, one log, each log's part of what was brought,
 //! all logs; `proofs/NotBehind.antt`, `proofs/Refreshed.antt`. By themselves: `proofs/Starting.antt`; `proofs/Loading.antt`
 //! over `proofs/WholeTrees.antt` (trees that operations make have the facts of a snapshot's tree) and `proofs/MadeBlocks.antt`;
-//! `proofs/SortedEntries.antt`.
+//! `proofs/SortedEntries.antt`; `proofs/OneRefresh.antt` over `proofs/OneCourse.antt` (walks, and the heads of one log).
 #![tactic(auto)]
 
 ghost use Rattle.session_laws.specs.Bringing.{FetchedIsBrought, FloorIsBrought, RefreshedIsBrought, FloorIsReached, DoneIsNotBehind};
 ghost use Rattle.session_laws.specs.Loading.{LoadedIsMade, BasisIsKnown};
+ghost use Rattle.session_laws.specs.Once.{RefreshIsOne};
 ghost use Rattle.session_laws.specs.Starting.{StartIsKnown, StartIsSorted};
 
 /// A law and no code.
@@ -55,4 +57,12 @@ pub fn start_is_known()
 pub fn loaded_is_made()
     ensures made { LoadedIsMade }
     ensures known { BasisIsKnown }
+{}
+
+/// A law and no code.
+///
+/// Where names tell the blocks apart, what a refresh was brought tells what it notes, what it gives and how it stands; so one
+/// that is done wants nothing more.
+pub fn refreshes_are_one()
+    ensures { RefreshIsOne }
 {}

@@ -9,3 +9,10 @@ pub mod AskedLookups
 pub mod AskedCourses
 pub mod AskedGets
 pub mod Still
+pub mod Bringing
+pub mod NotRefused
+pub mod SecondTurns
+pub mod DoneSteps
+pub mod FirstWorld
+pub mod Alike
+pub mod OtherLogs

@@ -12,13 +12,11 @@ use Rattle.log_model.specs.Chain.{IsChain}
 use Rattle.log_model.specs.Closed.{IsClosed, log_of}
 use Rattle.log_model.specs.Standing.{Stand}
 use Rattle.turn_model.specs.Known.{IsKnown, IsVerified}
-use Rattle.turn_model.specs.Basis.{Basis, Holding, HoldsAll, Knows, StandsFor, fresh_basis, nothing_held}
+use Rattle.turn_model.specs.Basis.{Holding, HoldsAll, Knows, fresh_basis, nothing_held}
 use Rattle.dht_ids.specs.declared.judge.Judged.{Judged}
 use Rattle.dht_ids.specs.declared.post.Post.{Post}
 use Rattle.hss_keys.specs.Signer.{Signer}
 use Rattle.block_cache.specs.Blocks.{IsCache}
-use Rattle.snapshot_model.specs.Spelling.{root_name, snapshot_blocks}
-use Rattle.snapshot_model.specs.Reading.{IsBasisSpelled}
 use Rattle.agent_model.specs.Agent.{joined, kept_of}
 use Rattle.agent_model.specs.SavedBytes.{HasItsName}
 use Rattle.agent_model.specs.Standing.{Refresh, edges_of}
@@ -31,6 +29,7 @@ use Rattle.session_model.specs.Replies.{Asks}
 use Rattle.log_heads.specs.Signed.{hss_judged}
 use Rattle.session_model.specs.Brought.{BlockOf, all_heads, brought_in, stamp_of}
 use Rattle.session_model.specs.Sessions.{Said, Session, Stage, Refreshing, Publishing, Over, IsGet, IsPut}
+use Rattle.session_laws.specs.Loading.{IsSnapshotOf}
 use Rattle.node_store.specs.Stores.{IsStore}
 use Rattle.round_laws.specs.RingOf.{AreNamed, KnowsOnly}
 use Rattle.round_laws.specs.RingOf.{AreApart as StandApart}
@@ -114,16 +113,6 @@ pub record IsSound (met : List (List ℕ)) (p : Participant) (k : Knowing) (view
 abbrev pub IsSoundIn : List (List ℕ) → Participant → Knowing → Option View → Type 0
 IsSoundIn met p k None = (r : Record) × (k.known ≡ r ∷ []) × (p.agent.floor ≡ own_entry r ∷ []) × Contains met (record_block r) × IsChain (record { members = own p.agent ∷ []; former = [] }) (own p.agent) (r ∷ [])
 IsSoundIn met p k (Some view) = IsSound met p k view
-
--- a snapshot's name is that of one made of a closed part of what is known, whose blocks were met
-pub record IsSnapshotOf (met : List (List ℕ)) (view : View) (known : List Record) (root : Key) : Type 0 where
-  pub made : Basis
-  pub spelled : IsBasisSpelled made
-  pub named : root ≡ root_name view made
-  pub blocks : AllByRecursion (Contains met) (snapshot_blocks view made)
-  pub below : List Record
-  pub stands : StandsFor view made below
-  pub within : (r : Record) → Contains below r → Contains known r
 
 -- the head is over one of these records
 abbrev pub NamesOneOf : Signer → List Record → List ℕ → Type 0

@@ -1,9 +1,9 @@
 -- Laws of the world's steps and of its runs. Each is stated here, and proved by the crates above.
-use Rattle.std.specs.Prelude.{◌≡◌, ◌≢◌, ◌⊎◌, ◌↔◌, ℕ, ◌+◌, ◌<◌, List, [], ◌∷◌, ◌++◌, map, take, Contains, Option, Ok, Some}
+use Rattle.std.specs.Prelude.{◌≡◌, ◌≢◌, ◌⊎◌, ◌↔◌, ℕ, ◌+◌, ◌<◌, List, [], ◌∷◌, ◌++◌, map, take, Contains, Option, Some}
 use Rattle.std.specs.List.{AllByRecursion}
 use Rattle.ivy_base.specs.declared.key.Key.{Key}
 use Rattle.ivy_base.specs.declared.key.PubKey.{PubKey}
-use Rattle.ivy_base.specs.Naming.{NamesTellApart, HasClash, head_key_of, name}
+use Rattle.ivy_base.specs.Naming.{NamesTellApart, HasClash, head_key_of}
 use Rattle.wire_model.specs.Rpc.{SystemError, reply}
 use Rattle.log_model.specs.Record.{Record}
 use Rattle.log_model.specs.Chain.{LinkedFrom}
@@ -12,7 +12,7 @@ use Rattle.log_model.specs.Spelling.{HasSpelling, no_name, record_block}
 use Rattle.log_model.specs.Standing.{Stand}
 use Rattle.log_model.specs.Vector.{Stamp, Vector, stamp_at}
 use Rattle.log_model.specs.View.{View}
-use Rattle.turn_model.specs.Basis.{Basis}
+use Rattle.turn_model.specs.Basis.{Knows}
 use Rattle.turn_model.specs.Known.{EndsAt}
 use Rattle.turn_model.specs.Turn.{Candidate, IsPrefixOf}
 use Rattle.dht_ids.specs.declared.ask.Ask.TheVariants as ask
@@ -23,11 +23,11 @@ use Rattle.hash_signature_model.specs.declared.keys.PrivateKey.{PrivateKey}
 use Rattle.hash_signature_model.specs.declared.set.Set.{Set}
 use Rattle.hss_keys.specs.Signer.{Signer, leaf_used, leaves_used, left_of, lower_key, signed_lower}
 use Rattle.log_heads.specs.Signed.{hss_judged}
-use Rattle.agent_model.specs.Candidates.{AreCandidatesOf, Brings}
+use Rattle.agent_model.specs.Candidates.{AreCandidatesOf, Brings, MayTurn}
 use Rattle.agent_model.specs.Turning.{TurnEnd}
 use Rattle.agent_model.specs.Standing.{Refresh, Standing}
-use Rattle.session_model.specs.Brought.{Brought, BlockOf, Want, brought_in, heads_at}
-use Rattle.session_model.specs.Refreshing.{Loaded, LoadsFor, Note}
+use Rattle.session_model.specs.Brought.{Want, brought_in, heads_at}
+use Rattle.session_model.specs.Refreshing.{Note}
 use Rattle.session_model.specs.Sessions.{Session, Over, IsGet, IsPut, put_question, wanted_key}
 use Rattle.session_model.specs.Asking.{IsBegun, AsksOneNext, BeginsNoOther, GoesOnAlways}
 use Rattle.session_model.specs.Courses.{HasRefreshed, IsRefusal, LacksMemory}
@@ -46,7 +46,7 @@ use Rattle.world_model.specs.Calls.{reply_line}
 use Rattle.world_model.specs.Step.{Does, IvyStep}
 use Rattle.world_model.specs.Steps.{Scene, Steps, heads_by}
 use Rattle.world_laws.specs.Causes.{IsOf}
-use Rattle.world_laws.specs.Keeps.{BeganFresh, HasNoSnapshot, IsInHand, IsSnapshotOf, IsSoundSession, Keeps, OnlyPublishes, sealed_with}
+use Rattle.world_laws.specs.Keeps.{BeganFresh, HasNoSnapshot, IsInHand, IsSoundSession, Keeps, OnlyPublishes, sealed_with}
 use Rattle.world_laws.specs.Headline.{Headline, IsOnReplay, NewTurns, TurnHolds}
 
 -- ---- blocks met
@@ -158,12 +158,6 @@ AlikeTurnsAnswerAlike = (g h : HadTurn) (one : IsOnReplay g) (other : IsOnReplay
 abbrev pub KeptOnce : Type 0
 KeptOnce = (k l : Kept) → IsKept k → IsKept l → kept_bytes k ≡ kept_bytes l → k ≡ l
 
--- what is loaded of a snapshot is what was made, where names tell apart the blocks met
-abbrev pub LoadedIsMade : Type 0
-LoadedIsMade = (met : List (List ℕ)) (view : View) (known : List Record) (root : Key) (snapshot : IsSnapshotOf met view known root) (brought : List Brought) (b : Basis) → NamesTellApart met
-    → ((key : Key) (bytes : List ℕ) → Contains brought (BlockOf key (Ok bytes)) → (name bytes ≡ key) × Contains met bytes)
-    → LoadsFor (Some root) brought (Loaded (Some b)) → b ≡ snapshot.made
-
 -- A line that makes no snapshot leaves a world without one so.
 abbrev pub NoSnapshotComes : Type 0
 NoSnapshotComes = (w next : Played) (line output log : List ℕ) → Keeps w → HasNoSnapshot w.0 → command_of line ≢ Some (command.Snap log) → IvyStep w line (Goes next output) → HasNoSnapshot next.0
@@ -231,6 +225,13 @@ abbrev pub RefreshBrings : Type 0
 RefreshBrings = (c : Scene) (r : ℕ) (notes : List Note) (given : Refresh) → Keeps (c.world, c.story) → NamesTellApart (named_bytes c.world) → IsInHand c r → HasRefreshed c.session notes given
     → Brings (heads_at (brought_in c.session.parts)) (named_bytes c.world) c.session.standing.view c.session.standing c.began.knew given
 
+-- Its turn is that of the definition: this is what its agent knows now, and it may turn so.
+abbrev pub RefreshMayTurn : Type 0
+RefreshMayTurn = (c : Scene) (p : Participant) (r : ℕ) (notes : List Note) (given : Refresh) → Keeps (c.world, c.story) → NamesTellApart (named_bytes c.world) → IsInHand c r
+    → participant c.world c.session.by ≡ Some p → HasRefreshed c.session notes given
+    → Knows c.session.standing.view p.agent.floor p.agent.holding (known_of c.story p.name)
+    × MayTurn (heads_at (brought_in c.session.parts)) (named_bytes c.world) c.session.standing.view (own p.agent) c.session.standing c.began.knew (known_of c.story p.name) given
+
 -- the session has just had a turn that was answered
 pub record HasTurned (c next : Scene) : Type 0 where
   pub had : HadTurn
@@ -245,7 +246,7 @@ RefreshEndsInTurn = (c next : Scene) (r : ℕ) (notes : List Note) (given : Refr
 -- A session begins anew once at most: its second turn isn't refused.
 abbrev pub SecondTurnIsAnswered : Type 0
 SecondTurnIsAnswered = (c : Scene) (p : Participant) (r : ℕ) (view : View) (end : TurnEnd) (after : Agent) (saving : Option Kept) (t : Session) → Keeps (c.world, c.story) → NamesTellApart (named_bytes c.world)
-    → c.world.replicas ≡ Some r → IsInHand c r → participant c.world c.session.by ≡ Some p → TakesTurn c.world.now p.agent view (fails_next p.keeper) c.session end after saving t → IsRefusal end → c.session.starts ≡ 0
+    → c.world.replicas ≡ Some r → IsInHand c r → participant c.world c.session.by ≡ Some p → p.agent.view ≡ Some view → TakesTurn c.world.now p.agent view (fails_next p.keeper) c.session end after saving t → IsRefusal end → c.session.starts ≡ 0
 
 -- where the session began with no snapshot to load and no basis the turn is answered at once
 abbrev pub FreshTurnsAreAnswered : Type 0
