@@ -96,8 +96,8 @@ answered_of had s _ now a view fails _ _ _ _ is (gives_up notes given xid asked 
 
 acts_done : {judged : Key → List ℕ → Option Judged} {replicas : ℕ} {p : Participant} {c next : Scene} → c.session.stage ≡ Refreshing → ((want : Want) → Wants judged replicas c.session want → ⊥)
     → Acts judged replicas p c next → HasTurned c next ⊎ IsRefusedTo p c.world.now c.session next.session
-acts_done {c = c} stage done (acts_asks node question answer next heard t cache fate hears fails) = absurd (hears_nothing c.session done stage hears)
-acts_done {c = c} stage done (asks_in_vain node question answer next heard t cache fate hears lacks) = absurd (hears_nothing c.session done stage hears)
+acts_done {c = c} stage done (acts_asks node question answer next heard t cache fate hears failed) = absurd (hears_nothing c.session done stage hears)
+acts_done {c = c} stage done (asks_in_vain node question answer next heard t cache fate hears lacking) = absurd (hears_nothing c.session done stage hears)
 acts_done {p = p} {c = c} stage done (acts_turns view reply applied after saving t turned entered takes replies is_turn) =
     let had : HadTurn = record {
       session = c.session;
@@ -162,7 +162,7 @@ module _ (c : Scene) (r : ℕ) (keeps : Keeps (c.world, c.story)) (apart : Names
         }),
       )))
       (acts_done {c = with_cache hss_judged r c p taken cache} (ap (λ (t : Session). t.stage) same ∙ done.0) (λ want. subst (λ (t : Session). Wants hss_judged r t want → ⊥) (sym same) (wants_nothing want)) act)
-  step_done (lacks_memory p taken t cache is takes lacks) = inr (inr (subst (λ (x : Session). LacksMemory x t) (some_taken wants_nothing takes) lacks))
+  step_done (lacks_memory p taken t cache is takes lacking) = inr (inr (subst (λ (x : Session). LacksMemory x t) (some_taken wants_nothing takes) lacking))
 
 pub refresh_ends_in_turn : RefreshEndsInTurn
 refresh_ends_in_turn c next r notes given keeps apart replicas hand done step = ⊎_elim
