@@ -1,7 +1,7 @@
 -- The machines that put posts, by their states.
 use Rattle.dhash_client.specs.Puts.{PutState}
-use Rattle.post_publishing.specs.declared.put.Machine.{Machine}
-use Rattle.post_publishing.specs.declared.put.Machine.TheVariants as machine
+use Rattle.post_publishing.specs.declared.machine.Machine.{Machine}
+use Rattle.post_publishing.specs.declared.machine.Machine.TheVariants as machine
 
 abbrev pub state_of : Machine → PutState
 state_of (machine.Block s) = s

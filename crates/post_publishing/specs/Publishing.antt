@@ -15,7 +15,7 @@ use Rattle.dhash_client.specs.Course.{asks_left}
 use Rattle.dhash_client.specs.Puts.{put_awaited}
 use Rattle.agent_model.specs.Agent.{is_head}
 use Rattle.session_model.specs.Sessions.{Said, Stage, Publishing, IsPutOfPost, in_publishing_order, is_log, after_put, acknowledged}
-use Rattle.post_publishing.specs.Putting.{Putting, PuttingIsAfter, IsSamePutting, putting, post_of}
+use Rattle.post_publishing.specs.Putting.{Putting, PuttingIsAfter, PuttingHasHeard, IsSamePutting, putting, post_of}
 
 -- posts that are put: with how many answers each put is content, at which nodes it begins its look-up, the put on its way, the posts behind it in their order, and
 -- the acknowledgements so far
@@ -116,10 +116,19 @@ left_behind (Some p) left = left
 left_behind None [] = []
 left_behind None (p ∷ left) = left
 
+-- what is left after a put of such a post that wasn't acknowledged
+abbrev pub held_behind : PostKind → List Post → List Post
+held_behind kind left = if is_log kind then filter (λ q. not (is_head q.kind)) left else left
+
 -- a put of such a post is over, and was acknowledged or not
 abbrev pub concluded : PostKind → Ack → Bool → State → State
 concluded kind ack true s = record s { acks = s.acks ++ ack ∷ [] }
-concluded kind ack false s = record s { left = if is_log kind then filter (λ q. not (is_head q.kind)) s.left else s.left }
+concluded kind ack false s = record s { left = held_behind kind s.left }
+
+-- the put on its way was heard
+abbrev pub HasHeardIn : Option Putting → Option Putting → Answer → Type 0
+HasHeardIn (Some old) (Some new) given = PuttingHasHeard old new given
+HasHeardIn _ _ given = ⊥
 
 -- the put goes on and asks that node, or it is over
 abbrev pub PutGoesOn : Putting → State → State → Option (Peer × Ask) → Type 0

@@ -3,7 +3,7 @@
 ghost use Rattle.std.specs.Prelude.{◌≡◌, ◌≢◌, ◌<◌, ◌≤◌, None, IfOk, OnOk};
 ghost use Rattle.agent_model.specs.Agent.{is_head};
 ghost use Rattle.session_model.specs.Sessions.{acknowledged};
-ghost use Rattle.post_publishing.specs.Publishing.{begun, state_awaited, puts_left, present_put, left_behind, concluded, StateIsWanted, StateHasHeard, PutGoesOn};
+ghost use Rattle.post_publishing.specs.Publishing.{begun, awaited_in, state_awaited, left_in, HasHeardIn, puts_left, held_behind, present_put, left_behind, concluded, StateIsWanted, StateHasHeard, PutGoesOn};
 
 use crate::order::in_order;
 use crate::put::Put;
@@ -81,10 +81,7 @@ impl Publishing {
         ensures heard { IfOk result (λ _. StateHasHeard self.old self.new answer) }
         ensures left { IfOk result (λ _. puts_left self.new < puts_left self.old) }
     {
-        match &mut self.put {
-            Some(put) => put.heard(answer),
-            None => Ok(()),
-        }
+        hear(&mut self.put, answer)
     }
 
     /// Takes the put on its way, or begins that of the first post that is left; none where no post is. The error is want
@@ -128,12 +125,40 @@ impl Publishing {
     fn conclude(&mut self, kind: PostKind, ack: Ack, came: &Result<bool, Miss>) -> Result<(), Memory>
         ensures { OnOk result (self.new ≡ concluded kind ack (acknowledged came.now) self.old) }
     {
-        if matches!(came, Ok(true)) {
+        if is_acknowledged(came) {
             self.acks.push(ack)?;
-        } else if kind == PostKind::Log {
-            self.left.retain(|post| !is_head(post));
+        } else {
+            hold_back(kind, &mut self.left);
         }
         Ok(())
+    }
+}
+
+/// Whether the put was acknowledged, of which this came.
+fn is_acknowledged(came: &Result<bool, Miss>) -> bool
+    ensures { result ≡ acknowledged came.now }
+{
+    matches!(came, Ok(true))
+}
+
+/// Drops the heads of the posts that are left after a put of such a post that wasn't acknowledged, where it was a record.
+fn hold_back(kind: PostKind, left: &mut VecDeque<Post>)
+    ensures { left.new.items ≡ held_behind kind left.old.items }
+{
+    if kind == PostKind::Log {
+        left.retain(|post| !is_head(post));
+    }
+}
+
+/// The put on its way hears an answer. The error is want of memory.
+fn hear(put: &mut Option<Put>, answer: Answer) -> Result<(), Memory>
+    requires { awaited_in put.old ≢ None }
+    ensures heard { IfOk result (λ _. HasHeardIn put.old put.new answer) }
+    ensures left { IfOk result (λ _. left_in put.new < left_in put.old) }
+{
+    match put {
+        Some(put) => put.heard(answer),
+        None => Ok(()),
     }
 }
 
