@@ -1,5 +1,5 @@
 -- Posts that are put one after the other.
-use Rattle.std.specs.Prelude.{◌≡◌, ℕ, ◌+◌, ◌*◌, ◌^◌, Bool, true, false, not, List, [], ◌∷◌, ◌++◌, length, filter, Option, Some, None, Result, if◌then◌else◌}
+use Rattle.std.specs.Prelude.{◌≡◌, ℕ, ◌+◌, ◌*◌, ◌^◌, ◌≤◌, Bool, true, false, not, List, [], ◌∷◌, ◌++◌, length, filter, Option, Some, None, Result, if◌then◌else◌}
 use Rattle.dht_ids.specs.Asked.{told}
 use Rattle.dht_ids.specs.declared.ask.Answer.{Answer}
 use Rattle.dht_ids.specs.declared.ask.Ask.{Ask}
@@ -133,6 +133,6 @@ HasHeardIn _ _ given = ⊥
 -- the put goes on and asks that node, or it is over
 abbrev pub PutGoesOn : Putting → State → State → Option (Peer × Ask) → Type 0
 PutGoesOn old before now (Some asked) = (new : Putting) × (now ≡ record before { put = Some new }) × IsSamePutting old new × (put_awaited new.put ≡ Some asked)
-    × ((r : ℕ) (entries : List Peer) (trail : List Heard) → PuttingIsAfter r entries trail old → PuttingIsAfter r entries trail new) 
+    × ((r : ℕ) (entries : List Peer) (trail : List Heard) → PuttingIsAfter r entries trail old → PuttingIsAfter r entries trail new) × (asks_left new.put.course ≤ asks_left old.put.course)
 PutGoesOn old before now None = (came : Result Bool Miss) × (now ≡ concluded old.kind old.ack (acknowledged came) before)
     × ((r : ℕ) (entries : List Peer) (trail : List Heard) → PuttingIsAfter r entries trail old → IsPutOfPost r entries (post_of old) trail came)

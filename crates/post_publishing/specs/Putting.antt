@@ -51,4 +51,4 @@ abbrev pub PuttingHasHeard : Putting → Putting → Answer → Type 0
 PuttingHasHeard old new given =
     IsSamePutting old new
     × ((r : ℕ) (entries : List Peer) (trail : List Heard) (node : Peer) (question : Ask) → put_awaited old.put ≡ Some (node, question) → PuttingIsAfter r entries trail old
-        → PuttingIsAfter r entries (trail ++ told node question given) new)
+    → PuttingIsAfter r entries (trail ++ told node question given) new)

@@ -1,6 +1,6 @@
 //! Posts that are put one after the other.
 
-ghost use Rattle.std.specs.Prelude.{◌≡◌, ◌≢◌, ◌<◌, ◌≤◌, None, IfOk, OnOk};
+ghost use Rattle.std.specs.Prelude.{◌≡◌, ◌≢◌, ◌<◌, ◌≤◌, [], None, IfOk, OnOk};
 ghost use Rattle.agent_model.specs.Agent.{is_head};
 ghost use Rattle.session_model.specs.Sessions.{acknowledged};
 ghost use Rattle.post_publishing.specs.Publishing.{begun, awaited_in, state_awaited, left_in, HasHeardIn, puts_left, held_behind, present_put, left_behind, concluded, StateIsWanted, StateHasHeard, PutGoesOn};
@@ -68,10 +68,7 @@ impl Publishing {
                 return Ok(Want::Ask(node, question));
             }
         }
-        Ok(Want::Done(Acks::of(mem::replace(
-            &mut self.acks,
-            Vec::new(self.alloc),
-        ))))
+        Ok(Want::Done(self.take_acks()))
     }
 
     /// Hears what the node answered that was asked last. It is called once after each ask. The error is want of memory;
@@ -94,14 +91,17 @@ impl Publishing {
             return Ok(Some(put));
         }
         match self.left.pop_front() {
-            Some(post) => Ok(Some(Put::start(
-                self.alloc,
-                post,
-                self.replicas,
-                &self.entries,
-            )?)),
+            Some(post) => Ok(Some(Put::start(self.alloc, post, self.replicas, &self.entries)?)),
             None => Ok(None),
         }
+    }
+
+    /// Takes the acknowledgements so far.
+    fn take_acks(&mut self) -> Acks
+        ensures acks { result ≡ self.old.acks }
+        ensures others { self.new ≡ record self.old { acks = [] } }
+    {
+        Acks::of(mem::replace(&mut self.acks, Vec::new(self.alloc)))
     }
 
     /// Goes on with the put: a node is asked, or the put is over. The error is want of memory.
@@ -122,7 +122,12 @@ impl Publishing {
 
     /// Concludes a put of such a post, of which this came: it was acknowledged, or else no head is put after a record. The
     /// error is want of memory.
-    fn conclude(&mut self, kind: PostKind, ack: Ack, came: &Result<bool, Miss>) -> Result<(), Memory>
+    fn conclude(
+        &mut self,
+        kind: PostKind,
+        ack: Ack,
+        came: &Result<bool, Miss>,
+    ) -> Result<(), Memory>
         ensures { OnOk result (self.new ≡ concluded kind ack (acknowledged came.now) self.old) }
     {
         if is_acknowledged(came) {
