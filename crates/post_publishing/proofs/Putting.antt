@@ -1,5 +1,5 @@
 -- The put of one post.
-use Rattle.std.proofs.Common.{◌≡◌, ◌≢◌, ℕ, Bool, List, [], ◌++◌, Option, Some, None, Result, IfOk, Ok, Err, refl, sym, ap, ◌∙◌, subst}
+use Rattle.std.proofs.Common.{◌≡◌, ℕ, Bool, List, [], ◌++◌, Result, IfOk, Ok, Err, refl, sym, ap, ◌∙◌, subst}
 use Rattle.ivy_base.specs.declared.key.Key.{Key}
 use Rattle.ivy_base.specs.declared.memory.Memory.{Memory}
 use Rattle.ivy_base.specs.Naming.{name}
@@ -10,14 +10,13 @@ use Rattle.dht_ids.specs.declared.ask.Heard.{Heard}
 use Rattle.dht_ids.specs.declared.ask.Want.{Want}
 use Rattle.dht_ids.specs.declared.ask.Want.TheVariants as want
 use Rattle.dht_ids.specs.declared.peer.Peer.{Peer}
-use Rattle.dht_ids.specs.declared.post.Ack.{Ack}
 use Rattle.dht_ids.specs.declared.post.Post.{Post}
 use Rattle.dht_ids.specs.declared.post.PostKind.{PostKind}
 use Rattle.dht_ids.specs.declared.post.PostKind.TheVariants as kind
 use Rattle.dhash_client.specs.declared.miss.Miss.{Miss}
 use Rattle.dhash_client.specs.declared.put.PutKind.{PutKind}
 use Rattle.dhash_client.specs.Course.{IsCourse}
-use Rattle.dhash_client.specs.Puts.{PutState, PutIsAfter, PutIsWanted, PutHasHeard, IsSamePut, IsPutOf, EndsPut, question_of, put_awaited}
+use Rattle.dhash_client.specs.Puts.{PutIsAfter, PutIsWanted, PutHasHeard, IsPutOf, EndsPut, question_of}
 use Rattle.dhash_client.proofs.DrivenGets.{put_begins}
 use Rattle.session_model.specs.Sessions.{IsPutOfPost, ack_of, put_question}
 use Rattle.post_publishing.specs.Kinds.{put_kind}
@@ -28,7 +27,7 @@ pub putting_begins : (p : Post) (r : ℕ) (entries : List Peer) → PuttingIsAft
 putting_begins p r entries = record { what = refl; named = refl; replicas = refl; after = put_begins (put_kind p.kind) p.bytes p.key r entries }
 
 -- its owners are asked what the definition says
-asks_owners : (k : PostKind) (bytes : List ℕ) (key : Key) → question_of (put_kind k) bytes key ≡ put_question (record { key = key; bytes = bytes; kind = k })
+pub asks_owners : (k : PostKind) (bytes : List ℕ) (key : Key) → question_of (put_kind k) bytes key ≡ put_question (record { key = key; bytes = bytes; kind = k })
 asks_owners kind.Block bytes key = refl
 asks_owners kind.Log bytes key = refl
 asks_owners kind.Head bytes key = refl

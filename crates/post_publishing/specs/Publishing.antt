@@ -19,7 +19,7 @@ use Rattle.post_publishing.specs.Putting.{Putting, PuttingIsAfter, PuttingHasHea
 
 -- posts that are put: with how many answers each put is content, at which nodes it begins its look-up, the put on its way, the posts behind it in their order, and
 -- the acknowledgements so far
-pub record State : Type 0 where
+pub record PublishingState : Type 0 where
   pub replicas : ℕ
   pub entries : List Peer
   pub put : Option Putting
@@ -27,8 +27,8 @@ pub record State : Type 0 where
   pub acks : List Ack
 
 -- it begins with these posts
-abbrev pub begun : ℕ → List Peer → List Post → State
-begun r entries posts = record { replicas = r; entries = entries; put = None; left = in_publishing_order posts; acks = [] }
+abbrev pub publishing_begun : ℕ → List Peer → List Post → PublishingState
+publishing_begun r entries posts = record { replicas = r; entries = entries; put = None; left = in_publishing_order posts; acks = [] }
 
 -- ---- in the words of sessions
 
@@ -37,11 +37,11 @@ posts_in None left = left
 posts_in (Some p) left = post_of p ∷ left
 
 -- the posts that are still to be put: first that of the put on its way
-abbrev pub posts_of : State → List Post
+abbrev pub posts_of : PublishingState → List Post
 posts_of s = posts_in s.put s.left
 
 -- the stage of a session that publishes so
-abbrev pub stage_of : Option Said → State → Stage
+abbrev pub stage_of : Option Said → PublishingState → Stage
 stage_of said s = Publishing said (posts_of s) s.acks
 
 abbrev pub PutIsBehind : ℕ → List Peer → List Heard → Option Putting → Type 0
@@ -49,8 +49,8 @@ PutIsBehind r entries trail None = trail ≡ []
 PutIsBehind r entries trail (Some p) = PuttingIsAfter r entries trail p
 
 -- it may be in this state behind this trail of the put on its way
-abbrev pub StateIsAfter : List Heard → State → Type 0
-StateIsAfter trail s = PutIsBehind s.replicas s.entries trail s.put
+abbrev pub PublishingIsAfter : List Heard → PublishingState → Type 0
+PublishingIsAfter trail s = PutIsBehind s.replicas s.entries trail s.put
 
 -- Whole puts: from a stage with this trail of the put on its way to the stage and the trail that they lead to. Each put is of the first post that is left.
 pub data Passes (r : ℕ) (entries : List Peer) : Stage → List Heard → Stage → List Heard → Type 0 where
@@ -59,7 +59,7 @@ pub data Passes (r : ℕ) (entries : List Peer) : Stage → List Heard → Stage
       → Passes r entries (after_put said p posts acks (acknowledged came)) [] end rest → Passes r entries (Publishing said (p ∷ posts) acks) trail end rest
 
 -- how many answers are enough, and the nodes at which look-ups begin, are the same
-abbrev pub IsSameWay : State → State → Type 0
+abbrev pub IsSameWay : PublishingState → PublishingState → Type 0
 IsSameWay old new = (new.replicas ≡ old.replicas) × (new.entries ≡ old.entries)
 
 -- ---- what is wanted, and heard
@@ -69,24 +69,24 @@ awaited_in None = None
 awaited_in (Some p) = put_awaited p.put
 
 -- the node to be heard, and what it is asked
-abbrev pub state_awaited : State → Option (Peer × Ask)
-state_awaited s = awaited_in s.put
+abbrev pub publishing_awaited : PublishingState → Option (Peer × Ask)
+publishing_awaited s = awaited_in s.put
 
 -- behind a trail puts are over, and then the one on its way has this trail
-abbrev pub GoesOn : State → State → Type 0
-GoesOn old new = (said : Option Said) (trail : List Heard) → StateIsAfter trail old
-    → (rest : List Heard) × StateIsAfter rest new × Passes old.replicas old.entries (stage_of said old) trail (stage_of said new) rest
+abbrev pub GoesOn : PublishingState → PublishingState → Type 0
+GoesOn old new = (said : Option Said) (trail : List Heard) → PublishingIsAfter trail old
+    → (rest : List Heard) × PublishingIsAfter rest new × Passes old.replicas old.entries (stage_of said old) trail (stage_of said new) rest
 
 -- What is wanted: to ask a node, which is then to be heard, after puts that are over; or nothing more, since all posts were put and these were acknowledged.
-abbrev pub StateIsWanted : State → State → Want (List Ack) → Type 0
-StateIsWanted old new (want.Ask node question) = IsSameWay old new × (state_awaited new ≡ Some (node, question)) × GoesOn old new
-StateIsWanted old new (want.Done acks) = (said : Option Said) (trail : List Heard) → StateIsAfter trail old → Passes old.replicas old.entries (stage_of said old) trail (Publishing said [] acks) []
+abbrev pub PublishingIsWanted : PublishingState → PublishingState → Want (List Ack) → Type 0
+PublishingIsWanted old new (want.Ask node question) = IsSameWay old new × (publishing_awaited new ≡ Some (node, question)) × GoesOn old new
+PublishingIsWanted old new (want.Done acks) = (said : Option Said) (trail : List Heard) → PublishingIsAfter trail old → Passes old.replicas old.entries (stage_of said old) trail (Publishing said [] acks) []
 
 -- the node that was to be heard was heard: its ask and answer are the next of the trail of the put on its way
-abbrev pub StateHasHeard : State → State → Answer → Type 0
-StateHasHeard old new given =
+abbrev pub PublishingHasHeard : PublishingState → PublishingState → Answer → Type 0
+PublishingHasHeard old new given =
     IsSameWay old new × ((said : Option Said) → stage_of said new ≡ stage_of said old)
-    × ((trail : List Heard) (node : Peer) (question : Ask) → state_awaited old ≡ Some (node, question) → StateIsAfter trail old → StateIsAfter (trail ++ told node question given) new)
+    × ((trail : List Heard) (node : Peer) (question : Ask) → publishing_awaited old ≡ Some (node, question) → PublishingIsAfter trail old → PublishingIsAfter (trail ++ told node question given) new)
 
 -- ---- how many asks are left
 
@@ -99,7 +99,7 @@ left_in None = 0
 left_in (Some p) = asks_left p.put.course
 
 -- those of the put on its way, and of a put of each post behind it
-abbrev pub puts_left : State → ℕ
+abbrev pub puts_left : PublishingState → ℕ
 puts_left s = left_in s.put + most_asks * length s.left
 
 -- ---- steps
@@ -121,7 +121,7 @@ abbrev pub held_behind : PostKind → List Post → List Post
 held_behind kind left = if is_log kind then filter (λ q. not (is_head q.kind)) left else left
 
 -- a put of such a post is over, and was acknowledged or not
-abbrev pub concluded : PostKind → Ack → Bool → State → State
+abbrev pub concluded : PostKind → Ack → Bool → PublishingState → PublishingState
 concluded kind ack true s = record s { acks = s.acks ++ ack ∷ [] }
 concluded kind ack false s = record s { left = held_behind kind s.left }
 
@@ -131,7 +131,7 @@ HasHeardIn (Some old) (Some new) given = PuttingHasHeard old new given
 HasHeardIn _ _ given = ⊥
 
 -- the put goes on and asks that node, or it is over
-abbrev pub PutGoesOn : Putting → State → State → Option (Peer × Ask) → Type 0
+abbrev pub PutGoesOn : Putting → PublishingState → PublishingState → Option (Peer × Ask) → Type 0
 PutGoesOn old before now (Some asked) = (new : Putting) × (now ≡ record before { put = Some new }) × IsSamePutting old new × (put_awaited new.put ≡ Some asked)
     × ((r : ℕ) (entries : List Peer) (trail : List Heard) → PuttingIsAfter r entries trail old → PuttingIsAfter r entries trail new) × (asks_left new.put.course ≤ asks_left old.put.course)
 PutGoesOn old before now None = (came : Result Bool Miss) × (now ≡ concluded old.kind old.ack (acknowledged came) before)

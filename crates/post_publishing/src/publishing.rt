@@ -3,7 +3,7 @@
 ghost use Rattle.std.specs.Prelude.{◌≡◌, ◌≢◌, ◌<◌, ◌≤◌, [], None, IfOk, OnOk};
 ghost use Rattle.agent_model.specs.Agent.{is_head};
 ghost use Rattle.session_model.specs.Sessions.{acknowledged};
-ghost use Rattle.post_publishing.specs.Publishing.{begun, awaited_in, state_awaited, left_in, HasHeardIn, puts_left, held_behind, present_put, left_behind, concluded, StateIsWanted, StateHasHeard, PutGoesOn};
+ghost use Rattle.post_publishing.specs.Publishing.{publishing_begun, awaited_in, publishing_awaited, left_in, HasHeardIn, puts_left, held_behind, present_put, left_behind, concluded, PublishingIsWanted, PublishingHasHeard, PutGoesOn};
 
 use crate::order::in_order;
 use crate::put::Put;
@@ -28,9 +28,9 @@ pub struct Publishing {
 }
 
 impl Model for Publishing {
-    ghost use Rattle.post_publishing.specs.Publishing.{State};
+    ghost use Rattle.post_publishing.specs.Publishing.{PublishingState};
 
-    ghost Value = { State };
+    ghost Value = { PublishingState };
 
     ghost view = { λ p. record { replicas = p.replicas; entries = p.entries; put = p.put; left = p.left.items; acks = p.acks.items } };
 }
@@ -44,7 +44,7 @@ impl Publishing {
         entries: Peers,
         posts: &Posts,
     ) -> Result<Publishing, Memory>
-        ensures { IfOk result (λ publishing. publishing ≡ begun replicas entries posts.now) }
+        ensures { IfOk result (λ publishing. publishing ≡ publishing_begun replicas entries posts.now) }
     {
         Ok(Publishing {
             alloc,
@@ -60,7 +60,7 @@ impl Publishing {
     /// acknowledgements, in the order of the puts. An ask that was not yet heard is wanted again. The error is want of
     /// memory; nothing is published after it, nor after the acknowledgements.
     pub fn next(&mut self) -> Result<Want<Acks>, Memory>
-        ensures wanted { IfOk result (λ want. StateIsWanted self.old self.new want) }
+        ensures wanted { IfOk result (λ want. PublishingIsWanted self.old self.new want) }
         ensures left { IfOk result (λ _. puts_left self.new ≤ puts_left self.old) }
     {
         'posts: while let Some(put) = self.present()? {
@@ -74,8 +74,8 @@ impl Publishing {
     /// Hears what the node answered that was asked last. It is called once after each ask. The error is want of memory;
     /// nothing is published after it.
     pub fn heard(&mut self, answer: Answer) -> Result<(), Memory>
-        requires { state_awaited self.old ≢ None }
-        ensures heard { IfOk result (λ _. StateHasHeard self.old self.new answer) }
+        requires { publishing_awaited self.old ≢ None }
+        ensures heard { IfOk result (λ _. PublishingHasHeard self.old self.new answer) }
         ensures left { IfOk result (λ _. puts_left self.new < puts_left self.old) }
     {
         hear(&mut self.put, answer)

@@ -1,4 +1,4 @@
-use Rattle.std.proofs.Common.{◌≡◌, ◌++◌, ◌∷◌, [], List, ap, ◌∙◌}
+use Rattle.std.proofs.Common.{◌++◌, ◌∷◌, [], ap, ◌∙◌}
 use Rattle.dht_ids.specs.declared.post.Post.{Post}
 use Rattle.post_publishing.specs.Kinds.{is_kind}
 use Rattle.post_publishing.proofs.Ordered.{with_it, without_it, all_copied}

@@ -1,5 +1,5 @@
 use Rattle.std.proofs.Common.{sym, ap, ◌∙◌}
-use Rattle.post_publishing.specs.Publishing.{State}
+use Rattle.post_publishing.specs.Publishing.{PublishingState}
 use Rattle.post_publishing.proofs.Steps.{on_way, goes_past, asks_next, ends_at}
 use Rattle.post_publishing.proofs.publishing.Publishing.next.Goals as goal
 
@@ -24,4 +24,4 @@ posts-preserved c =
 
 pub returns-clause-wanted : goal.returns-clause-wanted
 returns-clause-wanted c =
-    ends_at c.args.self.now c.posts.self c.posts.invariant (sym c.in_ok-put.ensures.put ∙ c.in_default.is) c.take_acks.result (c.take_acks.ensures.acks ∙ ap (λ (s : State). s.acks) c.in_ok-put.ensures.left) c.take_acks.new.self
+    ends_at c.args.self.now c.posts.self c.posts.invariant (sym c.in_ok-put.ensures.put ∙ c.in_default.is) c.take_acks.result (c.take_acks.ensures.acks ∙ ap (λ (s : PublishingState). s.acks) c.in_ok-put.ensures.left) c.take_acks.new.self
