@@ -1,6 +1,7 @@
 -- What a driver of posts cites: how they begin, and whom a put may ask.
-use Rattle.std.proofs.Common.{◌≡◌, ◌⊎◌, ℕ, List, [], Option, Some, None, refl, sym, ap, ◌∙◌, inl, inr}
+use Rattle.std.proofs.Common.{◌≡◌, ◌⊎◌, ℕ, List, [], ◌∷◌, Option, Some, None, refl, sym, ap, ◌∙◌, inl, inr}
 use Rattle.std.specs.Option.{option_map}
+use Rattle.dht_ids.specs.Asked.{IsForData}
 use Rattle.dht_ids.specs.declared.ask.Ask.{Ask}
 use Rattle.dht_ids.specs.declared.ask.Ask.TheVariants as ask
 use Rattle.dht_ids.specs.declared.ask.Heard.{Heard}
@@ -9,10 +10,11 @@ use Rattle.dht_ids.specs.declared.post.Post.{Post}
 use Rattle.dhash_client.specs.Course.{Asking, CourseState, awaited_at, next_owner}
 use Rattle.dhash_client.specs.Puts.{question_of, put_awaited}
 use Rattle.dhash_client.specs.declared.put.PutKind.{PutKind}
+use Rattle.dhash_client.proofs.DrivenGets.{put_for_data}
 use Rattle.ring_model.proofs.Lists.{some_same, none_some}
 use Rattle.session_model.specs.Sessions.{Said, publishing, put_question}
 use Rattle.post_publishing.specs.Putting.{Putting, PuttingIsAfter, post_of}
-use Rattle.post_publishing.specs.Publishing.{PublishingIsAfter, publishing_begun, stage_of}
+use Rattle.post_publishing.specs.Publishing.{PublishingState, PublishingIsAfter, PutIsBehind, publishing_begun, publishing_awaited, awaited_in, posts_of, posts_in, stage_of}
 use Rattle.post_publishing.proofs.Putting.{asks_owners}
 
 -- behind no ask they begin, in the stage in which a session begins to publish them
@@ -42,3 +44,20 @@ asked_for_post r entries trail s node question behind awaited = by (asked_at (qu
     by : (question ≡ ask.Route s.put.course.look.key) ⊎ (question ≡ question_of s.put.what s.put.bytes s.put.course.look.key) → (question ≡ ask.Route (post_of s).key) ⊎ (question ≡ put_question (post_of s))
     by (inl e) = inl e
     by (inr e) = inr (e ∙ ap (λ (k : PutKind). question_of k s.put.bytes s.put.course.look.key) behind.what ∙ asks_owners s.kind s.put.bytes s.put.course.look.key)
+
+-- the node to be heard is asked for the first post that is left
+pub asked_for_first : (trail : List Heard) (s : PublishingState) (node : Peer) (question : Ask) → PublishingIsAfter trail s → publishing_awaited s ≡ Some (node, question)
+    → (p : Post) × (posts : List Post) × (posts_of s ≡ p ∷ posts) × ((question ≡ ask.Route p.key) ⊎ (question ≡ put_question p))
+asked_for_first trail s node question = by s.put
+  where
+    by : (put : Option Putting) → PutIsBehind s.replicas s.entries trail put → awaited_in put ≡ Some (node, question) → (p : Post) × (posts : List Post) × (posts_in put s.left ≡ p ∷ posts) × ((question ≡ ask.Route p.key) ⊎ (question ≡ put_question p))
+    by None behind awaited = absurd (none_some (node, question) awaited)
+    by (Some p) behind awaited = (post_of p, s.left, refl, asked_for_post s.replicas s.entries trail p node question behind awaited)
+
+-- and may be asked of a mesh
+pub asks_for_data : (s : PublishingState) (node : Peer) (question : Ask) → publishing_awaited s ≡ Some (node, question) → IsForData question
+asks_for_data s node question = by s.put
+  where
+    by : (put : Option Putting) → awaited_in put ≡ Some (node, question) → IsForData question
+    by None awaited = absurd (none_some (node, question) awaited)
+    by (Some p) awaited = put_for_data p.put.what p.put.bytes p.put.course node question awaited

@@ -120,8 +120,8 @@ impl Publishing {
         }
     }
 
-    /// Concludes a put of such a post, of which this came: it was acknowledged, or else no head is put after a record. The
-    /// error is want of memory.
+    /// Concludes a put of such a post, of which this came: its acknowledgement is kept, or else, after a record, no head is
+    /// put. The error is want of memory.
     fn conclude(
         &mut self,
         kind: PostKind,
