@@ -1,0 +1,4 @@
+pub mod Driven
+pub mod Ordered
+pub mod Putting
+pub mod Steps

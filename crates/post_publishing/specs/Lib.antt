@@ -1,0 +1,4 @@
+pub mod Kinds
+pub mod Putting
+pub mod Machines
+pub mod Publishing

@@ -1,0 +1,175 @@
+//! Posts that are put one after the other.
+
+ghost use Rattle.std.specs.Prelude.{◌≡◌, ◌≢◌, ◌<◌, ◌≤◌, [], None, IfOk, OnOk};
+ghost use Rattle.agent_model.specs.Agent.{is_head};
+ghost use Rattle.session_model.specs.Sessions.{acknowledged};
+ghost use Rattle.post_publishing.specs.Publishing.{publishing_begun, awaited_in, publishing_awaited, left_in, HasHeardIn, puts_left, held_behind, present_put, left_behind, concluded, PublishingIsWanted, PublishingHasHeard, PutGoesOn};
+
+use crate::order::in_order;
+use crate::put::Put;
+use dhash_client::Miss;
+use dht_ids::{Ack, Acks, Answer, Ask, Peer, Peers, Post, PostKind, Posts, Want};
+use ivy_base::Memory;
+use std::alloc::Global;
+use std::collections::VecDeque;
+use std::marker::Model;
+use std::mem;
+
+/// Posts that are put one after the other: records, then blocks of snapshots, then heads, which are put only where every
+/// record was acknowledged.
+#[derive(Drop)]
+pub struct Publishing {
+    alloc: Global,
+    replicas: u32,
+    entries: Peers,
+    put: Option<Put>,
+    left: VecDeque<Post>,
+    acks: Vec<Ack>,
+}
+
+impl Model for Publishing {
+    ghost use Rattle.post_publishing.specs.Publishing.{PublishingState};
+
+    ghost Value = { PublishingState };
+
+    ghost view = { λ p. record { replicas = p.replicas; entries = p.entries; put = p.put; left = p.left.items; acks = p.acks.items } };
+}
+
+impl Publishing {
+    /// Publishes copies of these posts. Each put begins its look-up at these nodes and is content with that many answers.
+    /// The error is want of memory.
+    pub fn start(
+        alloc: Global,
+        replicas: u32,
+        entries: Peers,
+        posts: &Posts,
+    ) -> Result<Publishing, Memory>
+        ensures { IfOk result (λ publishing. publishing ≡ publishing_begun replicas entries posts.now) }
+    {
+        Ok(Publishing {
+            alloc,
+            replicas,
+            entries,
+            put: None,
+            left: in_order(alloc, posts.as_slice())?,
+            acks: Vec::new(alloc),
+        })
+    }
+
+    /// What is wanted next: an ask of the first put that isn't over, or nothing more, since all posts were put: the
+    /// acknowledgements, in the order of the puts. An ask that was not yet heard is wanted again. The error is want of
+    /// memory; nothing is published after it, nor after the acknowledgements.
+    pub fn next(&mut self) -> Result<Want<Acks>, Memory>
+        ensures wanted { IfOk result (λ want. PublishingIsWanted self.old self.new want) }
+        ensures left { IfOk result (λ _. puts_left self.new ≤ puts_left self.old) }
+    {
+        'posts: while let Some(put) = self.present()? {
+            if let Some((node, question)) = self.go_on(put)? {
+                return Ok(Want::Ask(node, question));
+            }
+        }
+        Ok(Want::Done(self.take_acks()))
+    }
+
+    /// Hears what the node answered that was asked last. It is called once after each ask. The error is want of memory;
+    /// nothing is published after it.
+    pub fn heard(&mut self, answer: Answer) -> Result<(), Memory>
+        requires { publishing_awaited self.old ≢ None }
+        ensures heard { IfOk result (λ _. PublishingHasHeard self.old self.new answer) }
+        ensures left { IfOk result (λ _. puts_left self.new < puts_left self.old) }
+    {
+        hear(&mut self.put, answer)
+    }
+
+    /// Takes the put on its way, or begins that of the first post that is left; none where no post is. The error is want
+    /// of memory.
+    fn present(&mut self) -> Result<Option<Put>, Memory>
+        ensures put { IfOk result (λ put. put ≡ present_put self.old.replicas self.old.entries self.old.put self.old.left) }
+        ensures left { IfOk result (λ _. self.new ≡ record self.old { put = None; left = left_behind self.old.put self.old.left }) }
+    {
+        if let Some(put) = self.put.take() {
+            return Ok(Some(put));
+        }
+        match self.left.pop_front() {
+            Some(post) => Ok(Some(Put::start(self.alloc, post, self.replicas, &self.entries)?)),
+            None => Ok(None),
+        }
+    }
+
+    /// Takes the acknowledgements so far.
+    fn take_acks(&mut self) -> Acks
+        ensures acks { result ≡ self.old.acks }
+        ensures others { self.new ≡ record self.old { acks = [] } }
+    {
+        Acks::of(mem::replace(&mut self.acks, Vec::new(self.alloc)))
+    }
+
+    /// Goes on with the put: a node is asked, or the put is over. The error is want of memory.
+    fn go_on(&mut self, mut put: Put) -> Result<Option<(Peer, Ask)>, Memory>
+        ensures { IfOk result (λ asked. PutGoesOn put self.old self.new asked) }
+    {
+        match put.next()? {
+            Want::Ask(node, question) => {
+                self.put = Some(put);
+                Ok(Some((node, question)))
+            }
+            Want::Done(came) => {
+                self.conclude(put.kind(), put.ack(), &came)?;
+                Ok(None)
+            }
+        }
+    }
+
+    /// Concludes a put of such a post, of which this came: its acknowledgement is kept, or else, after a record, no head is
+    /// put. The error is want of memory.
+    fn conclude(
+        &mut self,
+        kind: PostKind,
+        ack: Ack,
+        came: &Result<bool, Miss>,
+    ) -> Result<(), Memory>
+        ensures { OnOk result (self.new ≡ concluded kind ack (acknowledged came.now) self.old) }
+    {
+        if is_acknowledged(came) {
+            self.acks.push(ack)?;
+        } else {
+            hold_back(kind, &mut self.left);
+        }
+        Ok(())
+    }
+}
+
+/// Whether the put was acknowledged, of which this came.
+fn is_acknowledged(came: &Result<bool, Miss>) -> bool
+    ensures { result ≡ acknowledged came.now }
+{
+    matches!(came, Ok(true))
+}
+
+/// Drops the heads of the posts that are left after a put of such a post that wasn't acknowledged, where it was a record.
+fn hold_back(kind: PostKind, left: &mut VecDeque<Post>)
+    ensures { left.new.items ≡ held_behind kind left.old.items }
+{
+    if kind == PostKind::Log {
+        left.retain(|post| !is_head(post));
+    }
+}
+
+/// The put on its way hears an answer. The error is want of memory.
+fn hear(put: &mut Option<Put>, answer: Answer) -> Result<(), Memory>
+    requires { awaited_in put.old ≢ None }
+    ensures heard { IfOk result (λ _. HasHeardIn put.old put.new answer) }
+    ensures left { IfOk result (λ _. left_in put.new < left_in put.old) }
+{
+    match put {
+        Some(put) => put.heard(answer),
+        None => Ok(()),
+    }
+}
+
+/// Whether the post is a head.
+fn is_head(post: &Post) -> bool
+    ensures { result ≡ is_head post.now.kind }
+{
+    post.kind == PostKind::Head
+}
