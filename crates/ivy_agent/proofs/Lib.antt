@@ -1,0 +1,3 @@
+pub mod Posts
+pub mod Floors
+pub mod Opened

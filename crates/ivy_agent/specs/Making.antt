@@ -1,0 +1,36 @@
+-- How the making of an agent ends.
+use Rattle.std.specs.Prelude.{◌≡◌, ◌≢◌, ℕ, Bool, false, true, List, [], ◌∷◌, Result, Ok, Err}
+use Rattle.ivy_base.specs.declared.operation.Moment.{Moment}
+use Rattle.ivy_base.specs.Naming.{head_key_of}
+use Rattle.log_model.specs.Rank.{own_entry}
+use Rattle.log_model.specs.Chain.{opening}
+use Rattle.agent_model.specs.Agent.{Signing, own_key, opened, kept_of, record_post, head_post}
+use Rattle.agent_model.specs.SavedBytes.{ArePostsSpelled, kept_bytes}
+use Rattle.turn_model.specs.Basis.{nothing_held}
+use Rattle.replay_engine.specs.Engines.{holding}
+use Rattle.ivy_agent.specs.Holders.{Holder}
+use Rattle.ivy_agent.specs.declared.opening.Opened.{Opened}
+use Rattle.ivy_agent.specs.declared.fault.MakeFault.{MakeFault}
+use Rattle.ivy_agent.specs.declared.fault.MakeFault.TheVariants as fault
+
+-- these are the parts of the log that the signer opens at that moment
+pub record IsOpening {S : Type 0} (signs : Signing S) (signer : S) (now : Moment) (o : Opened) : Type 0 where
+  pub its_log : o.log ≡ head_key_of (own_key signs signer)
+  pub its_floor : o.floor ≡ own_entry (opening (own_key signs signer) now) ∷ []
+  pub nothing : holding o.engine ≡ nothing_held
+  pub its_front : o.front ≡ []
+  pub posts : o.pending ≡ record_post (opening (own_key signs signer) now) ∷ head_post signs signer (own_entry (opening (own_key signs signer) now)).1 ∷ []
+  pub spelled : ArePostsSpelled o.pending
+
+module _ {K S : Type 0} (signs : Signing S) (saves : K → List ℕ → Bool → K → Type 0) where
+  -- what would be saved of the agent that opens its log
+  abbrev pub first_bytes : S → Moment → List ℕ
+  first_bytes signer now = kept_bytes signs (kept_of (opened signs signer now))
+
+  -- Spent is the answer exactly where nothing is left to sign with. Else the agent opens its log and is saved, or the save fails; or memory is wanting, and the
+  -- keeper stays as it is.
+  abbrev pub Makes : K → S → Moment → Result (Holder K S) (K × MakeFault) → Type 0
+  Makes before signer now (Ok h) = (signs.remaining signer ≢ 0) × (h.agent ≡ opened signs signer now) × saves before (first_bytes signer now) false h.keeper
+  Makes before signer now (Err (after, fault.Spent)) = (signs.remaining signer ≡ 0) × (after ≡ before)
+  Makes before signer now (Err (after, fault.Keeper)) = (signs.remaining signer ≢ 0) × saves before (first_bytes signer now) true after
+  Makes before signer now (Err (after, fault.Memory)) = (signs.remaining signer ≢ 0) × (after ≡ before)

@@ -1,0 +1,26 @@
+-- What is saved of an agent, and how a save ends.
+use Rattle.std.specs.Prelude.{◌≡◌, ◌<◌, ◌^◌, ℕ, Bool, true, false, List, length, Option, Some, None, option_map, Result, Ok, Err}
+use Rattle.std.specs.List.{All}
+use Rattle.dht_ids.specs.declared.post.Post.{Post}
+use Rattle.agent_model.specs.Agent.{Kept}
+use Rattle.ivy_agent.specs.declared.saving.Saved.{Saved}
+use Rattle.ivy_agent.specs.declared.saving.SaveFault.{SaveFault}
+use Rattle.ivy_agent.specs.declared.saving.SaveFault.TheVariants as fault
+
+abbrev pub saved_of : {S : Type 0} → Saved S → Kept S
+saved_of s = record { signer = s.signer.now; view = option_map (λ v. v.now) s.view; floor = s.floor.now; pending = s.pending.now; snapshot = s.snapshot }
+
+-- a word counts the bytes of each
+abbrev pub AreShort : List Post → Type 0
+AreShort posts = All (λ p. length p.bytes < 2 ^ 32) posts
+
+-- The keeper afterwards, by what is to be saved and whether the save fails. Where nothing is to be saved it stays as it is.
+abbrev pub Saves : {K : Type 0} → (K → List ℕ → Bool → K → Type 0) → K → Option (List ℕ) → Bool → K → Type 0
+Saves saves before None fails after = after ≡ before
+Saves saves before (Some bytes) fails after = saves before bytes fails after
+
+-- the keeper after a save of these bytes, by how it ended
+abbrev pub HasSaved : {K : Type 0} → (K → List ℕ → Bool → K → Type 0) → K → List ℕ → Result Unit SaveFault → K → Type 0
+HasSaved saves before bytes (Ok done) after = saves before bytes false after
+HasSaved saves before bytes (Err fault.Keeper) after = saves before bytes true after
+HasSaved saves before bytes (Err fault.Memory) after = after ≡ before
