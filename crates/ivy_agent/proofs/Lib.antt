@@ -1,3 +1,4 @@
 pub mod Posts
 pub mod Floors
 pub mod Opened
+pub mod First

@@ -9,10 +9,10 @@ use Rattle.log_model.specs.View.{View, is_named}
 use Rattle.log_model.specs.Vector.{Vector, seq_of}
 use Rattle.causal_order.specs.Over.{IsClosed}
 use Rattle.turn_model.specs.Basis.{nothing_held}
-use Rattle.dht_ids.specs.declared.post.Post.{Post}
 use Rattle.replay_engine.specs.Engines.{Engine, holding}
 use Rattle.agent_model.specs.Agent.{Agent, Signing, joined, kept_of, own}
 use Rattle.agent_model.specs.SavedBytes.{IsKept}
+use Rattle.ivy_agent.specs.declared.saving.Kept.{Kept}
 
 -- an agent, and what keeps it
 pub record Holder (K S : Type 0) : Type 0 where
@@ -24,15 +24,15 @@ abbrev pub signing : {S : Type 0} → (S → List ℕ) → (S → ℕ) → (S �
 signing key remaining signature next saved = record { key = key; remaining = remaining; signature = signature; next = next; saved = saved }
 
 -- the agent of these parts
-abbrev pub agent_of : {S : Type 0} → S → Option View → Vector → Engine → Option Key → Option Key → List Post → Bool → Agent S
-agent_of signer view floor engine to_load snapshot pending has_failed = record {
-  signer = signer;
-  view = view;
-  floor = floor;
+abbrev pub agent_of : {S : Type 0} → Kept S → Engine → Option Key → Bool → Agent S
+agent_of k engine to_load has_failed = record {
+  signer = k.signer;
+  view = k.view;
+  floor = k.floor;
   holding = holding engine;
   to_load = to_load;
-  snapshot = snapshot;
-  pending = pending;
+  snapshot = k.snapshot;
+  pending = k.pending;
   has_failed = has_failed;
 }
 

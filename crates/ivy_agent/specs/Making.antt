@@ -1,5 +1,5 @@
 -- How the making of an agent ends.
-use Rattle.std.specs.Prelude.{◌≡◌, ◌≢◌, ℕ, Bool, false, true, List, [], ◌∷◌, Result, Ok, Err}
+use Rattle.std.specs.Prelude.{◌≡◌, ◌≢◌, ℕ, Bool, false, true, List, [], ◌∷◌, None, Result, Ok, Err}
 use Rattle.ivy_base.specs.declared.operation.Moment.{Moment}
 use Rattle.ivy_base.specs.Naming.{head_key_of}
 use Rattle.log_model.specs.Rank.{own_entry}
@@ -13,14 +13,18 @@ use Rattle.ivy_agent.specs.declared.opening.Opened.{Opened}
 use Rattle.ivy_agent.specs.declared.fault.MakeFault.{MakeFault}
 use Rattle.ivy_agent.specs.declared.fault.MakeFault.TheVariants as fault
 
--- these are the parts of the log that the signer opens at that moment
-pub record IsOpening {S : Type 0} (signs : Signing S) (signer : S) (now : Moment) (o : Opened) : Type 0 where
-  pub its_log : o.log ≡ head_key_of (own_key signs signer)
-  pub its_floor : o.floor ≡ own_entry (opening (own_key signs signer) now) ∷ []
+-- these are the parts of an agent that opens the signer's log at that moment
+pub record IsOpening {S : Type 0} (signs : Signing S) (signer : S) (now : Moment) (o : Opened S) : Type 0 where
+  pub next : o.kept.signer ≡ signs.next signer
+  pub its_key : signs.key o.kept.signer ≡ signs.key signer
+  pub its_log : o.kept.log ≡ head_key_of (own_key signs signer)
+  pub outside : o.kept.view ≡ None
+  pub its_floor : o.kept.floor ≡ own_entry (opening (own_key signs signer) now) ∷ []
+  pub posts : o.kept.pending ≡ record_post (opening (own_key signs signer) now) ∷ head_post signs signer (own_entry (opening (own_key signs signer) now)).1 ∷ []
+  pub spelled : ArePostsSpelled o.kept.pending
+  pub no_snapshot : o.kept.snapshot ≡ None
   pub nothing : holding o.engine ≡ nothing_held
   pub its_front : o.front ≡ []
-  pub posts : o.pending ≡ record_post (opening (own_key signs signer) now) ∷ head_post signs signer (own_entry (opening (own_key signs signer) now)).1 ∷ []
-  pub spelled : ArePostsSpelled o.pending
 
 module _ {K S : Type 0} (signs : Signing S) (saves : K → List ℕ → Bool → K → Type 0) where
   -- what would be saved of the agent that opens its log

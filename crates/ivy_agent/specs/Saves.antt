@@ -1,14 +1,15 @@
 -- What is saved of an agent, and how a save ends.
-use Rattle.std.specs.Prelude.{◌≡◌, ◌<◌, ◌^◌, ℕ, Bool, true, false, List, length, Option, Some, None, option_map, Result, Ok, Err}
+use Rattle.std.specs.Prelude.{◌≡◌, ◌<◌, ◌^◌, ℕ, Bool, true, false, List, length, Option, Some, None, Result, Ok, Err}
 use Rattle.std.specs.List.{All}
 use Rattle.dht_ids.specs.declared.post.Post.{Post}
-use Rattle.agent_model.specs.Agent.{Kept}
-use Rattle.ivy_agent.specs.declared.saving.Saved.{Saved}
+use Rattle.agent_model.specs.Agent as model
+use Rattle.ivy_agent.specs.declared.saving.Kept.{Kept}
 use Rattle.ivy_agent.specs.declared.saving.SaveFault.{SaveFault}
 use Rattle.ivy_agent.specs.declared.saving.SaveFault.TheVariants as fault
 
-abbrev pub saved_of : {S : Type 0} → Saved S → Kept S
-saved_of s = record { signer = s.signer.now; view = option_map (λ v. v.now) s.view; floor = s.floor.now; pending = s.pending.now; snapshot = s.snapshot }
+-- what is kept, as the definitions have it
+abbrev pub saved_of : {S : Type 0} → Kept S → model.Kept S
+saved_of k = record { signer = k.signer; view = k.view; floor = k.floor; pending = k.pending; snapshot = k.snapshot }
 
 -- a word counts the bytes of each
 abbrev pub AreShort : List Post → Type 0

@@ -1,6 +1,7 @@
 //! Agents.
 #![tactic(auto)]
 
+pub mod agent;
 mod entering;
 pub mod fault;
 mod keys;
@@ -8,4 +9,5 @@ mod opening;
 mod saving;
 mod settling;
 
+pub use agent::Agent;
 pub use fault::{EnterFault, MakeFault};

@@ -1,6 +1,7 @@
 //! Opening a log.
 
 ghost use Rattle.std.specs.Prelude.{◌≡◌, ◌≢◌, [], ◌∷◌, IsTrue, IfOk, OnOk};
+ghost use Rattle.dht_ids.specs.declared.post.PostKind.TheVariants.{Log, Head};
 ghost use Rattle.log_model.specs.Chain.{opening};
 ghost use Rattle.log_records.specs.Records.{record_of};
 ghost use Rattle.turn_model.specs.Basis.{nothing_held};
@@ -10,6 +11,7 @@ ghost use Rattle.agent_model.specs.SavedBytes.{AreOpaque};
 ghost use Rattle.ivy_agent.specs.Holders.{signing};
 ghost use Rattle.ivy_agent.specs.Making.{IsOpening};
 
+use crate::saving::Kept;
 use dht_ids::{Post, PostKind, Posts};
 use fs_tree::{Basis, Tree};
 use hss_keys::Signs;
@@ -23,48 +25,54 @@ use version_vectors::{Entry, Vector};
 /// In place of a name, where there is none.
 const NO_NAME: Key = Key([0; 20]);
 
-/// What an agent has that opens its log, beside its key.
+/// An agent's parts behind the opening of its log.
 #[derive(Drop)]
-pub struct Opened {
-    /// The log's head key.
-    pub log: Key,
-    /// The opening record's entry.
-    pub floor: Vector,
+pub struct Opened<S> {
+    /// What is saved: the opening record and the head over it are to be published.
+    pub kept: Kept<S>,
     /// What is held: nothing.
     pub engine: Engine,
     /// The front of what is held.
     pub front: Vector,
-    /// The opening record and the head over it.
-    pub pending: Posts,
 }
 
 /// Opens the signer's log at that moment: its opening record is made, and a head is signed over it. The error is want of
-/// memory.
-pub fn open<S: Signs>(alloc: Global, signer: &mut S, now: Moment) -> Result<Opened, Memory>
-    requires { S.remaining signer.old ≢ 0 }
-    ensures opening { IfOk result (IsOpening (signing S.key S.remaining S.signature S.next S.saved) signer.old now) }
-    ensures next { OnOk result (signer.new ≡ S.next signer.old) }
-    ensures key { S.key signer.new ≡ S.key signer.old }
+/// memory, and then the signer is dropped.
+pub fn open<S: Signs + Drop>(alloc: Global, mut signer: S, now: Moment) -> Result<Opened<S>, Memory>
+    requires { S.remaining signer ≢ 0 }
+    ensures { IfOk result (IsOpening (signing S.key S.remaining S.signature S.next S.saved) signer now) }
 {
     let own = signer.owner();
     let log = head_key(&own);
-    let record = opening(alloc, own, now);
-    let block = record.write(alloc)?;
+    let block = opening(alloc, own, now).write(alloc)?;
     let name = name_of(block.as_slice());
-    let floor = floor_of(alloc, log, name)?;
-    let engine = hold_nothing(alloc)?;
-    let head = seal_first(alloc, signer, name)?;
-    let pending = vec![in alloc;
+    let head = seal_first(alloc, &mut signer, name)?;
+    let kept = Kept {
+        signer,
+        log,
+        view: None,
+        floor: floor_of(alloc, log, name)?,
+        pending: posts_of(alloc, log, name, block, head)?,
+        snapshot: None,
+    };
+    Ok(Opened {
+        kept,
+        engine: hold_nothing(alloc)?,
+        front: Vector::empty(alloc),
+    })
+}
+
+/// The opening record's block of that name, and the head over it.
+fn posts_of(alloc: Global, log: Key, name: Key, block: Bytes, head: Bytes) -> Result<Posts, Memory>
+    ensures posts { IfOk result (λ posts. posts ≡ record { key = name; bytes = block; kind = Log } ∷ record { key = log; bytes = head; kind = Head } ∷ []) }
+    ensures block { OnOk result (AreOpaque block) }
+    ensures head { OnOk result (AreOpaque head) }
+{
+    let posts = vec![in alloc;
         post_of(name, block, PostKind::Log)?,
         post_of(log, head, PostKind::Head)?,
     ]?;
-    Ok(Opened {
-        log,
-        floor,
-        engine,
-        front: Vector::empty(alloc),
-        pending: Posts::of(pending),
-    })
+    Ok(Posts::of(posts))
 }
 
 /// The first record of the owner's log.

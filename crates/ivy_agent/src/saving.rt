@@ -11,7 +11,7 @@ ghost use Rattle.agent_model.specs.SavedBytes.{kept_bytes, kind_number, post_byt
 ghost use Rattle.ivy_agent.specs.Holders.{signing};
 ghost use Rattle.ivy_agent.specs.Saves.{saved_of, AreShort, HasSaved};
 
-use dht_ids::{Post, PostKind};
+use dht_ids::{Post, PostKind, Posts};
 use hss_keys::Signs;
 use ivy_base::{Bytes, Key, Memory};
 use ivy_io::Keeper;
@@ -24,18 +24,18 @@ use xdr_codec::XdrWrite;
 const MAGIC: [u8; 4] = *b"IVK1";
 
 /// What is saved of an agent.
-#[derive(Clone, Copy)]
-pub struct Saved<'a, S> {
+#[derive(Drop)]
+pub struct Kept<S> {
     /// The key that signs the log's heads.
-    pub signer: &'a S,
+    pub signer: S,
     /// The log's head key.
-    pub log: &'a Key,
+    pub log: Key,
     /// The view that was entered.
-    pub view: Option<&'a View>,
-    /// How far each log was known.
-    pub floor: &'a Vector,
+    pub view: Option<View>,
+    /// How far each log was ever known.
+    pub floor: Vector,
     /// The blocks that are still to be published.
-    pub pending: &'a [Post],
+    pub pending: Posts,
     /// The name of the newest snapshot.
     pub snapshot: Option<Key>,
 }
@@ -54,12 +54,12 @@ pub enum SaveFault {
 pub fn save<K: Keeper, S: Signs>(
     alloc: Global,
     keeper: &mut K,
-    saved: &Saved<'_, S>,
+    kept: &Kept<S>,
 ) -> Result<(), SaveFault>
-    requires { saved.now.log.now ≡ head_key_of (own_key (signing S.key S.remaining S.signature S.next S.saved) saved.now.signer.now) }
-    ensures { HasSaved K.saves keeper.old (kept_bytes (signing S.key S.remaining S.signature S.next S.saved) (saved_of saved.now)) result keeper.new }
+    requires { kept.now.log ≡ head_key_of (own_key (signing S.key S.remaining S.signature S.next S.saved) kept.now.signer) }
+    ensures { HasSaved K.saves keeper.old (kept_bytes (signing S.key S.remaining S.signature S.next S.saved) (saved_of kept.now)) result keeper.new }
 {
-    let Ok(bytes) = bytes_of(alloc, saved) else {
+    let Ok(bytes) = bytes_of(alloc, kept) else {
         return Err(SaveFault::Memory);
     };
     match keeper.save(bytes) {
@@ -69,14 +69,21 @@ pub fn save<K: Keeper, S: Signs>(
 }
 
 /// The bytes that are saved. The error is want of memory.
-fn bytes_of<S: Signs>(alloc: Global, saved: &Saved<'_, S>) -> Result<Bytes, Memory>
-    requires { saved.now.log.now ≡ head_key_of (own_key (signing S.key S.remaining S.signature S.next S.saved) saved.now.signer.now) }
-    ensures { IfOk result (λ bytes. bytes ≡ kept_bytes (signing S.key S.remaining S.signature S.next S.saved) (saved_of saved.now)) }
+fn bytes_of<S: Signs>(alloc: Global, kept: &Kept<S>) -> Result<Bytes, Memory>
+    requires { kept.now.log ≡ head_key_of (own_key (signing S.key S.remaining S.signature S.next S.saved) kept.now.signer) }
+    ensures { IfOk result (λ bytes. bytes ≡ kept_bytes (signing S.key S.remaining S.signature S.next S.saved) (saved_of kept.now)) }
 {
-    let signer = saved.signer.save(alloc)?;
-    let view = block_of(alloc, saved.view)?;
-    let reach = saved.floor.seq_of(saved.log);
-    write(alloc, signer.as_slice(), view.as_slice(), reach, saved.floor, saved.pending, saved.snapshot)
+    let signer = kept.signer.save(alloc)?;
+    let view = block_of(alloc, kept.view.as_ref())?;
+    write(
+        alloc,
+        signer.as_slice(),
+        view.as_slice(),
+        kept.floor.seq_of(&kept.log),
+        &kept.floor,
+        kept.pending.as_slice(),
+        kept.snapshot,
+    )
 }
 
 /// The view's block, or no bytes where there is none. The error is want of memory.
