@@ -1,5 +1,5 @@
 -- What holds of an agent that opened its log, and what is saved of it.
-use Rattle.std.proofs.Common.{◌≡◌, ℕ, ◌≤◌, Bool, false, cond, List, [], ◌∷◌, Option, Some, None, refl, sym, ap, ◌∙◌, subst, arith}
+use Rattle.std.proofs.Common.{◌≡◌, ℕ, ◌≤◌, Bool, true, false, cond, List, [], ◌∷◌, Option, Some, None, Result, Err, refl, sym, ap, ◌∙◌, subst, arith}
 use Rattle.ivy_base.specs.declared.key.Key.{Key}
 use Rattle.ivy_base.specs.declared.operation.Moment.{Moment}
 use Rattle.ivy_base.specs.Naming.{head_key_of}
@@ -14,8 +14,10 @@ use Rattle.snapshot_model.specs.Blocks.{IsVectorSpelled}
 use Rattle.agent_model.specs.Agent.{Agent, Signing, joined, kept_of, opened, own_key}
 use Rattle.agent_model.specs.SavedBytes.{ArePostsSpelled, kept_bytes}
 use Rattle.ivy_agent.specs.Holders.{IsSound, Stands, agent_of}
-use Rattle.ivy_agent.specs.Saves.{saved_of}
-use Rattle.ivy_agent.specs.Making.{IsOpening}
+use Rattle.ivy_agent.specs.Saves.{saved_of, HasSaved}
+use Rattle.ivy_agent.specs.Making.{IsOpening, first_bytes}
+use Rattle.ivy_agent.specs.declared.saving.SaveFault.{SaveFault}
+use Rattle.ivy_agent.specs.declared.saving.SaveFault.TheVariants as fault
 use Rattle.ivy_agent.specs.declared.saving.Kept.{Kept}
 use Rattle.ivy_agent.specs.declared.opening.Opened.{Opened}
 use Rattle.ivy_agent.proofs.Opened.{first_stamp}
@@ -73,3 +75,11 @@ module _ {S : Type 0} (signs : Signing S) where
 
     pub own_log : o.kept.log ≡ head_key_of (own_key signs o.kept.signer)
     own_log = opened_sound.its_log
+
+    -- what the save left
+    pub save_failed : {K : Type 0} (saves : K → List ℕ → Bool → K → Type 0) (keeper left : K) (result : Result Unit SaveFault) → result ≡ Err fault.Keeper → HasSaved saves keeper (kept_bytes signs (saved_of o.kept)) result left
+        → saves keeper (first_bytes signs saves before now) true left
+    save_failed saves keeper left result failed told = subst (λ (b : List ℕ). saves keeper b true left) bytes_are (subst (λ r. HasSaved saves keeper (kept_bytes signs (saved_of o.kept)) r left) failed told)
+
+    pub was_saved : {K : Type 0} (saves : K → List ℕ → Bool → K → Type 0) (keeper left : K) → saves keeper (kept_bytes signs (saved_of o.kept)) false left → saves keeper (first_bytes signs saves before now) false left
+    was_saved saves keeper left told = subst (λ (b : List ℕ). saves keeper b false left) bytes_are told

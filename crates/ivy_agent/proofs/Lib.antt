@@ -2,3 +2,4 @@ pub mod Posts
 pub mod Floors
 pub mod Opened
 pub mod First
+pub mod Settled
