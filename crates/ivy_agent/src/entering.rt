@@ -1,9 +1,20 @@
-//! Which views are refused.
+//! Entering a view: which views are refused, and the save.
 
-ghost use Rattle.std.specs.Prelude.{◌≡◌, find, option_map};
+ghost use Rattle.std.specs.Prelude.{◌≡◌, find, option_map, OnOk, OnErr};
+ghost use Rattle.ivy_base.specs.Naming.{head_key_of};
+ghost use Rattle.agent_model.specs.Agent.{own_key};
+ghost use Rattle.agent_model.specs.SavedBytes.{kept_bytes};
 ghost use Rattle.agent_model.specs.Views.{was_former, is_refused_in};
+ghost use Rattle.ivy_agent.specs.Holders.{signing};
+ghost use Rattle.ivy_agent.specs.Saves.{saved_of, HasSaved};
+ghost use Rattle.ivy_agent.specs.Entering.{kept_in};
 
+use crate::saving::{Kept, SaveFault, save};
+use hss_keys::Signs;
 use ivy_base::Key;
+use ivy_io::Keeper;
+use std::alloc::Global;
+use std::mem::replace;
 use version_vectors::{Entry, Vector};
 use view_blocks::View;
 
@@ -44,4 +55,26 @@ fn was_former(view: Option<&View>, log: &Key) -> bool
         Some(view) => view.is_former(log),
         None => false,
     }
+}
+
+/// Has the keeper save what is kept, in that view and without a snapshot. After an error what is kept is what it was.
+pub fn save_in<K: Keeper, S: Signs>(
+    alloc: Global,
+    keeper: &mut K,
+    kept: &mut Kept<S>,
+    view: View,
+) -> Result<(), SaveFault>
+    requires { kept.old.log ≡ head_key_of (own_key (signing S.key S.remaining S.signature S.next S.saved) kept.old.signer) }
+    ensures saved { HasSaved K.saves keeper.old (kept_bytes (signing S.key S.remaining S.signature S.next S.saved) (saved_of (kept_in view kept.old))) result keeper.new }
+    ensures ok { OnOk result (kept.new ≡ kept_in view kept.old) }
+    ensures err { OnErr result (kept.new ≡ kept.old) }
+{
+    let before = replace(&mut kept.view, Some(view));
+    let snapshot = kept.snapshot.take();
+    let saved = save(alloc, keeper, kept);
+    if saved.is_err() {
+        kept.view = before;
+        kept.snapshot = snapshot;
+    }
+    saved
 }

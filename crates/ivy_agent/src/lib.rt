@@ -8,6 +8,7 @@ mod keys;
 mod opening;
 mod saving;
 mod settling;
+mod standing;
 
 pub use agent::Agent;
 pub use fault::{EnterFault, MakeFault};
