@@ -6,3 +6,4 @@ pub mod Settled
 pub mod Placed
 pub mod Newest
 pub mod Older
+pub mod Entered
