@@ -41,7 +41,7 @@ pub struct Kept<S> {
 }
 
 /// Why nothing was saved.
-#[derive(Clone, Copy, Debug, PartialEq, Eq)]
+#[derive(Clone, Copy)]
 pub enum SaveFault {
     /// The keeper failed.
     Keeper,

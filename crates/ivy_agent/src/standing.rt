@@ -28,10 +28,11 @@ pub fn newest_edges(alloc: Global, records: &[Record]) -> Result<Edges, Memory>
     'records: while left > 0 {
         left -= 1;
         let record = &records[left];
-        if !is_among(owners.as_slice(), &record.owner) {
-            owners.push(record.owner)?;
-            put_under(alloc, &mut edges, record)?;
+        if is_among(owners.as_slice(), &record.owner) {
+            continue;
         }
+        owners.push(record.owner)?;
+        put_under(alloc, &mut edges, record)?;
     }
     Ok(Edges::of(edges))
 }
