@@ -1,5 +1,5 @@
 -- What holds of an agent that opened its log, and what is saved of it.
-use Rattle.std.proofs.Common.{◌≡◌, ℕ, ◌≤◌, Bool, true, false, cond, List, [], ◌∷◌, Option, Some, None, Result, Err, refl, sym, ap, ◌∙◌, subst, arith}
+use Rattle.std.proofs.Common.{◌≡◌, ℕ, ◌≤◌, Bool, true, false, cond, List, [], ◌∷◌, Option, Some, None, Result, Ok, Err, refl, sym, ap, ◌∙◌, subst, arith}
 use Rattle.ivy_base.specs.declared.key.Key.{Key}
 use Rattle.ivy_base.specs.declared.operation.Moment.{Moment}
 use Rattle.ivy_base.specs.Naming.{head_key_of}
@@ -11,16 +11,22 @@ use Rattle.snapshot_model.proofs.MadeLists.{is_key}
 use Rattle.turn_model.specs.Basis.{nothing_held}
 use Rattle.replay_engine.specs.Engines.{Engine, holding}
 use Rattle.snapshot_model.specs.Blocks.{IsVectorSpelled}
+use Rattle.agent_model.specs.Agent as model
+use Rattle.wire_model.specs.Xdr.{IsAny}
 use Rattle.agent_model.specs.Agent.{Agent, Signing, joined, kept_of, opened, own_key}
-use Rattle.agent_model.specs.SavedBytes.{ArePostsSpelled, kept_bytes}
-use Rattle.ivy_agent.specs.Holders.{IsSound, Stands, agent_of}
-use Rattle.ivy_agent.specs.Saves.{saved_of, HasSaved}
-use Rattle.ivy_agent.specs.Making.{IsOpening, first_bytes}
+use Rattle.agent_model.specs.SavedBytes.{ArePostsSpelled, IsKept, kept_bytes}
+use Rattle.ivy_agent.specs.Holders.{Holder, IsSound, Stands, agent_of}
+use Rattle.ivy_agent.specs.Saves.{saved_of, HasSaved, IsWholeAfter}
+use Rattle.ivy_agent.specs.Making.{IsOpening, IsFirstSave}
 use Rattle.ivy_agent.specs.declared.saving.SaveFault.{SaveFault}
 use Rattle.ivy_agent.specs.declared.saving.SaveFault.TheVariants as fault
 use Rattle.ivy_agent.specs.declared.saving.Kept.{Kept}
 use Rattle.ivy_agent.specs.declared.opening.Opened.{Opened}
 use Rattle.ivy_agent.proofs.Opened.{first_stamp}
+
+-- with the signer's own word
+pub whole_kept : {S : Type 0} (signs : Signing S) (IsWhole : S → Type 0) (k : model.Kept S) → IsKept signs IsAny k → IsWhole k.signer → IsKept signs IsWhole k
+whole_kept signs IsWhole k h whole = record { signer = whole; some = h.some; few = h.few; floor = h.floor; view = h.view; posts = h.posts; snapshot = h.snapshot }
 
 module _ {S : Type 0} (signs : Signing S) where
   reaches : (log : Key) (t : Stamp) → seq_of ((log, t) ∷ []) log ≡ t.seq
@@ -54,7 +60,7 @@ module _ {S : Type 0} (signs : Signing S) where
         let first = opening own now in
         let log_is : head_key_of own ≡ head_key_of (own_key signs o.kept.signer) = (λ i. head_key_of (record { 0 = sym is.its_key i })) in
         let sound : IsSound signs (agent_of o.kept o.engine None false) (head_key_of own) [] =
-            first_sound o.kept (head_key_of own) first.name o.engine log_is (is_key own.0) (is_key (record_block first)) is.outside is.its_floor is.spelled is.no_snapshot is.nothing in
+        first_sound o.kept (head_key_of own) first.name o.engine log_is (is_key own.0) (is_key (record_block first)) is.outside is.its_floor is.spelled is.no_snapshot is.nothing in
         subst (λ (t : Key × Vector). IsSound signs (agent_of o.kept o.engine None false) t.0 t.1) (λ i. (sym is.its_log i, sym is.its_front i)) sound
 
     -- it is the agent of the definition
@@ -70,16 +76,28 @@ module _ {S : Type 0} (signs : Signing S) where
       has_failed = false;
     }
 
-    pub bytes_are : kept_bytes signs (saved_of o.kept) ≡ kept_bytes signs (kept_of (opened signs before now))
+    bytes_are : kept_bytes signs (saved_of o.kept) ≡ kept_bytes signs (kept_of (opened signs before now))
     bytes_are = ap (λ (a : Agent S). kept_bytes signs (kept_of a)) is_opened
 
-    pub own_log : o.kept.log ≡ head_key_of (own_key signs o.kept.signer)
-    own_log = opened_sound.its_log
+    pub first_kept : (IsWhole : S → Type 0) → IsWhole o.kept.signer → IsKept signs IsWhole (kept_of (opened signs before now))
+    first_kept IsWhole whole = subst (λ (a : Agent S). IsKept signs IsWhole (kept_of a)) is_opened (whole_kept signs IsWhole (saved_of o.kept) opened_sound.kept whole)
 
-    -- what the save left
-    pub save_failed : {K : Type 0} (saves : K → List ℕ → Bool → K → Type 0) (keeper left : K) (result : Result Unit SaveFault) → result ≡ Err fault.Keeper → HasSaved saves keeper (kept_bytes signs (saved_of o.kept)) result left
-        → saves keeper (first_bytes signs saves before now) true left
-    save_failed saves keeper left result failed told = subst (λ (b : List ℕ). saves keeper b true left) bytes_are (subst (λ r. HasSaved saves keeper (kept_bytes signs (saved_of o.kept)) r left) failed told)
+    module _ {K : Type 0} (IsWhole : S → Type 0) (saves : K → List ℕ → Bool → K → Type 0) (keeper left : K) (some : signs.remaining before ≡ 0 → ⊥) (result : Result Unit SaveFault)
+      (told : HasSaved saves keeper (kept_bytes signs (saved_of o.kept)) result left) (whole : IsWholeAfter (IsWhole o.kept.signer) result) where
+      -- what the save left
+      pub save_failed : result ≡ Err fault.Keeper → IsFirstSave signs IsWhole saves keeper before now true left
+      save_failed failed = record {
+        left = some;
+        kept = first_kept IsWhole (subst (λ r. IsWholeAfter (IsWhole o.kept.signer) r) failed whole);
+        saved = subst (λ (b : List ℕ). saves keeper b true left) bytes_are (subst (λ r. HasSaved saves keeper (kept_bytes signs (saved_of o.kept)) r left) failed told);
+      }
 
-    pub was_saved : {K : Type 0} (saves : K → List ℕ → Bool → K → Type 0) (keeper left : K) → saves keeper (kept_bytes signs (saved_of o.kept)) false left → saves keeper (first_bytes signs saves before now) false left
-    was_saved saves keeper left told = subst (λ (b : List ℕ). saves keeper b false left) bytes_are told
+      was_saved : (done : Unit {0}) → result ≡ Ok done → IsFirstSave signs IsWhole saves keeper before now false left
+      was_saved done is_done = record {
+        left = some;
+        kept = first_kept IsWhole (subst (λ r. IsWholeAfter (IsWhole o.kept.signer) r) is_done whole);
+        saved = subst (λ (b : List ℕ). saves keeper b false left) bytes_are (subst (λ r. HasSaved saves keeper (kept_bytes signs (saved_of o.kept)) r left) is_done told);
+      }
+
+      pub made : (done : Unit {0}) → result ≡ Ok done → (h : Holder K S) → h ≡ record { agent = agent_of o.kept o.engine None false; keeper = left } → (h.agent ≡ opened signs before now) × IsFirstSave signs IsWhole saves keeper before now false h.keeper
+      made done is_done h h_is = (ap (λ (x : Holder K S). x.agent) h_is ∙ is_opened, subst (λ (x : Holder K S). IsFirstSave signs IsWhole saves keeper before now false x.keeper) (sym h_is) (was_saved done is_done))

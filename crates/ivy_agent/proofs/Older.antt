@@ -16,7 +16,7 @@ use Rattle.ivy_agent.specs.Edges.{newest_edges, put_under, KnowsOthers}
 use Rattle.ivy_agent.proofs.Newest.{AreKnown, all_known, one_known, with_older, with_known, are_edges}
 
 module _ (records : List Record) (left : ℕ) (item : Record) (owners : List PubKey) (edges : List kept.Edge) (some : 0 < left) (within : left ≤ length records) (is : item ≡ get_or records (left - 1) item)
-  (so_far : edges_of edges ≡ newest_edges (records_of (drop left records))) (known : AreKnown (edges_of edges) owners) where
+    (so_far : edges_of edges ≡ newest_edges (records_of (drop left records))) (known : AreKnown (edges_of edges) owners) where
   older : records_of (drop (left - 1) records) ≡ record_of item ∷ records_of (drop left records)
   older =
       let inside : left - 1 < length records = omega (arith, some, within) in

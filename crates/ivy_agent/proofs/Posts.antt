@@ -27,7 +27,7 @@ module _ (posts : List Post) (i : ℕ) (item : Post) (within : i < length posts)
       let next = get_or posts i item in
       let last : length (post_bytes item) ≡ length (post_bytes next) = ap (λ p. length (post_bytes p)) is in
       let parts : length (flat_map post_bytes (take (i + 1) posts)) ≡ length (flat_map post_bytes (take i posts) ++ flat_map post_bytes (next ∷ [])) =
-          ap (λ ps. length (flat_map post_bytes ps)) (take_more posts i item within) ∙ ap length (flat_map-append post_bytes (take i posts) (next ∷ [])) in
+      ap (λ ps. length (flat_map post_bytes ps)) (take_more posts i item within) ∙ ap length (flat_map-append post_bytes (take i posts) (next ∷ [])) in
       omega (arith, so_far, size, sum, last, parts, length-append (flat_map post_bytes (take i posts)) (flat_map post_bytes (next ∷ [])), length-append (post_bytes next) [])
 
   -- where there is room for all, there is for the next

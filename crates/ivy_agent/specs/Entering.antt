@@ -1,9 +1,9 @@
 -- How entering a view ends.
-use Rattle.std.specs.Prelude.{◌≡◌, ℕ, Bool, true, false, IsTrue, List, Contains, Option, Some, None, option_map, Result, Ok, Err}
+use Rattle.std.specs.Prelude.{◌≡◌, ℕ, Bool, true, false, IsTrue, IfSome, List, Contains, Option, Some, None, option_map, Result, Ok, Err}
 use Rattle.std.specs.List.{AllByRecursion}
 use Rattle.log_model.specs.View.{View, IsView, is_named}
 use Rattle.agent_model.specs.Agent.{Agent, Signing, entered, failed, kept_of, own}
-use Rattle.agent_model.specs.SavedBytes.{kept_bytes}
+use Rattle.agent_model.specs.SavedBytes.{IsKept, kept_bytes}
 use Rattle.agent_model.specs.Views.{Entering, entering}
 use Rattle.agent_model.specs.Views.Entering.{Entered, NotMember, NotNamed, KeeperFailed}
 use Rattle.ivy_agent.specs.Holders.{Holder}
@@ -25,12 +25,13 @@ agent_after before NotMember = before
 agent_after before (NotNamed log) = before
 agent_after before (KeeperFailed after) = after
 
-module _ {K S : Type 0} (signs : Signing S) (saves : K → List ℕ → Bool → K → Type 0) (view : View) (before : Holder K S) where
-  -- by whether the save fails: what is answered, the agent, and the keeper
+module _ {K S : Type 0} (signs : Signing S) (IsWhole : S → Type 0) (saves : K → List ℕ → Bool → K → Type 0) (view : View) (before : Holder K S) where
+  -- by whether the save fails: what is answered, the agent, and the keeper; and what is saved may be
   pub record EntersAs (fails : Bool) (answer : Result Unit EnterFault) (after : Holder K S) : Type 0 where
     pub answered : answer ≡ answer_of (entering signs before.agent view fails).0
     pub agent : after.agent ≡ agent_after before.agent (entering signs before.agent view fails).0
     pub keeper : Saves saves before.keeper (option_map (kept_bytes signs) (entering signs before.agent view fails).1) fails after.keeper
+    pub kept : IfSome (entering signs before.agent view fails).1 (IsKept signs IsWhole)
 
   -- Where memory is wanting nothing changes, whatever the view.
   abbrev pub Enters : Result Unit EnterFault → Holder K S → Type 0
@@ -59,13 +60,18 @@ module _ {S : Type 0} (signs : Signing S) (view : View) (a : Agent S) where
   MayEnter (Ok done) = IsTakenIn
   MayEnter (Err why) = IsRefused why
 
--- the agent is saved in the view and is in it, or the save failed, or memory is wanting
-abbrev pub GoesIn : {K S : Type 0} → Signing S → (K → List ℕ → Bool → K → Type 0) → View → Holder K S → Result Unit EnterFault → Holder K S → Type 0
-GoesIn signs saves view before (Ok done) after = (after.agent ≡ entered before.agent view) × saves before.keeper (kept_bytes signs (kept_of (entered before.agent view))) false after.keeper
-GoesIn signs saves view before (Err fault.Keeper) after = (after.agent ≡ failed before.agent) × saves before.keeper (kept_bytes signs (kept_of (entered before.agent view))) true after.keeper
-GoesIn signs saves view before (Err fault.Memory) after = after ≡ before
-GoesIn signs saves view before (Err fault.NotMember) after = ⊥
-GoesIn signs saves view before (Err (fault.NotNamed log)) after = ⊥
+-- the agent in the view may be saved, and the save of it left the keeper so
+pub record IsSavedIn {K S : Type 0} (signs : Signing S) (IsWhole : S → Type 0) (saves : K → List ℕ → Bool → K → Type 0) (view : View) (before : Holder K S) (fails : Bool) (after : K) : Type 0 where
+  pub kept : IsKept signs IsWhole (kept_of (entered before.agent view))
+  pub saved : saves before.keeper (kept_bytes signs (kept_of (entered before.agent view))) fails after
+
+-- it is saved in the view and is in it, or the save failed, or memory is wanting
+abbrev pub GoesIn : {K S : Type 0} → Signing S → (S → Type 0) → (K → List ℕ → Bool → K → Type 0) → View → Holder K S → Result Unit EnterFault → Holder K S → Type 0
+GoesIn signs IsWhole saves view before (Ok done) after = (after.agent ≡ entered before.agent view) × IsSavedIn signs IsWhole saves view before false after.keeper
+GoesIn signs IsWhole saves view before (Err fault.Keeper) after = (after.agent ≡ failed before.agent) × IsSavedIn signs IsWhole saves view before true after.keeper
+GoesIn signs IsWhole saves view before (Err fault.Memory) after = after ≡ before
+GoesIn signs IsWhole saves view before (Err fault.NotMember) after = ⊥
+GoesIn signs IsWhole saves view before (Err (fault.NotNamed log)) after = ⊥
 
 -- what is kept, in the view
 abbrev pub kept_in : {S : Type 0} → View → Kept S → Kept S

@@ -5,7 +5,7 @@ use Rattle.ivy_base.specs.Naming.{head_key_of}
 use Rattle.log_model.specs.Rank.{own_entry}
 use Rattle.log_model.specs.Chain.{opening}
 use Rattle.agent_model.specs.Agent.{Signing, own_key, opened, kept_of, record_post, head_post}
-use Rattle.agent_model.specs.SavedBytes.{ArePostsSpelled, kept_bytes}
+use Rattle.agent_model.specs.SavedBytes.{ArePostsSpelled, IsKept, kept_bytes}
 use Rattle.turn_model.specs.Basis.{nothing_held}
 use Rattle.replay_engine.specs.Engines.{holding}
 use Rattle.ivy_agent.specs.Holders.{Holder}
@@ -26,15 +26,17 @@ pub record IsOpening {S : Type 0} (signs : Signing S) (signer : S) (now : Moment
   pub nothing : holding o.engine ≡ nothing_held
   pub its_front : o.front ≡ []
 
-module _ {K S : Type 0} (signs : Signing S) (saves : K → List ℕ → Bool → K → Type 0) where
-  -- what would be saved of the agent that opens its log
-  abbrev pub first_bytes : S → Moment → List ℕ
-  first_bytes signer now = kept_bytes signs (kept_of (opened signs signer now))
+module _ {K S : Type 0} (signs : Signing S) (IsWhole : S → Type 0) (saves : K → List ℕ → Bool → K → Type 0) where
+  -- the agent that opens its log may be saved, and the save of it left the keeper so
+  pub record IsFirstSave (before : K) (signer : S) (now : Moment) (fails : Bool) (after : K) : Type 0 where
+    pub left : signs.remaining signer ≢ 0
+    pub kept : IsKept signs IsWhole (kept_of (opened signs signer now))
+    pub saved : saves before (kept_bytes signs (kept_of (opened signs signer now))) fails after
 
   -- Spent is the answer exactly where nothing is left to sign with. Else the agent opens its log and is saved, or the save fails; or memory is wanting, and the
   -- keeper stays as it is.
   abbrev pub Makes : K → S → Moment → Result (Holder K S) (K × MakeFault) → Type 0
-  Makes before signer now (Ok h) = (signs.remaining signer ≢ 0) × (h.agent ≡ opened signs signer now) × saves before (first_bytes signer now) false h.keeper
+  Makes before signer now (Ok h) = (h.agent ≡ opened signs signer now) × IsFirstSave before signer now false h.keeper
   Makes before signer now (Err (after, fault.Spent)) = (signs.remaining signer ≡ 0) × (after ≡ before)
-  Makes before signer now (Err (after, fault.Keeper)) = (signs.remaining signer ≢ 0) × saves before (first_bytes signer now) true after
+  Makes before signer now (Err (after, fault.Keeper)) = IsFirstSave before signer now true after
   Makes before signer now (Err (after, fault.Memory)) = (signs.remaining signer ≢ 0) × (after ≡ before)

@@ -71,7 +71,7 @@ impl<K: Keeper, S: Signs + Drop> Agent<K, S> {
         signs: S,
         now: Moment,
     ) -> Result<Self, (K, MakeFault)>
-        ensures { Makes (signing S.key S.remaining S.signature S.next S.saved) K.saves keeper signs now result }
+        ensures { Makes (signing S.key S.remaining S.signature S.next S.saved) S.is_whole K.saves keeper signs now result }
     {
         if signs.left() == 0 {
             return Err((keeper, MakeFault::Spent));
@@ -119,7 +119,7 @@ impl<K: Keeper, S: Signs> Agent<K, S> {
     /// least such log. `Keeper` where the save fails, after which the agent saves no more, or where one failed before, and then
     /// the keeper isn't asked. `Memory` where memory runs out, and then nothing has changed.
     pub fn enter(&mut self, alloc: Global, view: View) -> Result<(), EnterFault>
-        ensures { Enters (signing S.key S.remaining S.signature S.next S.saved) K.saves view self.old result self.new }
+        ensures { Enters (signing S.key S.remaining S.signature S.next S.saved) S.is_whole K.saves view self.old result self.new }
     {
         self.may_enter(&view)?;
         self.go_in(alloc, view)
@@ -144,7 +144,7 @@ impl<K: Keeper, S: Signs> Agent<K, S> {
     /// Enters a view that takes in what the agent knows. The error is `Keeper` or `Memory`.
     fn go_in(&mut self, alloc: Global, view: View) -> Result<(), EnterFault>
         requires { IsTakenIn (signing S.key S.remaining S.signature S.next S.saved) view self.old.agent }
-        ensures { GoesIn (signing S.key S.remaining S.signature S.next S.saved) K.saves view self.old result self.new }
+        ensures { GoesIn (signing S.key S.remaining S.signature S.next S.saved) S.is_whole K.saves view self.old result self.new }
     {
         let Ok(nothing) = hold_nothing(alloc) else {
             return Err(EnterFault::Memory);

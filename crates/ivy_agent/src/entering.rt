@@ -6,7 +6,7 @@ ghost use Rattle.agent_model.specs.Agent.{own_key};
 ghost use Rattle.agent_model.specs.SavedBytes.{kept_bytes};
 ghost use Rattle.agent_model.specs.Views.{was_former, is_refused_in};
 ghost use Rattle.ivy_agent.specs.Holders.{signing};
-ghost use Rattle.ivy_agent.specs.Saves.{saved_of, HasSaved};
+ghost use Rattle.ivy_agent.specs.Saves.{saved_of, HasSaved, IsWholeAfter};
 ghost use Rattle.ivy_agent.specs.Entering.{kept_in};
 
 use crate::saving::{Kept, SaveFault, save};
@@ -27,11 +27,7 @@ pub fn not_named(before: Option<&View>, view: &View, floor: &Vector) -> Option<K
 }
 
 /// The first entry whose log the view can't take in.
-fn first_refused<'a>(
-    before: Option<&View>,
-    view: &View,
-    entries: &'a [Entry],
-) -> Option<&'a Entry>
+fn first_refused<'a>(before: Option<&View>, view: &View, entries: &'a [Entry]) -> Option<&'a Entry>
     ensures { option_map (λ e. e.now) result ≡ find (λ e. is_refused_in (option_map (λ v. v.now) before.entry) view.now e.log) entries.now }
 {
     entries
@@ -66,6 +62,7 @@ pub fn save_in<K: Keeper, S: Signs>(
 ) -> Result<(), SaveFault>
     requires { kept.old.log ≡ head_key_of (own_key (signing S.key S.remaining S.signature S.next S.saved) kept.old.signer) }
     ensures saved { HasSaved K.saves keeper.old (kept_bytes (signing S.key S.remaining S.signature S.next S.saved) (saved_of (kept_in view kept.old))) result keeper.new }
+    ensures whole { IsWholeAfter (S.is_whole kept.old.signer) result }
     ensures ok { OnOk result (kept.new ≡ kept_in view kept.old) }
     ensures err { OnErr result (kept.new ≡ kept.old) }
 {

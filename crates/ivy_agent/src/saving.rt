@@ -1,6 +1,6 @@
 //! What is saved of an agent: its bytes, and the save.
 
-ghost use Rattle.std.specs.Prelude.{◌≡◌, ◌≤◌, ◌<◌, ◌+◌, ◌^◌, ◌∷◌, ◌++◌, length, IfOk, IfSome, OnSome, option_map};
+ghost use Rattle.std.specs.Prelude.{◌≡◌, ◌≤◌, ◌<◌, ◌+◌, ◌^◌, ◌∷◌, ◌++◌, length, IfOk, OnOk, IfSome, OnSome, option_map};
 ghost use Rattle.std.specs.List.{flat_map};
 ghost use Rattle.ivy_base.specs.Naming.{head_key_of};
 ghost use Rattle.wire_model.specs.Xdr.{word, opaque, array, optional};
@@ -9,7 +9,7 @@ ghost use Rattle.log_model.specs.Spelling.{vector_entry};
 ghost use Rattle.agent_model.specs.Agent.{own_key};
 ghost use Rattle.agent_model.specs.SavedBytes.{kept_bytes, kind_number, post_bytes, view_bytes};
 ghost use Rattle.ivy_agent.specs.Holders.{signing};
-ghost use Rattle.ivy_agent.specs.Saves.{saved_of, AreShort, HasSaved};
+ghost use Rattle.ivy_agent.specs.Saves.{saved_of, AreShort, HasSaved, IsWholeAfter};
 
 use dht_ids::{Post, PostKind, Posts};
 use hss_keys::Signs;
@@ -57,7 +57,8 @@ pub fn save<K: Keeper, S: Signs>(
     kept: &Kept<S>,
 ) -> Result<(), SaveFault>
     requires { kept.now.log ≡ head_key_of (own_key (signing S.key S.remaining S.signature S.next S.saved) kept.now.signer) }
-    ensures { HasSaved K.saves keeper.old (kept_bytes (signing S.key S.remaining S.signature S.next S.saved) (saved_of kept.now)) result keeper.new }
+    ensures saved { HasSaved K.saves keeper.old (kept_bytes (signing S.key S.remaining S.signature S.next S.saved) (saved_of kept.now)) result keeper.new }
+    ensures whole { IsWholeAfter (S.is_whole kept.now.signer) result }
 {
     let Ok(bytes) = bytes_of(alloc, kept) else {
         return Err(SaveFault::Memory);
@@ -71,7 +72,8 @@ pub fn save<K: Keeper, S: Signs>(
 /// The bytes that are saved. The error is want of memory.
 fn bytes_of<S: Signs>(alloc: Global, kept: &Kept<S>) -> Result<Bytes, Memory>
     requires { kept.now.log ≡ head_key_of (own_key (signing S.key S.remaining S.signature S.next S.saved) kept.now.signer) }
-    ensures { IfOk result (λ bytes. bytes ≡ kept_bytes (signing S.key S.remaining S.signature S.next S.saved) (saved_of kept.now)) }
+    ensures bytes { IfOk result (λ bytes. bytes ≡ kept_bytes (signing S.key S.remaining S.signature S.next S.saved) (saved_of kept.now)) }
+    ensures whole { OnOk result (S.is_whole kept.now.signer) }
 {
     let signer = kept.signer.save(alloc)?;
     let view = block_of(alloc, kept.view.as_ref())?;

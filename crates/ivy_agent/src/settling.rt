@@ -35,5 +35,6 @@ fn has_key(acks: &[Ack], key: &Key) -> bool
 fn has_name(acks: &[Ack], key: &Key, name: &Key) -> bool
     ensures { result ≡ list_any (λ ack. same_key ack.key key.now && same_key ack.name name.now) acks.now }
 {
-    acks.iter().any(|ack| is_same(&ack.key, key) && is_same(&ack.name, name))
+    acks.iter()
+        .any(|ack| is_same(&ack.key, key) && is_same(&ack.name, name))
 }
