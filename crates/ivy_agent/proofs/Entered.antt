@@ -13,7 +13,7 @@ use Rattle.log_model.proofs.Opening.{same_owner}
 use Rattle.wire_model.specs.Xdr.{IsAny}
 use Rattle.turn_model.specs.Basis.{nothing_held}
 use Rattle.replay_engine.specs.Engines.{Engine, holding}
-use Rattle.agent_model.specs.Agent.{Agent, Signing, entered, failed, kept_of, own, own_key}
+use Rattle.agent_model.specs.Agent.{Agent, Signing, entered, failed, kept_of, own}
 use Rattle.agent_model.specs.SavedBytes.{IsKept, kept_bytes}
 use Rattle.agent_model.specs.Views.{Entering, entering, entering_with, is_own_member, is_refused_in, not_named, was_former}
 use Rattle.agent_model.specs.Views.Entering.{Entered, NotMember, NotNamed, KeeperFailed}
@@ -94,7 +94,7 @@ module _ {K S : Type 0} (signs : Signing S) (IsWhole : S → Type 0) (saves : K 
   }
 
   module _ (before : Holder K S) (k : Kept S) (engine : Engine) (to_load : Option Key) (has_failed : Bool) (keeper : K) (is : record { agent = agent_of k engine to_load has_failed; keeper = keeper } ≡ before)
-    (kept : IsKept signs IsAny (saved_of k)) (taken : IsTakenIn signs view before.agent) where
+      (kept : IsKept signs IsAny (saved_of k)) (taken : IsTakenIn signs view before.agent) where
     abbrev here : Agent S
     here = agent_of k engine to_load has_failed
 
@@ -157,7 +157,7 @@ module _ {K S : Type 0} (signs : Signing S) (IsWhole : S → Type 0) (saves : K 
         answered = sym (ap (λ (e : Entering S × Option _). answer_of e.0) h.enters);
         agent = g.0 ∙ sym (ap (λ (e : Entering S × Option _). agent_after before.agent e.0) h.enters);
         keeper = subst (λ (e : Entering S × Option _). Saves saves before.keeper (option_map (kept_bytes signs) e.1) false after.keeper) (sym h.enters) g.1.saved;
-      kept = subst (λ (e : Entering S × Option _). IfSome e.1 (IsKept signs IsWhole)) (sym h.enters) g.1.kept;
+        kept = subst (λ (e : Entering S × Option _). IfSome e.1 (IsKept signs IsWhole)) (sym h.enters) g.1.kept;
       },
     )
     enters_gone h (Err fault.Keeper) after g = (
@@ -166,7 +166,7 @@ module _ {K S : Type 0} (signs : Signing S) (IsWhole : S → Type 0) (saves : K 
         answered = sym (ap (λ (e : Entering S × Option _). answer_of e.0) h.fails);
         agent = g.0 ∙ sym (ap (λ (e : Entering S × Option _). agent_after before.agent e.0) h.fails);
         keeper = subst (λ (e : Entering S × Option _). Saves saves before.keeper (option_map (kept_bytes signs) e.1) true after.keeper) (sym h.fails) g.1.saved;
-      kept = subst (λ (e : Entering S × Option _). IfSome e.1 (IsKept signs IsWhole)) (sym h.fails) g.1.kept;
+        kept = subst (λ (e : Entering S × Option _). IfSome e.1 (IsKept signs IsWhole)) (sym h.fails) g.1.kept;
       },
     )
     enters_gone h (Err fault.Memory) after g = g

@@ -1,5 +1,5 @@
 -- What holds of an agent that opened its log, and what is saved of it.
-use Rattle.std.proofs.Common.{◌≡◌, ℕ, ◌≤◌, Bool, true, false, cond, List, [], ◌∷◌, Option, Some, None, Result, Ok, Err, refl, sym, ap, ◌∙◌, subst, arith}
+use Rattle.std.proofs.Common.{◌≡◌, ℕ, Bool, true, false, cond, List, [], ◌∷◌, Some, None, Result, Ok, Err, refl, sym, ap, ◌∙◌, subst, arith}
 use Rattle.ivy_base.specs.declared.key.Key.{Key}
 use Rattle.ivy_base.specs.declared.operation.Moment.{Moment}
 use Rattle.ivy_base.specs.Naming.{head_key_of}
@@ -83,7 +83,7 @@ module _ {S : Type 0} (signs : Signing S) where
     first_kept IsWhole whole = subst (λ (a : Agent S). IsKept signs IsWhole (kept_of a)) is_opened (whole_kept signs IsWhole (saved_of o.kept) opened_sound.kept whole)
 
     module _ {K : Type 0} (IsWhole : S → Type 0) (saves : K → List ℕ → Bool → K → Type 0) (keeper left : K) (some : signs.remaining before ≡ 0 → ⊥) (result : Result Unit SaveFault)
-      (told : HasSaved saves keeper (kept_bytes signs (saved_of o.kept)) result left) (whole : IsWholeAfter (IsWhole o.kept.signer) result) where
+        (told : HasSaved saves keeper (kept_bytes signs (saved_of o.kept)) result left) (whole : IsWholeAfter (IsWhole o.kept.signer) result) where
       -- what the save left
       pub save_failed : result ≡ Err fault.Keeper → IsFirstSave signs IsWhole saves keeper before now true left
       save_failed failed = record {

@@ -1,9 +1,8 @@
 -- The edges of the newest records, from the newest record on.
-use Rattle.std.proofs.Common.{◌≡◌, ℕ, Bool, true, false, cond, List, [], ◌∷◌, ◌++◌, Option, Some, None, refl, sym, ap, ◌∙◌, subst, fold}
-use Rattle.std.specs.Prelude.{is_some, IsTrue, T}
+use Rattle.std.proofs.Common.{◌≡◌, Bool, true, false, cond, List, [], ◌∷◌, ◌++◌, Option, Some, None, refl, sym, ap, ◌∙◌, subst, fold}
+use Rattle.std.specs.Prelude.{is_some, T}
 use Rattle.std.specs.Option.{option_or}
 use Rattle.std.specs.List.{AllByRecursion, list_any}
-use Rattle.std.specs.Cmp.{Equal-is}
 use Rattle.std.specs.Ordering.{eq_by_cmp}
 use Rattle.std.specs.declared.cmp.Ordering.{Ordering}
 use Rattle.std.specs.declared.cmp.Ordering.TheVariants.{Less, Equal, Greater}
@@ -11,9 +10,8 @@ use Rattle.std.specs.FinMap.Entries.{by_order, put, find as value_at, is_sorted,
 use Rattle.ivy_base.specs.declared.key.Key.{Key}
 use Rattle.ivy_base.specs.declared.key.PubKey.{PubKey}
 use Rattle.ivy_base.specs.Naming.{key_cmp, owner_cmp, head_key_of}
-use Rattle.tree_model.specs.Tree.{same_key}
 use Rattle.tree_model.proofs.Keys.{keys_total, exact_keys, same_key_is, same_key_itself}
-use Rattle.tree_model.proofs.Sound.{to_test, from_test}
+use Rattle.tree_model.proofs.Sound.{to_test}
 use Rattle.log_model.specs.Record.{Record}
 use Rattle.log_model.specs.Vector.{stamp_at}
 use Rattle.log_model.proofs.Lists.{each, who_passes}

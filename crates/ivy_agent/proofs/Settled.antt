@@ -1,5 +1,5 @@
 -- An agent whose posts are some of those that it had.
-use Rattle.std.proofs.Common.{◌≡◌, ℕ, ◌≤◌, Bool, true, false, cond, List, [], ◌∷◌, length, filter, Option, Some, None, arith}
+use Rattle.std.proofs.Common.{◌≤◌, Bool, true, false, cond, List, [], ◌∷◌, length, filter, Option, Some, None, arith}
 use Rattle.std.specs.List.{AllByRecursion}
 use Rattle.ivy_base.specs.declared.key.Key.{Key}
 use Rattle.log_model.specs.View.{View}

@@ -1,6 +1,5 @@
 -- What is known of the newest held records, from the newest record on.
-use Rattle.std.specs.Prelude.{◌≡◌, List, [], ◌∷◌, Option, None, cond, is_some, fold}
-use Rattle.std.specs.List.{AllByRecursion}
+use Rattle.std.specs.Prelude.{◌≡◌, List, [], None, cond, is_some, fold}
 use Rattle.std.specs.FinMap.Entries.{put, find as value_at}
 use Rattle.ivy_base.specs.declared.key.Key.{Key}
 use Rattle.ivy_base.specs.Naming.{head_key_of, key_cmp}

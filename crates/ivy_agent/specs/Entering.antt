@@ -1,5 +1,5 @@
 -- How entering a view ends.
-use Rattle.std.specs.Prelude.{◌≡◌, ℕ, Bool, true, false, IsTrue, IfSome, List, Contains, Option, Some, None, option_map, Result, Ok, Err}
+use Rattle.std.specs.Prelude.{◌≡◌, ℕ, Bool, true, false, IsTrue, IfSome, List, Contains, Some, None, option_map, Result, Ok, Err}
 use Rattle.std.specs.List.{AllByRecursion}
 use Rattle.log_model.specs.View.{View, IsView, is_named}
 use Rattle.agent_model.specs.Agent.{Agent, Signing, entered, failed, kept_of, own}

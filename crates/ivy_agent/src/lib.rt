@@ -8,7 +8,8 @@
 //! [`Agent::create`] signs one head, and gives the agent that opens its log only once it is saved; [`Agent::enter`] is
 //! `entering` of the definitions, for some answer to whether the save fails, with what is saved (`specs/Making.antt`,
 //! `specs/Entering.antt`). Both say of the keeper that it is what a save of exactly those bytes leaves, or, where nothing is
-//! saved, what it was. After a save that failed an agent saves no more. [`Agent::standing`] is `standing_in`,
+//! saved, what it was; and that what is saved may be (`IsKept`), so that no other agent has those bytes. After a save that
+//! failed an agent saves no more. [`Agent::standing`] is `standing_in`,
 //! [`Agent::settle`] is `settled`. Want of memory, which is tied to no cause, leaves the agent and the keeper as they were; it
 //! also comes where the saved key, a block or a list has 2^32 parts or more, which no word counts.
 //!

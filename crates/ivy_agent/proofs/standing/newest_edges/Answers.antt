@@ -1,4 +1,3 @@
-use Rattle.std.proofs.Common.{◌≡◌, ◌∷◌, true, sym, ap, ◌∙◌, subst, arith}
 use Rattle.ivy_agent.proofs.Older.{older_added, older_known, are_all_edges}
 use Rattle.ivy_agent.proofs.standing.newest_edges.Goals as goal
 

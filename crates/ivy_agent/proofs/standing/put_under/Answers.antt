@@ -1,7 +1,3 @@
-use Rattle.std.proofs.Common.{sym, ap, ◌∙◌, subst, false, true}
-use Rattle.std.specs.List.{insert, list_any}
-use Rattle.ivy_base.specs.declared.key.Key.{Key}
-use Rattle.tree_model.specs.Tree.{same_key}
 use Rattle.ivy_agent.proofs.Placed.{stays_at, placed_at}
 use Rattle.ivy_agent.proofs.standing.put_under.Goals as goal
 

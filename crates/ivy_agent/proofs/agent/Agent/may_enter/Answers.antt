@@ -1,7 +1,7 @@
-use Rattle.std.proofs.Common.{refl, ap, ◌∙◌}
+use Rattle.std.proofs.Common.{ap, ◌∙◌}
 use Rattle.std.specs.Prelude.{find, option_map}
 use Rattle.agent_model.specs.Views.{is_refused_in}
-use Rattle.ivy_agent.specs.Holders.{signing, agent_of}
+use Rattle.ivy_agent.specs.Holders.{signing}
 use Rattle.ivy_agent.proofs.Entered.{may_be_entered}
 use Rattle.ivy_agent.proofs.agent.Agent.may_enter.Goals as goal
 
