@@ -35,8 +35,10 @@ use view_blocks::View;
 /// Contracts see the agent of the definitions, and its keeper (`specs/Holders.antt`).
 #[derive(Drop)]
 pub struct Agent<K: Keeper, S: Signs> {
+    /// By which a list is replaced where no memory is taken.
     alloc: Global,
     keeper: K,
+    /// What is saved.
     kept: Kept<S>,
     /// What is held.
     engine: Engine,

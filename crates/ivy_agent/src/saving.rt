@@ -1,7 +1,6 @@
 //! What is saved of an agent: its bytes, and the save.
 
 ghost use Rattle.std.specs.Prelude.{◌≡◌, ◌≤◌, ◌<◌, ◌+◌, ◌^◌, ◌∷◌, ◌++◌, length, IfOk, OnOk, IfSome, OnSome, option_map};
-ghost use Rattle.std.specs.List.{flat_map};
 ghost use Rattle.ivy_base.specs.Naming.{head_key_of};
 ghost use Rattle.wire_model.specs.Xdr.{word, opaque, array, optional};
 ghost use Rattle.xdr_codec.specs.Writing.{padded};
@@ -49,8 +48,12 @@ pub enum SaveFault {
     Memory,
 }
 
-/// Has the keeper save it. All memory is taken before; the want of it also comes where the saved key, the view, a post's block
-/// or a list has 2^32 parts or more, which no word counts.
+/// Has the keeper save the bytes of what is kept. All memory is taken before.
+///
+/// # Errors
+///
+/// `Keeper` where the keeper fails. `Memory` where memory runs out before; it also comes where the saved key or a block has
+/// 2^32 bytes or more, or the floor or the posts are as many, which no word counts.
 pub fn save<K: Keeper, S: Signs>(
     alloc: Global,
     keeper: &mut K,
@@ -69,7 +72,7 @@ pub fn save<K: Keeper, S: Signs>(
     }
 }
 
-/// The bytes that are saved. The error is want of memory.
+/// The bytes that are saved. The error is that of [`save`] which isn't the keeper's.
 fn bytes_of<S: Signs>(alloc: Global, kept: &Kept<S>) -> Result<Bytes, Memory>
     requires { kept.now.log ≡ head_key_of (own_key (signing S.key S.remaining S.signature S.next S.saved) kept.now.signer) }
     ensures bytes { IfOk result (λ bytes. bytes ≡ kept_bytes (signing S.key S.remaining S.signature S.next S.saved) (saved_of kept.now)) }
@@ -98,7 +101,7 @@ fn block_of(alloc: Global, view: Option<&View>) -> Result<Bytes, Memory>
     }
 }
 
-/// The parts one after the other, in one allocation. The error is want of memory.
+/// The parts one after the other, in one allocation. The error is that of [`save`] which isn't the keeper's.
 fn write(
     alloc: Global,
     signer: &[u8],
