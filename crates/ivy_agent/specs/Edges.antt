@@ -1,0 +1,21 @@
+-- What is known of the newest held records, from the newest record on.
+use Rattle.std.specs.Prelude.{◌≡◌, List, [], None, cond, is_some, fold}
+use Rattle.std.specs.FinMap.Entries.{put, find as value_at}
+use Rattle.ivy_base.specs.declared.key.Key.{Key}
+use Rattle.ivy_base.specs.Naming.{head_key_of, key_cmp}
+use Rattle.log_model.specs.Vector.{stamp_at}
+use Rattle.log_model.specs.Record.{Record}
+use Rattle.log_records.specs.declared.edge.Edge.{Edge}
+use Rattle.log_records.specs.Batches.{as_edge}
+
+-- of each log the edge of its newest record
+abbrev pub newest_edges : List Record → List (Key × Edge)
+newest_edges rs = fold (λ edges r. put key_cmp (head_key_of r.owner) (as_edge r) edges) [] rs
+
+-- an edge of a log of which none is known yet
+abbrev pub put_under : Key → Edge → List (Key × Edge) → List (Key × Edge)
+put_under log edge edges = cond (is_some (value_at key_cmp log edges)) edges (put key_cmp log edge edges)
+
+-- the record knows nothing of its own log
+abbrev pub KnowsOthers : Record → Type 0
+KnowsOthers r = stamp_at r.vector (head_key_of r.owner) ≡ None

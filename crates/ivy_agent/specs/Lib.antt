@@ -1,0 +1,5 @@
+pub mod Holders
+pub mod Saves
+pub mod Making
+pub mod Entering
+pub mod Edges

@@ -1,0 +1,218 @@
+//! Agents.
+
+ghost use Rattle.std.specs.Prelude.{◌≡◌, None, false, IfOk, IfSome, IsSomeAnd};
+ghost use Rattle.log_records.specs.Records.{records_of};
+ghost use Rattle.turn_model.specs.Basis.{kept_tree};
+ghost use Rattle.agent_model.specs.Others.{settled};
+ghost use Rattle.agent_model.specs.Standing.{standing_in};
+ghost use Rattle.log_fetch.specs.Standings.{standing_of};
+ghost use Rattle.ivy_agent.specs.Holders.{IsSound, agent_of, signing};
+ghost use Rattle.ivy_agent.specs.Making.{Makes};
+ghost use Rattle.ivy_agent.specs.Entering.{Enters, GoesIn, IsTakenIn, MayEnter};
+
+use crate::entering::{not_named, save_in};
+use crate::fault::{EnterFault, MakeFault};
+use crate::keys::is_among;
+use crate::opening::{Opened, hold_nothing, open};
+use crate::saving::{Kept, SaveFault, save};
+use crate::settling::keep_unsettled;
+use crate::standing::newest_edges;
+use dht_ids::{Acks, Posts};
+use fs_tree::Tree;
+use hss_keys::Signs;
+use ivy_base::{Key, Memory, Moment};
+use ivy_io::Keeper;
+use log_fetch::Standing;
+use log_records::Record;
+use replay_engine::Engine;
+use std::alloc::Global;
+use std::marker::Model;
+use std::mem::replace;
+use version_vectors::Vector;
+use view_blocks::View;
+
+/// A participant's agent: it owns the participant's log, and holds what the participant knows of the logs of its view.
+/// Contracts see the agent of the definitions, and its keeper (`specs/Holders.antt`).
+#[derive(Drop)]
+pub struct Agent<K: Keeper, S: Signs> {
+    /// By which a list is replaced where no memory is taken.
+    alloc: Global,
+    keeper: K,
+    /// What is saved.
+    kept: Kept<S>,
+    /// What is held.
+    engine: Engine,
+    /// The front of what is held.
+    front: Vector,
+    /// The name of the snapshot that is to be loaded.
+    to_load: Option<Key>,
+    /// Whether the keeper has failed.
+    has_failed: bool,
+}
+
+impl<K: Keeper, S: Signs> Model for Agent<K, S> {
+    ghost use Rattle.ivy_agent.specs.Holders.{Holder, IsSound, agent_of, signing};
+
+    ghost Value = { Holder K S };
+
+    ghost view = { λ a. record { agent = agent_of a.kept a.engine a.to_load a.has_failed; keeper = a.keeper } };
+
+    ghost invariant = { λ a. IsSound (signing S.key S.remaining S.signature S.next S.saved) (agent_of a.kept a.engine a.to_load a.has_failed) a.kept.log a.front };
+}
+
+impl<K: Keeper, S: Signs + Drop> Agent<K, S> {
+    /// An agent that opens its log at that moment, over the keeper, which saves it. One head is signed.
+    ///
+    /// # Errors
+    ///
+    /// `Spent` exactly where the signer signs nothing more. `Keeper` where the save fails. Either way, and where memory runs out
+    /// (`Memory`), the keeper is given back; but for a failed save it is as it was. The signer is dropped.
+    pub fn create(
+        alloc: Global,
+        mut keeper: K,
+        signs: S,
+        now: Moment,
+    ) -> Result<Self, (K, MakeFault)>
+        ensures { Makes (signing S.key S.remaining S.signature S.next S.saved) S.is_whole K.saves keeper signs now result }
+    {
+        if signs.left() == 0 {
+            return Err((keeper, MakeFault::Spent));
+        }
+        let Ok(opened) = open(alloc, signs, now) else {
+            return Err((keeper, MakeFault::Memory));
+        };
+        match save(alloc, &mut keeper, &opened.kept) {
+            Ok(()) => Ok(Agent::of(alloc, keeper, opened)),
+            Err(SaveFault::Keeper) => Err((keeper, MakeFault::Keeper)),
+            Err(SaveFault::Memory) => Err((keeper, MakeFault::Memory)),
+        }
+    }
+
+    /// The keeper; all else of the agent is dropped.
+    pub fn into_keeper(self) -> K
+        ensures { result ≡ self.keeper }
+    {
+        self.keeper
+    }
+}
+
+impl<K: Keeper, S: Signs> Agent<K, S> {
+    /// The agent of these parts.
+    fn of(alloc: Global, keeper: K, opened: Opened<S>) -> Self
+        requires { IsSound (signing S.key S.remaining S.signature S.next S.saved) (agent_of opened.kept opened.engine None false) opened.kept.log opened.front }
+        ensures { result ≡ record { agent = agent_of opened.kept opened.engine None false; keeper = keeper } }
+    {
+        Agent {
+            alloc,
+            keeper,
+            kept: opened.kept,
+            engine: opened.engine,
+            front: opened.front,
+            to_load: None,
+            has_failed: false,
+        }
+    }
+
+    /// Enters a view: what was held is dropped, and the agent is saved in the view. What it knew stays its floor.
+    ///
+    /// # Errors
+    ///
+    /// `NotMember` where the own log isn't a member's. `NotNamed` where the view doesn't take in a log that the agent knows: the
+    /// least such log. `Keeper` where the save fails, after which the agent saves no more, or where one failed before, and then
+    /// the keeper isn't asked. `Memory` where memory runs out, and then nothing has changed.
+    pub fn enter(&mut self, alloc: Global, view: View) -> Result<(), EnterFault>
+        ensures { Enters (signing S.key S.remaining S.signature S.next S.saved) S.is_whole K.saves view self.old result self.new }
+    {
+        self.may_enter(&view)?;
+        self.go_in(alloc, view)
+    }
+
+    /// Whether the view may be entered, and the keeper asked. The error is that of [`Agent::enter`] which comes else.
+    fn may_enter(&self, view: &View) -> Result<(), EnterFault>
+        ensures { MayEnter (signing S.key S.remaining S.signature S.next S.saved) view.now self.now.agent result }
+    {
+        if !is_among(view.members(), &self.kept.signer.owner()) {
+            return Err(EnterFault::NotMember);
+        }
+        if let Some(log) = not_named(self.kept.view.as_ref(), view, &self.kept.floor) {
+            return Err(EnterFault::NotNamed(log));
+        }
+        if self.has_failed {
+            return Err(EnterFault::Keeper);
+        }
+        Ok(())
+    }
+
+    /// Enters a view that takes in what the agent knows. The error is `Keeper` or `Memory`.
+    fn go_in(&mut self, alloc: Global, view: View) -> Result<(), EnterFault>
+        requires { IsTakenIn (signing S.key S.remaining S.signature S.next S.saved) view self.old.agent }
+        ensures { GoesIn (signing S.key S.remaining S.signature S.next S.saved) S.is_whole K.saves view self.old result self.new }
+    {
+        let Ok(nothing) = hold_nothing(alloc) else {
+            return Err(EnterFault::Memory);
+        };
+        match save_in(alloc, &mut self.keeper, &mut self.kept, view) {
+            Ok(()) => {
+                self.engine = nothing;
+                self.front = Vector::empty(alloc);
+                self.to_load = None;
+                Ok(())
+            }
+            Err(SaveFault::Keeper) => {
+                self.has_failed = true;
+                Err(EnterFault::Keeper)
+            }
+            Err(SaveFault::Memory) => Err(EnterFault::Memory),
+        }
+    }
+
+    /// What a session is given of the agent. The error is want of memory.
+    pub fn standing(&self, alloc: Global) -> Result<Standing, Memory>
+        requires { IsSomeAnd self.now.agent.view (λ view. Unit {0}) }
+        ensures { IfOk result (λ s. IfSome self.now.agent.view (λ view. standing_of s ≡ standing_in (signing S.key S.remaining S.signature S.next S.saved) self.now.agent view)) }
+    {
+        let Some(view) = &self.kept.view else {
+            unreachable!();
+        };
+        Ok(Standing {
+            view: view.copy(alloc)?,
+            own: self.kept.signer.owner(),
+            held: self.front.copy(alloc)?,
+            floor: self.kept.floor.copy(alloc)?,
+            edges: newest_edges(alloc, self.engine.records())?,
+            basis: self.to_load,
+            pending: self.kept.pending.copy(alloc)?,
+        })
+    }
+
+    /// Drops the posts that are acknowledged. It takes no memory.
+    pub fn settle(&mut self, acks: &Acks)
+        ensures { self.new ≡ record self.old { agent = settled self.old.agent acks.now } }
+    {
+        let posts = replace(&mut self.kept.pending, Posts::of(Vec::new(self.alloc)));
+        let mut posts = posts.into_vec();
+        keep_unsettled(&mut posts, acks.as_slice());
+        self.kept.pending = Posts::of(posts);
+    }
+
+    /// The blocks that are still to be published, in their order.
+    pub fn pending(&self) -> &Posts
+        ensures { result.now ≡ self.now.agent.pending }
+    {
+        &self.kept.pending
+    }
+
+    /// The records that are held above the basis, ascending by rank.
+    pub fn order(&self) -> &[Record]
+        ensures { records_of result.now ≡ self.now.agent.holding.held }
+    {
+        self.engine.records()
+    }
+
+    /// The tree that they make of the basis's.
+    pub fn tree(&self) -> &Tree
+        ensures { result.now ≡ kept_tree self.now.agent.holding }
+    {
+        self.engine.tree()
+    }
+}

@@ -1,0 +1,42 @@
+//! A participant's agent, over a keeper that saves it and a key that signs its log: it opens its log, enters a view, stands
+//! for a session, and settles what was published.
+//!
+//! Layer: over `agent_model`, whose definitions the contracts cite, `ivy_io`, whose [`ivy_io::Keeper`] saves, `hss_keys`,
+//! whose [`hss_keys::Signs`] signs, `replay_engine`, which holds records and their tree, and `log_fetch`, whose standings
+//! sessions begin with; below turns and below whatever drives agents.
+//! For the layers above: contracts see an [`Agent`] as the agent of the definitions and its keeper (`specs/Holders.antt`).
+//! [`Agent::create`] signs one head, and gives the agent that opens its log only once it is saved; [`Agent::enter`] is
+//! `entering` of the definitions, for some answer to whether the save fails, with what is saved (`specs/Making.antt`,
+//! `specs/Entering.antt`). Both say of the keeper that it is what a save of exactly those bytes leaves, or, where nothing is
+//! saved, what it was; and that what is saved may be (`IsKept`), so that no other agent has those bytes. After a save that
+//! failed an agent saves no more. [`Agent::standing`] is `standing_in`,
+//! [`Agent::settle`] is `settled`. Want of memory, which is tied to no cause, leaves the agent and the keeper as they were; it
+//! also comes where the saved key, a block or a list has 2^32 parts or more, which no word counts.
+//!
+//! Always, whatever the names of blocks, holds `IsSound` (`specs/Holders.antt`): the front of what is held is kept; before a
+//! view nothing is held; in a view the held records are closed over the basis's front, and that and the front of all that is
+//! held name logs of the view alone and go no further in the own log than the floor; and what would be saved may be saved,
+//! as far as the key tells so itself, so that no other agent has these bytes.
+//!
+//! Inside, `opening` makes the parts of an agent that opens its log, `saving` the bytes and the save, `entering` tests a view
+//! and saves in it, `standing` finds the newest records' edges, `settling` tells which posts are acknowledged, and `keys`
+//! compares keys. Definitions beside those: `specs/Saves.antt` (how a save ends), `specs/Edges.antt` (edges from the newest
+//! record on).
+//!
+//! Costs: a save is one allocation beside those of the saved key and of the view's block, and copies each pending block once.
+//! Entering a view makes an empty tree. A standing copies the view, the vectors and the pending posts, looks at the owner of
+//! each held record, and hashes each log's key once. Settling hashes a post only where an acknowledgement has its key, and
+//! takes no memory.
+#![tactic(auto)]
+
+pub mod agent;
+mod entering;
+pub mod fault;
+mod keys;
+mod opening;
+mod saving;
+mod settling;
+mod standing;
+
+pub use agent::Agent;
+pub use fault::{EnterFault, MakeFault};

@@ -1,0 +1,141 @@
+//! Opening a log.
+
+ghost use Rattle.std.specs.Prelude.{◌≡◌, ◌≢◌, [], ◌∷◌, IsTrue, IfOk, OnOk};
+ghost use Rattle.dht_ids.specs.declared.post.PostKind.TheVariants.{Log, Head};
+ghost use Rattle.log_model.specs.Chain.{opening};
+ghost use Rattle.log_records.specs.Records.{record_of};
+ghost use Rattle.turn_model.specs.Basis.{nothing_held};
+ghost use Rattle.replay_engine.specs.Engines.{holding};
+ghost use Rattle.agent_model.specs.Agent.{sealed};
+ghost use Rattle.agent_model.specs.SavedBytes.{AreOpaque};
+ghost use Rattle.ivy_agent.specs.Holders.{signing};
+ghost use Rattle.ivy_agent.specs.Making.{IsOpening};
+
+use crate::saving::Kept;
+use dht_ids::{Post, PostKind, Posts};
+use fs_tree::{Basis, Tree};
+use hss_keys::Signs;
+use ivy_base::{Bytes, Key, Memory, Moment, Op, PubKey, head_key, name_of};
+use log_heads::seal;
+use log_records::Record;
+use replay_engine::Engine;
+use std::alloc::Global;
+use version_vectors::{Entry, Vector};
+
+/// In place of a name, where there is none.
+const NO_NAME: Key = Key([0; 20]);
+
+/// An agent's parts behind the opening of its log.
+#[derive(Drop)]
+pub struct Opened<S> {
+    /// What is saved: the opening record and the head over it are to be published.
+    pub kept: Kept<S>,
+    /// What is held: nothing.
+    pub engine: Engine,
+    /// The front of what is held.
+    pub front: Vector,
+}
+
+/// Opens the signer's log at that moment: its opening record is made, and a head is signed over it. The error is want of
+/// memory, and then the signer is dropped.
+pub fn open<S: Signs + Drop>(alloc: Global, mut signer: S, now: Moment) -> Result<Opened<S>, Memory>
+    requires { S.remaining signer ≢ 0 }
+    ensures { IfOk result (IsOpening (signing S.key S.remaining S.signature S.next S.saved) signer now) }
+{
+    let own = signer.owner();
+    let log = head_key(&own);
+    let block = opening(alloc, own, now).write(alloc)?;
+    let name = name_of(block.as_slice());
+    let head = seal_first(alloc, &mut signer, name)?;
+    let kept = Kept {
+        signer,
+        log,
+        view: None,
+        floor: floor_of(alloc, log, name)?,
+        pending: posts_of(alloc, log, name, block, head)?,
+        snapshot: None,
+    };
+    Ok(Opened {
+        kept,
+        engine: hold_nothing(alloc)?,
+        front: Vector::empty(alloc),
+    })
+}
+
+/// The opening record's block of that name, and the head over it.
+fn posts_of(alloc: Global, log: Key, name: Key, block: Bytes, head: Bytes) -> Result<Posts, Memory>
+    ensures posts { IfOk result (λ posts. posts ≡ record { key = name; bytes = block; kind = Log } ∷ record { key = log; bytes = head; kind = Head } ∷ []) }
+    ensures block { OnOk result (AreOpaque block) }
+    ensures head { OnOk result (AreOpaque head) }
+{
+    let posts = vec![in alloc;
+        post_of(name, block, PostKind::Log)?,
+        post_of(log, head, PostKind::Head)?,
+    ]?;
+    Ok(Posts::of(posts))
+}
+
+/// The first record of the owner's log.
+fn opening(alloc: Global, own: PubKey, now: Moment) -> Record
+    ensures { record_of result ≡ opening own now }
+{
+    Record {
+        owner: own,
+        seq: 1,
+        prev: NO_NAME,
+        vector: Vector::empty(alloc),
+        moment: now,
+        op: Op::End,
+    }
+}
+
+/// The engine that holds nothing. The error is want of memory.
+pub fn hold_nothing(alloc: Global) -> Result<Engine, Memory>
+    ensures { IfOk result (λ engine. holding engine ≡ nothing_held) }
+{
+    let basis = Basis {
+        front: Vector::empty(alloc),
+        tide: None,
+        tree: Tree::empty(alloc)?,
+    };
+    Engine::over(alloc, basis)
+}
+
+/// The floor of a log whose newest record is the first one, of that name. The error is want of memory.
+fn floor_of(alloc: Global, log: Key, name: Key) -> Result<Vector, Memory>
+    ensures { IfOk result (λ floor. floor ≡ (log, record { seq = 1; name = name }) ∷ []) }
+{
+    let entry = Entry { log, seq: 1, name };
+    Vector::empty(alloc).with(alloc, entry)
+}
+
+/// The head over a log's first record, which is of that name. The error is want of memory.
+fn seal_first<S: Signs>(alloc: Global, signer: &mut S, name: Key) -> Result<Bytes, Memory>
+    requires { S.remaining signer.old ≢ 0 }
+    ensures head { IfOk result (λ bytes. bytes ≡ sealed (signing S.key S.remaining S.signature S.next S.saved) signer.old (record { seq = 1; name = name })) }
+    ensures next { OnOk result (signer.new ≡ S.next signer.old) }
+    ensures key { S.key signer.new ≡ S.key signer.old }
+{
+    match seal(alloc, signer, 1, name) {
+        Ok(head) => head.write(alloc),
+        Err(_) => Err(Memory),
+    }
+}
+
+/// The post of that block. The error comes where the block has 2^32 bytes or more, which no word counts.
+fn post_of(key: Key, bytes: Bytes, kind: PostKind) -> Result<Post, Memory>
+    ensures post { IfOk result (λ post. post ≡ record { key = key; bytes = bytes; kind = kind }) }
+    ensures opaque { OnOk result (AreOpaque bytes) }
+{
+    if !is_counted(bytes.as_slice()) {
+        return Err(Memory);
+    }
+    Ok(Post { key, bytes, kind })
+}
+
+/// Whether a word counts the bytes.
+fn is_counted(bytes: &[u8]) -> bool
+    ensures { IsTrue result → AreOpaque bytes.now }
+{
+    bytes.len() <= u32::MAX as usize
+}

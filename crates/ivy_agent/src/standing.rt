@@ -1,0 +1,82 @@
+//! What is known of the newest held records.
+
+ghost use Rattle.std.specs.Prelude.{◌≡◌, ◌≤◌, length, IfOk, OnOk};
+ghost use Rattle.std.specs.List.{AllByRecursion, list_any, position_or_len};
+ghost use Rattle.std.specs.Ordering.{is_lt};
+ghost use Rattle.ivy_base.specs.Naming.{key_cmp, head_key_of};
+ghost use Rattle.tree_model.specs.Tree.{same_key};
+ghost use Rattle.log_records.specs.Batches.{as_edge};
+ghost use Rattle.log_records.specs.Records.{record_of, records_of};
+ghost use Rattle.log_fetch.specs.Edges.{edges_of};
+ghost use Rattle.ivy_agent.specs.Edges.{newest_edges, put_under, KnowsOthers};
+
+use crate::keys::{is_among, is_same};
+use ivy_base::{Key, Memory, PubKey, head_key};
+use log_fetch::{Edge, Edges};
+use log_records::Record;
+use std::alloc::Global;
+
+/// What is known of the newest record of each log, ascending by log, where the records ascend. A log is hashed once. The error
+/// is want of memory.
+pub fn newest_edges(alloc: Global, records: &[Record]) -> Result<Edges, Memory>
+    requires { AllByRecursion KnowsOthers (records_of records.now) }
+    ensures { IfOk result (λ edges. edges ≡ newest_edges (records_of records.now)) }
+{
+    let mut owners: Vec<PubKey> = Vec::new(alloc);
+    let mut edges: Vec<Edge> = Vec::new(alloc);
+    let mut left = records.len();
+    'records: while left > 0 {
+        left -= 1;
+        let record = &records[left];
+        if is_among(owners.as_slice(), &record.owner) {
+            continue;
+        }
+        owners.push(record.owner)?;
+        put_under(alloc, &mut edges, record)?;
+    }
+    Ok(Edges::of(edges))
+}
+
+/// Puts the record's edge in its place, where none of its log is there. The error is want of memory.
+fn put_under(alloc: Global, edges: &mut Vec<Edge>, held: &Record) -> Result<(), Memory>
+    ensures { OnOk result (edges_of edges.new.items ≡ put_under (head_key_of held.now.owner) (as_edge (record_of held.now)) (edges_of edges.old.items)) }
+{
+    let log = head_key(&held.owner);
+    if has_log(edges.as_slice(), &log) {
+        return Ok(());
+    }
+    let place = place_of(edges.as_slice(), &log);
+    let edge = Edge {
+        log,
+        vector: held.vector.copy(alloc)?,
+    };
+    edges.insert(place, edge)?;
+    Ok(())
+}
+
+/// Whether one of the edges is the log's.
+fn has_log(edges: &[Edge], log: &Key) -> bool
+    ensures { result ≡ list_any (λ e. same_key log.now e.log) edges.now }
+{
+    edges.iter().any(|edge| is_same(log, &edge.log))
+}
+
+/// How many edges stand before the first one of a later log.
+fn place_of(edges: &[Edge], log: &Key) -> usize
+    ensures value { result ≡ position_or_len (λ e. is_lt (key_cmp log.now e.log)) edges.now }
+    ensures within { result ≤ length edges.now }
+{
+    'edges: for (place, edge) in edges.iter().enumerate() {
+        if is_past(log, edge) {
+            return place;
+        }
+    }
+    edges.len()
+}
+
+/// Whether the edge is of a later log.
+fn is_past(log: &Key, edge: &Edge) -> bool
+    ensures { result ≡ is_lt (key_cmp log.now edge.now.log) }
+{
+    log.cmp(&edge.log).is_lt()
+}
