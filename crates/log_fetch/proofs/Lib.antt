@@ -1,3 +1,4 @@
 pub mod Finding
 pub mod Steps
 pub mod Getting
+pub mod Gathered

@@ -17,6 +17,7 @@
 
 pub mod asked;
 pub mod edges;
+mod gather;
 pub mod get;
 pub mod log;
 pub mod note;
