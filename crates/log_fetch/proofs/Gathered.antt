@@ -19,9 +19,10 @@ use Rattle.log_walks.specs.Walking.{wanted_of}
 use Rattle.log_walks.specs.Order.{AreToTry}
 use Rattle.log_walks.specs.Trying.{Trying, HasTried, first_of}
 use Rattle.log_walks.proofs.Driven.{log_wants, log_stops}
-use Rattle.log_fetch.specs.Gathering.{Stage, HeadsNext, LogNext, Through, HeadsCame, StandsSo, HasGathered}
+use Rattle.log_fetch.specs.declared.gather.Stage.TheVariants as stage
+use Rattle.log_fetch.specs.Gathering.{HeadsCame, StandsSo, block_wanted}
 use Rattle.log_fetch.specs.Gathering.HeadsCame.{of_own as came_own, of_other as came_other}
-use Rattle.log_fetch.specs.Gathering.StandsSo.{heads as heads_next, log as log_next, through as all_through}
+use Rattle.log_fetch.specs.Gathering.StandsSo.{wants_heads as heads_next, wants_block as log_next, all_through}
 
 -- of no heads none are tried
 none_tried : (floor : ℕ) (tried : List Stamp) → AreTried floor [] tried → tried ≡ []
@@ -40,12 +41,12 @@ module _ (s : Standing) (start : Vector) where
       of_heads heads are.0 walked faults end other are.1 (subst (λ (l : List Stamp). Tries s.view owner start s.floor (edge_at s (head_key_of owner)) l walked faults end) are.2 tries)
 
   -- a block is wanted, or can't be had: so it is of the member's log
-  pub log_lacks : (owners : List PubKey) (now : List Brought) (t : Trying) → StandsSo s start owners now (LogNext t) → (key : Key) → wanted_of t.walk ≡ Some key → (notes : List Note) × FetchesAll s start owners now notes [] (Needs (Content key))
+  pub log_lacks : (owners : List PubKey) (now : List Brought) (t : Trying) → StandsSo s start owners now (stage.Log t) → (key : Key) → wanted_of t.walk ≡ Some key → (notes : List Note) × FetchesAll s start owners now notes [] (Needs (Content key))
   log_lacks owners now t (log_next owner rest came walked all t2 heads_came left of_owner tried) key want =
       let w = log_wants s.view owner start s.floor (edge_at s (head_key_of owner)) all walked t tried key want in
       (note_of (head_key_of owner) w.0, stays (log_fetches owner came all heads_came walked w.0 (Lacks (Content key)) w.1) refl)
 
-  pub log_misses : (owners : List PubKey) (now : List Brought) (t : Trying) → StandsSo s start owners now (LogNext t) → (key : Key) → wanted_of t.walk ≡ Some key → (miss : Miss)
+  pub log_misses : (owners : List PubKey) (now : List Brought) (t : Trying) → StandsSo s start owners now (stage.Log t) → (key : Key) → wanted_of t.walk ≡ Some key → (miss : Miss)
       → (notes : List Note) × FetchesAll s start owners (now ++ BlockOf key (Err miss) ∷ []) notes [] (FailsBy miss)
   log_misses owners now t (log_next owner rest came walked all t2 heads_came left of_owner tried) key want miss =
       let w = log_stops s.view owner start s.floor (edge_at s (head_key_of owner)) all walked t tried key want miss in
@@ -56,14 +57,14 @@ module _ (s : Standing) (start : Vector) where
       )
 
   -- the heads are wanted, or can't be had
-  pub heads_lack : (owner : PubKey) (owners : List PubKey) (now : List Brought) → StandsSo s start (owner ∷ owners) now HeadsNext → FetchesAll s start (owner ∷ owners) now [] [] (Needs (Heads owner))
-  heads_lack owner owners now (heads_next o os other) = stays (wants_heads other) refl
+  pub heads_lack : (owners : List PubKey) (now : List Brought) (owner : PubKey) → StandsSo s start owners now (stage.Heads owner) → FetchesAll s start owners now [] [] (Needs (Heads owner))
+  heads_lack owners now owner (heads_next o os other) = stays (wants_heads other) refl
 
-  pub heads_miss : (owner : PubKey) (owners : List PubKey) (now : List Brought) → StandsSo s start (owner ∷ owners) now HeadsNext → (miss : Miss) → FetchesAll s start (owner ∷ owners) (now ++ HeadsOf owner (Err miss) ∷ []) [] [] (FailsBy miss)
-  heads_miss owner owners now (heads_next o os other) miss = stays (no_heads miss other) refl
+  pub heads_miss : (owners : List PubKey) (now : List Brought) (owner : PubKey) → StandsSo s start owners now (stage.Heads owner) → (miss : Miss) → FetchesAll s start owners (now ++ HeadsOf owner (Err miss) ∷ []) [] [] (FailsBy miss)
+  heads_miss owners now owner (heads_next o os other) miss = stays (no_heads miss other) refl
 
   -- all is done
-  pub all_done_at : (owners : List PubKey) (now : List Brought) → StandsSo s start owners now Through → FetchesAll s start owners now [] [] Done
+  pub all_done_at : (owners : List PubKey) (now : List Brought) → StandsSo s start owners now stage.Through → FetchesAll s start owners now [] [] Done
   all_done_at owners now all_through = all_done
 
   -- a member's log is through, and the next one begins
