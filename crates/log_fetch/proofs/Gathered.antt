@@ -49,11 +49,10 @@ module _ (s : Standing) (start : Vector) where
   pub log_misses : (owners : List PubKey) (now : List Brought) (t : Trying) → StandsSo s start owners now (stage.Log t) → (key : Key) → wanted_of t.walk ≡ Some key → (miss : Miss)
       → (notes : List Note) × FetchesAll s start owners (now ++ BlockOf key (Err miss) ∷ []) notes [] (FailsBy miss)
   log_misses owners now t (log_next owner rest came walked all t2 heads_came left of_owner tried) key want miss =
-      let w = log_stops s.view owner start s.floor (edge_at s (head_key_of owner)) all walked t tried key want miss in
-      (
+      let w = log_stops s.view owner start s.floor (edge_at s (head_key_of owner)) all walked t tried key want miss in (
         note_of (head_key_of owner) w.0,
         subst (λ (b : List Brought). FetchesAll s start (owner ∷ rest) b (note_of (head_key_of owner) w.0) [] (FailsBy miss)) (sym (append_assoc came walked (BlockOf key (Err miss) ∷ [])))
-        (stays (log_fetches owner came all heads_came (walked ++ BlockOf key (Err miss) ∷ []) w.0 (Stops miss) w.1) refl),
+            (stays (log_fetches owner came all heads_came (walked ++ BlockOf key (Err miss) ∷ []) w.0 (Stops miss) w.1) refl),
       )
 
   -- the heads are wanted, or can't be had

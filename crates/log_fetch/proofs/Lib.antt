@@ -5,3 +5,5 @@ pub mod Gathered
 pub mod Members
 pub mod Given
 pub mod Passing
+pub mod Advancing
+pub mod Taking

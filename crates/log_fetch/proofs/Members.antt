@@ -31,11 +31,11 @@ within [] (suc k) x rest e = cc e
 within (y ∷ ys) zero x rest e = omega arith
 within (y ∷ ys) (suc k) x rest e = let less = within ys k x rest e in omega (arith, less)
 
-pub first_is : {X : Type 0} (xs : List X) (k : ℕ) (d x : X) (rest : List X) → drop k xs ≡ x ∷ rest → get_or xs k d ≡ x
-first_is [] zero d x rest e = cc e
-first_is [] (suc k) d x rest e = cc e
-first_is (y ∷ ys) zero d x rest e = cc e
-first_is (y ∷ ys) (suc k) d x rest e = first_is ys k d x rest e
+pub rest_is : {X : Type 0} (xs : List X) (k : ℕ) (x : X) (rest : List X) → drop k xs ≡ x ∷ rest → rest ≡ drop (k + 1) xs
+rest_is [] zero x rest e = cc e
+rest_is [] (suc k) x rest e = cc e
+rest_is (y ∷ ys) zero x rest e = cc e
+rest_is {X} (y ∷ ys) (suc k) x rest e = let one_more : suc (k + 1) ≡ suc k + 1 = omega arith in rest_is ys k x rest e ∙ ap (λ (n : ℕ). drop n (y ∷ ys)) one_more
 
 in_rest : {X : Type 0} (xs : List X) (k : ℕ) (x : X) (rest : List X) → drop k xs ≡ x ∷ rest → Contains xs x
 in_rest [] zero x rest e = cc e

@@ -1,16 +1,17 @@
 -- A member's log is begun with, goes on, and is through.
-use Rattle.std.proofs.Common.{◌≡◌, ⊎_elim, ℕ, ◌+◌, List, [], ◌∷◌, ◌++◌, map, take, drop, Contains, Option, Some, None, Ok, refl, sym, ap, ◌∙◌, subst}
+use Rattle.std.proofs.Common.{◌≡◌, ⊎_elim, ℕ, ◌+◌, List, [], ◌∷◌, ◌++◌, map, take, drop, Contains, Option, Some, None, Result, Ok, Err, IfOk, refl, sym, ap, ◌∙◌, subst}
 use Rattle.std.proofs.lemmas.List.{append-nil, append_assoc, map-append}
 use Rattle.std.proofs.lemmas.List.Elements.{Contains-append_left, Contains-append_right, Contains-append_cases}
 use Rattle.ivy_base.specs.declared.key.Key.{Key}
 use Rattle.ivy_base.specs.declared.key.PubKey.{PubKey}
+use Rattle.ivy_base.specs.declared.memory.Memory.{Memory}
 use Rattle.ivy_base.specs.Naming.{head_key_of}
 use Rattle.log_model.specs.View.{View}
 use Rattle.log_model.specs.Vector.{Stamp, Vector, stamp_at, seq_of}
 use Rattle.log_model.specs.Record.{Record}
 use Rattle.log_model.proofs.Lists.{each_append, here, in_cons, in_nothing}
 use Rattle.log_records.specs.declared.chain_fault.ChainFault.{ChainFault}
-use Rattle.log_records.specs.declared.chain_fault.ChainFault.TheVariants.{Bad, Fork, Memory}
+use Rattle.log_records.specs.declared.chain_fault.ChainFault.TheVariants as fault
 use Rattle.log_records.specs.declared.edge.Edge.{Edge}
 use Rattle.log_records.specs.Batches.{Batch, AreUnder, GoesOnFrom, owner_of, owners_in, stamp_in}
 use Rattle.agent_model.specs.Standing as agent
@@ -39,9 +40,9 @@ use Rattle.log_fetch.proofs.Members.{is_new, take_more}
 -- what is noted, of the first fault and of all
 same_notes : (log : Key) (faults : List ChainFault) → noted_for log (first_of faults) ≡ map note_of (session.note_of log faults)
 same_notes log [] = refl
-same_notes log (Bad ∷ others) = refl
-same_notes log (Fork ∷ others) = refl
-same_notes log (Memory ∷ others) = refl
+same_notes log (fault.Bad ∷ others) = refl
+same_notes log (fault.Fork ∷ others) = refl
+same_notes log (fault.Memory ∷ others) = refl
 
 pub not_passed : (k : Known) (p : Passed) (owner : PubKey) → IsPassing k p → IsNext k p owner → Contains (owners_in p.batch.chains) owner → ⊥
 not_passed k p owner passing next c = is_new k.view p.at owner (drop (p.at + 1) k.view.members) next.is_view next.owner_is (passing.of_passed owner c)
@@ -57,28 +58,38 @@ module _ (k : Known) (old new : Passed) (batch : Batch) (owner : PubKey) (floor_
       let tried : HasTried k.view owner old.batch.held k.floor (edge_in k.edges (head_key_of owner)) all brought t =
       subst (λ (v : Vector). HasTried k.view owner old.batch.held v (edge_in k.edges (head_key_of owner)) all brought t) floor_is stands.3 in
       subst (StandsWith k old new owner all brought) (sym is.0) (same, stands.1, stands.2, tried)
-  passes_on all brought (settled.Over fault) waits stands is =
+  passes_on all brought (settled.Over first) waits stands is =
       let batch_is : new.batch ≡ batch = ap (λ (p : Passed). p.batch) is.1 in
       let tries : Tries k.view owner old.batch.held k.floor (edge_in k.edges (head_key_of owner)) all brought stands.0 stands.1 =
       subst (λ (v : Vector). Tries k.view owner old.batch.held v (edge_in k.edges (head_key_of owner)) all brought stands.0 stands.1) floor_is stands.2 in
-      let noted : noted_for (head_key_of owner) fault ≡ map note_of (session.note_of (head_key_of owner) stands.0) = ap (noted_for (head_key_of owner)) stands.3 ∙ same_notes (head_key_of owner) stands.0 in
+      let noted : noted_for (head_key_of owner) first ≡ map note_of (session.note_of (head_key_of owner) stands.0) = ap (noted_for (head_key_of owner)) stands.3 ∙ same_notes (head_key_of owner) stands.0 in
       let new_is : new ≡ one_more old new.batch (map note_of (session.note_of (head_key_of owner) stands.0)) =
-      is.1 ∙ ap (λ (b : Batch). one_more old b (noted_for (head_key_of owner) fault)) (sym batch_is) ∙ ap (one_more old new.batch) noted in
+      is.1 ∙ ap (λ (b : Batch). one_more old b (noted_for (head_key_of owner) first)) (sym batch_is) ∙ ap (one_more old new.batch) noted in
       subst (StandsWith k old new owner all brought) (sym is.0) (stands.0, stands.1, tries, subst (λ (b : Batch). GivesTo old.batch b stands.1) (sym batch_is) stands.4, new_is)
 
-  pub begins_log : (heads : List Stamp) (s : Settled) (waits : Option Trying) → Opens k.view owner (edge_in k.edges (head_key_of owner)) heads old.batch batch s → PassesAs (record old { batch = batch }) new owner s waits
+  begins : (heads : List Stamp) (s : Settled) (waits : Option Trying) → Opens k.view owner (edge_in k.edges (head_key_of owner)) heads old.batch batch s → PassesAs (record old { batch = batch }) new owner s waits
       → BeginsLog k old new owner heads waits
-  begins_log heads s waits opens is = (
+  begins heads s waits opens is = (
     opens.0,
     subst (λ (v : Vector). AreToTry heads (stamp_at v (head_key_of owner)) (seq_of old.batch.held (head_key_of owner)) opens.0) floor_is opens.1,
     passes_on opens.0 [] s waits opens.2 is,
   )
 
-  pub goes_on_log : (t : Trying) (bytes : List ℕ) (s : Settled) (waits : Option Trying) → GoesOn k.view owner (edge_in k.edges (head_key_of owner)) t bytes old.batch batch s → PassesAs (record old { batch = batch }) new owner s waits
+  goes : (t : Trying) (bytes : List ℕ) (s : Settled) (waits : Option Trying) → GoesOn k.view owner (edge_in k.edges (head_key_of owner)) t bytes old.batch batch s → PassesAs (record old { batch = batch }) new owner s waits
       → GoesOnLog k old new owner t bytes waits
-  goes_on_log t bytes s waits on is = λ all brought h.
+  goes t bytes s waits on is = λ all brought h.
       passes_on all (brought ++ BlockOf t.walk.next (Ok bytes) ∷ []) s waits
       (on all brought (subst (λ (v : Vector). HasTried k.view owner old.batch.held v (edge_in k.edges (head_key_of owner)) all brought t) (sym floor_is) h)) is
+
+  pub begins_log : (heads : List Stamp) (s : Settled) → Opens k.view owner (edge_in k.edges (head_key_of owner)) heads old.batch batch s → (r : Result (Option Trying) Memory)
+      → IfOk r (PassesAs (record old { batch = batch }) new owner s) → IfOk r (BeginsLog k old new owner heads)
+  begins_log heads s opens (Ok waits) is = begins heads s waits opens is
+  begins_log heads s opens (Err e) is = tt
+
+  pub goes_on_log : (t : Trying) (bytes : List ℕ) (s : Settled) → GoesOn k.view owner (edge_in k.edges (head_key_of owner)) t bytes old.batch batch s → (r : Result (Option Trying) Memory)
+      → IfOk r (PassesAs (record old { batch = batch }) new owner s) → IfOk r (GoesOnLog k old new owner t bytes)
+  goes_on_log t bytes s on (Ok waits) is = goes t bytes s waits on is
+  goes_on_log t bytes s on (Err e) is = tt
 
 -- ---- one more member is through
 

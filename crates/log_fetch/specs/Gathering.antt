@@ -102,6 +102,7 @@ pub record IsNext (k : Known) (p : Passed) (owner : PubKey) : Type 0 where
   pub owner_is : drop p.at k.view.members ≡ owner ∷ drop (p.at + 1) k.view.members
 
 pub record IsGathering (g : Gathering) : Type 0 where
+  pub is_view : IsView g.known.view
   pub passing : IsPassing g.known g.passed
   pub now : List Brought
   pub stands : StandsSo (seen g.known) g.passed.batch.held (drop g.passed.at g.known.view.members) now g.stage

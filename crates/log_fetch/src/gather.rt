@@ -116,8 +116,11 @@ impl Gather {
         ensures taken { IfOk result (HeadsGathered self owner heads.now) }
     {
         let Gather {
-            known, mut passed, ..
+            known,
+            mut passed,
+            stage,
         } = self;
+        drop(stage);
         match begin_log(alloc, &known, &owner, heads.as_slice(), &mut passed)? {
             Some(trial) => Ok(Gather {
                 known,
@@ -162,10 +165,11 @@ impl Gather {
             mut passed,
             stage,
         } = self;
-        if let Stage::Log(trial) = &stage {
-            let owner = known.view.members()[passed.at];
-            note(&mut passed.notes, &owner, trial.fault())?;
-        }
+        let Stage::Log(trial) = stage else {
+            return Ok((passed.batch, passed.notes));
+        };
+        let owner = known.view.members()[passed.at];
+        note(&mut passed.notes, &owner, trial.fault())?;
         Ok((passed.batch, passed.notes))
     }
 }
