@@ -8,6 +8,7 @@ use Rattle.ivy_base.specs.Naming.{head_key_of}
 use Rattle.log_model.specs.Vector.{Stamp, Vector, stamp_at, seq_of}
 use Rattle.log_model.proofs.Lists.{here, in_nothing}
 use Rattle.log_records.specs.declared.chain_fault.ChainFault.{ChainFault}
+use Rattle.log_records.specs.declared.chain_fault.ChainFault.TheVariants as fault
 use Rattle.dhash_client.specs.declared.miss.Miss.{Miss}
 use Rattle.agent_model.specs.Standing.{Standing, Chain, edge_at}
 use Rattle.session_model.specs.Brought.{Brought, HeadsOf, BlockOf, Heads, Content}
@@ -20,7 +21,8 @@ use Rattle.log_walks.specs.Order.{AreToTry}
 use Rattle.log_walks.specs.Trying.{Trying, HasTried, first_of}
 use Rattle.log_walks.proofs.Driven.{log_wants, log_stops}
 use Rattle.log_fetch.specs.declared.gather.Stage.TheVariants as stage
-use Rattle.log_fetch.specs.Gathering.{HeadsCame, StandsSo, block_wanted}
+use Rattle.log_fetch.specs.Gathering.{HeadsCame, StandsSo, noted_for}
+use Rattle.log_fetch.specs.Standings.{note_of as kept_note}
 use Rattle.log_fetch.specs.Gathering.HeadsCame.{of_own as came_own, of_other as came_other}
 use Rattle.log_fetch.specs.Gathering.StandsSo.{wants_heads as heads_next, wants_block as log_next, all_through}
 
@@ -28,6 +30,13 @@ use Rattle.log_fetch.specs.Gathering.StandsSo.{wants_heads as heads_next, wants_
 none_tried : (floor : ℕ) (tried : List Stamp) → AreTried floor [] tried → tried ≡ []
 none_tried floor [] are = refl
 none_tried floor (t ∷ ts) are = absurd (in_nothing t ((are.each t).0 (here t ts)).0)
+
+-- what is noted, of the first fault and of all
+pub same_notes : (log : Key) (faults : List ChainFault) → noted_for log (first_of faults) ≡ map kept_note (note_of log faults)
+same_notes log [] = refl
+same_notes log (fault.Bad ∷ others) = refl
+same_notes log (fault.Fork ∷ others) = refl
+same_notes log (fault.Memory ∷ others) = refl
 
 module _ (s : Standing) (start : Vector) where
   -- what the heads' tries have come to, the member's log has come to
@@ -47,12 +56,13 @@ module _ (s : Standing) (start : Vector) where
       (note_of (head_key_of owner) w.0, stays (log_fetches owner came all heads_came walked w.0 (Lacks (Content key)) w.1) refl)
 
   pub log_misses : (owners : List PubKey) (now : List Brought) (t : Trying) → StandsSo s start owners now (stage.Log t) → (key : Key) → wanted_of t.walk ≡ Some key → (miss : Miss)
-      → (notes : List Note) × FetchesAll s start owners (now ++ BlockOf key (Err miss) ∷ []) notes [] (FailsBy miss)
+      → (notes : List Note) × FetchesAll s start owners (now ++ BlockOf key (Err miss) ∷ []) notes [] (FailsBy miss) × (noted_for (head_key_of t.walk.owner) t.fault ≡ map kept_note notes)
   log_misses owners now t (log_next owner rest came walked all t2 heads_came left of_owner tried) key want miss =
       let w = log_stops s.view owner start s.floor (edge_at s (head_key_of owner)) all walked t tried key want miss in (
         note_of (head_key_of owner) w.0,
         subst (λ (b : List Brought). FetchesAll s start (owner ∷ rest) b (note_of (head_key_of owner) w.0) [] (FailsBy miss)) (sym (append_assoc came walked (BlockOf key (Err miss) ∷ [])))
             (stays (log_fetches owner came all heads_came (walked ++ BlockOf key (Err miss) ∷ []) w.0 (Stops miss) w.1) refl),
+        ap (λ (o : PubKey). noted_for (head_key_of o) t.fault) of_owner ∙ ap (noted_for (head_key_of owner)) w.2 ∙ same_notes (head_key_of owner) w.0,
       )
 
   -- the heads are wanted, or can't be had

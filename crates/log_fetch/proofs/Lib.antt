@@ -7,3 +7,5 @@ pub mod Given
 pub mod Passing
 pub mod Advancing
 pub mod Taking
+pub mod Stepping
+pub mod Fetching

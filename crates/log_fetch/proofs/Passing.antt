@@ -11,7 +11,6 @@ use Rattle.log_model.specs.Vector.{Stamp, Vector, stamp_at, seq_of}
 use Rattle.log_model.specs.Record.{Record}
 use Rattle.log_model.proofs.Lists.{each_append, here, in_cons, in_nothing}
 use Rattle.log_records.specs.declared.chain_fault.ChainFault.{ChainFault}
-use Rattle.log_records.specs.declared.chain_fault.ChainFault.TheVariants as fault
 use Rattle.log_records.specs.declared.edge.Edge.{Edge}
 use Rattle.log_records.specs.Batches.{Batch, AreUnder, GoesOnFrom, owner_of, owners_in, stamp_in}
 use Rattle.agent_model.specs.Standing as agent
@@ -33,16 +32,9 @@ use Rattle.log_fetch.specs.Edges.{edge_in}
 use Rattle.log_fetch.specs.Gathering.{Gathering, HeadsCame, StandsSo, HasPassed, Gathers, IsPassing, IsNext, PassesAs, StandsWith, BeginsLog, GoesOnLog, noted_for, one_more, seen}
 use Rattle.log_fetch.specs.Logs.{StandsAt, Opens, GoesOn}
 use Rattle.log_fetch.specs.Standings.{note_of}
-use Rattle.log_fetch.proofs.Gathered.{one_through}
+use Rattle.log_fetch.proofs.Gathered.{one_through, same_notes}
 use Rattle.log_fetch.proofs.Given.{gives_own}
 use Rattle.log_fetch.proofs.Members.{is_new, take_more}
-
--- what is noted, of the first fault and of all
-same_notes : (log : Key) (faults : List ChainFault) → noted_for log (first_of faults) ≡ map note_of (session.note_of log faults)
-same_notes log [] = refl
-same_notes log (fault.Bad ∷ others) = refl
-same_notes log (fault.Fork ∷ others) = refl
-same_notes log (fault.Memory ∷ others) = refl
 
 pub not_passed : (k : Known) (p : Passed) (owner : PubKey) → IsPassing k p → IsNext k p owner → Contains (owners_in p.batch.chains) owner → ⊥
 not_passed k p owner passing next c = is_new k.view p.at owner (drop (p.at + 1) k.view.members) next.is_view next.owner_is (passing.of_passed owner c)

@@ -3,7 +3,7 @@
 ghost use Rattle.std.specs.Prelude.{◌≡◌, ◌≢◌, ◌<◌, ◌↔◌, IsTrue, [], ◌++◌, map, Some, None, IfOk, OnOk};
 ghost use Rattle.ivy_base.specs.Naming.{head_key_of};
 ghost use Rattle.session_model.specs.Brought.{stamp_of};
-ghost use Rattle.log_fetch.specs.Gathering.{known_of, IsNext, IsPassing, PassesAs, BeginsLog, GoesOnLog, GathersFrom, Gathers, HeadsGathered, BlockGathered, heads_wanted, block_wanted, GivesBack, noted_for};
+ghost use Rattle.log_fetch.specs.Gathering.{known_of, IsNext, IsPassing, PassesAs, BeginsLog, GoesOnLog, GathersFrom, Gathers, HeadsGathered, BlockGathered, IsGathering, heads_wanted, block_wanted, GivesBack, noted_for};
 
 use crate::edges::Edges;
 use crate::log;
@@ -158,7 +158,8 @@ impl Gather {
 
     /// What was brought, and what is noted of the logs, that of the one under way too. The error is want of memory.
     pub(crate) fn into_parts(self) -> Result<(Batch, Notes), Memory>
-        ensures { IfOk result (GivesBack self) }
+        ensures given { IfOk result (GivesBack self) }
+        ensures legal { IsGathering self }
     {
         let Gather {
             known,

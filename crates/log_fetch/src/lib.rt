@@ -17,6 +17,7 @@
 
 pub mod asked;
 pub mod edges;
+pub mod fetch;
 mod gather;
 pub mod get;
 pub mod log;
@@ -26,6 +27,7 @@ pub mod standing;
 
 pub use asked::Asked;
 pub use edges::{Edge, Edges};
+pub use fetch::{Fetch, Fetched};
 pub use get::{Came, Get};
 pub use note::{Note, Notes};
 pub use refresh::Refresh;

@@ -22,8 +22,8 @@ bounds-members-passed c =
     let is = subst (λ (s : Stage). IsGathering (record { known = i.known; passed = i.passed; stage = s })) c.in-Log.is c.self.invariant in
     subst (λ (l : List PubKey). i.passed.at < length l) (sym c.members.ensures.value) (block_within i.known i.passed c.in-Log.trial is)
 
-pub returns : goal.returns
-returns c =
+pub returns-clause-given : goal.returns-clause-given
+returns-clause-given c =
     let i = c.self.inside in
     let t = c.in-Log.trial in
     let m = c.members in
