@@ -4,6 +4,7 @@ use Rattle.std.proofs.lemmas.List.{append-nil, append_assoc, map-append}
 use Rattle.ivy_base.specs.declared.key.Key.{Key}
 use Rattle.ivy_base.specs.declared.key.PubKey.{PubKey}
 use Rattle.ivy_base.specs.declared.memory.Memory.{Memory}
+use Rattle.ivy_base.specs.Naming.{head_key_of}
 use Rattle.log_model.specs.Vector.{Vector}
 use Rattle.dht_ids.specs.Asked.{told}
 use Rattle.dht_ids.specs.declared.ask.Answer.{Answer}
@@ -12,7 +13,8 @@ use Rattle.dht_ids.specs.declared.ask.Heard.{Heard}
 use Rattle.dht_ids.specs.declared.ask.Want.{Want as Next}
 use Rattle.dht_ids.specs.declared.ask.Want.TheVariants as next
 use Rattle.dht_ids.specs.declared.peer.Peer.{Peer}
-use Rattle.dhash_client.specs.GetHead.{Judges}
+use Rattle.dhash_client.specs.GetBlock.{block_begun}
+use Rattle.dhash_client.specs.GetHead.{Judges, head_begun}
 use Rattle.agent_model.specs.Standing as agent
 use Rattle.session_model.specs.Brought.{Brought, HeadsOf, BlockOf, Part, Want, Heads, Content, brought_in, asks_in}
 use Rattle.session_model.specs.Refreshing as session
@@ -26,15 +28,18 @@ use Rattle.log_fetch.specs.declared.fetch.State.{State}
 use Rattle.log_fetch.specs.declared.fetch.State.TheVariants as state
 use Rattle.log_fetch.specs.declared.fetch.Step.TheVariants as step
 use Rattle.log_fetch.specs.declared.gather.Known.{Known}
+use Rattle.log_fetch.specs.declared.gather.Stage.{Stage}
 use Rattle.log_fetch.specs.declared.get.Came.{Came}
 use Rattle.log_fetch.specs.declared.get.Came.TheVariants as came
 use Rattle.log_fetch.specs.declared.get.Get.{Get}
 use Rattle.log_fetch.specs.declared.get.Get.TheVariants as get
 use Rattle.log_fetch.specs.Fetching.{Fetching, FetchIsAfter, FetchIsWanted, FetchHasHeard, FetchWasGiven, AreParts, IsNeeded, IsSeen, IsFor, IsGiven, IsSameFetch, GoesOnTo, Leads, Ends, aim}
 use Rattle.log_fetch.specs.Fetching.AreParts.{no_parts, was_got, was_given}
-use Rattle.log_fetch.specs.Gathering.{Gathering, Gathers, BlockGathered, block_wanted, seen}
-use Rattle.log_fetch.specs.Gets.{GetIsAfter, GetIsWanted, GetHasHeard, HasCame, IsSameGet, get_awaited}
-use Rattle.log_fetch.specs.Stepping.{Takes, CameAs, Finishes}
+use Rattle.log_fetch.specs.Gathering.{Gathering, Gathers, BlockGathered, heads_wanted, block_wanted, seen}
+use Rattle.log_fetch.specs.Gets.{GetIsAfter, GetIsWanted, GetHasHeard, HasCame, IsOfKind, IsSameGet}
+use Rattle.log_fetch.specs.Stepping.{Takes, CameAs, Finishes, IsWantedKind}
+use Rattle.log_fetch.proofs.Getting.{heads_begin, block_begin}
+use Rattle.log_fetch.proofs.Nothing.{brings_nothing}
 use Rattle.log_fetch.proofs.Stepping.{heads_needed, block_needed}
 
 -- ---- what is known of a standing is enough
@@ -253,3 +258,28 @@ module _ {J : Type 0} (judges : Judges J) (judge : J) (replicas : ℕ) (entries 
 
   pub first_state : (s : agent.Standing) (start : Vector) (g : Gathering) → IsSeen s g.known → Gathers start [] g → FetchIsAfter judges s start [] [] (At (state.Free g))
   first_state s start g is h = record { whole = no_parts; asking = (is, h, refl) }
+
+  -- ---- the get of what is wanted
+
+  pub for_heads : (at : Stage) (owner : PubKey) (x : Get J) → heads_wanted at ≡ Some owner → x ≡ get.Heads owner (head_begun judge (head_key_of owner) replicas entries) → IsFor judge replicas at x × GetIsAfter judges entries [] x
+  for_heads at owner x want is = subst (λ (y : Get J). IsFor judge replicas at y × GetIsAfter judges entries [] y) (sym is) ((want, refl, refl), heads_begin judges owner judge replicas entries)
+
+  pub for_block : (at : Stage) (key : Key) (x : Get J) → block_wanted at ≡ Some key → x ≡ get.Block (block_begun key replicas entries) → IsFor judge replicas at x × GetIsAfter judges entries [] x
+  for_block at key x want is = subst (λ (y : Get J). IsFor judge replicas at y × GetIsAfter judges entries [] y) (sym is) ((want, refl), block_begin judges key replicas entries)
+
+  -- ---- in results
+
+  pub goes_ok : (g : Gathering) (x : Get J) → IsFor judge replicas g.stage x → (given : Came) → ((trail : List Heard) → GetIsAfter judges entries trail x → HasCame judges entries trail x given) → (after : Gathering) → Takes g given (step.Goes after)
+      → (new : Fetching J) (r : Result (Next Fetched) Memory) → IfOk r (FetchIsWanted judges (At (state.Free after)) new) → IfOk r (FetchIsWanted judges (At (state.Asking g x)) new)
+  goes_ok g x fits given over after takes new (Ok want) w = goes_by g x fits given over after takes new want w
+  goes_ok g x fits given over after takes new (Err e) w = tt
+
+  -- a get that asked nothing can't go on so
+  pub not_at_once : (g after : Gathering) (x : Get J) (given : Came) → GetIsAfter judges entries [] x → ((trail : List Heard) → GetIsAfter judges entries trail x → HasCame judges entries trail x given) → Takes g given (step.Goes after) → ⊥
+  not_at_once g after x given first over takes = takes.1 (brings_nothing judges entries x given (over [] first))
+
+pub kind_wanted : {J : Type 0} (judge : J) (replicas : ℕ) (at : Stage) (x : Get J) (given : Came) → IsFor judge replicas at x → IsOfKind x (next.Done given) → IsWantedKind at given
+kind_wanted judge replicas at (get.Heads owner t) (came.Heads heads) fits kind = λ none. cc (sym none ∙ fits.0)
+kind_wanted judge replicas at (get.Heads owner t) (came.Block block) fits kind = absurd kind
+kind_wanted judge replicas at (get.Block t) (came.Heads heads) fits kind = absurd kind
+kind_wanted judge replicas at (get.Block t) (came.Block block) fits kind = λ none. cc (sym none ∙ fits.0)

@@ -8,4 +8,5 @@ pub mod Passing
 pub mod Advancing
 pub mod Taking
 pub mod Stepping
+pub mod Nothing
 pub mod Fetching

@@ -85,6 +85,19 @@ is_key (suc left) next key e = cc e
 first_same : {X : Type 0} (x y : X) (xs ys : List X) → x ∷ xs ≡ y ∷ ys → x ≡ y
 first_same x y xs ys e = cc e
 
+-- where nothing is wanted, all members are through
+pub is_through : (g : Gathering) → IsGathering g → heads_wanted g.stage ≡ None → block_wanted g.stage ≡ None → g.stage ≡ stage.Through
+is_through g is no_heads no_block = by g.stage is.stands no_heads no_block
+  where
+    some_left : (left : ℕ) (next : Key) → left ≢ 0 → wanted_at left next ≡ None → ⊥
+    some_left zero next some e = some refl
+    some_left (suc left) next some e = cc e
+
+    by : (at : Stage) → StandsSo (seen g.known) g.passed.batch.held (drop g.passed.at g.known.view.members) is.now at → heads_wanted at ≡ None → block_wanted at ≡ None → at ≡ stage.Through
+    by (stage.Heads owner) stands e f = cc e
+    by (stage.Log t) stands e f = absurd (some_left t.walk.left t.walk.next (under_way (seen g.known) g.passed.batch.held (drop g.passed.at g.known.view.members) is.now t stands).left f)
+    by stage.Through stands e f = refl
+
 pub block_within : (k : Known) (p : Passed) (t : Trying) → IsGathering (record { known = k; passed = p; stage = stage.Log t }) → p.at < length k.view.members
 block_within k p t is =
     let u = under_way (seen k) p.batch.held (drop p.at k.view.members) is.now t is.stands in

@@ -231,7 +231,7 @@ fn take_block(alloc: Global, gather: Gather, block: Result<Bytes, Miss>) -> Resu
 
 /// Ends the fetch, since something needed couldn't be had. The error is want of memory.
 fn fail(gather: Gather, miss: Miss) -> Result<Step, Memory>
-    ensures failed { IfOk result (FailsWith gather miss) }
+    ensures { IfOk result (FailsWith gather miss) }
 {
     let (_, mut notes) = gather.into_parts()?;
     notes.push(note_of(&miss))?;

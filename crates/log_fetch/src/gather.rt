@@ -96,7 +96,8 @@ impl Gather {
 
     /// The block that is wanted, where one is.
     pub(crate) fn wanted_block(&self) -> Option<Key>
-        ensures { result ≡ block_wanted self.now.stage }
+        ensures value { result ≡ block_wanted self.now.stage }
+        ensures legal { IsGathering self.now }
     {
         match &self.stage {
             Stage::Log(trial) => trial.wanted(),
