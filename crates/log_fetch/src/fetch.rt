@@ -182,12 +182,7 @@ impl<J: Judge> Fetch<J> {
             return Ok(Some(get));
         }
         match gather.wanted_block() {
-            Some(key) => Ok(Some(Get::block(
-                self.alloc,
-                key,
-                self.replicas,
-                &self.entries,
-            )?)),
+            Some(key) => Ok(Some(Get::block(self.alloc, key, self.replicas, &self.entries)?)),
             None => Ok(None),
         }
     }

@@ -13,7 +13,7 @@ returns-in-Ask g c =
     let fits = subst (λ (f : Fetching g.row.J.Denot). IsFor f.judge f.replicas c.args.gather.stage c.args.get) (sym c.self.view_is) c.requires in
     let wanted = subst (GetIsWanted g.J.Judge.judges c.args.get c.next.new.self) c.in-Ask.is c.in_ok-node.ensures.wanted in
     subst (λ (f : Fetching g.row.J.Denot). FetchIsWanted g.J.Judge.judges (record { judge = f.judge; replicas = f.replicas; entries = f.entries; state = state.Asking c.args.gather c.args.get })
-        (record { judge = i.judge; replicas = i.replicas; entries = i.entries; state = state.Asking c.args.gather c.next.new.self }) (next.Ask c.in-Ask.node c.in-Ask.question)) c.self.view_is
+    (record { judge = i.judge; replicas = i.replicas; entries = i.entries; state = state.Asking c.args.gather c.next.new.self }) (next.Ask c.in-Ask.node c.in-Ask.question)) c.self.view_is
     (asks_on g.J.Judge.judges i.judge i.replicas i.entries c.args.gather c.args.get c.next.new.self fits c.in-Ask.node c.in-Ask.question wanted)
 
 pub returns-in-Goes : goal.returns-in-Goes
