@@ -28,7 +28,7 @@ use Rattle.log_fetch.specs.declared.get.Get.{Get}
 use Rattle.log_fetch.specs.declared.get.Get.TheVariants as get
 use Rattle.log_fetch.specs.Edges.{edge_in}
 use Rattle.log_fetch.specs.Gathering.{Gathering, Gathers, heads_wanted, block_wanted, seen}
-use Rattle.log_fetch.specs.Gets.{GetIsAfter, get_awaited}
+use Rattle.log_fetch.specs.Gets.{GetIsAfter, get_awaited, gets_left}
 use Rattle.log_fetch.specs.Standings.{notes_of}
 
 -- ---- the state
@@ -74,6 +74,15 @@ aim_in state.Over = None
 -- what the get on its way is for
 abbrev pub fetch_aim : {J : Type 0} → Fetching J → Option Want
 fetch_aim f = aim_in f.state
+
+abbrev pub left_in : {J : Type 0} → State J → ℕ
+left_in (state.Free g) = 0
+left_in (state.Asking g x) = gets_left x
+left_in state.Over = 0
+
+-- how many asks the get on its way may still make
+abbrev pub fetch_left : {J : Type 0} → Fetching J → ℕ
+fetch_left f = left_in f.state
 
 -- ---- what always holds
 

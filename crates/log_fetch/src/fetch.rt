@@ -1,7 +1,7 @@
 //! The fetch of all logs of a view.
 
-ghost use Rattle.std.specs.Prelude.{◌≡◌, ◌≢◌, [], None, IfOk};
-ghost use Rattle.log_fetch.specs.Fetching.{fetch_awaited, fetch_wanted, FetchIsAfter, FetchIsWanted, FetchHasHeard, FetchWasGiven, IsFor};
+ghost use Rattle.std.specs.Prelude.{◌≡◌, ◌≢◌, ◌<◌, [], None, IfOk};
+ghost use Rattle.log_fetch.specs.Fetching.{fetch_awaited, fetch_left, fetch_wanted, FetchIsAfter, FetchIsWanted, FetchHasHeard, FetchWasGiven, IsFor};
 ghost use Rattle.log_fetch.specs.Standings.{standing_of, note_of_miss};
 ghost use Rattle.log_fetch.specs.Gathering.{heads_wanted, block_wanted};
 ghost use Rattle.log_fetch.specs.Stepping.{GetsFor, Takes, FailsWith, Finishes, IsWantedKind};
@@ -38,7 +38,8 @@ pub(crate) enum State<J: Judge> {
     Over,
 }
 
-/// The fetch of all logs of a view.
+/// The fetch of all logs of a view: of each member in its order the heads before the blocks, of the own log blocks alone.
+/// Contracts see by which judge, from how many owners and from which nodes on it gets, and how far it is.
 #[derive(Drop)]
 pub struct Fetch<J: Judge> {
     alloc: Global,
@@ -99,7 +100,8 @@ impl<J: Judge> Fetch<J> {
         }
     }
 
-    /// Takes the block that is to be got next, which was at hand. The error is want of memory; then each call gives it again.
+    /// Takes the block that is to be got next, which was at hand: its bytes are not tested here. The error is want of memory;
+    /// then the fetch is over.
     pub fn give(&mut self, bytes: &[u8]) -> Result<(), Memory>
         requires { fetch_wanted self.old ≢ None }
         ensures { IfOk result (λ _. FetchWasGiven J.judges self.old self.new bytes.now) }
@@ -112,7 +114,7 @@ impl<J: Judge> Fetch<J> {
     }
 
     /// What the fetch wants next: an ask, or nothing more, since it has its result. An ask that wasn't yet heard is wanted
-    /// again. The error is want of memory; after it and after the result each call gives it.
+    /// again. The error is want of memory; after it and after the result the fetch is over, and gives that error.
     pub fn next(&mut self) -> Result<Want<Fetched>, Memory>
         ensures { IfOk result (FetchIsWanted J.judges self.old self.new) }
     {
@@ -123,11 +125,12 @@ impl<J: Judge> Fetch<J> {
         }
     }
 
-    /// Hears what the node answered that was asked last. It is called once after each ask. The error is want of memory;
-    /// then each call gives it again.
+    /// Hears what the node answered that was asked last. It is called once after each ask, and leaves the get on its way
+    /// fewer asks. The error is want of memory; then the fetch is over.
     pub fn heard(&mut self, answer: Answer) -> Result<(), Memory>
         requires { fetch_awaited self.old ≢ None }
-        ensures { IfOk result (λ _. FetchHasHeard J.judges self.old self.new answer) }
+        ensures heard { IfOk result (λ _. FetchHasHeard J.judges self.old self.new answer) }
+        ensures left { IfOk result (λ _. fetch_left self.new < fetch_left self.old) }
     {
         let State::Asking(gather, mut get) = mem::replace(&mut self.state, State::Over) else {
             unreachable!()
