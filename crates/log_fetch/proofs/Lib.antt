@@ -1,3 +1,12 @@
 pub mod Finding
 pub mod Steps
 pub mod Getting
+pub mod Gathered
+pub mod Members
+pub mod Given
+pub mod Passing
+pub mod Advancing
+pub mod Taking
+pub mod Stepping
+pub mod Nothing
+pub mod Fetching

@@ -58,3 +58,9 @@ abbrev pub GetHasHeard : {J : Type 0} → Judges J → Get J → Get J → Answe
 GetHasHeard judges old new given =
     IsSameGet old new
     × ((entries : List Peer) (trail : List Heard) (node : Peer) (question : Ask) → get_awaited old ≡ Some (node, question) → GetIsAfter judges entries trail old → GetIsAfter judges entries (trail ++ told node question given) new)
+
+-- it brings what it is a get of: heads or a block
+abbrev pub IsOfKind : {J : Type 0} → Get J → Want Came → Type 0
+IsOfKind (get.Heads owner s) (want.Done (came.Block block)) = ⊥
+IsOfKind (get.Block s) (want.Done (came.Heads heads)) = ⊥
+IsOfKind _ _ = Unit {0}

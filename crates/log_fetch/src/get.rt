@@ -4,7 +4,7 @@ ghost use Rattle.std.specs.Prelude.{◌≡◌, ◌≢◌, ◌<◌, ◌≤◌, No
 ghost use Rattle.ivy_base.specs.Naming.{head_key_of};
 ghost use Rattle.dhash_client.specs.GetBlock.{block_begun};
 ghost use Rattle.dhash_client.specs.GetHead.{head_begun};
-ghost use Rattle.log_fetch.specs.Gets.{get_awaited, gets_left, GetIsWanted, GetHasHeard};
+ghost use Rattle.log_fetch.specs.Gets.{get_awaited, gets_left, GetIsWanted, GetHasHeard, IsOfKind};
 
 use dhash_client::{GetBlock, GetHead, Miss};
 use dht_ids::{Answer, Heads, Judge, Peers, Want};
@@ -56,6 +56,7 @@ impl<J: Judge> Get<J> {
     /// isn't used after it, nor after its result.
     pub fn next(&mut self) -> Result<Want<Came>, Memory>
         ensures wanted { IfOk result (λ want. GetIsWanted J.judges self.old self.new want) }
+        ensures kind { IfOk result (IsOfKind self.old) }
         ensures left { IfOk result (λ _. gets_left self.new ≤ gets_left self.old) }
     {
         match self {

@@ -1,8 +1,8 @@
 //! What a refresh notes.
 
-ghost use Rattle.std.specs.Prelude.{◌≡◌};
+ghost use Rattle.std.specs.Prelude.{◌≡◌, [], ◌∷◌, ◌++◌, OnOk};
 
-use ivy_base::Key;
+use ivy_base::{Key, Memory};
 use std::marker::Model;
 
 /// What a refresh notes of a log, or why it ended early; the key is that of the log's head, or of the block.
@@ -41,6 +41,14 @@ impl Notes {
         ensures { result ≡ items.items }
     {
         Notes { notes: items }
+    }
+
+    /// Adds a note behind the others. The error is want of memory.
+    pub fn push(&mut self, note: Note) -> Result<(), Memory>
+        ensures { OnOk result (self.new ≡ self.old ++ note ∷ []) }
+    {
+        self.notes.push(note)?;
+        Ok(())
     }
 
     /// The notes as a vector, which is not copied.

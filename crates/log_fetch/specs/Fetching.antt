@@ -1,0 +1,174 @@
+-- The fetch of all members with its gets: how far it has come.
+use Rattle.std.specs.Prelude.{◌≡◌, ◌≢◌, ℕ, List, [], ◌∷◌, ◌++◌, map, Contains, Option, Some, None, Result, Ok, Err}
+use Rattle.ivy_base.specs.declared.key.Key.{Key}
+use Rattle.ivy_base.specs.declared.key.PubKey.{PubKey}
+use Rattle.log_model.specs.Vector.{Vector}
+use Rattle.dht_ids.specs.Asked.{told}
+use Rattle.dht_ids.specs.declared.ask.Answer.{Answer}
+use Rattle.dht_ids.specs.declared.ask.Ask.{Ask}
+use Rattle.dht_ids.specs.declared.ask.Heard.{Heard}
+use Rattle.dht_ids.specs.declared.ask.Want.{Want as Next}
+use Rattle.dht_ids.specs.declared.ask.Want.TheVariants as next
+use Rattle.dht_ids.specs.declared.judge.Judged.{Judged}
+use Rattle.dht_ids.specs.declared.peer.Peer.{Peer}
+use Rattle.dhash_client.specs.GetHead.{Judges}
+use Rattle.log_records.specs.Batches.{Batch, AreUnder, owners_in}
+use Rattle.agent_model.specs.Standing as agent
+use Rattle.agent_model.specs.Standing.{chain_of}
+use Rattle.session_model.specs.Brought.{Brought, HeadsOf, BlockOf, Part, Want, Heads, Content, brought_in, asks_in}
+use Rattle.session_model.specs.Refreshing as session
+use Rattle.session_model.specs.Refreshing.{RefreshEnd, Needs, FailsBy, Done, FetchesAll}
+use Rattle.session_model.specs.Sessions.{Gets}
+use Rattle.log_fetch.specs.declared.fetch.Fetched.{Fetched}
+use Rattle.log_fetch.specs.declared.fetch.State.{State}
+use Rattle.log_fetch.specs.declared.fetch.State.TheVariants as state
+use Rattle.log_fetch.specs.declared.gather.Known.{Known}
+use Rattle.log_fetch.specs.declared.gather.Stage.{Stage}
+use Rattle.log_fetch.specs.declared.get.Get.{Get}
+use Rattle.log_fetch.specs.declared.get.Get.TheVariants as get
+use Rattle.log_fetch.specs.Edges.{edge_in}
+use Rattle.log_fetch.specs.Gathering.{Gathering, Gathers, heads_wanted, block_wanted, seen}
+use Rattle.log_fetch.specs.Gets.{GetIsAfter, get_awaited, gets_left}
+use Rattle.log_fetch.specs.Standings.{notes_of}
+
+-- ---- the state
+
+-- by which judge, from how many owners and from which nodes on it gets, and how far it is
+pub record Fetching (J : Type 0) : Type 0 where
+  pub judge : J
+  pub replicas : ℕ
+  pub entries : List Peer
+  pub state : State J
+
+abbrev pub IsSameFetch : {J : Type 0} → Fetching J → Fetching J → Type 0
+IsSameFetch old new = (new.judge ≡ old.judge) × (new.replicas ≡ old.replicas) × (new.entries ≡ old.entries)
+
+abbrev pub awaited_in : {J : Type 0} → State J → Option (Peer × Ask)
+awaited_in (state.Free g) = None
+awaited_in (state.Asking g x) = get_awaited x
+awaited_in state.Over = None
+
+-- the node to be heard, and what it is asked
+abbrev pub fetch_awaited : {J : Type 0} → Fetching J → Option (Peer × Ask)
+fetch_awaited f = awaited_in f.state
+
+abbrev pub free_block : {J : Type 0} → State J → Option Key
+free_block (state.Free g) = block_wanted g.stage
+free_block (state.Asking g x) = None
+free_block state.Over = None
+
+-- the block that is to be got next, where nothing was asked for it yet
+abbrev pub fetch_wanted : {J : Type 0} → Fetching J → Option Key
+fetch_wanted f = free_block f.state
+
+-- what a get is for
+abbrev pub aim : {J : Type 0} → Get J → Want
+aim (get.Heads owner s) = Heads owner
+aim (get.Block s) = Content s.course.look.key
+
+abbrev pub aim_in : {J : Type 0} → State J → Option Want
+aim_in (state.Free g) = None
+aim_in (state.Asking g x) = Some (aim x)
+aim_in state.Over = None
+
+-- what the get on its way is for
+abbrev pub fetch_aim : {J : Type 0} → Fetching J → Option Want
+fetch_aim f = aim_in f.state
+
+abbrev pub left_in : {J : Type 0} → State J → ℕ
+left_in (state.Free g) = 0
+left_in (state.Asking g x) = gets_left x
+left_in state.Over = 0
+
+-- how many asks the get on its way may still make
+abbrev pub fetch_left : {J : Type 0} → Fetching J → ℕ
+fetch_left f = left_in f.state
+
+-- ---- what always holds
+
+-- the get is for what is wanted, by that judge and from so many owners
+abbrev pub IsFor : {J : Type 0} → J → ℕ → Stage → Get J → Type 0
+IsFor judge replicas at (get.Heads owner s) = (heads_wanted at ≡ Some owner) × (s.judge ≡ judge) × (s.course.replicas ≡ replicas)
+IsFor judge replicas at (get.Block s) = (block_wanted at ≡ Some s.course.look.key) × (s.course.replicas ≡ replicas)
+
+abbrev pub IsSound : {J : Type 0} → J → ℕ → State J → Type 0
+IsSound judge replicas (state.Free g) = Unit {0}
+IsSound judge replicas (state.Asking g x) = IsFor judge replicas g.stage x
+IsSound judge replicas state.Over = Unit {0}
+
+-- ---- behind what was brought
+
+module _ (judged : Key → List ℕ → Option Judged) (replicas : ℕ) (entries : List Peer) (s : agent.Standing) (start : Vector) where
+  -- this is wanted next
+  abbrev pub IsNeeded : List Part → Want → Type 0
+  IsNeeded parts want = (notes : List session.Note) × (chains : List agent.Chain) × FetchesAll s start s.view.members (brought_in parts) notes chains (Needs want)
+
+  -- each part came of what was wanted then: by the asks of a whole get, or by none, where it is a block that was at hand
+  pub data AreParts : List Part → Type 0 where
+    no_parts : AreParts []
+    was_got : (parts : List Part) (want : Want) (asks : List Heard) (brought : Brought) → AreParts parts → IsNeeded parts want → Gets judged replicas entries want asks brought
+        → AreParts (parts ++ record { brought = brought; asks = asks } ∷ [])
+    was_given : (parts : List Part) (key : Key) (bytes : List ℕ) → AreParts parts → IsNeeded parts (Content key) → AreParts (parts ++ record { brought = BlockOf key (Ok bytes); asks = [] } ∷ [])
+
+-- as far as the fetch knows it, it is this standing
+abbrev pub IsSeen : agent.Standing → Known → Type 0
+IsSeen s k = seen k ≡ record s { held = []; to_load = None; pending = [] }
+
+-- behind these asks of the present get
+abbrev pub IsAsking : {J : Type 0} → Judges J → List Peer → agent.Standing → Vector → List Brought → List Heard → State J → Type 0
+IsAsking judges entries s start brought current (state.Free g) = IsSeen s g.known × Gathers start brought g × (current ≡ [])
+IsAsking judges entries s start brought current (state.Asking g x) = IsSeen s g.known × Gathers start brought g × GetIsAfter judges entries current x
+IsAsking judges entries s start brought current state.Over = ⊥
+
+-- It may be in this state, of a fetch for that standing over that start, behind these parts and the asks of the get on its way.
+pub record FetchIsAfter {J : Type 0} (judges : Judges J) (s : agent.Standing) (start : Vector) (parts : List Part) (current : List Heard) (f : Fetching J) : Type 0 where
+  pub whole : AreParts (judges f.judge) f.replicas f.entries s start parts
+  pub asking : IsAsking judges f.entries s start (brought_in parts) current f.state
+
+-- ---- steps
+
+-- the present get goes on, or is over and a part: the asks stay the same
+abbrev pub GoesOnTo : List Part → List Heard → List Part → List Heard → Type 0
+GoesOnTo parts current all left = (more : List Part) × (all ≡ parts ++ more) × (current ≡ asks_in more ++ left)
+
+-- what is given at the end
+abbrev pub IsGiven : agent.Standing → Vector → Fetched → List session.Note → List agent.Chain → RefreshEnd → Type 0
+IsGiven s start given notes chains (Needs want) = ⊥
+IsGiven s start given notes chains (FailsBy miss) = (given.result ≡ Err miss) × (given.notes ≡ notes_of notes (Some miss))
+IsGiven s start given notes chains Done =
+    (batch : Batch) × (given.result ≡ Ok batch) × (batch.held ≡ start) × (batch.floor ≡ s.floor) × (map chain_of batch.chains ≡ chains) × AreUnder s.view (edge_in s.edges) batch
+    × ((owner : PubKey) → Contains (owners_in batch.chains) owner → Contains s.view.members owner) × (given.notes ≡ notes_of notes None)
+
+-- a get goes on or begins, for exactly what is wanted next
+abbrev pub Leads : {J : Type 0} → Judges J → Fetching J → Fetching J → Type 0
+Leads judges old new =
+    (s : agent.Standing) (start : Vector) (parts : List Part) (current : List Heard) → FetchIsAfter judges s start parts current old
+    → (all : List Part) × (left : List Heard) × GoesOnTo parts current all left × FetchIsAfter judges s start all left new
+    × (want : Want) × (fetch_aim new ≡ Some want) × IsNeeded (judges new.judge) new.replicas new.entries s start all want
+
+-- all that was wanted was brought, or something couldn't be had
+abbrev pub Ends : {J : Type 0} → Judges J → Fetching J → Fetched → Type 0
+Ends judges old given =
+    (s : agent.Standing) (start : Vector) (parts : List Part) (current : List Heard) → FetchIsAfter judges s start parts current old
+    → (all : List Part) × GoesOnTo parts current all [] × AreParts (judges old.judge) old.replicas old.entries s start all
+    × (notes : List session.Note) × (chains : List agent.Chain) × (end : RefreshEnd) × FetchesAll s start s.view.members (brought_in all) notes chains end × IsGiven s start given notes chains end
+
+-- what it wants: to ask a node, which is then to be heard, or nothing more
+abbrev pub FetchIsWanted : {J : Type 0} → Judges J → Fetching J → Fetching J → Next Fetched → Type 0
+FetchIsWanted judges old new (next.Ask node question) = IsSameFetch old new × (fetch_awaited new ≡ Some (node, question)) × Leads judges old new
+FetchIsWanted judges old new (next.Done given) = Ends judges old given
+
+-- the node that was to be heard was heard: its ask and answer are the next of the present get
+abbrev pub FetchHasHeard : {J : Type 0} → Judges J → Fetching J → Fetching J → Answer → Type 0
+FetchHasHeard judges old new given =
+    IsSameFetch old new
+    × ((s : agent.Standing) (start : Vector) (parts : List Part) (current : List Heard) (node : Peer) (question : Ask) → fetch_awaited old ≡ Some (node, question) → FetchIsAfter judges s start parts current old
+    → FetchIsAfter judges s start parts (current ++ told node question given) new)
+
+-- the block that was wanted is a part, which took no ask
+abbrev pub FetchWasGiven : {J : Type 0} → Judges J → Fetching J → Fetching J → List ℕ → Type 0
+FetchWasGiven judges old new bytes =
+    IsSameFetch old new
+    × ((s : agent.Standing) (start : Vector) (parts : List Part) (current : List Heard) (key : Key) → fetch_wanted old ≡ Some key → FetchIsAfter judges s start parts current old
+    → (current ≡ []) × IsNeeded (judges old.judge) old.replicas old.entries s start parts (Content key)
+    × FetchIsAfter judges s start (parts ++ record { brought = BlockOf key (Ok bytes); asks = [] } ∷ []) [] new)
