@@ -1,7 +1,7 @@
 mod Lists
 mod Rows
 mod Names
-mod Fronts
+pub mod Fronts
 mod Brought
 mod Going
 mod Hand

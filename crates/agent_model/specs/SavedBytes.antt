@@ -7,6 +7,7 @@ use Rattle.ivy_base.specs.Naming.{head_key_of, name}
 use Rattle.log_model.specs.View.{View, IsView, is_named, view_block}
 use Rattle.log_model.specs.Vector.{seq_of}
 use Rattle.log_model.specs.Spelling.{IsKey, most_records, vector_entry}
+use Rattle.view_blocks.specs.Faults.{HasKeys}
 use Rattle.snapshot_model.specs.Blocks.{IsVectorSpelled}
 use Rattle.dht_ids.specs.declared.post.Post.{Post}
 use Rattle.dht_ids.specs.declared.post.PostKind.{PostKind}
@@ -51,6 +52,6 @@ pub record IsKept {S : Type 0} (signs : Signing S) (IsWhole : S → Type 0) (k :
   pub some : 1 ≤ seq_of k.floor (head_key_of (own_key signs k.signer))
   pub few : seq_of k.floor (head_key_of (own_key signs k.signer)) ≤ most_records
   pub floor : IsVectorSpelled k.floor
-  pub view : IfSome k.view (λ v. IsView v × Contains v.members (own_key signs k.signer) × AllByRecursion (λ e. IsTrue (is_named v e.0)) k.floor)
+  pub view : IfSome k.view (λ v. IsView v × HasKeys v × Contains v.members (own_key signs k.signer) × AllByRecursion (λ e. IsTrue (is_named v e.0)) k.floor)
   pub posts : ArePostsSpelled k.pending
   pub snapshot : IfSome k.snapshot IsKey

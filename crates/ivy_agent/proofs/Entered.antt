@@ -13,6 +13,7 @@ use Rattle.log_model.proofs.Opening.{same_owner}
 use Rattle.wire_model.specs.Xdr.{IsAny}
 use Rattle.turn_model.specs.Basis.{nothing_held}
 use Rattle.replay_engine.specs.Engines.{Engine, holding}
+use Rattle.view_blocks.specs.Faults.{HasKeys}
 use Rattle.agent_model.specs.Agent.{Agent, Signing, entered, failed, kept_of, own}
 use Rattle.agent_model.specs.SavedBytes.{IsKept, kept_bytes}
 use Rattle.agent_model.specs.Views.{Entering, entering, entering_with, is_own_member, is_refused_in, not_named, was_former}
@@ -55,9 +56,10 @@ module _ {S : Type 0} (signs : Signing S) (view : View) where
       asks : (fails : Bool) → entering signs a view fails ≡ entering_with a view fails None
       asks fails = goes_on fails ∙ ap (λ (o : Option Key). entering_with a view fails o) none
 
-      pub taken_in : a.has_failed ≡ false → IsView view → IsTakenIn signs view a
-      taken_in unfailed legal = record {
+      pub taken_in : a.has_failed ≡ false → IsView view → HasKeys view → IsTakenIn signs view a
+      taken_in unfailed legal keys = record {
         legal = legal;
+        keys = keys;
         member = own_is_member (own signs a) member;
         named = all_named a.view a.floor none;
         unfailed = unfailed;
@@ -68,10 +70,10 @@ module _ {S : Type 0} (signs : Signing S) (view : View) where
 -- by what was told of the tests
 pub may_be_entered : {K S : Type 0} (signs : Signing S) (view : View) (now : Holder K S) (a : Agent S) (keeper : K) → record { agent = a; keeper = keeper } ≡ now
     → (own_told : PubKey) (members : List PubKey) (among : Bool) (named : Option Key) → own_told.0 ≡ signs.key a.signer → members ≡ view.members → among ≡ list_any (eq_by_cmp owner_cmp own_told) members → among ≡ true
-    → named ≡ not_named a view → named ≡ None → a.has_failed ≡ false → IsView view → IsTakenIn signs view now.agent
-may_be_entered signs view now a keeper now_is own_told members among named own_is members_are told has named_told none unfailed legal =
+    → named ≡ not_named a view → named ≡ None → a.has_failed ≡ false → IsView view → HasKeys view → IsTakenIn signs view now.agent
+may_be_entered signs view now a keeper now_is own_told members among named own_is members_are told has named_told none unfailed legal keys =
     let own_there : list_any (eq_by_cmp owner_cmp own_told) members ≡ list_any (eq_by_cmp owner_cmp (own signs a)) view.members = (λ i. list_any (eq_by_cmp owner_cmp (record { 0 = own_is i })) (members_are i)) in
-    subst (λ h. IsTakenIn signs view h.agent) now_is (taken_in signs view a (sym own_there ∙ sym told ∙ has) (sym named_told ∙ none) unfailed legal)
+    subst (λ h. IsTakenIn signs view h.agent) now_is (taken_in signs view a (sym own_there ∙ sym told ∙ has) (sym named_told ∙ none) unfailed legal keys)
 
 -- ---- what is saved
 
@@ -88,7 +90,7 @@ module _ {K S : Type 0} (signs : Signing S) (IsWhole : S → Type 0) (saves : K 
     some = h.some;
     few = h.few;
     floor = h.floor;
-    view = (taken.legal, taken.member, taken.named);
+    view = (taken.legal, taken.keys, taken.member, taken.named);
     posts = h.posts;
     snapshot = tt;
   }

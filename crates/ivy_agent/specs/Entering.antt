@@ -2,6 +2,7 @@
 use Rattle.std.specs.Prelude.{◌≡◌, ℕ, Bool, true, false, IsTrue, IfSome, List, Contains, Some, None, option_map, Result, Ok, Err}
 use Rattle.std.specs.List.{AllByRecursion}
 use Rattle.log_model.specs.View.{View, IsView, is_named}
+use Rattle.view_blocks.specs.Faults.{HasKeys}
 use Rattle.agent_model.specs.Agent.{Agent, Signing, entered, failed, kept_of, own}
 use Rattle.agent_model.specs.SavedBytes.{IsKept, kept_bytes}
 use Rattle.agent_model.specs.Views.{Entering, entering}
@@ -44,6 +45,7 @@ module _ {S : Type 0} (signs : Signing S) (view : View) (a : Agent S) where
   -- the view takes in what the agent knows, and no save failed before
   pub record IsTakenIn : Type 0 where
     pub legal : IsView view
+    pub keys : HasKeys view
     pub member : Contains view.members (own signs a)
     pub named : AllByRecursion (λ e. IsTrue (is_named view e.0)) a.floor
     pub unfailed : a.has_failed ≡ false

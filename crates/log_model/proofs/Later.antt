@@ -122,12 +122,12 @@ weight_with v p none = ap (λ (o : Option Stamp). weight_of (put key_cmp (head_k
 pub good_of : (view : View) (s : List Record) (q : Record) → IsClosed view s → Contains s q → IsGood view q.owner q
 good_of view s q closed c = each (IsGood view q.owner) (log_of q.owner s) q (chain_good view q.owner (log_of q.owner s) (closed.chains q.owner)) (in_filter (λ (x : Record). eq_by_cmp owner_cmp q.owner x.owner) s q c (owner_itself q.owner))
 
-last_in : (p : Record) (rs : List Record) → Contains (p ∷ rs) (last_after p rs)
+pub last_in : (p : Record) (rs : List Record) → Contains (p ∷ rs) (last_after p rs)
 unfolding last_after
 last_in p [] = here p []
 last_in p (r ∷ rs) = there p (r ∷ rs) (last_after r rs) (last_in r rs)
 
-last_push : (p : Record) (rs : List Record) (r : Record) → last_after p (rs ++ r ∷ []) ≡ r
+pub last_push : (p : Record) (rs : List Record) (r : Record) → last_after p (rs ++ r ∷ []) ≡ r
 unfolding last_after
 last_push p [] r = refl
 last_push p (q ∷ rs) r = last_push q rs r

@@ -1,6 +1,6 @@
 mod Ways
 mod Sizes
-mod Plans
+pub mod Plans
 mod Pages
 mod Listings
 mod Trees

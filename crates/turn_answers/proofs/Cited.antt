@@ -1,38 +1,27 @@
 -- With the newest of good records a front may be cited as before.
 use Rattle.std.proofs.Common.{◌≡◌, List, [], ◌∷◌, Option, Some, None, refl, sym, subst, arith, Contains}
 use Rattle.std.specs.Prelude.{IsTrue}
-use Rattle.std.specs.List.{AllByRecursion}
-use Rattle.std.specs.declared.cmp.Ordering.{Ordering}
-use Rattle.std.specs.declared.cmp.Ordering.TheVariants.{Less, Equal, Greater}
-use Rattle.std.specs.FinMap.Entries.{by_order, is_sorted-put, put}
+use Rattle.std.specs.FinMap.Entries.{is_sorted-put}
 use Rattle.std.proofs.lemmas.List.Elements.{Contains-append_right}
 use Rattle.ivy_base.specs.declared.key.Key.{Key}
 use Rattle.ivy_base.specs.declared.key.PubKey.{PubKey}
 use Rattle.ivy_base.specs.Naming.{head_key_of, key_cmp}
 use Rattle.ivy_base.proofs.NameLemmas.{length-name, bytes-name}
-use Rattle.tree_model.proofs.Keys.{exact_keys, keys_total}
+use Rattle.tree_model.proofs.Keys.{keys_total}
 use Rattle.tree_model.proofs.Sound.{from_test, to_test}
 use Rattle.log_model.specs.Chain.{IsGood}
 use Rattle.log_model.specs.Rank.{own_entry}
 use Rattle.log_model.specs.Record.{Record}
-use Rattle.log_model.specs.Vector.{Entry, Stamp, Vector}
+use Rattle.log_model.specs.Vector.{Stamp}
 use Rattle.log_model.specs.View.{View, is_named}
 use Rattle.log_model.proofs.Later.{name_is_key}
 use Rattle.log_model.proofs.Lists.{each, here}
+use Rattle.turn_laws.proofs.Entries.{each_put}
 use Rattle.turn_laws.proofs.Heads.{member_named}
 use Rattle.turn_answers.specs.Newest.{newest_stamp, with_newest}
 use Rattle.turn_answers.specs.Appended.{MayBeCited, WithNewestMayBeCited}
 use Rattle.turn_answers.proofs.Fronts.{newest_is_last}
 use Rattle.turn_answers.proofs.Records.{IsSpelled}
-
-each_put : (P : Entry → Type 0) (log : Key) (t : Stamp) (v : Vector) → AllByRecursion P v → P (log, t) → AllByRecursion P (put key_cmp log t v)
-each_put P log t [] h p = (p, tt)
-each_put P log t (d ∷ v) h p = by (key_cmp log d.0) refl (each_put P log t v h.1 p)
-  where
-    by : (o : Ordering) → key_cmp log d.0 ≡ o → AllByRecursion P (put key_cmp log t v) → AllByRecursion P (by_order o ((log, t) ∷ d ∷ v) ((d.0, t) ∷ v) (d ∷ put key_cmp log t v))
-    by Less e again = (p, h)
-    by Equal e again = (subst (λ (x : Key). P (x, t)) (exact_keys log d.0 e) p, h.1)
-    by Greater e again = (h.0, again)
 
 -- the stamp of a good record is spelled
 stamp_spelled : (view : View) (own : PubKey) (r : Record) → IsGood view own r → IsSpelled (head_key_of own, (own_entry r).1)

@@ -3,11 +3,8 @@ use Rattle.std.proofs.Common.{◌≡◌, ◌⊎◌, inl, inr, ⊎_elim, ℕ, ◌
 use Rattle.std.specs.Prelude.{IsTrue, fold}
 use Rattle.std.specs.List.{AllByRecursion}
 use Rattle.std.specs.Cmp.{eq_by_cmp_equiv}
-use Rattle.std.specs.declared.cmp.Ordering.{Ordering}
-use Rattle.std.specs.declared.cmp.Ordering.TheVariants.{Less, Equal, Greater}
 use Rattle.std.specs.Option.{option_map_or}
-use Rattle.std.specs.Ordering.{eq_by_cmp, is_lt, is_eq, ordering_reverse}
-use Rattle.std.specs.FinMap.Entries.{is_sorted, below_all}
+use Rattle.std.specs.Ordering.{eq_by_cmp}
 use Rattle.std.proofs.lemmas.List.{append-nil}
 use Rattle.std.proofs.lemmas.List.Elements.{Contains-append_left}
 use Rattle.ivy_base.specs.declared.key.Key.{Key}
@@ -16,7 +13,6 @@ use Rattle.ivy_base.specs.declared.operation.Moment.{Moment}
 use Rattle.ivy_base.specs.declared.operation.Op.{Op}
 use Rattle.ivy_base.specs.Naming.{head_key_of, key_cmp, owner_cmp}
 use Rattle.tree_model.proofs.Keys.{keys_total, same_key_is, same_key_itself}
-use Rattle.tree_model.proofs.Sound.{both_true}
 use Rattle.causal_order.specs.Over.{IsUnder, IsMet, HasCauses, ComesNext, GoesOnFrom, IsChainOver, IsClosed}
 use Rattle.causal_order.proofs.Logs.{good_over, numbers_over}
 use Rattle.log_model.specs.Chain.{IsGood, Follows, GoesOn, MayBeWritten, AllMayBeWritten}
@@ -24,73 +20,24 @@ use Rattle.log_model.specs.Closed.{log_of}
 use Rattle.log_model.specs.Rank.{own_entry, full_vector, weight}
 use Rattle.log_model.specs.Record.{Record}
 use Rattle.log_model.specs.Spelling.{new_record, no_name, HasSpelling, IsKey, IsMoment}
-use Rattle.log_model.specs.Vector.{Entry, Stamp, Vector, Dominates, join, reach, seq_of, stamp_at, weight_of, without_log}
+use Rattle.log_model.specs.Vector.{Entry, Stamp, Vector, Dominates, reach, seq_of, stamp_at, weight_of, without_log}
 use Rattle.log_model.specs.View.{View, IsView, is_member}
 use Rattle.log_model.proofs.Chains.{last_after, GoesOn-push}
-use Rattle.log_model.proofs.Later.{seq_with}
-use Rattle.log_model.proofs.Lists.{each, each_append, each_from, from_filter, here, there, in_cons, in_filter, in_nothing}
+use Rattle.log_model.proofs.Later.{last_in, last_push, seq_with}
+use Rattle.log_model.proofs.Lists.{each, each_append, each_from, from_filter, here, in_filter, in_nothing}
 use Rattle.log_model.proofs.Opening.{same_owner}
 use Rattle.log_model.proofs.Owners.{owner_itself}
 use Rattle.log_model.proofs.Part.{numbers_from, log_push}
-use Rattle.log_model.proofs.Vectors.{Dominates-join}
-use Rattle.log_model.proofs.Weights.{Sorted, Dominates-trans, joins_reach}
-use Rattle.turn_laws.proofs.Entries.{at_stamp, each_join, each_with_entry, each_without_log}
+use Rattle.log_model.proofs.Weights.{Sorted, joins_keep, joins_reach}
+use Rattle.turn_laws.proofs.Entries.{at_stamp, each_joins, each_with_entry, each_without_log}
 use Rattle.turn_laws.proofs.Heads.{member_is, one_member}
-use Rattle.turn_laws.proofs.Starts.{stamp_at-without_log}
+use Rattle.turn_laws.proofs.Starts.{last_or_before, stamp_at-without_log}
+use Rattle.turn_laws.proofs.Whole.{at_entry}
 use Rattle.turn_model.specs.Basis.{Holding}
 use Rattle.turn_model.specs.Turn.{linked}
 use Rattle.agent_model.specs.Agent.{joined}
 use Rattle.turn_answers.specs.Appended.{MayBeCited, WrittenIsClosed, written_over}
 use Rattle.turn_answers.proofs.Records.{IsSpelled, MayCite, all_lighter, ascend_with, may_cite, name_of_new, new_is_good, none_heavier}
-
--- ---- entries and last records
-
-is_below : (q : Key) (v : Vector) (e : Entry) → below_all key_cmp q v ≡ true → Contains v e → is_lt (key_cmp q e.0) ≡ true
-is_below q [] e h c = absurd (in_nothing e c)
-is_below q (d ∷ v) e h c =
-    let parts = both_true (is_lt (key_cmp q d.0)) (below_all key_cmp q v) h in
-    ⊎_elim (λ same. subst (λ (x : Entry). is_lt (key_cmp q x.0) ≡ true) same parts.0) (λ c. is_below q v e parts.1 c) (in_cons d v e c)
-
-above_is_apart : (o : Ordering) → is_lt o ≡ true → is_eq (ordering_reverse o) ≡ false
-above_is_apart Less h = refl
-above_is_apart Equal h = cc
-above_is_apart Greater h = cc
-
--- an entry of a vector is what the vector has of its log
-at_entry : (v : Vector) (e : Entry) → Sorted v → Contains v e → stamp_at v e.0 ≡ Some e.1
-at_entry [] e up c = absurd (in_nothing e c)
-at_entry (d ∷ v) e up c =
-    let parts = both_true (below_all key_cmp d.0 v) (is_sorted key_cmp v) up in
-    ⊎_elim
-    (λ same. subst (λ (x : Entry). stamp_at (d ∷ v) x.0 ≡ Some x.1) same (ap (λ b. cond b (Some d.1) (stamp_at v d.0)) (same_key_itself d.0)))
-    (λ more.
-    let apart : eq_by_cmp key_cmp e.0 d.0 ≡ false = ap is_eq (keys_total.antisymm e.0 d.0) ∙ above_is_apart (key_cmp d.0 e.0) (is_below d.0 v e parts.0 more) in
-    ap (λ b. cond b (Some d.1) (stamp_at v e.0)) apart ∙ at_entry v e parts.1 more)
-    (in_cons d v e c)
-
-last_in : (p : Record) (rs : List Record) → Contains (p ∷ rs) (last_after p rs)
-unfolding last_after
-last_in p [] = here p []
-last_in p (r ∷ rs) = there p (r ∷ rs) (last_after r rs) (last_in r rs)
-
-last_push : (p : Record) (rs : List Record) (r : Record) → last_after p (rs ++ r ∷ []) ≡ r
-unfolding last_after
-last_push p [] r = refl
-last_push p (q ∷ rs) r = last_push q rs r
-
--- a record of a log is its last one, or has a smaller number
-last_or_before : (view : View) (owner : PubKey) (p : Record) (rs : List Record) (c : Record) → GoesOn view owner p rs → Contains (p ∷ rs) c → (c ≡ last_after p rs) ⊎ (c.seq < (last_after p rs).seq)
-unfolding last_after
-last_or_before view owner p [] c g within = ⊎_elim (λ e. inl (sym e)) (λ none. absurd (in_nothing c none)) (in_cons p [] c within)
-last_or_before view owner p (r ∷ rs) c g within = ⊎_elim
-    (λ e. let next = g.1.seq in
-    let same : p.seq ≡ c.seq = ap (λ (x : Record). x.seq) e in
-    inr (⊎_elim
-    (λ is_last. let last : r.seq ≡ (last_after r rs).seq = ap (λ (x : Record). x.seq) is_last in omega (arith, next, same, last))
-    (λ less. omega (arith, next, same, less))
-    (last_or_before view owner r rs r g.2 (here r rs))))
-    (λ more. last_or_before view owner r rs c g.2 more)
-    (in_cons p (r ∷ rs) c within)
 
 -- ---- the end of the own log
 
@@ -241,14 +188,6 @@ module _ (view : View) (base : Vector) (own : PubKey) (v : Vector) (now : Moment
 
 -- ---- over what is held
 
-joins_keep : (vs : List Vector) (v : Vector) → Dominates (fold join v vs) v
-joins_keep [] v log = omega arith
-joins_keep (w ∷ vs) v log = Dominates-trans (fold join (join v w) vs) (join v w) v (joins_keep vs (join v w)) (Dominates-join v w) log
-
-joins_each : (P : Entry → Type 0) (v : Vector) (s : List Record) → AllByRecursion P v → AllByRecursion (λ r. AllByRecursion P (full_vector r)) s → AllByRecursion P (fold join v (map full_vector s))
-joins_each P v [] h g = h
-joins_each P v (r ∷ s) h g = joins_each P (join v (full_vector r)) s (each_join P v (full_vector r) h g.0) g.1
-
 all_reached : (f : Vector) (s : List Record) → AllByRecursion (λ w. Dominates f w) (map full_vector s) → AllByRecursion (λ q. Dominates f (full_vector q)) s
 all_reached f [] h = tt
 all_reached f (q ∷ s) h = (h.0, all_reached f s h.1)
@@ -281,7 +220,7 @@ module _ (view : View) (own : PubKey) (h : Holding) (well : IsView view) (member
       each_with_entry (Stands view base h.held) r.vector (own_entry r) cited (λ is. inr (r, c, refl))
 
   all_stand : AllByRecursion (Stands view base h.held) (joined h)
-  all_stand = joins_each (Stands view base h.held) base h.held
+  all_stand = each_joins (Stands view base h.held) base h.held
       (each_from (Stands view base h.held) base (λ e c is. inl (inr (at_entry base e sorted c))))
       (each_from (λ r. AllByRecursion (Stands view base h.held) (full_vector r)) h.held stands_in)
 

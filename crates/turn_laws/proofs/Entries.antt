@@ -40,7 +40,7 @@ module _ (P : Entry → Type 0) where
   of_later log None t p q = q
   of_later log (Some s) t p q = by_number (nat_cmp s.seq t.seq) (is_lt (key_cmp t.name s.name)) log s t (p s refl) q
 
-  each_put : (log : Key) (t : Stamp) (v : Vector) → AllByRecursion P v → P (log, t) → AllByRecursion P (put key_cmp log t v)
+  pub each_put : (log : Key) (t : Stamp) (v : Vector) → AllByRecursion P v → P (log, t) → AllByRecursion P (put key_cmp log t v)
   each_put log t [] h p = (p, tt)
   each_put log t (d ∷ v) h p = by (key_cmp log d.0) refl (each_put log t v h.1 p)
     where
@@ -56,7 +56,7 @@ module _ (P : Entry → Type 0) where
   each_join v [] h g = h
   each_join v (e ∷ w) h g = each_join (with_entry v e) w (each_with_entry v e h g.0) g.1
 
-  each_joins : (v : Vector) (s : List Record) → AllByRecursion P v → AllByRecursion (λ r. AllByRecursion P (full_vector r)) s → AllByRecursion P (fold join v (map full_vector s))
+  pub each_joins : (v : Vector) (s : List Record) → AllByRecursion P v → AllByRecursion (λ r. AllByRecursion P (full_vector r)) s → AllByRecursion P (fold join v (map full_vector s))
   each_joins v [] h g = h
   each_joins v (r ∷ s) h g = each_joins (join v (full_vector r)) s (each_join v (full_vector r) h g.0) g.1
 

@@ -37,7 +37,7 @@ ends_from s own (first ∷ rest) e some = (last_after first rest, record { first
 pub ends_with : (s : List Record) (own : PubKey) → log_of own s ≢ [] → (p : Record) × EndsWith s own p
 ends_with s own some = ends_from s own (log_of own s) refl some
 
-last_or_before : (view : View) (owner : PubKey) (p : Record) (rs : List Record) (c : Record) → GoesOn view owner p rs → Contains (p ∷ rs) c → (c ≡ last_after p rs) ⊎ (c.seq < (last_after p rs).seq)
+pub last_or_before : (view : View) (owner : PubKey) (p : Record) (rs : List Record) (c : Record) → GoesOn view owner p rs → Contains (p ∷ rs) c → (c ≡ last_after p rs) ⊎ (c.seq < (last_after p rs).seq)
 unfolding last_after
 last_or_before view owner p [] c g within = ⊎_elim (λ e. inl (sym e)) (λ none. absurd (in_nothing c none)) (in_cons p [] c within)
 last_or_before view owner p (r ∷ rs) c g within = ⊎_elim

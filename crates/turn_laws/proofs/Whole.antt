@@ -184,7 +184,7 @@ above_is_apart Equal h = cc
 above_is_apart Greater h = cc
 
 -- an entry of a vector is what the vector has of its log
-at_entry : (v : Vector) (e : Entry) → Sorted v → Contains v e → stamp_at v e.0 ≡ Some e.1
+pub at_entry : (v : Vector) (e : Entry) → Sorted v → Contains v e → stamp_at v e.0 ≡ Some e.1
 at_entry [] e up c = absurd (in_nothing e c)
 at_entry (d ∷ v) e up c =
     let parts = both_true (below_all key_cmp d.0 v) (is_sorted key_cmp v) up in

@@ -19,13 +19,8 @@ use Rattle.causal_order.specs.Over.{HasCauses, IsClosed, IsMet}
 use Rattle.causal_order.proofs.Fronts.{stamp_there}
 use Rattle.causal_order.proofs.Logs.{good_over, numbers_over}
 use Rattle.causal_order.proofs.Passes.{in_log}
-use Rattle.turn_laws.proofs.Entries.{each_join, each_with_entry}
+use Rattle.turn_laws.proofs.Entries.{each_joins, each_with_entry}
 use Rattle.turn_laws.proofs.Heads.{member_is, member_named, one_member}
-
-module _ (P : Entry → Type 0) where
-  each_joined : (v : Vector) (s : List Record) → AllByRecursion P v → AllByRecursion (λ r. AllByRecursion P (full_vector r)) s → AllByRecursion P (fold join v (map full_vector s))
-  each_joined v [] h g = h
-  each_joined v (r ∷ s) h g = each_joined (join v (full_vector r)) s (each_join P v (full_vector r) h g.0) g.1
 
 module _ (view : View) (base : Vector) (s : List Record) (closed : IsClosed view base s) where
   pub good_in : (r : Record) → Contains s r → IsGood view r.owner r
@@ -36,7 +31,7 @@ module _ (view : View) (base : Vector) (s : List Record) (closed : IsClosed view
 
   -- it names logs of the view
   pub front_named : AllByRecursion (λ e. IsTrue (is_named view e.0)) base → AllByRecursion (λ e. IsTrue (is_named view e.0)) (fold join base (map full_vector s))
-  front_named below = each_joined (λ e. IsTrue (is_named view e.0)) base s below
+  front_named below = each_joins (λ e. IsTrue (is_named view e.0)) base s below
       (each_from (λ r. AllByRecursion (λ e. IsTrue (is_named view e.0)) (full_vector r)) s
       (λ r c. each_with_entry (λ e. IsTrue (is_named view e.0)) r.vector (own_entry r) (good_in r c).named (member_named view r.owner (member_in r c))))
 
@@ -70,7 +65,7 @@ module _ (view : View) (base : Vector) (s : List Record) (closed : IsClosed view
     pub front_reaches : seq_of (fold join base (map full_vector s)) (head_key_of owner) ≤ n
     front_reaches =
         let v : Vector = fold join base (map full_vector s) in
-        let all = each_joined Within base s (each_from Within base in_base)
+        let all = each_joins Within base s (each_from Within base in_base)
         (each_from (λ r. AllByRecursion Within (full_vector r)) s (λ r c. each_with_entry Within r.vector (own_entry r) (each_from Within r.vector (cited r c)) (of_record r c))) in
         ⊎_elim
         (λ none. let zero : seq_of v (head_key_of owner) ≡ 0 = ap reach none in omega (arith, zero))
