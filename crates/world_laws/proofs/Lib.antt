@@ -3,11 +3,6 @@ pub mod Apart
 pub mod Growing
 pub mod LineKinds
 pub mod Leaves
-pub mod AskedPlans
-pub mod AskedOwners
-pub mod AskedLookups
-pub mod AskedCourses
-pub mod AskedGets
 pub mod Still
 pub mod Bringing
 pub mod NotRefused

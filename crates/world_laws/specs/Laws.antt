@@ -15,10 +15,7 @@ use Rattle.log_model.specs.View.{View}
 use Rattle.turn_model.specs.Basis.{Knows}
 use Rattle.turn_model.specs.Known.{EndsAt}
 use Rattle.turn_model.specs.Turn.{Candidate, IsPrefixOf}
-use Rattle.dht_ids.specs.declared.ask.Ask.TheVariants as ask
 use Rattle.dht_ids.specs.declared.judge.Judged.{Judged}
-use Rattle.dht_ids.specs.declared.peer.Peer.{Peer}
-use Rattle.dht_ids.specs.declared.post.Post.{Post}
 use Rattle.hash_signature_model.specs.declared.keys.PrivateKey.{PrivateKey}
 use Rattle.hash_signature_model.specs.declared.set.Set.{Set}
 use Rattle.hss_keys.specs.Signer.{Signer, leaf_used, leaves_used, left_of, lower_key, signed_lower}
@@ -26,10 +23,9 @@ use Rattle.log_heads.specs.Signed.{hss_judged}
 use Rattle.agent_model.specs.Candidates.{AreCandidatesOf, Brings, MayTurn}
 use Rattle.agent_model.specs.Turning.{TurnEnd}
 use Rattle.agent_model.specs.Standing.{Refresh, Standing}
-use Rattle.session_model.specs.Brought.{Want, brought_in, heads_at}
+use Rattle.session_model.specs.Brought.{brought_in, heads_at}
 use Rattle.session_model.specs.Refreshing.{Note}
-use Rattle.session_model.specs.Sessions.{Session, Over, IsGet, IsPut, put_question, wanted_key}
-use Rattle.session_model.specs.Asking.{IsBegun, AsksOneNext, BeginsNoOther, GoesOnAlways}
+use Rattle.session_model.specs.Sessions.{Session, Over}
 use Rattle.session_model.specs.Courses.{HasRefreshed, IsRefusal, LacksMemory}
 use Rattle.session_model.specs.Replies.{said_no_memory}
 use Rattle.script_driver.specs.Run.{Outcome, Goes, Ran, Runs, WithLaw, HasPiece}
@@ -120,19 +116,6 @@ pub record HasMemoryIn (w next : World) (line output : List ℕ) : Type 0 where
 abbrev pub StepsAreOne : Type 0
 StepsAreOne = (w one other : Played) (line text words : List ℕ) → Keeps w → NamesTellApart (named_bytes one.0) → NamesTellApart (named_bytes other.0)
     → IvyStep w line (Goes one text) → IvyStep w line (Goes other words) → HasMemoryIn w.0 one.0 line text → HasMemoryIn w.0 other.0 line words → (one ≡ other) × (text ≡ words)
-
--- ---- gets and puts
-
--- of any entry nodes, some of which there are, whatever is asked for
-abbrev pub GetsAreOne : Type 0
-GetsAreOne = (judged : Key → List ℕ → Option Judged) (r : ℕ) (entries : List Peer) (want : Want)
-    → BeginsNoOther (IsGet judged r entries want) × AsksOneNext (wanted_key want) (ask.Get (wanted_key want)) (IsGet judged r entries want)
-    × GoesOnAlways (wanted_key want) (ask.Get (wanted_key want)) (IsGet judged r entries want) × (entries ≢ [] → IsBegun (IsGet judged r entries want) [])
-
-abbrev pub PutsAreOne : Type 0
-PutsAreOne = (judged : Key → List ℕ → Option Judged) (r : ℕ) (s : Session) (p : Post)
-    → BeginsNoOther (IsPut judged r s p) × AsksOneNext p.key (put_question p) (IsPut judged r s p)
-    × GoesOnAlways p.key (put_question p) (IsPut judged r s p) × (s.entries ≢ [] → IsBegun (IsPut judged r s p) [])
 
 -- ---- leaving out
 

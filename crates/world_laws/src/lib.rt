@@ -14,7 +14,7 @@
 #![tactic(auto)]
 
 ghost use Rattle.world_laws.specs.Kinds.{LineHasOneKind};
-ghost use Rattle.world_laws.specs.Laws.{AlikeTurnsAnswerAlike, ClashIsDecided, EmptyKeeps, FewerStayApart, FreshTurnsAreAnswered, GetsAreOne, MetGrows, OtherLogsDontCount, PutsAreOne, RefreshBrings, RefreshEndsInTurn, RefreshMayTurn, SecondTurnIsAnswered, StillLinesChangeNothing, UpperLeavesSignOnce};
+ghost use Rattle.world_laws.specs.Laws.{AlikeTurnsAnswerAlike, ClashIsDecided, EmptyKeeps, FewerStayApart, FreshTurnsAreAnswered, MetGrows, OtherLogsDontCount, RefreshBrings, RefreshEndsInTurn, RefreshMayTurn, SecondTurnIsAnswered, StillLinesChangeNothing, UpperLeavesSignOnce};
 
 /// A law and no code: of any blocks, names tell them apart, or two of them clash.
 pub fn clashes_are_decided()
@@ -39,13 +39,6 @@ pub fn lines_have_one_kind()
 /// A law and no code: no line forgets a block that was met.
 pub fn met_blocks_stay()
     ensures { MetGrows }
-{}
-
-/// A law and no code: of any entry nodes, a whole get or put begins no other, one ask is the next, it goes on or is whole
-/// whatever is answered, and where there is an entry node nothing asked is the beginning of one.
-pub fn gets_are_one()
-    ensures gets { GetsAreOne }
-    ensures puts { PutsAreOne }
 {}
 
 /// A law and no code: a line that shows something, or sets the moment or a loss to come, changes nothing else.

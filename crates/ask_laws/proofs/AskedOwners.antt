@@ -2,13 +2,14 @@
 use Rattle.std.proofs.Common.{◌≡◌, ◌⊎◌, ℕ, zero, suc, ◌<◌, false, List, [], ◌∷◌, ◌++◌, length, take, map, refl, sym, ap, ◌∙◌, subst, arith, inl, inr, ⊎_elim}
 use Rattle.std.proofs.lemmas.List.{append_assoc, append-nil}
 use Rattle.dht_ids.specs.declared.ask.Answer.{Answer}
+use Rattle.dht_ids.specs.declared.ask.Answer.TheVariants as answer
 use Rattle.dht_ids.specs.declared.ask.Ask.{Ask}
 use Rattle.dht_ids.specs.declared.ask.Heard.{Heard}
 use Rattle.dht_ids.specs.declared.peer.Peer.{Peer}
 use Rattle.ring_model.specs.Gets.{AreFirsts, AreAsks, nodes}
 use Rattle.ring_model.proofs.Lists.{cons_head, cons_tail, nil_cons}
 use Rattle.dhash_client.specs.Course.{Told, told_all}
-use Rattle.world_laws.proofs.AskedPlans.{Plan, ended, asking, Entries, entry, Follows, IsToldBy}
+use Rattle.ask_laws.proofs.AskedPlans.{Plan, ended, asking, Entries, entry, Follows, IsToldBy, some_follows}
 
 -- where something is decided, one thing or the other
 abbrev pub choose : {P X : Type 0} → P ⊎ (P → ⊥) → X → X → X
@@ -65,6 +66,17 @@ module _ (IsEnough : Told → Type 0) where
   pub to_asks : (owners once : List Peer) → AreFirsts [] owners once → (trail : Told) → AreAsked once [] trail → AreAsks owners IsEnough trail
   to_asks owners once firsts trail h = record { once = once; firsts = firsts; order = in_order once [] trail h; needed = all_needed once [] trail h; over = at_end once [] trail h }
 
+  -- owners of whom nothing was enough, and then the rest
+  pub joined : (rest : List Peer) (before asks more : Told) → ((k : ℕ) → k < length asks → IsEnough (before ++ take k asks) → ⊥) → AreAsked rest (before ++ asks) more → AreAsked (nodes asks ++ rest) before (asks ++ more)
+  joined rest before [] more needed h = subst (λ (t : Told). AreAsked rest t more) (append-nil before) h
+  joined rest before (s ∷ asks) more needed h = (
+    λ g. needed 0 (omega arith) (subst IsEnough (sym (append-nil before)) g),
+    nodes asks ++ rest,
+    refl,
+    joined rest (before ++ s ∷ []) asks more (λ k l g. needed (suc k) (omega (arith, l)) (subst IsEnough (append_assoc before (s ∷ []) (take k asks)) g))
+        (subst (λ (t : Told). AreAsked rest t more) (sym (append_assoc before (s ∷ []) asks)) h),
+  )
+
 module _ (e : Entries) (IsEnough : Told → Type 0) (decided : (t : Told) → IsEnough t ⊎ (IsEnough t → ⊥)) where
   -- the plan of the asks of the rest
   abbrev pub owners_plan : List Peer → Told → Plan
@@ -99,3 +111,15 @@ module _ (e : Entries) (IsEnough : Told → Type 0) (decided : (t : Told) → Is
           → (asks : Told) × AreAsked IsEnough (p ∷ ps) before asks × (trail ≡ entries_of e asks)
       by (inl enough) g later = ([], inl enough, g)
       by (inr not_yet) g later = let r = later g.0 g.1 g.3 in ((p, g.0) ∷ r.0, (not_yet, ps, refl, r.1), g.2 ∙ ap (λ (l : List Heard). entry e false p g.0 ∷ l) r.2)
+
+  -- where what was heard isn't enough the next owner is asked, and then others or none
+  pub owners_go_on : (owners gone ps : List Peer) (node : Peer) (asks : Told) → AreFirsts [] owners (gone ++ node ∷ ps) → gone ≡ nodes asks → ((k : ℕ) → k < length asks → IsEnough (take k asks) → ⊥) → (IsEnough asks → ⊥)
+      → (more : Told) × AreAsks owners IsEnough (asks ++ (node, answer.Silent) ∷ more)
+  owners_go_on owners gone ps node asks firsts is needed not_yet =
+      let some = some_follows e (owners_plan ps (asks ++ (node, answer.Silent) ∷ [])) in
+      let rest = owners_back ps (asks ++ (node, answer.Silent) ∷ []) some.0 some.1 in
+      (
+        rest.0,
+        to_asks IsEnough owners (nodes asks ++ node ∷ ps) (subst (λ (l : List Peer). AreFirsts [] owners (l ++ node ∷ ps)) is firsts) (asks ++ (node, answer.Silent) ∷ rest.0)
+            (joined IsEnough (node ∷ ps) [] asks ((node, answer.Silent) ∷ rest.0) needed (not_yet, ps, refl, rest.1)),
+      )

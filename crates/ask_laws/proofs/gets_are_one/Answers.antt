@@ -1,5 +1,6 @@
-use Rattle.world_laws.proofs.AskedGets.{gets_are_one, puts_are_one}
-use Rattle.world_laws.proofs.gets_are_one.Goals as goal
+use Rattle.ask_laws.proofs.AskedGets.{gets_are_one}
+use Rattle.ask_laws.proofs.AskedPuts.{puts_are_one}
+use Rattle.ask_laws.proofs.gets_are_one.Goals as goal
 
 pub returns-clause-gets : goal.returns-clause-gets
 returns-clause-gets c = gets_are_one

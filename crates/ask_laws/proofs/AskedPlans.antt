@@ -1,6 +1,8 @@
 -- Gets and puts as plans. Where the whole trails are those that follow a plan, a whole one begins no other, one ask is the next, and it goes on whatever is answered.
-use Rattle.std.proofs.Common.{◌≡◌, ◌≢◌, ◌⊎◌, Bool, true, false, List, [], ◌∷◌, ◌++◌, Option, None, refl, sym, ap, ◌∙◌, subst, inl, inr}
+use Rattle.std.proofs.Common.{◌≡◌, ◌≢◌, ◌⊎◌, Bool, true, false, List, [], ◌∷◌, ◌++◌, Option, Some, None, refl, sym, ap, ◌∙◌, subst, inl, inr, ⊎_elim}
 use Rattle.std.proofs.lemmas.List.{append_assoc}
+use Rattle.std.proofs.lemmas.Grind.{flat_map-append}
+use Rattle.ivy_base.specs.Naming.{name}
 use Rattle.ivy_base.specs.declared.key.Key.{Key}
 use Rattle.dht_ids.specs.declared.ask.Answer.{Answer}
 use Rattle.dht_ids.specs.declared.ask.Answer.TheVariants as answer
@@ -10,8 +12,10 @@ use Rattle.dht_ids.specs.declared.ask.AskKind.{AskKind}
 use Rattle.dht_ids.specs.declared.ask.AskKind.TheVariants as kind
 use Rattle.dht_ids.specs.declared.ask.Heard.{Heard}
 use Rattle.dht_ids.specs.declared.peer.Peer.{Peer}
-use Rattle.dht_ids.specs.Asked.{told}
+use Rattle.dht_ids.specs.Asked.{told, IsForData}
 use Rattle.ring_model.proofs.Lists.{cons_head, cons_tail, nil_cons}
+use Rattle.dhash_client.specs.Course.{Told, told_all}
+use Rattle.ask_laws.specs.Laws.{NextIsNotWhole}
 use Rattle.session_model.specs.Asking.{IsBegun, AsksNext, BeginsNoOther, AsksOneNext, GoesOnAlways}
 
 -- a plan is over, or a node is asked, for the route or as an owner, and the answer tells how it goes on
@@ -59,7 +63,7 @@ after_entry : (e : Entries) (node : Peer) (looks : Bool) (next : Answer → Plan
 after_entry e node looks next h rest f =
     (f.0, cons_head h rest (entry e looks node f.0) f.1 f.2, subst (Follows e (next f.0)) (sym (cons_tail h rest (entry e looks node f.0) f.1 f.2)) f.3)
 
-some_follows : (e : Entries) (plan : Plan) → (trail : List Heard) × Follows e plan trail
+pub some_follows : (e : Entries) (plan : Plan) → (trail : List Heard) × Follows e plan trail
 some_follows e ended = ([], refl)
 some_follows e (asking node looks next) = let r = some_follows e (next answer.Silent) in (entry e looks node answer.Silent ∷ r.0, (answer.Silent, r.0, refl, r.1))
 
@@ -110,7 +114,7 @@ pub record IsPlanned (e : Entries) (Whole : List Heard → Type 0) : Type 0 wher
 pub planned_alike : (e : Entries) (Whole Other : List Heard → Type 0) → IsPlanned e Whole → ((trail : List Heard) → Whole trail → Other trail) → ((trail : List Heard) → Other trail → Whole trail) → IsPlanned e Other
 planned_alike e Whole Other p to from = record { plan = p.plan; fits = λ trail w. p.fits trail (from trail w); back = λ trail f. to trail (p.back trail f) }
 
-begins_none : (e : Entries) (Whole : List Heard → Type 0) → IsPlanned e Whole → BeginsNoOther Whole
+pub begins_none : (e : Entries) (Whole : List Heard → Type 0) → IsPlanned e Whole → BeginsNoOther Whole
 begins_none e Whole p asked more one other = begins_itself e p.plan asked more (p.fits asked one) (p.fits (asked ++ more) other)
 
 -- an ask of the owners is told by their entry
@@ -181,3 +185,34 @@ AreOne key own entries Whole = BeginsNoOther Whole × AsksOneNext key own Whole 
 
 pub are_one : (e : Entries) (own : Ask) (entries : List Peer) (Whole : List Heard → Type 0) → IsToldBy e own → IsPlanned e Whole → (entries ≢ [] → Whole [] → ⊥) → AreOne e.key own entries Whole
 are_one e own entries Whole t p some = (begins_none e Whole p, one_is_next e own Whole t p, goes_on_always e own Whole t p, λ h. begun e Whole p (some h))
+
+-- ---- what is asked next
+
+-- an ask for data is told
+told_some : (question : Ask) → IsForData question → (node : Peer) (given : Answer) (more : List Heard) → told node question given ++ more ≡ [] → ⊥
+told_some (ask.Route key) data node given more h = nil_cons (record { node = node; kind = kind.Route; key = key; put = None; got = given }) more (sym h)
+told_some ask.Near data node given more h = data
+told_some (ask.Notify peer) data node given more h = data
+told_some (ask.Get key) data node given more h = nil_cons (record { node = node; kind = kind.Get; key = key; put = None; got = given }) more (sym h)
+told_some (ask.PutBlock key bytes) data node given more h = nil_cons (record { node = node; kind = kind.PutBlock; key = key; put = Some (name bytes); got = given }) more (sym h)
+told_some (ask.PutHead key bytes) data node given more h = nil_cons (record { node = node; kind = kind.PutHead; key = key; put = Some (name bytes); got = given }) more (sym h)
+
+-- Where a whole one begins no other, none is whole that goes on. Owners must be asked for data, since other asks are not told.
+pub next_is_not_whole : (key : Key) (own : Ask) (Whole : List Heard → Type 0) → IsForData own → BeginsNoOther Whole → NextIsNotWhole key own Whole
+next_is_not_whole key own Whole data one trail node question n whole =
+    let asks : IsForData question = ⊎_elim (λ h. subst IsForData (sym h) tt) (λ h. subst IsForData (sym h) data) n.is_of in
+    told_some question asks node n.answer n.more (one trail (told node question n.answer ++ n.more) whole (subst Whole (append_assoc trail (told node question n.answer) n.more) n.whole))
+
+-- what is next of one is next of another that is whole wherever that is
+pub next_alike : (key : Key) (own : Ask) (Whole Other : List Heard → Type 0) → ((trail : List Heard) → Whole trail → Other trail) → (trail : List Heard) (node : Peer) (question : Ask) → AsksNext key own Whole trail node question
+    → AsksNext key own Other trail node question
+next_alike key own Whole Other to trail node question n = record { is_of = n.is_of; answer = n.answer; more = n.more; whole = to ((trail ++ told node question n.answer) ++ n.more) n.whole }
+
+-- an ask in a trail, and what follows it
+pub told_between : (question : Ask) (trail front : List Heard) (asks : Told) (node : Peer) (given : Answer) (more : Told) → trail ≡ front ++ told_all question asks
+    → (trail ++ told node question given) ++ told_all question more ≡ front ++ told_all question (asks ++ (node, given) ∷ more)
+told_between question trail front asks node given more is =
+    ap (λ (l : List Heard). (l ++ told node question given) ++ told_all question more) is
+    ∙ append_assoc (front ++ told_all question asks) (told node question given) (told_all question more)
+    ∙ append_assoc front (told_all question asks) (told node question given ++ told_all question more)
+    ∙ ap (λ (l : List Heard). front ++ l) (sym (flat_map-append (λ s. told s.0 question s.1) asks ((node, given) ∷ more)))

@@ -1,8 +1,11 @@
 -- A look-up as a plan, and what comes after it as another.
-use Rattle.std.proofs.Common.{◌≡◌, ◌≢◌, ◌⊎◌, ℕ, zero, suc, ◌+◌, ◌<◌, Bool, true, false, List, [], ◌∷◌, ◌++◌, length, reverse, Option, Some, None, refl, sym, ap, ◌∙◌, subst, arith, inl, inr, MatchBool}
+use Rattle.std.proofs.Common.{◌≡◌, ◌≢◌, ◌⊎◌, ℕ, zero, suc, ◌+◌, ◌<◌, ◌≤◌, Bool, true, false, List, [], ◌∷◌, ◌++◌, length, reverse, Option, Some, None, refl, sym, ap, ◌∙◌, subst, arith, inl, inr, MatchBool}
 use Rattle.std.specs.List.{list_any}
-use Rattle.std.proofs.lemmas.List.{reverse-reverse}
+use Rattle.std.proofs.lemmas.Bool.{cases_lt}
+use Rattle.std.proofs.lemmas.List.{map-append, reverse-reverse}
+use Rattle.ivy_base.specs.declared.key.Key.{Key}
 use Rattle.dht_ids.specs.declared.ask.Answer.{Answer}
+use Rattle.dht_ids.specs.declared.ask.Answer.TheVariants as answer
 use Rattle.dht_ids.specs.declared.ask.Ask.TheVariants as ask
 use Rattle.dht_ids.specs.declared.ask.Heard.{Heard}
 use Rattle.dht_ids.specs.declared.peer.Peer.{Peer}
@@ -14,11 +17,11 @@ use Rattle.ring_model.specs.Lookup.{IsLookup}
 use Rattle.ring_model.specs.Lookup.IsLookup.{over, spent, known, silent, answered}
 use Rattle.ring_model.proofs.Lists.{cons_head, cons_tail, nil_cons}
 use Rattle.dht_ids.specs.Asked.{route_in, routes}
-use Rattle.dhash_client.specs.Machine.{Trail}
+use Rattle.dhash_client.specs.Machine.{State, Trail, FollowsAfter, fresh, to_ask}
 use Rattle.dhash_client.specs.Course.{Told, told_all}
 use Rattle.dhash_client.proofs.Asks.{is_peer, asked_any}
-use Rattle.world_laws.proofs.AskedPlans.{Plan, asking, Entries, entry, Follows}
-use Rattle.world_laws.proofs.AskedOwners.{choose}
+use Rattle.ask_laws.proofs.AskedPlans.{Plan, asking, Entries, entry, Follows}
+use Rattle.ask_laws.proofs.AskedOwners.{choose}
 
 -- whether a node is among others is decided
 pub among_or_not : (p : Peer) (xs : List Peer) → IsAmong p xs ⊎ (IsAmong p xs → ⊥)
@@ -92,6 +95,30 @@ empty_trail (answered {p = p} {route = route} {trail = trail} few not_yet more) 
 
 pub asks_some : (entries : List Peer) (found : Option (List Peer)) → IsLookup [] None entries [] found → entries ≢ [] → ⊥
 asks_some entries found l some = empty_trail l refl refl some
+
+-- from anywhere some look-up follows, where nobody answers
+all_silent : (ps asked : List Peer) (last : Option (List Peer)) → (looks : Told) × IsLookup asked last ps (routes looks) last
+all_silent [] asked last = ([], over)
+all_silent (p ∷ ps) asked last = by (among_or_not p asked) (cases_lt (length asked) 512) (all_silent ps asked last) (all_silent ps (p ∷ asked) last)
+  where
+    by : IsAmong p asked ⊎ (IsAmong p asked → ⊥) → (length asked < 512) ⊎ (512 ≤ length asked) → (looks : Told) × IsLookup asked last ps (routes looks) last → (looks : Told) × IsLookup (p ∷ asked) last ps (routes looks) last
+        → (looks : Told) × IsLookup asked last (p ∷ ps) (routes looks) last
+    by (inl h) few same next = (same.0, known h same.1)
+    by (inr h) (inl few) same next = ((p, answer.Silent) ∷ next.0, silent few h next.1)
+    by (inr h) (inr many) same next = ([], spent many)
+
+-- a look-up that waits for a new node goes on with its ask
+pub look_goes_on : (key : Key) (entries : List Peer) (looks : Told) (look : State) (node : Peer) → FollowsAfter (routes looks) (fresh key entries) look → look.waiting ≡ Some node → length look.asked < 512 → (IsAmong node look.asked → ⊥)
+    → (more : Told) × IsLookup [] None entries (routes (looks ++ (node, answer.Silent) ∷ more)) look.last
+look_goes_on key entries looks look node follows waits few not_yet =
+    let s = all_silent look.rest (node ∷ look.asked) look.last in
+    let next : IsLookup look.asked look.last (to_ask look.waiting look.rest) (routes ((node, answer.Silent) ∷ s.0)) look.last =
+    subst (λ (x : Option Peer). IsLookup look.asked look.last (to_ask x look.rest) (routes ((node, answer.Silent) ∷ s.0)) look.last) (sym waits) (silent few not_yet s.1) in
+    (
+      s.0,
+      subst (λ (t : Trail). IsLookup [] None entries t look.last) (sym (map-append (λ (x : Peer × Answer). (x.0, route_in x.1)) looks ((node, answer.Silent) ∷ s.0)))
+          (follows (routes ((node, answer.Silent) ∷ s.0)) look.last next),
+    )
 
 module _ (e : Entries) (After : Option (List Peer) → Plan) where
   abbrev pub round_plan : (List Peer → Option (List Peer) → List Peer → Plan) → List Peer → Option (List Peer) → List Peer → Plan

@@ -1,28 +1,43 @@
 -- Courses as plans: a look-up, and then the asks of the owners that it found.
-use Rattle.std.proofs.Common.{◌≡◌, ◌≢◌, ◌⊎◌, ℕ, true, List, [], ◌∷◌, ◌++◌, Option, Some, None, Result, Ok, Err, refl, sym, ap, ◌∙◌, subst, arith}
-use Rattle.std.proofs.lemmas.List.{append-nil}
+use Rattle.std.proofs.Common.{◌≡◌, ◌≢◌, ◌⊎◌, ℕ, ◌<◌, Bool, true, List, [], ◌∷◌, ◌++◌, length, Option, Some, None, Result, Ok, Err, refl, sym, ap, ◌∙◌, subst, arith, inl, inr}
+use Rattle.std.specs.Option.{option_map}
+use Rattle.std.proofs.lemmas.List.{append_assoc, append-nil}
+use Rattle.ivy_base.specs.declared.key.Key.{Key}
+use Rattle.dht_ids.specs.declared.ask.Answer.{Answer}
+use Rattle.dht_ids.specs.declared.ask.Answer.TheVariants as answer
 use Rattle.dht_ids.specs.declared.ask.Ask.{Ask}
 use Rattle.dht_ids.specs.declared.ask.Ask.TheVariants as ask
 use Rattle.dht_ids.specs.declared.ask.Heard.{Heard}
 use Rattle.dht_ids.specs.declared.peer.Peer.{Peer}
-use Rattle.ring_model.specs.Gets.{AreAsks}
+use Rattle.ring_model.specs.Members.{IsAmong, first}
+use Rattle.ring_model.specs.Gets.{AreAsks, AreFirsts, answered_in}
 use Rattle.ring_model.specs.Lookup.{IsLookup}
-use Rattle.ring_model.proofs.Lists.{nil_cons}
-use Rattle.dhash_client.specs.Machine.{outcome}
-use Rattle.dht_ids.specs.Asked.{routes}
-use Rattle.dhash_client.specs.Course.{Told, IsCourse, told_all}
+use Rattle.ring_model.proofs.Lists.{nil_cons, none_some, some_same}
+use Rattle.dht_ids.specs.Asked.{routes, told}
+use Rattle.dhash_client.specs.Machine.{State, FollowsAfter, fresh, outcome}
+use Rattle.dhash_client.specs.Course.{Told, Asking, CourseState, HasAsked, IsCourse, IsStage, awaited_at, next_owner, told_all}
 use Rattle.dhash_client.specs.Course.IsCourse.{no_route, of_owners}
 use Rattle.dhash_client.specs.declared.miss.Miss.{Miss}
 use Rattle.dhash_client.specs.declared.miss.Miss.TheVariants as miss
-use Rattle.world_laws.proofs.AskedPlans.{Plan, ended, Entries, entry, Follows, IsPlanned, IsToldBy}
-use Rattle.world_laws.proofs.AskedOwners.{AreAsked, entries_of, told_owners, from_asks, to_asks, owners_plan, owners_fit, owners_back}
-use Rattle.world_laws.proofs.AskedLookups.{firsts, firsts_are, firsts_same, look_plan, look_fits, look_back, asks_some}
+use Rattle.dhash_client.proofs.Courses.{owner_first}
+use Rattle.session_model.specs.Asking.{AsksNext}
+use Rattle.ask_laws.proofs.AskedPlans.{Plan, ended, Entries, entry, Follows, IsPlanned, IsToldBy, some_follows, told_between}
+use Rattle.ask_laws.proofs.AskedOwners.{AreAsked, entries_of, told_owners, from_asks, to_asks, owners_plan, owners_fit, owners_back, owners_go_on}
+use Rattle.ask_laws.proofs.AskedLookups.{firsts, firsts_are, firsts_same, look_plan, look_fits, look_back, asks_some, look_goes_on}
 
 ok_err : (owners : List Peer) (m : Miss) → Ok owners ≡ Err m → ⊥
 ok_err owners m h = cc
 
 ok_same : (owners others : List Peer) → ◌≡◌ {A = Result (List Peer) Miss} (Ok owners) (Ok others) → owners ≡ others
 ok_same owners others h = cc
+
+asked_node : (question : Ask) (waits : Option Peer) (node : Peer) (q : Ask) → option_map {U = Peer × Ask} (λ p. (p, question)) waits ≡ Some (node, q) → (waits ≡ Some node) × (question ≡ q)
+asked_node question None node q h = absurd (none_some (node, q) h)
+asked_node question (Some p) node q h = (ap (λ s. Some s.0) (some_same (p, question) (node, q) h), ap (λ s. s.1) (some_same (p, question) (node, q) h))
+
+first_is : (ps : List Peer) (node : Peer) → first ps ≡ Some node → (rest : List Peer) × (ps ≡ node ∷ rest)
+first_is [] node h = absurd (none_some node h)
+first_is (p ∷ ps) node h = (ps, ap (λ (x : Peer). x ∷ ps) (some_same p node h))
 
 module _ {T : Type 0} (e : Entries) (question : Ask) (told_by : IsToldBy e question) (IsEnough : Told → Type 0) (decided : (t : Told) → IsEnough t ⊎ (IsEnough t → ⊥)) (Ends : List Peer → Told → Result T Miss → Type 0)
     (asks_of : (owners : List Peer) (asks : Told) (result : Result T Miss) → Ends owners asks result → AreAsks owners IsEnough asks)
@@ -88,3 +103,48 @@ module _ {T : Type 0} (e : Entries) (question : Ask) (told_by : IsToldBy e quest
       by : IsCourse e.key question entries Ends [] w.0 → ⊥
       by (no_route looks found is looked nobody result_is) = nothing_asked looks [] found (is ∙ sym (append-nil (told_all (ask.Route e.key) looks))) looked some
       by (of_owners looks asks found owners is looked nodes ends) = nothing_asked looks (told_all question asks) found is looked some
+
+  -- ---- what is next
+
+  -- behind a look-up on its way that is the node that it waits for
+  route_is_next : (trail : List Heard) (looks : Told) (look : State) (node : Peer) → trail ≡ told_all (ask.Route e.key) looks → FollowsAfter (routes looks) (fresh e.key entries) look → look.waiting ≡ Some node → length look.asked < 512
+      → (IsAmong node look.asked → ⊥) → AsksNext e.key question IsWhole trail node (ask.Route e.key)
+  route_is_next trail looks look node is follows waits few not_yet =
+      let n = look_goes_on e.key entries looks look node follows waits few not_yet in
+      let after = some_follows e (after_plan look.last) in
+      let said : List Heard = trail ++ told node (ask.Route e.key) answer.Silent in
+      record {
+        is_of = inl refl;
+        answer = answer.Silent;
+        more = told_all (ask.Route e.key) n.0 ++ after.0;
+        whole = course_from (said ++ (told_all (ask.Route e.key) n.0 ++ after.0)) (looks ++ (node, answer.Silent) ∷ n.0) look.last after.0
+            (sym (append_assoc said (told_all (ask.Route e.key) n.0) after.0) ∙ ap (λ (l : List Heard). l ++ after.0) (told_between (ask.Route e.key) trail [] looks node answer.Silent n.0 is)) n.1 after.1;
+      }
+
+  -- behind the asks of some owners that is the first of the rest
+  owner_is_next : (answers : Answer → Bool) (trail : List Heard) (looks asks : Told) (a : Asking) (node : Peer) (ps : List Peer) → trail ≡ told_all (ask.Route e.key) looks ++ told_all question asks
+      → HasAsked answers IsEnough e.key entries looks asks a → a.rest ≡ node ∷ ps → (IsEnough asks → ⊥) → AsksNext e.key question IsWhole trail node question
+  owner_is_next answers trail looks asks a node ps is h rest not_yet =
+      let n = owners_go_on e IsEnough decided h.owners a.asked ps node asks (subst (λ (l : List Peer). AreFirsts [] h.owners (a.asked ++ l)) rest h.firsts) h.asked h.needed not_yet in
+      let end = end_of h.owners (asks ++ (node, answer.Silent) ∷ n.0) n.1 in
+      record {
+        is_of = inr refl;
+        answer = answer.Silent;
+        more = told_all question n.0;
+        whole = (end.0, of_owners looks (asks ++ (node, answer.Silent) ∷ n.0) h.found h.owners (told_between question trail (told_all (ask.Route e.key) looks) asks node answer.Silent n.0 is) h.looked h.some end.1);
+      }
+
+  -- of a machine of a course, whether it looks for owners or asks them
+  pub awaited_is_next : (answers : Answer → Bool) (c : CourseState) (trail : List Heard) (looks asks : Told) (stage : Option Asking) (node : Peer) (q : Ask) → c.look.key ≡ e.key → trail ≡ told_all (ask.Route e.key) looks ++ told_all question asks
+      → IsStage answers IsEnough e.key entries looks asks c.look stage → (stage ≡ None → (p : Peer) → c.look.waiting ≡ Some p → (length c.look.asked < 512) × (IsAmong p c.look.asked → ⊥))
+      → (answered_in answers asks < c.replicas → IsEnough asks → ⊥) → awaited_at question c stage ≡ Some (node, q) → AsksNext e.key question IsWhole trail node q
+  awaited_is_next answers c trail looks asks None node q same is behind anew not_yet waits =
+      let at = asked_node (ask.Route c.look.key) c.look.waiting node q waits in
+      let new = anew refl node at.0 in
+      subst (AsksNext e.key question IsWhole trail node) (ap (λ (k : Key). ask.Route k) (sym same) ∙ at.1)
+      (route_is_next trail looks c.look node (is ∙ ap (λ (l : Told). told_all (ask.Route e.key) looks ++ told_all question l) behind.0 ∙ append-nil (told_all (ask.Route e.key) looks)) behind.1 at.0 new.0 new.1)
+  awaited_is_next answers c trail looks asks (Some a) node q same is behind anew not_yet waits =
+      let at = asked_node question (next_owner c.replicas a) node q waits in
+      let turn = owner_first c.replicas a node at.0 in
+      let rest = first_is a.rest node turn.1 in
+      subst (AsksNext e.key question IsWhole trail node) at.1 (owner_is_next answers trail looks asks a node rest.0 is behind rest.1 (not_yet (subst (λ (n : ℕ). n < c.replicas) behind.answered turn.0)))
