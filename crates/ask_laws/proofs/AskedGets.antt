@@ -19,6 +19,7 @@ use Rattle.dhash_client.specs.GetHead.{EndsHeadGet}
 use Rattle.dhash_client.specs.declared.miss.Miss.{Miss}
 use Rattle.session_model.specs.Brought.{Brought, HeadsOf, BlockOf, Want, Heads, Content}
 use Rattle.session_model.specs.Sessions.{Gets, IsGet, wanted_key}
+use Rattle.session_model.specs.Sessions.Gets.{heads as got_heads, content as got_content}
 use Rattle.ask_laws.specs.Laws.{GetsAreOne, IsWholeGetOfHead, IsWholeGetOfBlock, HeadNextIsNotWhole, BlockNextIsNotWhole, GetNextIsNotWhole, NoneIsWhole, NoneIsWholeHead, NoneIsWholeBlock, NoneIsWholeGet}
 use Rattle.ask_laws.proofs.AskedPlans.{Entries, IsPlanned, planned_alike, begins_none, are_one, next_is_not_whole}
 use Rattle.ask_laws.proofs.AskedCourses.{planned, not_whole}
@@ -65,7 +66,7 @@ enough_or_not key r asks = by (at_most_or_not r (answered_in is_of_get asks)) (b
 
 -- ---- gets
 
-get_other : kind.Get ≡ kind.Route → ⊥
+pub get_other : kind.Get ≡ kind.Route → ⊥
 get_other h = cc
 
 abbrev pub get_entries : Key → Entries

@@ -113,8 +113,7 @@ pub look_goes_on : (key : Key) (entries : List Peer) (looks : Told) (look : Stat
 look_goes_on key entries looks look node follows waits few not_yet =
     let s = all_silent look.rest (node ∷ look.asked) look.last in
     let next : IsLookup look.asked look.last (to_ask look.waiting look.rest) (routes ((node, answer.Silent) ∷ s.0)) look.last =
-    subst (λ (x : Option Peer). IsLookup look.asked look.last (to_ask x look.rest) (routes ((node, answer.Silent) ∷ s.0)) look.last) (sym waits) (silent few not_yet s.1) in
-    (
+    subst (λ (x : Option Peer). IsLookup look.asked look.last (to_ask x look.rest) (routes ((node, answer.Silent) ∷ s.0)) look.last) (sym waits) (silent few not_yet s.1) in (
       s.0,
       subst (λ (t : Trail). IsLookup [] None entries t look.last) (sym (map-append (λ (x : Peer × Answer). (x.0, route_in x.1)) looks ((node, answer.Silent) ∷ s.0)))
           (follows (routes ((node, answer.Silent) ∷ s.0)) look.last next),

@@ -1,5 +1,5 @@
 -- Behind its trail, what a machine of a get or a put is to ask is next.
-use Rattle.std.proofs.Common.{◌≡◌, ◌⊎◌, ℕ, ◌≤◌, Bool, List, Option, Some, None, Result, refl, subst, arith, ⊎_elim}
+use Rattle.std.proofs.Common.{◌≡◌, ℕ, ◌≤◌, Bool, List, Option, Some, None, Result, refl, subst, arith, ⊎_elim}
 use Rattle.ivy_base.specs.Naming.{head_key_of}
 use Rattle.dht_ids.specs.declared.ask.Ask.{Ask}
 use Rattle.dht_ids.specs.declared.ask.Ask.TheVariants as ask

@@ -117,8 +117,7 @@ module _ (e : Entries) (IsEnough : Told → Type 0) (decided : (t : Told) → Is
       → (more : Told) × AreAsks owners IsEnough (asks ++ (node, answer.Silent) ∷ more)
   owners_go_on owners gone ps node asks firsts is needed not_yet =
       let some = some_follows e (owners_plan ps (asks ++ (node, answer.Silent) ∷ [])) in
-      let rest = owners_back ps (asks ++ (node, answer.Silent) ∷ []) some.0 some.1 in
-      (
+      let rest = owners_back ps (asks ++ (node, answer.Silent) ∷ []) some.0 some.1 in (
         rest.0,
         to_asks IsEnough owners (nodes asks ++ node ∷ ps) (subst (λ (l : List Peer). AreFirsts [] owners (l ++ node ∷ ps)) is firsts) (asks ++ (node, answer.Silent) ∷ rest.0)
             (joined IsEnough (node ∷ ps) [] asks ((node, answer.Silent) ∷ rest.0) needed (not_yet, ps, refl, rest.1)),

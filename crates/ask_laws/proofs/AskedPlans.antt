@@ -190,17 +190,17 @@ are_one e own entries Whole t p some = (begins_none e Whole p, one_is_next e own
 
 -- an ask for data is told
 told_some : (question : Ask) → IsForData question → (node : Peer) (given : Answer) (more : List Heard) → told node question given ++ more ≡ [] → ⊥
-told_some (ask.Route key) data node given more h = nil_cons (record { node = node; kind = kind.Route; key = key; put = None; got = given }) more (sym h)
-told_some ask.Near data node given more h = data
-told_some (ask.Notify peer) data node given more h = data
-told_some (ask.Get key) data node given more h = nil_cons (record { node = node; kind = kind.Get; key = key; put = None; got = given }) more (sym h)
-told_some (ask.PutBlock key bytes) data node given more h = nil_cons (record { node = node; kind = kind.PutBlock; key = key; put = Some (name bytes); got = given }) more (sym h)
-told_some (ask.PutHead key bytes) data node given more h = nil_cons (record { node = node; kind = kind.PutHead; key = key; put = Some (name bytes); got = given }) more (sym h)
+told_some (ask.Route key) ok node given more h = nil_cons (record { node = node; kind = kind.Route; key = key; put = None; got = given }) more (sym h)
+told_some ask.Near ok node given more h = ok
+told_some (ask.Notify peer) ok node given more h = ok
+told_some (ask.Get key) ok node given more h = nil_cons (record { node = node; kind = kind.Get; key = key; put = None; got = given }) more (sym h)
+told_some (ask.PutBlock key bytes) ok node given more h = nil_cons (record { node = node; kind = kind.PutBlock; key = key; put = Some (name bytes); got = given }) more (sym h)
+told_some (ask.PutHead key bytes) ok node given more h = nil_cons (record { node = node; kind = kind.PutHead; key = key; put = Some (name bytes); got = given }) more (sym h)
 
 -- Where a whole one begins no other, none is whole that goes on. Owners must be asked for data, since other asks are not told.
 pub next_is_not_whole : (key : Key) (own : Ask) (Whole : List Heard → Type 0) → IsForData own → BeginsNoOther Whole → NextIsNotWhole key own Whole
-next_is_not_whole key own Whole data one trail node question n whole =
-    let asks : IsForData question = ⊎_elim (λ h. subst IsForData (sym h) tt) (λ h. subst IsForData (sym h) data) n.is_of in
+next_is_not_whole key own Whole ok one trail node question n whole =
+    let asks : IsForData question = ⊎_elim (λ h. subst IsForData (sym h) tt) (λ h. subst IsForData (sym h) ok) n.is_of in
     told_some question asks node n.answer n.more (one trail (told node question n.answer ++ n.more) whole (subst Whole (append_assoc trail (told node question n.answer) n.more) n.whole))
 
 -- what is next of one is next of another that is whole wherever that is

@@ -55,7 +55,7 @@ abbrev pub put_kind : PutKind → AskKind
 put_kind put.Block = kind.PutBlock
 put_kind put.Head = kind.PutHead
 
-put_other : (what : PutKind) → put_kind what ≡ kind.Route → ⊥
+pub put_other : (what : PutKind) → put_kind what ≡ kind.Route → ⊥
 put_other put.Block h = cc
 put_other put.Head h = cc
 
