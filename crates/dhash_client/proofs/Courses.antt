@@ -1,5 +1,5 @@
 -- How a course goes on behind a trail, whatever it asks of owners and keeps of their answers.
-use Rattle.std.proofs.Common.{◌≡◌, ℕ, ◌+◌, ◌<◌, ◌≤◌, nat_lt, Bool, true, false, if◌then◌else◌, List, [], ◌∷◌, ◌++◌, length, take, Option, Some, None, Result, Err, refl, ap, sym, ◌∙◌, subst, inl, inr, ⊎_elim, ◌⊎◌, arith}
+use Rattle.std.proofs.Common.{◌≡◌, ℕ, ◌+◌, ◌<◌, ◌≤◌, nat_lt, Bool, true, false, if◌then◌else◌, List, [], ◌∷◌, ◌++◌, length, take, Option, Some, None, IfSome, Result, Err, refl, ap, sym, ◌∙◌, subst, inl, inr, ⊎_elim, ◌⊎◌, arith}
 use Rattle.std.specs.Option.{option_map}
 use Rattle.std.proofs.lemmas.List.{append_assoc, append-nil, map-append, length-map, take_at, take-append-le, length-append}
 use Rattle.std.proofs.lemmas.Grind.{flat_map-append}
@@ -11,12 +11,12 @@ use Rattle.dht_ids.specs.declared.ask.Ask.{Ask}
 use Rattle.dht_ids.specs.declared.ask.Ask.TheVariants as ask
 use Rattle.dht_ids.specs.declared.ask.Heard.{Heard}
 use Rattle.dht_ids.specs.declared.peer.Peer.{Peer}
-use Rattle.ring_model.specs.Members.{first}
+use Rattle.ring_model.specs.Members.{IsAmong, first}
 use Rattle.ring_model.specs.Gets.{AreFirsts, AreAsks, nodes, answered_in}
 use Rattle.ring_model.proofs.Gets.{answered_more}
 use Rattle.ring_model.proofs.Lists.{some_same, none_some}
 use Rattle.dhash_client.specs.Machine.{State, Follow, FollowsAfter, HasHeard, fresh, outcome}
-use Rattle.dhash_client.specs.Course.{Told, told_all, Asking, CourseState, next_owner, awaited, awaited_at, HasAsked, IsBehind, IsOnCourse, IsAskingOf, Reaches, Looks, HearsOwner, Hears, Goes, begun, IsCourse}
+use Rattle.dhash_client.specs.Course.{Told, told_all, IsAskedOnce, Asking, CourseState, next_owner, awaited, awaited_at, HasAsked, IsBehind, IsOnCourse, IsAskingOf, Reaches, Looks, HearsOwner, Hears, Goes, begun, IsCourse}
 use Rattle.dhash_client.specs.Course.IsCourse.{no_route, of_owners}
 use Rattle.dhash_client.specs.declared.course.Step.TheVariants as step
 use Rattle.dhash_client.specs.declared.miss.Miss.{Miss}
@@ -25,6 +25,9 @@ use Rattle.dhash_client.proofs.Driven.{follows_both, is_look_up}
 
 none_below : (k : ℕ) → k < 0 → ⊥
 none_below k h = absurd (omega (arith, h))
+
+none_waits : (look : State) → look.waiting ≡ None → IsAskedOnce look
+none_waits look e = subst (λ (w : Option Peer). IfSome w (λ node. (length look.asked < 512) × (IsAmong node look.asked → ⊥))) (sym e) tt
 
 -- one more ask of a trail
 told_more : (question : Ask) (asks : Told) (node : Peer) (given : Answer) → told_all question (asks ++ (node, given) ∷ []) ≡ told_all question asks ++ told node question given
@@ -71,16 +74,16 @@ module _ (question : Key → Ask) (answers : Answer → Bool) (IsEnough : Key �
   moved = moved_any Sums
 
   pub begins : (key : Key) (r : ℕ) → Sums key [] → IsOnCourse question answers IsEnough Sums entries [] (begun key r entries)
-  begins key r s = record { looks = []; asks = []; told = refl; stage = (refl, λ trail found h. h); sums = s }
+  begins key r s = record { looks = []; asks = []; told = refl; stage = (refl, λ trail found h. h, tt); sums = s }
 
-  looks_at : (trail : List Heard) (key : Key) (r : ℕ) (look look2 : State) → FollowsAfter [] look look2
+  looks_at : (trail : List Heard) (key : Key) (r : ℕ) (look look2 : State) → FollowsAfter [] look look2 → IsAskedOnce look2
       → IsBehind question answers IsEnough Sums entries trail key r look None → IsBehind question answers IsEnough Sums entries trail key r look2 None
-  looks_at trail key r look look2 f h = record { looks = h.looks; asks = h.asks; told = h.told; stage = (h.stage.0, λ t found x. h.stage.1 t found (f t found x)); sums = h.sums }
+  looks_at trail key r look look2 f once h = record { looks = h.looks; asks = h.asks; told = h.told; stage = (h.stage.0, λ t found x. h.stage.1 t found (f t found x), once); sums = h.sums }
 
   pub looks_on : (trail : List Heard) (old new : CourseState) (node : Peer) → Looks old new node → IsOnCourse question answers IsEnough Sums entries trail old → IsOnCourse question answers IsEnough Sums entries trail new
   looks_on trail old new node l h =
       moved trail old.look.key new.look.key old.replicas new.replicas new.look None new.asking l.key l.replicas l.after
-      (looks_at trail old.look.key old.replicas old.look new.look l.follows (moved trail old.look.key old.look.key old.replicas old.replicas old.look old.asking None refl refl (sym l.before) h))
+      (looks_at trail old.look.key old.replicas old.look new.look l.follows l.once (moved trail old.look.key old.look.key old.replicas old.replicas old.look old.asking None refl refl (sym l.before) h))
 
   asks_at : (trail : List Heard) (r : ℕ) (look look2 : State) (asking : Option Asking) (a : Asking) → IsAskingOf look asking a
       → IsBehind question answers IsEnough Sums entries trail look.key r look asking → IsBehind question answers IsEnough Sums entries trail look.key r look2 (Some a)
@@ -120,6 +123,7 @@ module _ (question : Key → Ask) (answers : Answer → Bool) (IsEnough : Key �
           refl,
           subst (λ l. FollowsAfter l (fresh look.key entries) look2) (sym (map-append (λ s. (s.0, route_in s.1)) h.looks ((node, given) ∷ [])))
               (follows_both (routes h.looks) ((node, route_in given) ∷ []) (fresh look.key entries) look look2 h.stage.1 (heard.follows node w)),
+          none_waits look2 heard.waiting,
         );
         sums = subst (Sums look.key) h.stage.0 h.sums;
       }

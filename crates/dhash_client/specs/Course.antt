@@ -1,5 +1,5 @@
 -- What the machines of gets and puts share: a look-up, and then asks of the owners that it found, in one trail.
-use Rattle.std.specs.Prelude.{◌≡◌, ℕ, ◌+◌, ◌-◌, ◌^◌, ◌<◌, ◌≤◌, nat_lt, Bool, if◌then◌else◌, List, [], ◌∷◌, ◌++◌, length, take, flat_map, Option, Some, None, Result, Ok, Err, ◌⊎◌}
+use Rattle.std.specs.Prelude.{◌≡◌, ℕ, ◌+◌, ◌-◌, ◌^◌, ◌<◌, ◌≤◌, nat_lt, Bool, if◌then◌else◌, List, [], ◌∷◌, ◌++◌, length, take, flat_map, Option, Some, None, IfSome, Result, Ok, Err, ◌⊎◌}
 use Rattle.std.specs.Option.{option_map}
 use Rattle.ivy_base.specs.declared.key.Key.{Key}
 use Rattle.dht_ids.specs.Asked.{told, routes}
@@ -8,7 +8,7 @@ use Rattle.dht_ids.specs.declared.ask.Ask.{Ask}
 use Rattle.dht_ids.specs.declared.ask.Ask.TheVariants as ask
 use Rattle.dht_ids.specs.declared.ask.Heard.{Heard}
 use Rattle.dht_ids.specs.declared.peer.Peer.{Peer}
-use Rattle.ring_model.specs.Members.{first}
+use Rattle.ring_model.specs.Members.{IsAmong, first}
 use Rattle.ring_model.specs.Lookup.{IsLookup}
 use Rattle.ring_model.specs.Gets.{AreFirsts, nodes, answered_in, Got, Right, Damaged, Missing}
 use Rattle.dhash_client.specs.Machine.{State, Follow, FollowsAfter, HasHeard, fresh, outcome}
@@ -91,8 +91,12 @@ pub record HasAsked (answers : Answer → Bool) (IsEnough : Told → Type 0) (ke
   pub answered : a.answered ≡ answered_in answers asks
   pub needed : (k : ℕ) → k < length asks → IsEnough (take k asks) → ⊥
 
+-- the node to be heard wasn't asked before, and is one of 512
+abbrev pub IsAskedOnce : State → Type 0
+IsAskedOnce look = IfSome look.waiting (λ node. (length look.asked < 512) × (IsAmong node look.asked → ⊥))
+
 abbrev pub IsStage : (Answer → Bool) → (Told → Type 0) → Key → List Peer → Told → Told → State → Option Asking → Type 0
-IsStage answers IsEnough key entries looks asks look None = (asks ≡ []) × FollowsAfter (routes looks) (fresh key entries) look
+IsStage answers IsEnough key entries looks asks look None = (asks ≡ []) × FollowsAfter (routes looks) (fresh key entries) look × IsAskedOnce look
 IsStage answers IsEnough key entries looks asks look (Some a) = HasAsked answers IsEnough key entries looks asks a
 
 -- what a machine with this key, look-up and owners has come to behind a trail; `question` is what it asks owners, and
@@ -127,6 +131,7 @@ pub record Looks (old new : CourseState) (node : Peer) : Type 0 where
   pub after : new.asking ≡ None
   pub follows : FollowsAfter [] old.look new.look
   pub waiting : new.look.waiting ≡ Some node
+  pub once : IsAskedOnce new.look
 
 -- what a step of a course does
 abbrev pub Goes : CourseState → CourseState → Step → Type 0

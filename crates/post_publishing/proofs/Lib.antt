@@ -2,3 +2,4 @@ pub mod Driven
 pub mod Ordered
 pub mod Putting
 pub mod Steps
+pub mod Unasked

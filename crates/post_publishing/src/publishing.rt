@@ -3,12 +3,13 @@
 ghost use Rattle.std.specs.Prelude.{◌≡◌, ◌≢◌, ◌<◌, ◌≤◌, [], None, IfOk, OnOk};
 ghost use Rattle.agent_model.specs.Agent.{is_head};
 ghost use Rattle.session_model.specs.Sessions.{acknowledged};
-ghost use Rattle.post_publishing.specs.Publishing.{publishing_begun, awaited_in, publishing_awaited, left_in, HasHeardIn, puts_left, held_behind, present_put, left_behind, concluded, PublishingIsWanted, PublishingHasHeard, PutGoesOn};
+ghost use Rattle.post_publishing.specs.Publishing.{publishing_begun, publishing_awaited, puts_left, next_post, held_behind, left_behind, concluded, PublishingIsWanted, PublishingHasHeard, PutGoesOn, HasBegun};
 
+use crate::asking::Asking;
 use crate::order::in_order;
 use crate::put::Put;
 use dhash_client::Miss;
-use dht_ids::{Ack, Acks, Answer, Ask, Peer, Peers, Post, PostKind, Posts, Want};
+use dht_ids::{Ack, Acks, Answer, Peers, Post, PostKind, Posts, Want};
 use ivy_base::Memory;
 use std::alloc::Global;
 use std::collections::VecDeque;
@@ -22,7 +23,7 @@ pub struct Publishing {
     alloc: Global,
     replicas: u32,
     entries: Peers,
-    put: Option<Put>,
+    put: Option<Asking>,
     left: VecDeque<Post>,
     acks: Vec<Ack>,
 }
@@ -56,44 +57,62 @@ impl Publishing {
         })
     }
 
-    /// What is wanted next: an ask of the first put that isn't over, or nothing more, since all posts were put: the
-    /// acknowledgements, in the order of the puts. An ask that was not yet heard is wanted again. The error is want of
-    /// memory; nothing is published after it, nor after the acknowledgements.
+    /// What is wanted next: an ask of the put on its way, or else of the first post that is left, or nothing more, since
+    /// all posts were put: the acknowledgements, in the order of the puts. An ask that was not yet heard is wanted again.
+    /// Where a node is known no put is over here: it is over with its last answer. The error is want of memory; nothing is
+    /// published after it, nor after the acknowledgements.
     pub fn next(&mut self) -> Result<Want<Acks>, Memory>
         ensures wanted { IfOk result (λ want. PublishingIsWanted self.old self.new want) }
         ensures left { IfOk result (λ _. puts_left self.new ≤ puts_left self.old) }
     {
-        'posts: while let Some(put) = self.present()? {
-            if let Some((node, question)) = self.go_on(put)? {
-                return Ok(Want::Ask(node, question));
+        self.begin()?;
+        match &self.put {
+            Some(put) => {
+                let (node, question) = put.wanted(self.alloc)?;
+                Ok(Want::Ask(node, question))
             }
+            None => Ok(Want::Done(self.take_acks())),
         }
-        Ok(Want::Done(self.take_acks()))
     }
 
-    /// Hears what the node answered that was asked last. It is called once after each ask. The error is want of memory;
-    /// nothing is published after it.
+    /// Hears what the node answered that was asked last: the put on its way goes on, or is over. It is called once after
+    /// each ask. The error is want of memory; nothing is published after it.
     pub fn heard(&mut self, answer: Answer) -> Result<(), Memory>
         requires { publishing_awaited self.old ≢ None }
         ensures heard { IfOk result (λ _. PublishingHasHeard self.old self.new answer) }
         ensures left { IfOk result (λ _. puts_left self.new < puts_left self.old) }
     {
-        hear(&mut self.put, answer)
+        match self.put.take() {
+            Some(put) => {
+                let put = put.heard(answer)?;
+                self.go_on(put)
+            }
+            None => Ok(()),
+        }
     }
 
-    /// Takes the put on its way, or begins that of the first post that is left; none where no post is. The error is want
-    /// of memory.
-    fn present(&mut self) -> Result<Option<Put>, Memory>
-        ensures put { IfOk result (λ put. put ≡ present_put self.old.replicas self.old.entries self.old.put self.old.left) }
-        ensures left { IfOk result (λ _. self.new ≡ record self.old { put = None; left = left_behind self.old.put self.old.left }) }
+    /// Begins puts of the first posts that are left until one asks a node, where none is on its way. The error is want of
+    /// memory.
+    fn begin(&mut self) -> Result<(), Memory>
+        ensures begun { OnOk result (HasBegun self.old self.new) }
+        ensures none_else { OnOk result (next_post self.new.put self.new.left ≡ None) }
     {
-        if let Some(put) = self.put.take() {
-            return Ok(Some(put));
+        'posts: while let Some(post) = self.next_post() {
+            let put = Put::start(self.alloc, post, self.replicas, &self.entries)?;
+            self.go_on(put)?;
         }
-        match self.left.pop_front() {
-            Some(post) => Ok(Some(Put::start(self.alloc, post, self.replicas, &self.entries)?)),
-            None => Ok(None),
+        Ok(())
+    }
+
+    /// Takes the first post that is left, where no put is on its way.
+    fn next_post(&mut self) -> Option<Post>
+        ensures post { result ≡ next_post self.old.put self.old.left }
+        ensures left { self.new ≡ record self.old { left = left_behind self.old.put self.old.left } }
+    {
+        if self.put.is_some() {
+            return None;
         }
+        self.left.pop_front()
     }
 
     /// Takes the acknowledgements so far.
@@ -104,19 +123,16 @@ impl Publishing {
         Acks::of(mem::replace(&mut self.acks, Vec::new(self.alloc)))
     }
 
-    /// Goes on with the put: a node is asked, or the put is over. The error is want of memory.
-    fn go_on(&mut self, mut put: Put) -> Result<Option<(Peer, Ask)>, Memory>
-        ensures { IfOk result (λ asked. PutGoesOn put self.old self.new asked) }
+    /// Goes on with the put: it asks a node and is the one on its way, or it is over. The error is want of memory.
+    fn go_on(&mut self, mut put: Put) -> Result<(), Memory>
+        ensures { OnOk result (PutGoesOn put self.old self.new) }
     {
         match put.next()? {
             Want::Ask(node, question) => {
-                self.put = Some(put);
-                Ok(Some((node, question)))
+                self.put = Some(Asking::new(put, node, question));
+                Ok(())
             }
-            Want::Done(came) => {
-                self.conclude(put.kind(), put.ack(), &came)?;
-                Ok(None)
-            }
+            Want::Done(came) => self.conclude(put.kind(), put.ack(), &came),
         }
     }
 
@@ -152,18 +168,6 @@ fn hold_back(kind: PostKind, left: &mut VecDeque<Post>)
 {
     if kind == PostKind::Log {
         left.retain(|post| !is_head(post));
-    }
-}
-
-/// The put on its way hears an answer. The error is want of memory.
-fn hear(put: &mut Option<Put>, answer: Answer) -> Result<(), Memory>
-    requires { awaited_in put.old ≢ None }
-    ensures heard { IfOk result (λ _. HasHeardIn put.old put.new answer) }
-    ensures left { IfOk result (λ _. left_in put.new < left_in put.old) }
-{
-    match put {
-        Some(put) => put.heard(answer),
-        None => Ok(()),
     }
 }
 
