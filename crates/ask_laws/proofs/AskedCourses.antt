@@ -1,5 +1,5 @@
 -- Courses as plans: a look-up, and then the asks of the owners that it found.
-use Rattle.std.proofs.Common.{◌≡◌, ◌≢◌, ◌⊎◌, ℕ, ◌<◌, Bool, true, List, [], ◌∷◌, ◌++◌, length, Option, Some, None, Result, Ok, Err, refl, sym, ap, ◌∙◌, subst, arith, inl, inr}
+use Rattle.std.proofs.Common.{◌≡◌, ◌≢◌, ◌⊎◌, ℕ, ◌<◌, Bool, true, List, [], ◌∷◌, ◌++◌, length, Option, Some, None, IfSome, Result, Ok, Err, refl, sym, ap, ◌∙◌, subst, arith, inl, inr}
 use Rattle.std.specs.Option.{option_map}
 use Rattle.std.proofs.lemmas.List.{append_assoc, append-nil}
 use Rattle.ivy_base.specs.declared.key.Key.{Key}
@@ -136,14 +136,14 @@ module _ {T : Type 0} (e : Entries) (question : Ask) (told_by : IsToldBy e quest
 
   -- of a machine of a course, whether it looks for owners or asks them
   pub awaited_is_next : (answers : Answer → Bool) (c : CourseState) (trail : List Heard) (looks asks : Told) (stage : Option Asking) (node : Peer) (q : Ask) → c.look.key ≡ e.key → trail ≡ told_all (ask.Route e.key) looks ++ told_all question asks
-      → IsStage answers IsEnough e.key entries looks asks c.look stage → (stage ≡ None → (p : Peer) → c.look.waiting ≡ Some p → (length c.look.asked < 512) × (IsAmong p c.look.asked → ⊥))
+      → IsStage answers IsEnough e.key entries looks asks c.look stage
       → (answered_in answers asks < c.replicas → IsEnough asks → ⊥) → awaited_at question c stage ≡ Some (node, q) → AsksNext e.key question IsWhole trail node q
-  awaited_is_next answers c trail looks asks None node q same is behind anew not_yet waits =
+  awaited_is_next answers c trail looks asks None node q same is behind not_yet waits =
       let at = asked_node (ask.Route c.look.key) c.look.waiting node q waits in
-      let new = anew refl node at.0 in
+      let new : (length c.look.asked < 512) × (IsAmong node c.look.asked → ⊥) = subst (λ (w : Option Peer). IfSome w (λ p. (length c.look.asked < 512) × (IsAmong p c.look.asked → ⊥))) at.0 behind.2 in
       subst (AsksNext e.key question IsWhole trail node) (ap (λ (k : Key). ask.Route k) (sym same) ∙ at.1)
       (route_is_next trail looks c.look node (is ∙ ap (λ (l : Told). told_all (ask.Route e.key) looks ++ told_all question l) behind.0 ∙ append-nil (told_all (ask.Route e.key) looks)) behind.1 at.0 new.0 new.1)
-  awaited_is_next answers c trail looks asks (Some a) node q same is behind anew not_yet waits =
+  awaited_is_next answers c trail looks asks (Some a) node q same is behind not_yet waits =
       let at = asked_node question (next_owner c.replicas a) node q waits in
       let turn = owner_first c.replicas a node at.0 in
       let rest = first_is a.rest node turn.1 in

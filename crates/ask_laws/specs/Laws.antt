@@ -1,5 +1,5 @@
 -- Laws of gets and puts, ask by ask: each is one course that the answers tell, and what a machine is to ask is the next of it.
-use Rattle.std.specs.Prelude.{◌≡◌, ◌≢◌, ℕ, ◌<◌, Bool, if◌then◌else◌, List, [], length, Option, Some, None, Result}
+use Rattle.std.specs.Prelude.{◌≡◌, ◌≢◌, ℕ, Bool, if◌then◌else◌, List, [], Option, Some, Result}
 use Rattle.ivy_base.specs.declared.key.Key.{Key}
 use Rattle.ivy_base.specs.declared.key.PubKey.{PubKey}
 use Rattle.ivy_base.specs.Naming.{head_key_of}
@@ -9,11 +9,9 @@ use Rattle.dht_ids.specs.declared.ask.Heard.{Heard}
 use Rattle.dht_ids.specs.declared.judge.Judged.{Judged}
 use Rattle.dht_ids.specs.declared.peer.Peer.{Peer}
 use Rattle.dht_ids.specs.declared.post.Post.{Post}
-use Rattle.ring_model.specs.Members.{IsAmong}
 use Rattle.dhash_client.specs.declared.miss.Miss.{Miss}
 use Rattle.dhash_client.specs.declared.put.PutKind.{PutKind}
 use Rattle.dhash_client.specs.declared.put.PutKind.TheVariants as put
-use Rattle.dhash_client.specs.Course.{CourseState}
 use Rattle.dhash_client.specs.GetBlock.{IsGetOfBlock, BlockState, BlockIsAfter, block_awaited}
 use Rattle.dhash_client.specs.GetHead.{IsGetOfHead, Judges, HeadState, HeadIsAfter, head_awaited}
 use Rattle.dhash_client.specs.Puts.{IsPutOf, PutState, PutIsAfter, put_awaited, question_of}
@@ -91,34 +89,30 @@ NoneIsWholePost = (r : ℕ) (entries : List Peer) (p : Post) → NoneIsWhole ent
 
 -- ---- what a machine is to ask
 
--- while owners are looked for: the node to be heard wasn't asked before, and is one of 512
-abbrev pub AsksAnew : CourseState → Type 0
-AsksAnew c = c.asking ≡ None → (node : Peer) → c.look.waiting ≡ Some node → (length c.look.asked < 512) × (IsAmong node c.look.asked → ⊥)
-
 -- what a machine of a get of heads that are judged so is to ask is the next of its get
 abbrev pub HeadAsksNext : Type 0 → Type 0
-HeadAsksNext J = (judges : Judges J) (entries : List Peer) (trail : List Heard) (s : HeadState J) (node : Peer) (question : Ask) → HeadIsAfter judges entries trail s → AsksAnew s.course → head_awaited s ≡ Some (node, question)
+HeadAsksNext J = (judges : Judges J) (entries : List Peer) (trail : List Heard) (s : HeadState J) (node : Peer) (question : Ask) → HeadIsAfter judges entries trail s → head_awaited s ≡ Some (node, question)
     → AsksNext s.course.look.key (ask.Get s.course.look.key) (IsWholeGetOfHead (judges s.judge s.course.look.key) s.course.look.key s.course.replicas entries) trail node question
 
 abbrev pub BlockAsksNext : Type 0
-BlockAsksNext = (entries : List Peer) (trail : List Heard) (s : BlockState) (node : Peer) (question : Ask) → BlockIsAfter entries trail s → AsksAnew s.course → block_awaited s ≡ Some (node, question)
+BlockAsksNext = (entries : List Peer) (trail : List Heard) (s : BlockState) (node : Peer) (question : Ask) → BlockIsAfter entries trail s → block_awaited s ≡ Some (node, question)
     → AsksNext s.course.look.key (ask.Get s.course.look.key) (IsWholeGetOfBlock s.course.look.key s.course.replicas entries) trail node question
 
 abbrev pub PutAsksNext : Type 0
-PutAsksNext = (entries : List Peer) (trail : List Heard) (s : PutState) (node : Peer) (question : Ask) → PutIsAfter entries trail s → AsksAnew s.course → put_awaited s ≡ Some (node, question)
+PutAsksNext = (entries : List Peer) (trail : List Heard) (s : PutState) (node : Peer) (question : Ask) → PutIsAfter entries trail s → put_awaited s ≡ Some (node, question)
     → AsksNext s.course.look.key (question_of s.what s.bytes s.course.look.key) (IsWholePutOf s.what s.bytes s.course.look.key s.course.replicas entries) trail node question
 
 -- ---- the same of a session's gets and puts
 
 -- of the heads of an owner's log
 abbrev pub HeadsAreAskedNext : Type 0 → Type 0
-HeadsAreAskedNext J = (judges : Judges J) (entries : List Peer) (trail : List Heard) (s : HeadState J) (owner : PubKey) (node : Peer) (question : Ask) → HeadIsAfter judges entries trail s → AsksAnew s.course
+HeadsAreAskedNext J = (judges : Judges J) (entries : List Peer) (trail : List Heard) (s : HeadState J) (owner : PubKey) (node : Peer) (question : Ask) → HeadIsAfter judges entries trail s
     → s.course.look.key ≡ head_key_of owner → head_awaited s ≡ Some (node, question)
     → AsksNext (head_key_of owner) (ask.Get (head_key_of owner)) (IsGet (judges s.judge) s.course.replicas entries (Heads owner)) trail node question
 
 -- of a content block, whatever judges heads
 abbrev pub ContentIsAskedNext : Type 0
-ContentIsAskedNext = (judged : Key → List ℕ → Option Judged) (entries : List Peer) (trail : List Heard) (s : BlockState) (node : Peer) (question : Ask) → BlockIsAfter entries trail s → AsksAnew s.course → block_awaited s ≡ Some (node, question)
+ContentIsAskedNext = (judged : Key → List ℕ → Option Judged) (entries : List Peer) (trail : List Heard) (s : BlockState) (node : Peer) (question : Ask) → BlockIsAfter entries trail s → block_awaited s ≡ Some (node, question)
     → AsksNext s.course.look.key (ask.Get s.course.look.key) (IsGet judged s.course.replicas entries (Content s.course.look.key)) trail node question
 
 -- the machine puts this post
@@ -128,5 +122,5 @@ pub record PutsPost (s : PutState) (p : Post) : Type 0 where
   pub what : s.what ≡ (if is_head p.kind then put.Head else put.Block)
 
 abbrev pub PostIsAskedNext : Type 0
-PostIsAskedNext = (entries : List Peer) (trail : List Heard) (s : PutState) (p : Post) (node : Peer) (question : Ask) → PutIsAfter entries trail s → AsksAnew s.course → PutsPost s p → put_awaited s ≡ Some (node, question)
+PostIsAskedNext = (entries : List Peer) (trail : List Heard) (s : PutState) (p : Post) (node : Peer) (question : Ask) → PutIsAfter entries trail s → PutsPost s p → put_awaited s ≡ Some (node, question)
     → AsksNext p.key (put_question p) (IsWholePutOfPost s.course.replicas entries p) trail node question

@@ -39,8 +39,7 @@ pub fn none_is_whole()
     ensures posts { NoneIsWholePost }
 {}
 
-/// A law and no code: behind its trail, what a machine of a get or a put is to ask is the next ask, where a look-up's is none
-/// that it made before, and one of 512.
+/// A law and no code: behind its trail, what a machine of a get or a put is to ask is the next ask.
 pub fn machines_ask_next<J>()
     ensures heads { HeadAsksNext J }
     ensures blocks { BlockAsksNext }
