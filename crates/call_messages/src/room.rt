@@ -20,7 +20,7 @@ pub struct ReplyRoom {
     ghost head_is_empty: { head.written ≡ [] },
     ghost head_has_room: { 32 ≤ head.spare },
     ghost message_is_empty: { message.items ≡ [] },
-    ghost message_has_room: { vec_len message + 32804 ≤ vec_capacity message },
+    ghost message_has_room: { vec_len message + (32 + 32772) ≤ vec_capacity message },
 }
 
 impl ReplyRoom {
