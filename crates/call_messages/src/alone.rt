@@ -29,7 +29,8 @@ pub fn alone_answer(alloc: Global, view: &View, args: &Args) -> Result<Option<Re
     }
 }
 
-/// What MNT answers (section 5.2.1): the handle of the root, to no other path than its own. The error is want of memory.
+/// What MNT answers (section 5.2.1): the handle of the root where the path is its own, else that there is no such path. The
+/// error is want of memory.
 fn mounted(alloc: Global, view: &View, path: &[u8]) -> Result<Reply, Memory>
     ensures { IfOk result (λ reply. reply ≡ (if same_bytes path.now (47 ∷ []) then Reply.Mounted (handle_of view.now root_number) else Reply.NoSuchPath)) }
 {

@@ -34,7 +34,7 @@ impl ReplyRoom {
 
     /// The reply to the call `xid` of success with that result, from its status on. It takes no memory.
     pub fn success(self, xid: u32, bytes: &[u8]) -> Bytes
-        requires { length bytes.now ≤ LONGEST_RESULT }
+        requires { length bytes.now ≤ 32772 }
         ensures { result ≡ reply xid (Success bytes.now) }
     {
         let head = head_within(self.head, xid, &ReplyHead::Success);
