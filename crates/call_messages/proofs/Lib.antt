@@ -1,0 +1,4 @@
+mod Admitted
+mod Callers
+mod GoodCalls
+mod Readings
