@@ -1,0 +1,278 @@
+-- Steps of a session in hand that are no get and no turn leave such a world and such a session.
+use Rattle.std.proofs.Common.{◌≡◌, ◌≢◌, ◌⊎◌, inl, inr, ⊎_elim, ℕ, Bool, true, false, List, [], ◌∷◌, ◌++◌, map, filter, Option, Some, None, refl, sym, ap, ◌∙◌, subst, Contains, not}
+use Rattle.std.specs.Prelude.{IsTrue, is_some}
+use Rattle.std.specs.List.{AllByRecursion, list_any}
+use Rattle.ring_model.proofs.Lists.{all_weaker}
+use Rattle.ivy_base.specs.Naming.{NamesTellApart}
+use Rattle.log_heads.specs.Signed.{hss_judged}
+use Rattle.log_model.proofs.Lists.{each, each_append, from_filter}
+use Rattle.log_model.specs.Record.{Record}
+use Rattle.turn_model.specs.Basis.{Holding}
+use Rattle.dht_ids.specs.Asked.{IsForData, told}
+use Rattle.dht_ids.specs.declared.ask.Answer.{Answer}
+use Rattle.dht_ids.specs.declared.ask.Ask.{Ask}
+use Rattle.dht_ids.specs.declared.ask.Heard.{Heard}
+use Rattle.dht_ids.specs.declared.peer.Peer.{Peer}
+use Rattle.dht_ids.specs.declared.post.Ack.{Ack}
+use Rattle.dht_ids.specs.declared.post.Post.{Post}
+use Rattle.dhash_client.specs.declared.miss.Miss.{Miss}
+use Rattle.agent_model.specs.Others.{is_of}
+use Rattle.session_model.specs.Courses.{LacksMemory, Settles, ended}
+use Rattle.session_model.specs.Courses.LacksMemory.{lacks}
+use Rattle.session_model.specs.Courses.Settles.{settles as settles_all}
+use Rattle.session_model.specs.Refreshing.{Note}
+use Rattle.session_model.specs.Replies.{said_no_memory}
+use Rattle.session_model.specs.Sessions.{Cache, Hears, IsPut, Over, Publishing, Refreshing, Said, Session, Stage, ack_of, after_put, held_back}
+use Rattle.world_model.specs.Agents.{Agent}
+use Rattle.world_model.specs.Fates.{FateOf}
+use Rattle.world_model.specs.World.{World, Participant, named_bytes, participant, peer_of, with_participant}
+use Rattle.world_model.specs.Story.{Began, Story}
+use Rattle.world_model.specs.Steps.{Scene, acked_by, ask_told}
+use Rattle.world_laws.specs.Causes.{HasCause, said_at}
+use Rattle.world_laws.specs.Causes.HasCause.{alone, missed, turned, no_memory}
+use Rattle.world_laws.specs.Keeps.{AreApart, GoesOn, HasSaid, IsAnswerIn, IsAtStage, IsInHand, IsMetPost, IsPuttingOn, IsSoundSession, Keeps, KeepsUp}
+use Rattle.world_laws.specs.Keeps.KeepsUp.{still, grown, dropped}
+use Rattle.world_laws.specs.Frames.{Change, IsMildChange, changed, unchanged}
+use Rattle.world_laws.specs.Laws.{LackingKeeps, PutsKeep, SettlingKeeps}
+use Rattle.world_laws.proofs.AskedGets.{puts_are_one}
+use Rattle.world_laws.proofs.Bringing.{found_named, some_same}
+use Rattle.world_laws.proofs.Frames.{answer_stays, found_placed, goes_on_still, participant_keeps, placed_itself, said_still, same_keys, sound_still}
+use Rattle.world_laws.proofs.MoreMet.{more_posts}
+use Rattle.world_laws.proofs.NodeFates.{AskLeaves, PutsMet}
+use Rattle.world_laws.proofs.Publishing.{HearsPut, ask_keeps, ask_tells, begins, fewer_met, given_then, grows, hears_put, leaves, question_fits, short_filter, still_peers, told_each}
+
+-- ---- a session that has come further
+
+-- with other asks on their way, at another stage, and with other notes
+abbrev further : Session → List Heard → Stage → List Note → Option Miss → Session
+further s current stage notes missed_by = record s { current = current; stage = stage; notes = notes; missed = missed_by }
+
+keeps_up_further : (s : Session) (of : Holding) (a : Agent) (known : List Record) (current : List Heard) (stage : Stage) (notes : List Note) (missed_by : Option Miss) → KeepsUp s of a known → KeepsUp (further s current stage notes missed_by) of a known
+keeps_up_further s of a known current stage notes missed_by (still load held floor) = still load held floor
+keeps_up_further s of a known current stage notes missed_by (grown load all far) = grown load all far
+keeps_up_further s of a known current stage notes missed_by (dropped other first load basis) = dropped other first load basis
+
+sound_further : (w : World) (st : Story) (s : Session) (b : Began) (current : List Heard) (stage : Stage) (notes : List Note) (missed_by : Option Miss) → IsSoundSession w st s b → IsSoundSession w st (further s current stage notes missed_by) b
+sound_further w st s b current stage notes missed_by h = record {
+  by = h.by;
+  is_by = h.is_by;
+  of = h.of;
+  knows = h.knows;
+  held = h.held;
+  edges = h.edges;
+  to_load = h.to_load;
+  known = h.known;
+  floor = h.floor;
+  keeps_up = keeps_up_further s h.of h.by.agent _ current stage notes missed_by h.keeps_up;
+  anew = h.anew;
+  stays_fresh = h.stays_fresh;
+  received = h.received;
+  blocks = h.blocks;
+}
+
+cause_further : (st : Story) (n : ℕ) (s : Session) (current : List Heard) (stage : Stage) (said : Said) → HasCause st n s said → HasCause st n (record s { current = current; stage = stage }) said
+cause_further st n s current stage _ (alone given by) = alone given by
+cause_further st n s current stage _ (missed xid asked given miss asks refreshed is) = missed xid asked given miss asks refreshed is
+cause_further st n s current stage _ (turned h xid asked given among of asks refreshed) =
+    turned h xid asked given among (record { number_is = of.number_is; by = of.by; message = of.message; entries = of.entries; standing = of.standing; parts = of.parts }) asks refreshed
+cause_further st n s current stage _ (no_memory xid asked asks) = no_memory xid asked asks
+
+said_further : (st : Story) (n : ℕ) (s : Session) (current : List Heard) (stage : Stage) (o : Option Said) → HasSaid st n s o → HasSaid st n (record s { current = current; stage = stage }) o
+said_further st n s current stage None h = tt
+said_further st n s current stage (Some said) h = cause_further st n s current stage said h
+
+-- ---- want of memory
+
+pub lacking_keeps : LackingKeeps
+lacking_keeps c r _ hand (lacks notes shown given end xid asked at refreshed asks rest front) = record {
+  number = hand.number;
+  goes_on = record {
+    by = hand.goes_on.by;
+    is_by = hand.goes_on.is_by;
+    in_view = hand.goes_on.in_view;
+    own_key = hand.goes_on.own_key;
+    some_entry = hand.goes_on.some_entry;
+    entries = hand.goes_on.entries;
+    heard = tt;
+    pending = hand.goes_on.pending;
+    stage = refl;
+  };
+  said = no_memory xid asked asks;
+  sound = λ apart. sound_further c.world c.story c.session c.began [] (Over (Some (said_no_memory xid))) shown None (hand.sound apart);
+}
+
+-- ---- settling
+
+module _ (c : Scene) (r : ℕ) (p : Participant) (keeps : Keeps (c.world, c.story)) (hand : IsInHand c r) (is_p : participant c.world c.session.by ≡ Some p) where
+  same_by : hand.goes_on.by ≡ p
+  same_by = some_same hand.goes_on.by p (sym hand.goes_on.is_by ∙ is_p)
+
+  -- the session's agent, with a mild change of it
+  module _ (d : Change) where
+    abbrev v : World
+    v = with_participant c.world (changed p d)
+
+    found : (q : Participant) → participant c.world c.session.by ≡ Some q → participant v c.session.by ≡ Some (changed q d)
+    found q is = subst (λ o. participant v c.session.by ≡ Some (changed o d)) (some_same p q (sym is_p ∙ is)) (found_placed c.world keeps.apart c.session.by p is_p (changed p d) refl)
+
+    goes_on_then : GoesOn v r c.session
+    goes_on_then = goes_on_still c.world v (λ b h. h) (λ q h. h) r c.session hand.goes_on d (found hand.goes_on.by hand.goes_on.is_by)
+
+    sound_then : IsSoundSession c.world c.story c.session c.began → IsSoundSession v c.story c.session c.began
+    sound_then h = sound_still c.world v c.story (λ b g. g) c.session c.began h d c.story.acked (found h.by h.is_by)
+
+  settled_so : (after : Agent) (t : Session) → Settles p.agent c.session after t
+      → Keeps (with_participant c.world (record p { agent = after }), c.story) × IsInHand (record c { world = with_participant c.world (record p { agent = after }); session = t }) r
+  settled_so _ _ (settles_all said acks at) = (
+    participant_keeps (c.world, c.story) c.session.by p fewer keeps is_p mild,
+    record {
+      number = hand.number;
+      goes_on = record {
+        by = on.by;
+        is_by = on.is_by;
+        in_view = on.in_view;
+        own_key = on.own_key;
+        some_entry = on.some_entry;
+        entries = on.entries;
+        heard = on.heard;
+        pending = on.pending;
+        stage = (subst (IsAtStage c.world r c.session) at hand.goes_on.stage).0;
+      };
+      said = said_further c.story c.began.number c.session c.session.current (Over said) said (subst (λ (x : Stage). HasSaid c.story c.began.number c.session (said_at x)) at hand.said);
+      sound = λ apart. sound_further (v fewer) c.story c.session c.began c.session.current (Over said) c.session.notes c.session.missed (sound_then fewer (hand.sound (apart_before apart)));
+    },
+  )
+    where
+      dropped_by : Post → Bool
+      dropped_by q = not (list_any (λ ack. is_of ack q) acks)
+
+      fewer : Change
+      fewer = record (unchanged p) { pending = filter dropped_by p.agent.pending }
+
+      mild : IsMildChange c.world.met p fewer
+      mild = record {
+        kept = refl;
+        pending = λ q among. (from_filter dropped_by p.agent.pending q among).0;
+        fewer = short_filter dropped_by p.agent.pending;
+        cached = each _ c.world.participants p keeps.met.cached (found_named c.world.participants c.session.by p is_p).0;
+      }
+
+      on : GoesOn (v fewer) r c.session
+      on = goes_on_then fewer
+
+      apart_before : NamesTellApart (named_bytes (v fewer)) → NamesTellApart (named_bytes c.world)
+      apart_before apart = subst (λ keys. NamesTellApart (c.world.met ++ keys)) (same_keys c.world keeps.apart c.session.by p is_p (changed p fewer) refl refl) apart
+
+pub settling_keeps : SettlingKeeps
+settling_keeps c r p after t keeps hand is_p is = settled_so c r p keeps hand is_p after t is
+
+-- ---- puts
+
+module _ (c : Scene) (r : ℕ) (p : Participant) (keeps : Keeps (c.world, c.story)) (hand : IsInHand c r) (ringed : c.world.replicas ≡ Some r) (is_p : participant c.world c.session.by ≡ Some p)
+    (node : Peer) (question : Ask) (answer : Answer) (next : World) (heard : Session) (cache : Cache) (fate : FateOf hss_judged c.world node question answer next) (h : HearsPut r c.session p.cache node question answer heard cache) where
+  abbrev w : World
+  w = c.world
+
+  abbrev s : Session
+  s = c.session
+
+  puts_now : IsAtStage w r s (Publishing h.said (h.post ∷ h.posts) h.acks)
+  puts_now = subst (IsAtStage w r s) h.at hand.goes_on.stage
+
+  fits : IsForData question × PutsMet w.met question
+  fits = question_fits w.met h.post puts_now.1.0.0 question h.next.is_of
+
+  left : AskLeaves r w next
+  left = leaves w c.story r keeps ringed next node question answer fits.0 fits.1 fate
+
+  more : (b : List ℕ) → Contains w.met b → Contains next.met b
+  more = grows w c.story r keeps ringed next node question answer fits.0 fits.1 fate
+
+  peers_then : (q : Peer) → Contains (map peer_of w.nodes) q → Contains (map peer_of next.nodes) q
+  peers_then = still_peers w c.story r keeps ringed next node question answer fits.0 fits.1 fate
+
+  posts_then : AllByRecursion (IsMetPost next.met) (h.post ∷ h.posts)
+  posts_then = more_posts w.met next.met more (h.post ∷ h.posts) puts_now.1
+
+  heard_then : AllByRecursion (λ a. IsAnswerIn next a.got) (s.current ++ told node question answer)
+  heard_then = each_append (λ (a : Heard). IsAnswerIn next a.got) s.current (told node question answer) (all_weaker _ _ s.current (λ a g. answer_stays w next more peers_then a.got g) hand.goes_on.heard)
+      (told_each (IsAnswerIn next) node question answer (given_then w c.story r keeps ringed next node question answer fits.0 fits.1 fate))
+
+  goes_with : (current : List Heard) (stage : Stage) → AllByRecursion (λ a. IsAnswerIn next a.got) current → IsAtStage next r (record s { current = current; stage = stage }) stage → GoesOn next r (record s { current = current; stage = stage })
+  goes_with current stage answers_in at_stage = record {
+    by = hand.goes_on.by;
+    is_by = ap (λ (v : World). participant v s.by) left.rest ∙ hand.goes_on.is_by;
+    in_view = hand.goes_on.in_view;
+    own_key = hand.goes_on.own_key;
+    some_entry = hand.goes_on.some_entry;
+    entries = all_weaker _ _ s.entries peers_then hand.goes_on.entries;
+    heard = answers_in;
+    pending = more_posts w.met next.met more s.standing.pending hand.goes_on.pending;
+    stage = at_stage;
+  }
+
+  abbrev acked_then : List Post
+  acked_then = c.story.acked ++ acked_by s.stage heard.stage
+
+  -- the session as it is then, with what it says
+  hand_with : (current : List Heard) (stage : Stage) → heard ≡ record s { current = current; stage = stage } → said_at stage ≡ said_at s.stage → AllByRecursion (λ a. IsAnswerIn next a.got) current
+      → IsAtStage next r (record s { current = current; stage = stage }) stage → IsInHand (record { world = next; story = record c.story { acked = acked_then }; session = heard; began = c.began }) r
+  hand_with current stage is same_said answers_in at_stage =
+      subst (λ (t : Session). IsInHand (record { world = next; story = record c.story { acked = acked_then }; session = t; began = c.began }) r) (sym is) (record {
+        number = hand.number;
+        goes_on = goes_with current stage answers_in at_stage;
+        said = said_further (record c.story { acked = acked_then }) c.began.number s current stage (said_at stage)
+            (subst (HasSaid (record c.story { acked = acked_then }) c.began.number s) (sym same_said) (said_still c.story acked_then c.began.number s (said_at s.stage) hand.said));
+        sound = λ apart. sound_further next (record c.story { acked = acked_then }) s c.began current stage s.notes s.missed
+            (sound_next (hand.sound (subst (λ (v : World). NamesTellApart (named_bytes v)) left.rest apart)));
+      })
+    where
+      sound_next : IsSoundSession w c.story s c.began → IsSoundSession next (record c.story { acked = acked_then }) s c.began
+      sound_next g = sound_still w next c.story more s c.began g (unchanged g.by) acked_then (ap (λ (v : World). participant v s.by) left.rest ∙ g.is_by)
+
+  said_before : said_at s.stage ≡ h.said
+  said_before = ap said_at h.at
+
+  said_after : (said : Option Said) (q : Post) (posts : List Post) (acks : List Ack) (came : Bool) → said_at (after_put said q posts acks came) ≡ said
+  said_after said q posts acks true = refl
+  said_after said q posts acks false = refl
+
+  after_a_put : (t : Session) → t.entries ≢ [] → t.current ≡ [] → (came : Bool) → IsAtStage next r t (after_put h.said h.post h.posts h.acks came)
+  after_a_put t some fresh true = (puts_now.0, posts_then.1, begins r t some fresh h.posts)
+  after_a_put t some fresh false = (puts_now.0, fewer_met next.met h.post h.posts posts_then.1, begins r t some fresh (held_back h.post h.posts))
+
+  in_hand_then : IsInHand (record { world = next; story = record c.story { acked = acked_then }; session = heard; began = c.began }) r
+  in_hand_then = ⊎_elim
+      (λ one. hand_with (s.current ++ told node question answer) s.stage one.1 refl heard_then
+      (subst (IsAtStage next r (record s { current = s.current ++ told node question answer })) (sym h.at) (
+        puts_now.0,
+        posts_then,
+        ⊎_elim (λ whole. absurd (one.0 whole)) (λ begun. begun) ((puts_are_one hss_judged r s h.post).2 s.current node question answer h.next),
+      )))
+      (λ one. hand_with [] (after_put h.said h.post h.posts h.acks one.0) one.1 (said_after h.said h.post h.posts h.acks one.0 ∙ sym said_before) tt
+      (after_a_put (record s { current = []; stage = after_put h.said h.post h.posts h.acks one.0 }) hand.goes_on.some_entry refl one.0))
+      h.then_is
+
+  same_parts : heard.parts ≡ s.parts
+  same_parts = ⊎_elim (λ one. ap (λ (t : Session). t.parts) one.1) (λ one. ap (λ (t : Session). t.parts) one.1) h.then_is
+
+  same_world : with_participant next (record p { cache = cache }) ≡ next
+  same_world =
+      ap (λ x. with_participant next (record p { cache = x })) h.same_cache
+      ∙ placed_itself next (subst (λ (v : World). AreApart (map (λ q. q.name) v.participants)) (sym left.rest) keeps.apart) s.by p (ap (λ (v : World). participant v s.by) left.rest ∙ is_p)
+
+  same_story : ask_told c.story p.name s heard ≡ record c.story { acked = acked_then }
+  same_story = ask_tells c.story p.name s heard (subst AreApart (sym keeps.fits.participants) keeps.apart) same_parts
+
+  put_so : Keeps (with_participant next (record p { cache = cache }), ask_told c.story p.name s heard)
+      × IsInHand (record { world = with_participant next (record p { cache = cache }); story = ask_told c.story p.name s heard; session = heard; began = c.began }) r × ((ask_told c.story p.name s heard).turns ≡ c.story.turns)
+  put_so = (
+    subst (λ (v : World). Keeps (v, ask_told c.story p.name s heard)) (sym same_world) (subst (λ (u : Story). Keeps (next, u)) (sym same_story) (ask_keeps w c.story r keeps ringed next node question answer fits.0 fits.1 fate acked_then)),
+    subst (λ (v : World). IsInHand (record { world = v; story = ask_told c.story p.name s heard; session = heard; began = c.began }) r) (sym same_world)
+        (subst (λ (u : Story). IsInHand (record { world = next; story = u; session = heard; began = c.began }) r) (sym same_story) in_hand_then),
+    refl,
+  )
+
+pub puts_keep : PutsKeep
+puts_keep c r p node question answer next heard cache keeps hand ringed is_p other fate hears =
+    put_so c r p keeps hand ringed is_p node question answer next heard cache fate (hears_put r c.session p.cache node question answer heard cache other hears)
