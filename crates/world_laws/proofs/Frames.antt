@@ -1,13 +1,10 @@
 -- Changes that touch no more than they may leave a world that keeps what it should.
-use Rattle.std.proofs.Common.{◌≡◌, ◌≢◌, ◌⊎◌, inl, inr, ⊎_elim, ℕ, ◌<◌, ◌≤◌, Bool, true, false, cond, List, [], ◌∷◌, ◌++◌, length, map, filter, Option, Some, None, refl, sym, ap, ◌∙◌, subst, arith, Contains}
-use Rattle.std.specs.Prelude.{IfSome, IsTrue, is_some}
+use Rattle.std.proofs.Common.{◌≡◌, ◌≢◌, ⊎_elim, ℕ, ◌≤◌, Bool, true, false, cond, List, [], ◌∷◌, ◌++◌, length, map, filter, Option, Some, None, refl, sym, ap, ◌∙◌, subst, arith, Contains}
 use Rattle.std.specs.List.{AllByRecursion, find}
 use Rattle.std.specs.Str.{bytes_eq}
 use Rattle.std.proofs.lemmas.List.{length-map}
 use Rattle.std.proofs.lemmas.Slice.Eq.{bytes_eq-Decides}
-use Rattle.std.proofs.lemmas.List.Elements.{Contains-append_left, Contains-append_right, Contains-append_cases}
 use Rattle.ring_model.proofs.Lists.{all_weaker}
-use Rattle.ivy_base.specs.declared.key.Key.{Key}
 use Rattle.ivy_base.specs.declared.key.PubKey.{PubKey}
 use Rattle.ivy_base.specs.Naming.{NamesTellApart}
 use Rattle.log_model.proofs.Lists.{each, each_from, from_filter, here, in_cons, in_filter, in_nothing, there}
@@ -24,15 +21,15 @@ use Rattle.round_laws.specs.RingOf.{AreApart as StandApart}
 use Rattle.agent_model.specs.Agent.{is_head, kept_of}
 use Rattle.agent_model.specs.SavedBytes.{ArePostsSpelled}
 use Rattle.session_model.specs.Sessions.{Said, Session, Stage, Refreshing, Publishing, Over}
-use Rattle.world_model.specs.Agents.{Agent, IsKept, Kept, own}
+use Rattle.world_model.specs.Agents.{Agent, IsKept, own}
 use Rattle.world_model.specs.Nodes.{Node}
 use Rattle.world_model.specs.World.{World, NamedSession, Participant, named_bytes, participant, peer_of, with_participant}
-use Rattle.world_model.specs.Story.{Began, Knowing, Story, began_of, knowing_of, known_of}
+use Rattle.world_model.specs.Story.{Began, Story, began_of, knowing_of, known_of}
 use Rattle.world_model.specs.Logs.{Played}
 use Rattle.world_model.specs.Steps.{heads_by}
 use Rattle.world_laws.specs.Causes.{HasCause, said_at}
 use Rattle.world_laws.specs.Causes.HasCause.{alone, missed, turned, no_memory}
-use Rattle.world_laws.specs.Keeps.{AreApart, AreNumbered, AreSound, BeganFresh, BlocksAreMet, GoesOn, HasRing, HasSaid, IsAnswerIn, IsAtStage, IsKeptSo, IsMetHead, IsMetPost, IsSavedWell, IsSoundIn, IsSoundKeptIn, IsSoundSession, Keeps, KeepsUp, PeersAreMade, SignsOnce, StoryFits}
+use Rattle.world_laws.specs.Keeps.{AreApart, AreSound, BlocksAreMet, GoesOn, HasRing, HasSaid, IsAnswerIn, IsAtStage, IsKeptSo, IsMetPost, IsSavedWell, IsSoundKeptIn, IsSoundSession, Keeps, KeepsUp, PeersAreMade, SignsOnce}
 use Rattle.world_laws.specs.Keeps.KeepsUp.{still, grown, dropped}
 use Rattle.world_laws.specs.Frames.{AreOfRing, Change, Changes, IsMild, IsMildChange, MildChangesKeep, MoreBlocksKeep, changed, changed_by, unchanged}
 use Rattle.world_laws.proofs.MoreMet.{grows_before, more_heads, more_kept_in, more_posts, more_snapshot, more_snapshots, more_sound, more_to_load, some_weaker}

@@ -1,6 +1,5 @@
 -- Steps of a session in hand that are no get and no turn leave such a world and such a session.
-use Rattle.std.proofs.Common.{◌≡◌, ◌≢◌, ◌⊎◌, inl, inr, ⊎_elim, ℕ, Bool, true, false, List, [], ◌∷◌, ◌++◌, map, filter, Option, Some, None, refl, sym, ap, ◌∙◌, subst, Contains, not}
-use Rattle.std.specs.Prelude.{IsTrue, is_some}
+use Rattle.std.proofs.Common.{◌≡◌, ◌≢◌, ⊎_elim, ℕ, Bool, true, false, List, [], ◌∷◌, ◌++◌, map, filter, Option, Some, None, refl, sym, ap, ◌∙◌, subst, Contains, not}
 use Rattle.std.specs.List.{AllByRecursion, list_any}
 use Rattle.ring_model.proofs.Lists.{all_weaker}
 use Rattle.ivy_base.specs.Naming.{NamesTellApart}
@@ -17,12 +16,12 @@ use Rattle.dht_ids.specs.declared.post.Ack.{Ack}
 use Rattle.dht_ids.specs.declared.post.Post.{Post}
 use Rattle.dhash_client.specs.declared.miss.Miss.{Miss}
 use Rattle.agent_model.specs.Others.{is_of}
-use Rattle.session_model.specs.Courses.{LacksMemory, Settles, ended}
+use Rattle.session_model.specs.Courses.{Settles}
 use Rattle.session_model.specs.Courses.LacksMemory.{lacks}
 use Rattle.session_model.specs.Courses.Settles.{settles as settles_all}
 use Rattle.session_model.specs.Refreshing.{Note}
 use Rattle.session_model.specs.Replies.{said_no_memory}
-use Rattle.session_model.specs.Sessions.{Cache, Hears, IsPut, Over, Publishing, Refreshing, Said, Session, Stage, ack_of, after_put, held_back}
+use Rattle.session_model.specs.Sessions.{Cache, Over, Publishing, Said, Session, Stage, after_put, held_back}
 use Rattle.world_model.specs.Agents.{Agent}
 use Rattle.world_model.specs.Fates.{FateOf}
 use Rattle.world_model.specs.World.{World, Participant, named_bytes, participant, peer_of, with_participant}
@@ -30,7 +29,7 @@ use Rattle.world_model.specs.Story.{Began, Story}
 use Rattle.world_model.specs.Steps.{Scene, acked_by, ask_told}
 use Rattle.world_laws.specs.Causes.{HasCause, said_at}
 use Rattle.world_laws.specs.Causes.HasCause.{alone, missed, turned, no_memory}
-use Rattle.world_laws.specs.Keeps.{AreApart, GoesOn, HasSaid, IsAnswerIn, IsAtStage, IsInHand, IsMetPost, IsPuttingOn, IsSoundSession, Keeps, KeepsUp}
+use Rattle.world_laws.specs.Keeps.{AreApart, GoesOn, HasSaid, IsAnswerIn, IsAtStage, IsInHand, IsMetPost, IsSoundSession, Keeps, KeepsUp}
 use Rattle.world_laws.specs.Keeps.KeepsUp.{still, grown, dropped}
 use Rattle.world_laws.specs.Frames.{Change, IsMildChange, changed, unchanged}
 use Rattle.world_laws.specs.Laws.{LackingKeeps, PutsKeep, SettlingKeeps}

@@ -1,13 +1,13 @@
 -- What may be saved is told by its bytes.
-use Rattle.std.proofs.Common.{◌≡◌, ℕ, ◌+◌, ◌*◌, ◌^◌, ◌<◌, ◌≤◌, List, [], ◌∷◌, ◌++◌, length, Option, Some, None, refl, ap, ◌∙◌, arith, length-append}
+use Rattle.std.proofs.Common.{◌≡◌, ℕ, ◌+◌, ◌*◌, ◌^◌, ◌<◌, List, [], ◌∷◌, ◌++◌, length, Option, Some, None, refl, ap, arith, length-append}
 use Rattle.std.specs.Prelude.{IfSome}
 use Rattle.std.specs.List.{AllByRecursion, flat_map}
 use Rattle.ivy_base.specs.declared.key.Key.{Key}
 use Rattle.ivy_base.specs.declared.key.PubKey.{PubKey}
 use Rattle.ivy_base.specs.Naming.{head_key_of}
-use Rattle.wire_model.specs.Xdr.{word, double_word, opaque, array, optional, IsAny}
+use Rattle.wire_model.specs.Xdr.{word, double_word, array, IsAny}
 use Rattle.wire_model.specs.OneReading.{ReadsOne}
-use Rattle.wire_model.proofs.OneReading.{◌▷◌, always, of_fewer, of_parts, one_word, one_opaque, one_optional, one_array, whole}
+use Rattle.wire_model.proofs.OneReading.{◌▷◌, always, of_parts, one_word, one_opaque, one_optional, one_array, whole}
 use Rattle.log_model.specs.Spelling.{IsKey}
 use Rattle.log_model.specs.Vector.{Vector, seq_of}
 use Rattle.log_model.specs.View.{View, IsView, view_block}
@@ -24,7 +24,7 @@ use Rattle.dht_ids.specs.declared.post.PostKind.{PostKind}
 use Rattle.dht_ids.specs.declared.post.PostKind.TheVariants as kind
 use Rattle.agent_model.specs.Agent.{own_key}
 use Rattle.agent_model.specs.SavedBytes.{AreOpaque, HasItsName, kind_number, post_bytes, view_bytes}
-use Rattle.world_model.specs.Agents.{IsKept, Kept, hss, kept_bytes}
+use Rattle.world_model.specs.Agents.{IsKept, Kept, hss}
 use Rattle.world_laws.specs.Laws.{KeptOnce}
 
 -- ---- posts

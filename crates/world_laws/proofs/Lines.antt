@@ -1,6 +1,6 @@
 -- Lines without sessions leave a world that keeps what it should.
-use Rattle.std.proofs.Common.{◌≡◌, ◌⊎◌, inl, inr, ⊎_elim, ℕ, ◌+◌, ◌<◌, ◌≤◌, Bool, true, false, cond, ◌&&◌, List, [], ◌∷◌, ◌++◌, length, Option, Some, None, refl, sym, ap, ◌∙◌, subst, arith, Contains, nat_lt, nat_le}
-use Rattle.std.specs.Prelude.{◌==◌, is_some, map, option_map, option_and_then, slice_set, unwrap_or}
+use Rattle.std.proofs.Common.{◌≡◌, inl, inr, ℕ, ◌+◌, ◌<◌, Bool, true, false, cond, ◌&&◌, List, [], ◌∷◌, ◌++◌, length, Option, Some, None, refl, sym, ap, ◌∙◌, subst, arith, Contains, nat_lt, nat_le}
+use Rattle.std.specs.Prelude.{◌==◌, is_some, map, option_map, option_and_then, unwrap_or}
 use Rattle.std.specs.List.{AllByRecursion, find, list_any}
 use Rattle.std.specs.Map.{lookup}
 use Rattle.std.specs.FinMap.Entries.{find as value_at, put}
@@ -16,10 +16,9 @@ use Rattle.ring_model.proofs.Lists.{all-among, all_weaker}
 use Rattle.ivy_base.specs.declared.key.Key.{Key}
 use Rattle.ivy_base.specs.Naming.{key_cmp}
 use Rattle.log_model.proofs.Lists.{each, here, who_passes}
-use Rattle.log_model.specs.Spelling.{IsMoment}
 use Rattle.dht_ids.specs.declared.peer.Peer.{Peer}
 use Rattle.chord_core.specs.State.{State}
-use Rattle.node_store.specs.Stores.{Block, Blocks, IsStore, bytes_at, bytes_held, spoiled, with_byte}
+use Rattle.node_store.specs.Stores.{Block, Blocks, IsStore, bytes_at, spoiled, with_byte}
 use Rattle.node_store.proofs.Held.{put_is_held}
 use Rattle.node_store.proofs.Maps.{find-lookup}
 use Rattle.node_store.proofs.Sums.{held_after_put, size}
@@ -28,13 +27,12 @@ use Rattle.round_laws.proofs.Nodes.{at, at_among, mapped_kept, replaced}
 use Rattle.round_laws.proofs.Standing.{from_knows, knows_of, to_knows}
 use Rattle.round_laws.proofs.Rounding.{at_own}
 use Rattle.script_driver.specs.Run.{Outcome, Goes, Ends, Refuses, Exceeds}
-use Rattle.script_model.specs.declared.command.Command.{Command}
 use Rattle.script_model.specs.declared.command.Command.TheVariants as command
 use Rattle.script_model.specs.declared.command.NodeWord.{NodeWord}
 use Rattle.script_model.specs.declared.command.NodeWord.TheVariants as node
 use Rattle.script_model.specs.Words.{◌>>=◌}
 use Rattle.ivy_io.specs.Keepers as memory
-use Rattle.world_model.specs.Keepers.{Keeper, with_fault}
+use Rattle.world_model.specs.Keepers.{with_fault}
 use Rattle.world_model.specs.Nodes.{Node}
 use Rattle.world_model.specs.World.{World, Participant, meets, node_at, participant, peer_of, with_node, with_participant}
 use Rattle.world_model.specs.Story.{Story}
@@ -42,7 +40,7 @@ use Rattle.world_model.specs.Logs.{Played, at_line, beside, goes_if, keep_by, ke
 use Rattle.world_model.specs.Ring.{stop_line}
 use Rattle.world_model.specs.Faults.{damage_by, damage_line, damaged_to, holds_by, holds_line, holds_text, key_named, lose_line, meets_some, node_named, order_line, order_text, owner_of_key, showing, work_line, work_text}
 use Rattle.world_laws.specs.Keeps.{HasRing, Keeps}
-use Rattle.world_laws.specs.Frames.{AreOfRing, Change, DamageLinesKeep, IsMildChange, KeeperLinesKeep, StillLinesKeep, StopLinesKeep, changed, unchanged}
+use Rattle.world_laws.specs.Frames.{AreOfRing, Change, DamageLinesKeep, KeeperLinesKeep, StillLinesKeep, StopLinesKeep, unchanged}
 use Rattle.world_laws.proofs.Bringing.{found_named}
 use Rattle.world_laws.proofs.Frames.{held_more, made_still, no_changes, of_ring, participant_keeps, still_some, unchanged_mild, world_changes}
 use Rattle.world_laws.proofs.NodeFates.{HoldsMet, each_replaced}

@@ -1,5 +1,5 @@
 -- What holds over the blocks that were met holds over more of them, also of an agent that signs, knows and holds the same.
-use Rattle.std.proofs.Common.{◌≡◌, ◌⊎◌, inl, inr, ⊎_elim, ℕ, List, [], ◌∷◌, ◌++◌, map, Option, Some, None, Contains}
+use Rattle.std.proofs.Common.{◌≡◌, inl, inr, ⊎_elim, ℕ, List, ◌++◌, map, Option, Some, None, Contains}
 use Rattle.std.specs.Prelude.{IfSome}
 use Rattle.std.specs.List.{AllByRecursion}
 use Rattle.std.proofs.lemmas.List.Elements.{Contains-append_left, Contains-append_right, Contains-append_cases}
@@ -19,7 +19,7 @@ use Rattle.session_laws.specs.Loading.{IsSnapshotOf}
 use Rattle.world_model.specs.Agents.{Kept}
 use Rattle.world_model.specs.World.{Participant}
 use Rattle.world_model.specs.Story.{Knowing}
-use Rattle.world_laws.specs.Keeps.{IsMetHead, IsMetPost, IsSound, IsSoundIn, IsSoundKept, IsSoundKeptIn}
+use Rattle.world_laws.specs.Keeps.{IsMetHead, IsMetPost, IsSoundIn, IsSoundKept, IsSoundKeptIn}
 use Rattle.world_laws.specs.Frames.{Change, changed}
 
 -- what is optional

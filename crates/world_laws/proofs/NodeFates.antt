@@ -1,5 +1,5 @@
 -- An ask for data leaves a world's nodes as they should be, and its answer gives what was met and names who was made.
-use Rattle.std.proofs.Common.{◌≡◌, inl, inr, ⊎_elim, ℕ, ◌+◌, ◌<◌, ◌≤◌, Bool, true, false, cond, List, [], ◌∷◌, ◌++◌, map, Option, Some, None, refl, sym, ap, ◌∙◌, subst, arith, Contains}
+use Rattle.std.proofs.Common.{◌≡◌, inl, inr, ℕ, ◌+◌, ◌≤◌, Bool, true, false, cond, List, [], ◌∷◌, map, Option, Some, None, refl, sym, ap, ◌∙◌, subst, arith, Contains}
 use Rattle.std.specs.Prelude.{IfSome, option_map}
 use Rattle.std.specs.List.{AllByRecursion}
 use Rattle.std.specs.Option.{option_map_or}
@@ -27,10 +27,10 @@ use Rattle.world_model.specs.Nodes.{Node, answered, stored}
 use Rattle.world_model.specs.World.{World, node_at, peer_of, with_node}
 use Rattle.world_model.specs.Fates.{FateOf, counted}
 use Rattle.world_model.specs.Fates.FateOf.{lost, stopped, answers}
-use Rattle.round_laws.specs.RingOf.{AreNodes, KnowsOnly}
-use Rattle.round_laws.proofs.Nodes.{Shape, at, at_among, at_id, made_by, made_shape, replaced}
-use Rattle.round_laws.proofs.Standing.{IsBase, IsWithin, KeepsRing, fated, still_asked}
-use Rattle.round_laws.proofs.Rounding.{at_own, base_of, nodes_of, shapes_of, within_of}
+use Rattle.round_laws.specs.RingOf.{AreNodes}
+use Rattle.round_laws.proofs.Nodes.{at_among, at_id, made_by, made_shape, replaced}
+use Rattle.round_laws.proofs.Standing.{IsBase, KeepsRing, fated, still_asked}
+use Rattle.round_laws.proofs.Rounding.{base_of, nodes_of, shapes_of, within_of}
 use Rattle.round_laws.proofs.Repairing.{put_keeps}
 use Rattle.round_laws.proofs.Fixing.{routed}
 use Rattle.world_laws.specs.Keeps.{IsAnswerIn}

@@ -1,6 +1,5 @@
 -- A floor names one set of records, where names tell the blocks apart.
-use Rattle.std.proofs.Common.{◌≡◌, ℕ, List, [], Option, Some, None, refl, sym, ◌∙◌, subst, Contains}
-use Rattle.std.specs.List.{AllByRecursion}
+use Rattle.std.proofs.Common.{◌≡◌, ℕ, List, [], Option, Some, None, sym, ◌∙◌, subst, Contains}
 use Rattle.std.specs.Ordering.{eq_by_cmp}
 use Rattle.ivy_base.specs.declared.key.PubKey.{PubKey}
 use Rattle.ivy_base.specs.Naming.{NamesTellApart, head_key_of, owner_cmp}
@@ -9,7 +8,7 @@ use Rattle.log_model.specs.Record.{Record}
 use Rattle.log_model.specs.Standing.{Stand, StandsAmong}
 use Rattle.log_model.specs.Vector.{Stamp, Vector, stamp_at}
 use Rattle.log_model.specs.View.{View}
-use Rattle.log_model.proofs.Lists.{each, each_from, from_filter, in_filter, in_nothing}
+use Rattle.log_model.proofs.Lists.{each, each_from, from_filter, in_filter}
 use Rattle.log_model.proofs.Sets.{same_list}
 use Rattle.log_model.proofs.Owners.{owner_itself}
 use Rattle.turn_model.specs.Known.{EndsAt, IsKnown}

@@ -1,47 +1,44 @@
 -- What an agent knows of a log is the beginning of the chain that the log's own keeper names.
-use Rattle.std.proofs.Common.{◌≡◌, ◌⊎◌, inl, inr, ⊎_elim, ℕ, ◌+◌, ◌<◌, ◌≤◌, ◌^◌, Bool, true, false, cond, List, [], ◌∷◌, ◌++◌, length, map, Option, Some, None, refl, sym, ap, ◌∙◌, subst, arith, Contains, append_assoc}
+use Rattle.std.proofs.Common.{◌≡◌, ◌⊎◌, inl, inr, ⊎_elim, ℕ, ◌+◌, ◌<◌, ◌^◌, cond, List, [], ◌∷◌, ◌++◌, length, map, Option, Some, None, refl, sym, ap, ◌∙◌, subst, arith, Contains, append_assoc}
 use Rattle.std.specs.Prelude.{IfSome, IsTrue, is_some}
 use Rattle.std.specs.List.{AllByRecursion, find}
 use Rattle.std.specs.Option.{option_map_or}
 use Rattle.std.specs.Ordering.{eq_by_cmp}
 use Rattle.std.specs.Str.{bytes_eq}
-use Rattle.std.specs.FinMap.Entries.{find as value_at}
-use Rattle.std.proofs.lemmas.List.{append-nil}
-use Rattle.std.proofs.lemmas.List.Elements.{Contains-append_left, Contains-append_right, Contains-append_cases}
+use Rattle.std.proofs.lemmas.List.Elements.{Contains-append_left, Contains-append_right}
 use Rattle.ivy_base.specs.declared.key.Key.{Key}
 use Rattle.ivy_base.specs.declared.key.PubKey.{PubKey}
-use Rattle.ivy_base.specs.Naming.{NamesTellApart, head_key_of, key_cmp, name, owner_cmp}
+use Rattle.ivy_base.specs.Naming.{NamesTellApart, head_key_of, name, owner_cmp}
 use Rattle.wire_model.specs.Xdr.{opaque}
 use Rattle.wire_model.proofs.OneReading.{◌▷◌, always, one_raw, one_word}
-use Rattle.ring_model.proofs.Lists.{all_weaker}
 use Rattle.log_model.specs.Chain.{GoesOn, IsChain, LinkedFrom}
 use Rattle.log_model.specs.Closed.{log_of}
 use Rattle.log_model.specs.Rank.{own_entry}
 use Rattle.log_model.specs.Record.{Record}
-use Rattle.log_model.specs.Spelling.{HasSpelling, head_block, head_message, no_name, record_block}
+use Rattle.log_model.specs.Spelling.{HasSpelling, head_block, no_name, record_block}
 use Rattle.log_model.specs.Standing.{Stand, StandsAmong}
 use Rattle.log_model.specs.Vector.{Entry, Stamp, Vector, stamp_at}
 use Rattle.log_model.specs.View.{View, IsView, is_named}
 use Rattle.log_model.proofs.Later.{name_is_key}
-use Rattle.log_model.proofs.Lists.{each, each_from, each_left, from_filter, here, in_cons, in_nothing, there}
+use Rattle.log_model.proofs.Lists.{each, each_left, from_filter, here, in_cons, in_nothing}
 use Rattle.dht_ids.specs.declared.judge.Judged.{Judged}
 use Rattle.dht_ids.specs.declared.post.Post.{Post}
 use Rattle.log_heads.specs.Signed.{IsSignedHead, hss_judged}
 use Rattle.log_heads.proofs.SignedHeads.{signed_heads}
 use Rattle.log_records.proofs.OneRecord.{one_among}
 use Rattle.round_laws.proofs.Nodes.{ties}
-use Rattle.hss_keys.specs.Signer.{Signer, hss_key_of}
+use Rattle.hss_keys.specs.Signer.{hss_key_of}
 use Rattle.view_blocks.specs.Faults.{HasKeys}
 use Rattle.turn_model.specs.Known.{EndsAt, IsBacked, IsUnderHead}
 use Rattle.turn_model.specs.Turn.{IsPrefixOf}
 use Rattle.session_model.specs.Brought.{stamp_of}
 use Rattle.agent_model.specs.Agent.{own_key}
-use Rattle.world_model.specs.Agents.{Kept, IsKept, hss, kept_bytes, own}
-use Rattle.world_model.specs.World.{World, Participant, named_bytes}
-use Rattle.world_model.specs.Story.{Knowing, Story, knowing_nothing, knowing_of, known_of}
+use Rattle.world_model.specs.Agents.{Kept, IsKept, hss, own}
+use Rattle.world_model.specs.World.{Participant, named_bytes}
+use Rattle.world_model.specs.Story.{Knowing, knowing_nothing, knowing_of, known_of}
 use Rattle.world_model.specs.Steps.{heads_by}
 use Rattle.world_model.specs.Logs.{Played}
-use Rattle.world_laws.specs.Keeps.{IsKeptSo, IsMetHead, IsSavedWell, IsSound, IsSoundIn, IsSoundKeptIn, Keeps, NamesOneOf, SignsOnce, sealed_with}
+use Rattle.world_laws.specs.Keeps.{IsKeptSo, IsMetHead, IsSavedWell, IsSound, IsSoundIn, IsSoundKeptIn, Keeps, NamesOneOf, SignsOnce}
 use Rattle.world_laws.specs.Laws.{IsHonest, IsKeptLog, OneTruth}
 use Rattle.world_laws.proofs.MoreMet.{grows_before, more_stand}
 use Rattle.world_laws.proofs.OneKnown.{stand_in_log}

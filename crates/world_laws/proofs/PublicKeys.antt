@@ -1,5 +1,5 @@
 -- A signer's public key has 60 bytes.
-use Rattle.std.proofs.Common.{◌≡◌, ℕ, zero, suc, ◌+◌, ◌*◌, ◌/◌, ◌%◌, ◌<◌, Bool, true, false, ◌&&◌, List, [], ◌∷◌, ◌++◌, length, length-append, refl, ◌∙◌, arith}
+use Rattle.std.proofs.Common.{◌≡◌, ℕ, zero, suc, ◌+◌, ◌/◌, ◌%◌, ◌<◌, Bool, true, List, [], ◌∷◌, ◌++◌, length, length-append, refl, ◌∙◌, arith}
 use Rattle.std.specs.Prelude.{nat_lt, slice_index}
 use Rattle.std.specs.List.{list_all}
 use Rattle.std.specs.Int.{to_be_bytes, w32}
@@ -7,12 +7,10 @@ use Rattle.std.proofs.lemmas.Bool.{lt-ltb}
 use Rattle.std.proofs.lemmas.List.Folds.{list_all-append}
 use Rattle.sha2.specs.Sha256.{digest_bytes, sha256}
 use Rattle.sha2.proofs.Facts256.{length-sha256}
-use Rattle.ivy_base.specs.declared.key.PubKey.{PubKey}
 use Rattle.log_model.proofs.Lists.{both}
 use Rattle.log_model.specs.Spelling.{IsBlock}
-use Rattle.view_blocks.specs.Faults.{IsPubKey}
 use Rattle.hash_signature_model.specs.declared.set.Set.{Set}
-use Rattle.hash_signature_model.specs.OneTime.{word, one_time_key}
+use Rattle.hash_signature_model.specs.OneTime.{word}
 use Rattle.hash_signature_model.specs.Nodes.{node}
 use Rattle.hash_signature_model.specs.Parameters.{levels, lms_type, ots_type}
 use Rattle.hss_keys.specs.Saved.{AreOctets, IsSigner}

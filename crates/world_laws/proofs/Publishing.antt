@@ -1,5 +1,5 @@
 -- A step of a session that only publishes leaves a world that keeps what it should, and such a session.
-use Rattle.std.proofs.Common.{◌≡◌, ◌≢◌, ◌⊎◌, inl, inr, ⊎_elim, ℕ, ◌≤◌, Bool, true, false, cond, List, [], ◌∷◌, ◌++◌, length, map, filter, Option, Some, None, Result, refl, sym, ap, ◌∙◌, subst, arith, le_refl, Contains, not}
+use Rattle.std.proofs.Common.{◌≡◌, ◌≢◌, ◌⊎◌, inl, inr, ⊎_elim, ℕ, ◌≤◌, Bool, true, false, cond, List, [], ◌∷◌, ◌++◌, length, map, filter, Option, Some, None, refl, sym, ap, ◌∙◌, subst, arith, le_refl, Contains, not}
 use Rattle.std.specs.Prelude.{drop}
 use Rattle.std.specs.List.{AllByRecursion, find, list_any}
 use Rattle.std.specs.Option.{option_map_or}
@@ -21,11 +21,9 @@ use Rattle.dht_ids.specs.declared.judge.Judged.{Judged}
 use Rattle.dht_ids.specs.declared.peer.Peer.{Peer}
 use Rattle.dht_ids.specs.declared.post.Ack.{Ack}
 use Rattle.dht_ids.specs.declared.post.Post.{Post}
-use Rattle.dht_ids.specs.declared.post.PostKind.{PostKind}
-use Rattle.dhash_client.specs.declared.miss.Miss.{Miss}
 use Rattle.agent_model.specs.Agent.{is_head}
 use Rattle.agent_model.specs.Turning.{Answered, TurnEnd}
-use Rattle.agent_model.specs.Others.{is_of, settled}
+use Rattle.agent_model.specs.Others.{is_of}
 use Rattle.session_model.specs.Asking.{AsksNext, IsBegun}
 use Rattle.session_model.specs.Brought.{Part, all_heads, brought_in}
 use Rattle.session_model.specs.Courses.{Fails, LacksMemory, Settles, TakesTurn}
@@ -33,7 +31,7 @@ use Rattle.session_model.specs.Courses.Fails.{fails, goes_on}
 use Rattle.session_model.specs.Courses.LacksMemory.{lacks}
 use Rattle.session_model.specs.Courses.Settles.{settles as settles_all}
 use Rattle.session_model.specs.Courses.TakesTurn.{answers as turn_answers, begins_anew, gives_up}
-use Rattle.session_model.specs.Sessions.{Cache, Hears, IsPut, IsPutOfPost, Over, Publishing, Refreshing, Said, Session, Stage, Takes, TakesAll, TakesSome, acknowledged, after_put, held_back, is_log, put_question}
+use Rattle.session_model.specs.Sessions.{Cache, Hears, IsPut, Publishing, Refreshing, Said, Session, Stage, Takes, TakesAll, TakesSome, acknowledged, after_put, held_back, is_log, put_question}
 use Rattle.session_model.specs.Sessions.Hears.{gets_on, got, puts_on, puts}
 use Rattle.session_model.specs.Sessions.Takes.{posted, cached}
 use Rattle.session_model.specs.Sessions.TakesAll.{none as takes_none, more as takes_more}
@@ -46,11 +44,11 @@ use Rattle.world_model.specs.Story.{Knowing, Story, knowing_nothing, knowing_of,
 use Rattle.world_model.specs.Steps.{Acts, Scene, Steps, acked_by, ask_told, with_cache}
 use Rattle.world_model.specs.Steps.Acts.{asks, asks_in_vain, turns, is_refused, settles}
 use Rattle.world_model.specs.Steps.Steps.{acts, lacks_memory}
-use Rattle.world_laws.specs.Keeps.{AreApart, GoesOn, HasRing, IsAnswerIn, IsAtPuts, IsMetPost, IsPuttingOn, Keeps, OnlyPublishes}
+use Rattle.world_laws.specs.Keeps.{AreApart, IsAnswerIn, IsAtPuts, IsMetPost, IsPuttingOn, Keeps, OnlyPublishes}
 use Rattle.world_laws.specs.Frames.{Change, IsMildChange, changed, unchanged}
 use Rattle.world_laws.specs.Laws.{PublishingKeeps}
 use Rattle.world_laws.proofs.AskedGets.{puts_are_one}
-use Rattle.world_laws.proofs.Bringing.{found_named, some_same}
+use Rattle.world_laws.proofs.Bringing.{found_named}
 use Rattle.world_laws.proofs.Frames.{answer_stays, found_placed, nodes_of_ring, one_named, participant_keeps, placed_itself, ring_keeps, same_elements}
 use Rattle.world_laws.proofs.MoreMet.{more_posts}
 use Rattle.world_laws.proofs.NodeFates.{AskLeaves, PutsMet, answer_is_in, ask_leaves, fate_met}

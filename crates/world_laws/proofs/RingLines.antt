@@ -1,7 +1,7 @@
 -- Lines that change the ring leave a world that keeps what it should.
-use Rattle.std.proofs.Common.{◌≡◌, ◌≢◌, ◌⊎◌, inl, inr, ⊎_elim, ℕ, zero, suc, ◌+◌, ◌*◌, ◌<◌, ◌≤◌, Bool, true, false, cond, ◌&&◌, ◌||◌, not, List, [], ◌∷◌, ◌++◌, length, filter, Option, Some, None, refl, sym, ap, ◌∙◌, subst, arith, Contains, nat_lt, nat_le}
-use Rattle.std.specs.Prelude.{◌==◌, IfSome, is_some, map, fold, take, replicate}
-use Rattle.std.specs.List.{AllByRecursion, list_any}
+use Rattle.std.proofs.Common.{◌≡◌, ◌≢◌, inl, inr, ⊎_elim, ℕ, zero, suc, ◌*◌, ◌<◌, ◌≤◌, Bool, true, false, cond, ◌&&◌, ◌||◌, not, List, [], ◌∷◌, ◌++◌, length, filter, Option, Some, None, refl, sym, ap, ◌∙◌, subst, arith, Contains, nat_lt, nat_le}
+use Rattle.std.specs.Prelude.{◌==◌, IfSome, is_some, map, fold, replicate}
+use Rattle.std.specs.List.{AllByRecursion}
 use Rattle.std.proofs.lemmas.Bool.{leb-false}
 use Rattle.std.proofs.lemmas.List.{length-map}
 use Rattle.std.proofs.lemmas.List.Elements.{Contains-append_left}
@@ -28,17 +28,17 @@ use Rattle.round_laws.proofs.Renewing.{all_take}
 use Rattle.round_laws.proofs.Ringing.{apart_with, is_known, one_id, ring_line_settles}
 use Rattle.round_laws.proofs.Rounding.{base_of, leaves_the_rest, leaves_who_lives, nodes_of, shapes_of, within_of}
 use Rattle.round_laws.proofs.Fixing.{Looked, look_up}
-use Rattle.script_driver.specs.Run.{Outcome, Goes, Ends, Refuses, Exceeds}
+use Rattle.script_driver.specs.Run.{Outcome}
 use Rattle.world_model.specs.Nodes.{Node}
 use Rattle.world_model.specs.World.{World, NamedSession, live_peers, peer_of}
-use Rattle.world_model.specs.Story.{Story, began_of}
-use Rattle.world_model.specs.Fates.{FateOf, Fates}
+use Rattle.world_model.specs.Story.{began_of}
+use Rattle.world_model.specs.Fates.{Fates}
 use Rattle.world_model.specs.Fates.Fates.{none as fates_none, more as fates_more}
-use Rattle.world_model.specs.Ring.{AreSettled, JoinLine, LooksUp, RingLine, empty_node, first_peers, in_ring_order, is_known_id, is_refused_ring, joined_node, least, peer_numbered, with_new_node}
+use Rattle.world_model.specs.Ring.{AreSettled, JoinLine, LooksUp, RingLine, empty_node, first_peers, in_ring_order, is_known_id, joined_node, least, peer_numbered, with_new_node}
 use Rattle.world_model.specs.Ring.AreSettled.{none as settled_none, more as settled_more}
 use Rattle.world_model.specs.Ring.RingLine.{refused as ring_refused, exceeds as ring_exceeds, makes as ring_makes}
 use Rattle.world_model.specs.Ring.JoinLine.{before_ring as join_before_ring, known as join_known, exceeds as join_exceeds, alone as join_alone, joins as join_joins, fails as join_fails}
-use Rattle.world_model.specs.Rounds.{IsRoundOf, RoundLine}
+use Rattle.world_model.specs.Rounds.{RoundLine}
 use Rattle.world_model.specs.Rounds.RoundLine.{before_ring as round_before_ring, goes as round_goes}
 use Rattle.world_model.specs.Logs.{Played}
 use Rattle.world_laws.specs.Keeps.{AreSound, GoesOn, HasRing, IsSoundSession, Keeps}
@@ -47,7 +47,7 @@ use Rattle.world_laws.proofs.Frames.{no_changes, nodes_of_ring, ring_keeps, ring
 use Rattle.world_laws.proofs.Lines.{Keeping, by_world}
 use Rattle.world_laws.proofs.MoreMet.{some_weaker}
 use Rattle.world_laws.proofs.NodeFates.{HoldsMet, fate_rest}
-use Rattle.world_laws.proofs.RoundBlocks.{AllHold, round_hold, routes_hold}
+use Rattle.world_laws.proofs.RoundBlocks.{round_hold, routes_hold}
 
 -- ---- rounds
 

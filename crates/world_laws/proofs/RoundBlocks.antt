@@ -1,25 +1,24 @@
 -- In a round of maintenance each node goes on to hold blocks that were met: what is put was held before.
-use Rattle.std.proofs.Common.{◌≡◌, ℕ, ◌+◌, ◌≤◌, Bool, true, false, cond, not, List, [], ◌∷◌, length, filter, map, fold, Option, Some, None, refl, sym, ap, ◌∙◌, subst, arith, Contains}
+use Rattle.std.proofs.Common.{◌≡◌, ℕ, ◌+◌, ◌≤◌, Bool, true, false, cond, not, List, [], ◌∷◌, length, filter, fold, Option, Some, refl, sym, subst, arith, Contains}
 use Rattle.std.specs.List.{AllByRecursion}
-use Rattle.std.specs.Map.{keys_of, values_of}
-use Rattle.std.specs.Prelude.{sum_by}
+use Rattle.std.specs.Map.{values_of}
 use Rattle.std.proofs.lemmas.List.Sums.{sum_by-cons}
 use Rattle.std.specs.FinMap.Entries.{is_sorted-where_key}
 use Rattle.std.specs.Ordering.{eq_by_cmp}
 use Rattle.ivy_base.specs.declared.key.Key.{Key}
 use Rattle.ivy_base.specs.Naming.{key_cmp}
-use Rattle.ring_model.proofs.Lists.{all-among, all_weaker, among_filtered, all_from, filter_gives}
+use Rattle.ring_model.proofs.Lists.{all-among, all_weaker, filter_gives}
 use Rattle.dht_ids.specs.declared.ask.Answer.{Answer}
 use Rattle.dht_ids.specs.declared.ask.Ask.{Ask}
 use Rattle.dht_ids.specs.declared.ask.Ask.TheVariants as ask
 use Rattle.dht_ids.specs.declared.judge.Judged.{Judged}
 use Rattle.dht_ids.specs.declared.peer.Peer.{Peer}
 use Rattle.dhash_client.specs.Course.{Told}
-use Rattle.node_store.specs.Stores.{Block, Blocks, IsStore, bytes_held, capacity, without}
+use Rattle.node_store.specs.Stores.{Block, Blocks, IsStore, bytes_held, without}
 use Rattle.node_store.specs.declared.kind.Kind.{Kind}
 use Rattle.node_store.specs.declared.kind.Kind.TheVariants.{Content, Head}
 use Rattle.world_model.specs.Nodes.{Node}
-use Rattle.world_model.specs.World.{World, node_at, peer_of, with_node}
+use Rattle.world_model.specs.World.{World, node_at, with_node}
 use Rattle.world_model.specs.Fates.{FateOf, Fates, asking}
 use Rattle.world_model.specs.Fates.Fates.{none as fates_none, more as fates_more}
 use Rattle.world_model.specs.Rounds.{EachDoes, ManyDo, Forgets, Notifies, Stabilises, FixesFrom, PutsAround, PutsAll, Repairs, IsRoundOf, is_other_peer, question_as}

@@ -1,5 +1,5 @@
 -- What a keeper's bytes say of the heads that its agent signed.
-use Rattle.std.proofs.Common.{◌≡◌, ◌⊎◌, inl, inr, ⊎_elim, ℕ, zero, suc, ◌<◌, ◌≤◌, List, [], ◌∷◌, map, Option, Some, refl, sym, ap, ◌∙◌, subst, arith, Contains}
+use Rattle.std.proofs.Common.{◌≡◌, ◌⊎◌, inl, inr, ⊎_elim, ℕ, ◌<◌, ◌≤◌, List, [], ◌∷◌, map, Some, sym, ◌∙◌, subst, arith, Contains}
 use Rattle.log_model.specs.Vector.{Stamp}
 use Rattle.log_model.proofs.Lists.{each, here, in_cons, in_nothing, there}
 use Rattle.hss_keys.specs.Signer.{capacity, leaves_used}

@@ -1,19 +1,18 @@
 -- Stores of blocks after puts.
-use Rattle.std.proofs.Common.{◌≡◌, ℕ, ◌<◌, ◌≤◌, Bool, true, false, cond, ◌&&◌, List, [], ◌∷◌, Option, Some, None, refl, sym, ap, ◌∙◌, subst, T, Contains, nat_lt, arith}
-use Rattle.std.specs.Cmp.{IsTotalOrder}
+use Rattle.std.proofs.Common.{◌≡◌, ℕ, ◌≤◌, Bool, true, false, cond, ◌&&◌, List, [], ◌∷◌, Option, Some, None, refl, sym, subst, T, nat_lt}
 use Rattle.std.specs.List.{AllByRecursion}
 use Rattle.std.specs.List.Sorted.{IsStrictlySortedBy}
 use Rattle.std.specs.Map.{keys_of}
 use Rattle.std.specs.Option.{option_or}
-use Rattle.std.specs.Ordering.{eq_by_cmp, is_lt}
+use Rattle.std.specs.Ordering.{is_lt}
 use Rattle.std.specs.declared.cmp.Ordering.{Ordering}
 use Rattle.std.specs.declared.cmp.Ordering.TheVariants.{Less, Equal, Greater}
 use Rattle.std.specs.FinMap.Entries.{by_order, put, below_all, is_sorted, is_sorted-put}
 use Rattle.std.proofs.lemmas.Bool.{ltb-false}
 use Rattle.ivy_base.specs.declared.key.Key.{Key}
-use Rattle.ivy_base.specs.Naming.{key_cmp, name}
+use Rattle.ivy_base.specs.Naming.{key_cmp}
 use Rattle.dht_ids.specs.declared.ask.StoreFault.{StoreFault}
-use Rattle.dht_ids.specs.declared.ask.StoreFault.TheVariants.{WrongName, Full}
+use Rattle.dht_ids.specs.declared.ask.StoreFault.TheVariants.{Full}
 use Rattle.dht_ids.specs.declared.judge.Judged.{Judged}
 use Rattle.node_store.specs.Stores.{Block, Blocks, IsStore, bytes_held, capacity, content, content_fault, full, head, head_fault, not_judged, number_at, older, wrong_name}
 use Rattle.node_store.proofs.Maps.{keys_total}

@@ -1,13 +1,11 @@
 -- Lines that make views leave a world that keeps what it should.
-use Rattle.std.proofs.Common.{◌≡◌, ◌≢◌, ℕ, suc, ◌+◌, ◌≤◌, Bool, true, false, ◌||◌, List, [], ◌∷◌, ◌++◌, length, map, Option, Some, None, refl, sym, ap, ◌∙◌, subst, arith, Contains, nat_lt}
-use Rattle.std.specs.Prelude.{IfSome}
+use Rattle.std.proofs.Common.{◌≡◌, ◌≢◌, ℕ, suc, ◌≤◌, Bool, true, false, ◌||◌, List, [], ◌∷◌, ◌++◌, length, Option, Some, None, refl, sym, ap, ◌∙◌, subst, arith, Contains, nat_lt}
 use Rattle.std.specs.List.{AllByRecursion}
 use Rattle.std.proofs.lemmas.Bool.{ltb-false}
-use Rattle.ring_model.proofs.Lists.{all_weaker}
 use Rattle.ivy_base.specs.declared.key.PubKey.{PubKey}
 use Rattle.log_heads.specs.Signed.{hss_judged}
 use Rattle.log_model.proofs.Lists.{each, each_append}
-use Rattle.log_model.specs.View.{View, IsView, have_own_head_keys, most_former, most_members, view_block, view_name}
+use Rattle.log_model.specs.View.{View, IsView, most_former, most_members, view_block, view_name}
 use Rattle.view_blocks.specs.Faults.{HasKeys, IsPubKey}
 use Rattle.dht_ids.specs.Asked.{IsForData}
 use Rattle.dht_ids.specs.declared.ask.Answer.{Answer}
@@ -16,7 +14,7 @@ use Rattle.dht_ids.specs.declared.ask.Ask.TheVariants as ask
 use Rattle.dht_ids.specs.declared.peer.Peer.{Peer}
 use Rattle.dht_ids.specs.declared.post.Post.{Post}
 use Rattle.dhash_client.specs.Course.{Told}
-use Rattle.script_driver.specs.Run.{Outcome, Goes, Ends, Refuses, Exceeds}
+use Rattle.script_driver.specs.Run.{Outcome, Goes}
 use Rattle.script_model.specs.Words.{◌>>=◌}
 use Rattle.world_model.specs.Agents.{own}
 use Rattle.world_model.specs.World.{World, NamedView, Participant, meets, participant}

@@ -1,13 +1,11 @@
 -- A participant publishes all that its agent has to, step by step.
-use Rattle.std.proofs.Common.{◌≡◌, ◌≢◌, ℕ, ◌+◌, Bool, true, false, cond, List, [], ◌∷◌, ◌++◌, length, map, filter, Option, Some, None, refl, sym, ap, ◌∙◌, subst, arith, Contains, nat_lt}
+use Rattle.std.proofs.Common.{◌≡◌, ◌≢◌, ℕ, Bool, true, false, cond, List, [], ◌∷◌, ◌++◌, map, filter, Option, Some, refl, sym, ap, ◌∙◌, subst, Contains, nat_lt}
 use Rattle.std.specs.Prelude.{fold}
 use Rattle.std.specs.List.{AllByRecursion}
-use Rattle.std.proofs.lemmas.List.{length-map}
-use Rattle.ring_model.proofs.Lists.{all_weaker}
 use Rattle.ivy_base.specs.declared.key.Key.{Key}
 use Rattle.ivy_base.specs.declared.operation.Moment.{Moment}
 use Rattle.log_heads.specs.Signed.{hss_judged}
-use Rattle.log_model.proofs.Lists.{each, each_append, each_from, from_filter, here, there}
+use Rattle.log_model.proofs.Lists.{each, each_append, each_from, from_filter}
 use Rattle.log_model.specs.View.{View}
 use Rattle.dht_ids.specs.declared.ask.Answer.{Answer}
 use Rattle.dht_ids.specs.declared.ask.Ask.{Ask}
@@ -36,8 +34,8 @@ use Rattle.world_model.specs.Steps.{Acts, RunsOut, Scene, Steps, with_cache}
 use Rattle.world_model.specs.Steps.Acts.{asks, asks_in_vain, turns, is_refused, settles}
 use Rattle.world_model.specs.Steps.Steps.{acts, lacks_memory}
 use Rattle.world_model.specs.Steps.RunsOut.{is_over as runs_over, more as runs_more}
-use Rattle.world_model.specs.Logs.{Played, Publishes, to_publish}
-use Rattle.world_laws.specs.Keeps.{HasRing, IsMetPost, Keeps, OnlyPublishes}
+use Rattle.world_model.specs.Logs.{Played, to_publish}
+use Rattle.world_laws.specs.Keeps.{IsMetPost, Keeps, OnlyPublishes}
 use Rattle.world_laws.specs.Laws.{WholePublishingKeeps}
 use Rattle.world_laws.proofs.Bringing.{found_named}
 use Rattle.world_laws.proofs.Frames.{ring_of}
