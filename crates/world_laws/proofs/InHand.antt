@@ -1,5 +1,5 @@
 -- Steps of a session in hand that are no get and no turn leave such a world and such a session.
-use Rattle.std.proofs.Common.{◌≡◌, ◌≢◌, ⊎_elim, ℕ, Bool, true, false, List, [], ◌∷◌, ◌++◌, map, filter, Option, Some, None, refl, sym, ap, ◌∙◌, subst, Contains, not}
+use Rattle.std.proofs.Common.{◌≡◌, ◌≢◌, ◌⊎◌, inl, inr, ⊎_elim, ℕ, Bool, true, false, List, [], ◌∷◌, ◌++◌, map, filter, Option, Some, None, refl, sym, ap, ◌∙◌, subst, arith, length, length-append, Contains, not}
 use Rattle.std.specs.List.{AllByRecursion, list_any}
 use Rattle.ring_model.proofs.Lists.{all_weaker}
 use Rattle.ivy_base.specs.Naming.{NamesTellApart}
@@ -10,6 +10,7 @@ use Rattle.turn_model.specs.Basis.{Holding}
 use Rattle.dht_ids.specs.Asked.{IsForData, told}
 use Rattle.dht_ids.specs.declared.ask.Answer.{Answer}
 use Rattle.dht_ids.specs.declared.ask.Ask.{Ask}
+use Rattle.dht_ids.specs.declared.ask.Ask.TheVariants as ask
 use Rattle.dht_ids.specs.declared.ask.Heard.{Heard}
 use Rattle.dht_ids.specs.declared.peer.Peer.{Peer}
 use Rattle.dht_ids.specs.declared.post.Ack.{Ack}
@@ -19,9 +20,12 @@ use Rattle.agent_model.specs.Others.{is_of}
 use Rattle.session_model.specs.Courses.{Settles}
 use Rattle.session_model.specs.Courses.LacksMemory.{lacks}
 use Rattle.session_model.specs.Courses.Settles.{settles as settles_all}
-use Rattle.session_model.specs.Refreshing.{Note}
+use Rattle.session_model.specs.Asking.{AsksNext}
+use Rattle.session_model.specs.Brought.{Want}
+use Rattle.session_model.specs.Refreshing.{Needs, Note}
 use Rattle.session_model.specs.Replies.{said_no_memory}
-use Rattle.session_model.specs.Sessions.{Cache, Over, Publishing, Said, Session, Stage, after_put, held_back}
+use Rattle.session_model.specs.Sessions.{Cache, Hears, IsGet, Over, Publishing, Refreshing, Said, Session, Stage, Wants, after_put, held_back, wanted_key}
+use Rattle.session_model.specs.Sessions.Hears.{gets_on, got, puts_on, puts}
 use Rattle.world_model.specs.Agents.{Agent}
 use Rattle.world_model.specs.Fates.{FateOf}
 use Rattle.world_model.specs.World.{World, Participant, named_bytes, participant, peer_of, with_participant}
@@ -29,11 +33,11 @@ use Rattle.world_model.specs.Story.{Began, Story}
 use Rattle.world_model.specs.Steps.{Scene, acked_by, ask_told}
 use Rattle.world_laws.specs.Causes.{HasCause, said_at}
 use Rattle.world_laws.specs.Causes.HasCause.{alone, missed, turned, no_memory}
-use Rattle.world_laws.specs.Keeps.{AreApart, GoesOn, HasSaid, IsAnswerIn, IsAtStage, IsInHand, IsMetPost, IsSoundSession, Keeps, KeepsUp}
+use Rattle.world_laws.specs.Keeps.{AreApart, GoesOn, HasSaid, IsAnswerIn, IsAtStage, IsInHand, IsMetPost, IsRefreshing, IsSoundSession, Keeps, KeepsUp}
 use Rattle.world_laws.specs.Keeps.KeepsUp.{still, grown, dropped}
 use Rattle.world_laws.specs.Frames.{Change, IsMildChange, changed, unchanged}
-use Rattle.world_laws.specs.Laws.{LackingKeeps, PutsKeep, SettlingKeeps}
-use Rattle.world_laws.proofs.AskedGets.{puts_are_one}
+use Rattle.world_laws.specs.Laws.{GetsGoOnKeep, LackingKeeps, PutsKeep, SettlingKeeps}
+use Rattle.world_laws.proofs.AskedGets.{gets_are_one, puts_are_one}
 use Rattle.world_laws.proofs.Bringing.{found_named, some_same}
 use Rattle.world_laws.proofs.Frames.{answer_stays, found_placed, goes_on_still, participant_keeps, placed_itself, said_still, same_keys, sound_still}
 use Rattle.world_laws.proofs.MoreMet.{more_posts}
@@ -165,21 +169,15 @@ module _ (c : Scene) (r : ℕ) (p : Participant) (keeps : Keeps (c.world, c.stor
 pub settling_keeps : SettlingKeeps
 settling_keeps c r p after t keeps hand is_p is = settled_so c r p keeps hand is_p after t is
 
--- ---- puts
+-- ---- asks by which nothing is brought
 
 module _ (c : Scene) (r : ℕ) (p : Participant) (keeps : Keeps (c.world, c.story)) (hand : IsInHand c r) (ringed : c.world.replicas ≡ Some r) (is_p : participant c.world c.session.by ≡ Some p)
-    (node : Peer) (question : Ask) (answer : Answer) (next : World) (heard : Session) (cache : Cache) (fate : FateOf hss_judged c.world node question answer next) (h : HearsPut r c.session p.cache node question answer heard cache) where
+    (node : Peer) (question : Ask) (answer : Answer) (next : World) (heard : Session) (cache : Cache) (fate : FateOf hss_judged c.world node question answer next) (fits : IsForData question × PutsMet c.world.met question) where
   abbrev w : World
   w = c.world
 
   abbrev s : Session
   s = c.session
-
-  puts_now : IsAtStage w r s (Publishing h.said (h.post ∷ h.posts) h.acks)
-  puts_now = subst (IsAtStage w r s) h.at hand.goes_on.stage
-
-  fits : IsForData question × PutsMet w.met question
-  fits = question_fits w.met h.post puts_now.1.0.0 question h.next.is_of
 
   left : AskLeaves r w next
   left = leaves w c.story r keeps ringed next node question answer fits.0 fits.1 fate
@@ -189,9 +187,6 @@ module _ (c : Scene) (r : ℕ) (p : Participant) (keeps : Keeps (c.world, c.stor
 
   peers_then : (q : Peer) → Contains (map peer_of w.nodes) q → Contains (map peer_of next.nodes) q
   peers_then = still_peers w c.story r keeps ringed next node question answer fits.0 fits.1 fate
-
-  posts_then : AllByRecursion (IsMetPost next.met) (h.post ∷ h.posts)
-  posts_then = more_posts w.met next.met more (h.post ∷ h.posts) puts_now.1
 
   heard_then : AllByRecursion (λ a. IsAnswerIn next a.got) (s.current ++ told node question answer)
   heard_then = each_append (λ (a : Heard). IsAnswerIn next a.got) s.current (told node question answer) (all_weaker _ _ s.current (λ a g. answer_stays w next more peers_then a.got g) hand.goes_on.heard)
@@ -229,49 +224,124 @@ module _ (c : Scene) (r : ℕ) (p : Participant) (keeps : Keeps (c.world, c.stor
       sound_next : IsSoundSession w c.story s c.began → IsSoundSession next (record c.story { acked = acked_then }) s c.began
       sound_next g = sound_still w next c.story more s c.began g (unchanged g.by) acked_then (ap (λ (v : World). participant v s.by) left.rest ∙ g.is_by)
 
-  said_before : said_at s.stage ≡ h.said
-  said_before = ap said_at h.at
+  same_world : cache ≡ p.cache → with_participant next (record p { cache = cache }) ≡ next
+  same_world same_cache =
+      ap (λ x. with_participant next (record p { cache = x })) same_cache
+      ∙ placed_itself next (subst (λ (v : World). AreApart (map (λ q. q.name) v.participants)) (sym left.rest) keeps.apart) s.by p (ap (λ (v : World). participant v s.by) left.rest ∙ is_p)
 
-  said_after : (said : Option Said) (q : Post) (posts : List Post) (acks : List Ack) (came : Bool) → said_at (after_put said q posts acks came) ≡ said
-  said_after said q posts acks true = refl
-  said_after said q posts acks false = refl
+  same_story : heard.parts ≡ s.parts → ask_told c.story p.name s heard ≡ record c.story { acked = acked_then }
+  same_story same_parts = ask_tells c.story p.name s heard (subst AreApart (sym keeps.fits.participants) keeps.apart) same_parts
+
+  asked_so : cache ≡ p.cache → heard.parts ≡ s.parts → IsInHand (record { world = next; story = record c.story { acked = acked_then }; session = heard; began = c.began }) r
+      → Keeps (with_participant next (record p { cache = cache }), ask_told c.story p.name s heard)
+      × IsInHand (record { world = with_participant next (record p { cache = cache }); story = ask_told c.story p.name s heard; session = heard; began = c.began }) r × ((ask_told c.story p.name s heard).turns ≡ c.story.turns)
+  asked_so same_cache same_parts in_hand = (
+    subst (λ (v : World). Keeps (v, ask_told c.story p.name s heard)) (sym (same_world same_cache))
+        (subst (λ (u : Story). Keeps (next, u)) (sym (same_story same_parts)) (ask_keeps w c.story r keeps ringed next node question answer fits.0 fits.1 fate acked_then)),
+    subst (λ (v : World). IsInHand (record { world = v; story = ask_told c.story p.name s heard; session = heard; began = c.began }) r) (sym (same_world same_cache))
+        (subst (λ (u : Story). IsInHand (record { world = next; story = u; session = heard; began = c.began }) r) (sym (same_story same_parts)) in_hand),
+    refl,
+  )
+
+-- ---- puts
+
+said_after : (said : Option Said) (q : Post) (posts : List Post) (acks : List Ack) (came : Bool) → said_at (after_put said q posts acks came) ≡ said
+said_after said q posts acks true = refl
+said_after said q posts acks false = refl
+
+module _ (c : Scene) (r : ℕ) (p : Participant) (keeps : Keeps (c.world, c.story)) (hand : IsInHand c r) (ringed : c.world.replicas ≡ Some r) (is_p : participant c.world c.session.by ≡ Some p)
+    (node : Peer) (question : Ask) (answer : Answer) (next : World) (heard : Session) (cache : Cache) (fate : FateOf hss_judged c.world node question answer next) (h : HearsPut r c.session p.cache node question answer heard cache) where
+  puts_now : IsAtStage c.world r c.session (Publishing h.said (h.post ∷ h.posts) h.acks)
+  puts_now = subst (IsAtStage c.world r c.session) h.at hand.goes_on.stage
+
+  put_fits : IsForData question × PutsMet c.world.met question
+  put_fits = question_fits c.world.met h.post puts_now.1.0.0 question h.next.is_of
+
+  posts_then : AllByRecursion (IsMetPost next.met) (h.post ∷ h.posts)
+  posts_then = more_posts c.world.met next.met (more c r p keeps hand ringed is_p node question answer next heard cache fate put_fits) (h.post ∷ h.posts) puts_now.1
 
   after_a_put : (t : Session) → t.entries ≢ [] → t.current ≡ [] → (came : Bool) → IsAtStage next r t (after_put h.said h.post h.posts h.acks came)
   after_a_put t some fresh true = (puts_now.0, posts_then.1, begins r t some fresh h.posts)
   after_a_put t some fresh false = (puts_now.0, fewer_met next.met h.post h.posts posts_then.1, begins r t some fresh (held_back h.post h.posts))
 
-  in_hand_then : IsInHand (record { world = next; story = record c.story { acked = acked_then }; session = heard; began = c.began }) r
-  in_hand_then = ⊎_elim
-      (λ one. hand_with (s.current ++ told node question answer) s.stage one.1 refl heard_then
-      (subst (IsAtStage next r (record s { current = s.current ++ told node question answer })) (sym h.at) (
+  put_so : Keeps (with_participant next (record p { cache = cache }), ask_told c.story p.name c.session heard)
+      × IsInHand (record { world = with_participant next (record p { cache = cache }); story = ask_told c.story p.name c.session heard; session = heard; began = c.began }) r
+      × ((ask_told c.story p.name c.session heard).turns ≡ c.story.turns)
+  put_so = asked_so c r p keeps hand ringed is_p node question answer next heard cache fate put_fits h.same_cache
+      (⊎_elim (λ one. ap (λ (t : Session). t.parts) one.1) (λ one. ap (λ (t : Session). t.parts) one.1) h.then_is)
+      (⊎_elim
+      (λ one. hand_with c r p keeps hand ringed is_p node question answer next heard cache fate put_fits (c.session.current ++ told node question answer) c.session.stage one.1 refl
+      (heard_then c r p keeps hand ringed is_p node question answer next heard cache fate put_fits)
+      (subst (IsAtStage next r (record c.session { current = c.session.current ++ told node question answer })) (sym h.at) (
         puts_now.0,
         posts_then,
-        ⊎_elim (λ whole. absurd (one.0 whole)) (λ begun. begun) ((puts_are_one hss_judged r s h.post).2 s.current node question answer h.next),
+        ⊎_elim (λ whole. absurd (one.0 whole)) (λ begun. begun) ((puts_are_one hss_judged r c.session h.post).2 c.session.current node question answer h.next),
       )))
-      (λ one. hand_with [] (after_put h.said h.post h.posts h.acks one.0) one.1 (said_after h.said h.post h.posts h.acks one.0 ∙ sym said_before) tt
-      (after_a_put (record s { current = []; stage = after_put h.said h.post h.posts h.acks one.0 }) hand.goes_on.some_entry refl one.0))
-      h.then_is
-
-  same_parts : heard.parts ≡ s.parts
-  same_parts = ⊎_elim (λ one. ap (λ (t : Session). t.parts) one.1) (λ one. ap (λ (t : Session). t.parts) one.1) h.then_is
-
-  same_world : with_participant next (record p { cache = cache }) ≡ next
-  same_world =
-      ap (λ x. with_participant next (record p { cache = x })) h.same_cache
-      ∙ placed_itself next (subst (λ (v : World). AreApart (map (λ q. q.name) v.participants)) (sym left.rest) keeps.apart) s.by p (ap (λ (v : World). participant v s.by) left.rest ∙ is_p)
-
-  same_story : ask_told c.story p.name s heard ≡ record c.story { acked = acked_then }
-  same_story = ask_tells c.story p.name s heard (subst AreApart (sym keeps.fits.participants) keeps.apart) same_parts
-
-  put_so : Keeps (with_participant next (record p { cache = cache }), ask_told c.story p.name s heard)
-      × IsInHand (record { world = with_participant next (record p { cache = cache }); story = ask_told c.story p.name s heard; session = heard; began = c.began }) r × ((ask_told c.story p.name s heard).turns ≡ c.story.turns)
-  put_so = (
-    subst (λ (v : World). Keeps (v, ask_told c.story p.name s heard)) (sym same_world) (subst (λ (u : Story). Keeps (next, u)) (sym same_story) (ask_keeps w c.story r keeps ringed next node question answer fits.0 fits.1 fate acked_then)),
-    subst (λ (v : World). IsInHand (record { world = v; story = ask_told c.story p.name s heard; session = heard; began = c.began }) r) (sym same_world)
-        (subst (λ (u : Story). IsInHand (record { world = next; story = u; session = heard; began = c.began }) r) (sym same_story) in_hand_then),
-    refl,
-  )
+      (λ one. hand_with c r p keeps hand ringed is_p node question answer next heard cache fate put_fits [] (after_put h.said h.post h.posts h.acks one.0) one.1
+      (said_after h.said h.post h.posts h.acks one.0 ∙ sym (ap said_at h.at)) tt
+      (after_a_put (record c.session { current = []; stage = after_put h.said h.post h.posts h.acks one.0 }) hand.goes_on.some_entry refl one.0))
+      h.then_is)
 
 pub puts_keep : PutsKeep
 puts_keep c r p node question answer next heard cache keeps hand ringed is_p other fate hears =
     put_so c r p keeps hand ringed is_p node question answer next heard cache fate (hears_put r c.session p.cache node question answer heard cache other hears)
+
+-- ---- gets that go on
+
+record HearsGet (r : ℕ) (s : Session) (cache : Cache) (node : Peer) (question : Ask) (answer : Answer) (heard : Session) (after : Cache) : Type 0 where
+  same_cache : after ≡ cache
+  want : Want
+  wants : Wants hss_judged r s want
+  next : AsksNext (wanted_key want) (ask.Get (wanted_key want)) (IsGet hss_judged r s.entries want) s.current node question
+  part : IsGet hss_judged r s.entries want (s.current ++ told node question answer) → ⊥
+  is : heard ≡ record s { current = s.current ++ told node question answer }
+
+not_longer : {X : Type 0} (xs : List X) (x : X) → xs ++ x ∷ [] ≡ xs → ⊥
+not_longer xs x e = omega (arith, ap length e, length-append xs (x ∷ []))
+
+not_both : (s : Session) (said : Option Said) (posts : List Post) (acks : List Ack) → s.stage ≡ Refreshing → s.stage ≡ Publishing said posts acks → ⊥
+not_both s said posts acks e f = cc (sym e ∙ f)
+
+hears_get : (r : ℕ) (s : Session) (cache : Cache) (node : Peer) (question : Ask) (answer : Answer) (heard : Session) (after : Cache) → s.stage ≡ Refreshing → heard.parts ≡ s.parts → Hears hss_judged r s cache node question answer heard after
+    → HearsGet r s cache node question answer heard after
+hears_get r s cache node question answer _ _ at same (gets_on want wants next part) = record { same_cache = refl; want = want; wants = wants; next = next; part = part; is = refl }
+hears_get r s cache node question answer _ _ at same (got want brought wants next whole) = absurd (not_longer s.parts _ same)
+hears_get r s cache node question answer _ _ at same (puts_on said q posts acks stage next part) = absurd (not_both s said (q ∷ posts) acks at stage)
+hears_get r s cache node question answer _ _ at same (puts said q posts acks came stage next whole) = absurd (not_both s said (q ∷ posts) acks at stage)
+
+module _ (c : Scene) (r : ℕ) (p : Participant) (keeps : Keeps (c.world, c.story)) (hand : IsInHand c r) (ringed : c.world.replicas ≡ Some r) (is_p : participant c.world c.session.by ≡ Some p)
+    (node : Peer) (question : Ask) (answer : Answer) (next : World) (heard : Session) (cache : Cache) (fate : FateOf hss_judged c.world node question answer next) (at : c.session.stage ≡ Refreshing)
+    (h : HearsGet r c.session p.cache node question answer heard cache) where
+  get_fits : IsForData question × PutsMet c.world.met question
+  get_fits = by h.next.is_of
+    where
+      by : (question ≡ ask.Route (wanted_key h.want)) ⊎ (question ≡ ask.Get (wanted_key h.want)) → IsForData question × PutsMet c.world.met question
+      by (inl e) = subst (λ q. IsForData q × PutsMet c.world.met q) (sym e) (tt, tt)
+      by (inr e) = subst (λ q. IsForData q × PutsMet c.world.met q) (sym e) (tt, tt)
+
+  refreshing : IsRefreshing r c.session
+  refreshing = subst (IsAtStage c.world r c.session) at hand.goes_on.stage
+
+  refreshing_then : IsRefreshing r (record c.session { current = c.session.current ++ told node question answer })
+  refreshing_then = record {
+    xid = refreshing.xid;
+    asked = refreshing.asked;
+    asks = refreshing.asks;
+    notes = h.wants.1;
+    given = h.wants.2;
+    end = Needs h.want;
+    refreshed = h.wants.3;
+    goes_on = ⊎_elim (λ whole. absurd (h.part whole)) (λ begun. begun) ((gets_are_one hss_judged r c.session.entries h.want).2 c.session.current node question answer h.next);
+  }
+
+  get_so : Keeps (with_participant next (record p { cache = cache }), ask_told c.story p.name c.session heard)
+      × IsInHand (record { world = with_participant next (record p { cache = cache }); story = ask_told c.story p.name c.session heard; session = heard; began = c.began }) r
+      × ((ask_told c.story p.name c.session heard).turns ≡ c.story.turns)
+  get_so = asked_so c r p keeps hand ringed is_p node question answer next heard cache fate get_fits h.same_cache (ap (λ (t : Session). t.parts) h.is)
+      (hand_with c r p keeps hand ringed is_p node question answer next heard cache fate get_fits (c.session.current ++ told node question answer) c.session.stage h.is refl
+      (heard_then c r p keeps hand ringed is_p node question answer next heard cache fate get_fits)
+      (subst (IsAtStage next r (record c.session { current = c.session.current ++ told node question answer })) (sym at) refreshing_then))
+
+pub gets_go_on_keep : GetsGoOnKeep
+gets_go_on_keep c r p node question answer next heard cache keeps hand ringed is_p at same fate hears =
+    get_so c r p keeps hand ringed is_p node question answer next heard cache fate at (hears_get r c.session p.cache node question answer heard cache at same hears)

@@ -103,6 +103,14 @@ PutsKeep = (c : Scene) (r : ℕ) (p : Participant) (node : Peer) (question : Ask
     → (let next : Scene = record { world = with_participant world (record p { cache = cache }); story = ask_told c.story p.name c.session heard; session = heard; began = c.began } in
     Keeps (next.world, next.story) × IsInHand next r × (next.story.turns ≡ c.story.turns))
 
+-- so does an ask of a get by which nothing is brought yet
+abbrev pub GetsGoOnKeep : Type 0
+GetsGoOnKeep = (c : Scene) (r : ℕ) (p : Participant) (node : Peer) (question : Ask) (answer : Answer) (world : World) (heard : Session) (cache : Cache) → Keeps (c.world, c.story) → IsInHand c r
+    → c.world.replicas ≡ Some r → participant c.world c.session.by ≡ Some p → c.session.stage ≡ Refreshing → heard.parts ≡ c.session.parts → FateOf hss_judged c.world node question answer world
+    → Hears hss_judged r c.session p.cache node question answer heard cache
+    → (let next : Scene = record { world = with_participant world (record p { cache = cache }); story = ask_told c.story p.name c.session heard; session = heard; began = c.began } in
+    Keeps (next.world, next.story) × IsInHand next r × (next.story.turns ≡ c.story.turns))
+
 abbrev pub SettlingKeeps : Type 0
 SettlingKeeps = (c : Scene) (r : ℕ) (p : Participant) (after : Agent) (t : Session) → Keeps (c.world, c.story) → IsInHand c r → participant c.world c.session.by ≡ Some p → Settles p.agent c.session after t
     → (let next : Scene = record c { world = with_participant c.world (record p { agent = after }); session = t } in Keeps (next.world, next.story) × IsInHand next r)

@@ -1,4 +1,4 @@
-use Rattle.world_laws.proofs.InHand.{lacking_keeps, puts_keep, settling_keeps}
+use Rattle.world_laws.proofs.InHand.{gets_go_on_keep, lacking_keeps, puts_keep, settling_keeps}
 use Rattle.world_laws.proofs.some_steps_keep.Goals as goal
 
 pub returns-clause-puts : goal.returns-clause-puts
@@ -9,3 +9,6 @@ returns-clause-settling c = settling_keeps
 
 pub returns-clause-lacking : goal.returns-clause-lacking
 returns-clause-lacking c = lacking_keeps
+
+pub returns-clause-gets_go_on : goal.returns-clause-gets_go_on
+returns-clause-gets_go_on c = gets_go_on_keep
