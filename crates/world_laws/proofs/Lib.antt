@@ -33,3 +33,4 @@ pub mod WholePublishing
 pub mod InHand
 pub mod OneKnown
 pub mod OneTruth
+pub mod AllLines

@@ -15,6 +15,7 @@ use Rattle.session_model.specs.Sessions.{Cache}
 use Rattle.script_driver.specs.Run.{Goes}
 use Rattle.script_model.specs.declared.command.Command.{Command}
 use Rattle.script_model.specs.declared.command.Command.TheVariants as command
+use Rattle.script_model.specs.Lines.{command_of}
 use Rattle.script_model.specs.declared.command.KeyWord.{KeyWord}
 use Rattle.script_model.specs.declared.command.NodeWord.{NodeWord}
 use Rattle.script_model.specs.Messages.{Given}
@@ -25,7 +26,7 @@ use Rattle.world_model.specs.Story.{Story}
 use Rattle.world_model.specs.Logs.{Played}
 use Rattle.world_model.specs.Step.{Does}
 use Rattle.world_laws.specs.Keeps.{Keeps, PeersAreMade}
-use Rattle.world_laws.specs.Laws.{IsStill}
+use Rattle.world_laws.specs.Laws.{EachReplyIsOnReplay, HeadlineHolds, IsStill, LinesKeep}
 
 -- ---- participants
 
@@ -131,3 +132,26 @@ RoundLinesKeep = LineKeeps command.Round
 -- a view of some members is made, and its block put
 abbrev pub ViewLinesKeep : Type 0
 ViewLinesKeep = (view : List ℕ) (members former : List (List ℕ)) → members ≢ [] → LineKeeps (command.View view members former)
+
+-- ---- all lines
+
+-- the commands of which it is still to be shown
+abbrev pub IsLeft : Command → Type 0
+IsLeft (command.Log log id seed sets) = Unit {0}
+IsLeft (command.View view [] former) = Unit {0}
+IsLeft (command.Use log view) = Unit {0}
+IsLeft (command.As log pieces) = Unit {0}
+IsLeft (command.Open session log pieces) = Unit {0}
+IsLeft (command.Step session count) = Unit {0}
+IsLeft (command.Finish session) = Unit {0}
+IsLeft (command.Snap log) = Unit {0}
+IsLeft (command.Restart log) = Unit {0}
+IsLeft _ = ⊥
+
+-- Where these commands, as lines say them, leave such a world, so does each line.
+abbrev pub LinesKeepByThese : Type 0
+LinesKeepByThese = ((c : Command) (w next : Played) (line output : List ℕ) → IsLeft c → command_of line ≡ Some c → Keeps w → Does hss_judged w c (Goes next output) → Keeps next) → LinesKeep
+
+-- Where each line leaves such a world, and the headline holds of each, it holds of each line of a run.
+abbrev pub HeadlineOfRuns : Type 0
+HeadlineOfRuns = LinesKeep → HeadlineHolds → EachReplyIsOnReplay

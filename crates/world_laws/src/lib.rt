@@ -15,7 +15,7 @@
 //! `proofs/OneTruth.antt` (linked records that end at one record). Nothing here runs, so there are no costs.
 #![tactic(auto)]
 
-ghost use Rattle.world_laws.specs.Frames.{DamageLinesKeep, JoinLinesKeep, KeeperLinesKeep, MildChangesKeep, MoreBlocksKeep, RingLinesKeep, RoundLinesKeep, StillLinesKeep, StopLinesKeep, ViewLinesKeep};
+ghost use Rattle.world_laws.specs.Frames.{DamageLinesKeep, HeadlineOfRuns, JoinLinesKeep, KeeperLinesKeep, LinesKeepByThese, MildChangesKeep, MoreBlocksKeep, RingLinesKeep, RoundLinesKeep, StillLinesKeep, StopLinesKeep, ViewLinesKeep};
 ghost use Rattle.world_laws.specs.Kinds.{LineHasOneKind};
 ghost use Rattle.world_laws.specs.Laws.{AlikeTurnsAnswerAlike, ClashIsDecided, EmptyKeeps, FewerStayApart, FreshTurnsAreAnswered, GetsAreOne, GetsGoOnKeep, HeadsAreSavedFirst, KeptOnce, KnownIsOne, LackingKeeps, LeafSignsOnce, MetGrows, OneTruth, OtherLogsDontCount, PublishingKeeps, PutsAreOne, PutsKeep, RefreshBrings, RefreshEndsInTurn, RefreshMayTurn, SecondTurnIsAnswered, SettlingKeeps, StillLinesChangeNothing, UpperLeavesSignOnce, WholePublishingKeeps};
 
@@ -157,4 +157,12 @@ pub fn floors_name_one_set()
 /// agent knows of a log is the beginning of the one chain that the log's keeper names.
 pub fn there_is_one_truth()
     ensures { OneTruth }
+{}
+
+/// Laws and no code: what is left to be shown of lines. Where the commands that log, use, restart and snap, those of sessions,
+/// and a view of no members leave such a world, so does each line; and where each line does, and the headline holds of each, it holds
+/// of each line of a run.
+pub fn lines_left()
+    ensures lines { LinesKeepByThese }
+    ensures runs { HeadlineOfRuns }
 {}
