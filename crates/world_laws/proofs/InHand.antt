@@ -2,6 +2,7 @@
 use Rattle.std.proofs.Common.{◌≡◌, ◌≢◌, ◌⊎◌, inl, inr, ⊎_elim, ℕ, Bool, true, false, List, [], ◌∷◌, ◌++◌, map, filter, Option, Some, None, refl, sym, ap, ◌∙◌, subst, arith, length, length-append, Contains, not}
 use Rattle.std.specs.List.{AllByRecursion, list_any}
 use Rattle.ring_model.proofs.Lists.{all_weaker}
+use Rattle.ivy_base.specs.declared.key.Key.{Key}
 use Rattle.ivy_base.specs.Naming.{NamesTellApart}
 use Rattle.log_heads.specs.Signed.{hss_judged}
 use Rattle.log_model.proofs.Lists.{each, each_append, from_filter}
@@ -17,7 +18,7 @@ use Rattle.dht_ids.specs.declared.post.Ack.{Ack}
 use Rattle.dht_ids.specs.declared.post.Post.{Post}
 use Rattle.dhash_client.specs.declared.miss.Miss.{Miss}
 use Rattle.agent_model.specs.Others.{is_of}
-use Rattle.session_model.specs.Courses.{Settles}
+use Rattle.session_model.specs.Courses.{LacksMemory, Settles}
 use Rattle.session_model.specs.Courses.LacksMemory.{lacks}
 use Rattle.session_model.specs.Courses.Settles.{settles as settles_all}
 use Rattle.session_model.specs.Asking.{AsksNext}
@@ -36,7 +37,7 @@ use Rattle.world_laws.specs.Causes.HasCause.{alone, missed, turned, no_memory}
 use Rattle.world_laws.specs.Keeps.{AreApart, GoesOn, HasSaid, IsAnswerIn, IsAtStage, IsInHand, IsMetPost, IsRefreshing, IsSoundSession, Keeps, KeepsUp}
 use Rattle.world_laws.specs.Keeps.KeepsUp.{still, grown, dropped}
 use Rattle.world_laws.specs.Frames.{Change, IsMildChange, changed, unchanged}
-use Rattle.world_laws.specs.Laws.{GetsGoOnKeep, LackingKeeps, PutsKeep, SettlingKeeps}
+use Rattle.world_laws.specs.Laws.{GetsGoOnKeep, LackingKeeps, PutsKeep, SettlingKeeps, VainAsksKeep}
 use Rattle.world_laws.proofs.AskedGets.{gets_are_one, puts_are_one}
 use Rattle.world_laws.proofs.Bringing.{found_named, some_same}
 use Rattle.world_laws.proofs.Frames.{answer_stays, found_placed, goes_on_still, participant_keeps, placed_itself, said_still, same_keys, sound_still}
@@ -288,6 +289,10 @@ puts_keep c r p node question answer next heard cache keeps hand ringed is_p oth
 
 -- ---- gets that go on
 
+route_or_get : (met : List (List ℕ)) (question : Ask) (key : Key) → (question ≡ ask.Route key) ⊎ (question ≡ ask.Get key) → IsForData question × PutsMet met question
+route_or_get met question key (inl e) = subst (λ q. IsForData q × PutsMet met q) (sym e) (tt, tt)
+route_or_get met question key (inr e) = subst (λ q. IsForData q × PutsMet met q) (sym e) (tt, tt)
+
 record HearsGet (r : ℕ) (s : Session) (cache : Cache) (node : Peer) (question : Ask) (answer : Answer) (heard : Session) (after : Cache) : Type 0 where
   same_cache : after ≡ cache
   want : Want
@@ -313,11 +318,7 @@ module _ (c : Scene) (r : ℕ) (p : Participant) (keeps : Keeps (c.world, c.stor
     (node : Peer) (question : Ask) (answer : Answer) (next : World) (heard : Session) (cache : Cache) (fate : FateOf hss_judged c.world node question answer next) (at : c.session.stage ≡ Refreshing)
     (h : HearsGet r c.session p.cache node question answer heard cache) where
   get_fits : IsForData question × PutsMet c.world.met question
-  get_fits = by h.next.is_of
-    where
-      by : (question ≡ ask.Route (wanted_key h.want)) ⊎ (question ≡ ask.Get (wanted_key h.want)) → IsForData question × PutsMet c.world.met question
-      by (inl e) = subst (λ q. IsForData q × PutsMet c.world.met q) (sym e) (tt, tt)
-      by (inr e) = subst (λ q. IsForData q × PutsMet c.world.met q) (sym e) (tt, tt)
+  get_fits = route_or_get c.world.met question (wanted_key h.want) h.next.is_of
 
   refreshing : IsRefreshing r c.session
   refreshing = subst (IsAtStage c.world r c.session) at hand.goes_on.stage
@@ -345,3 +346,48 @@ module _ (c : Scene) (r : ℕ) (p : Participant) (keeps : Keeps (c.world, c.stor
 pub gets_go_on_keep : GetsGoOnKeep
 gets_go_on_keep c r p node question answer next heard cache keeps hand ringed is_p at same fate hears =
     get_so c r p keeps hand ringed is_p node question answer next heard cache fate at (hears_get r c.session p.cache node question answer heard cache at same hears)
+
+-- ---- asks in vain
+
+-- what is asked while a session refreshes
+get_fits_of : (met : List (List ℕ)) (r : ℕ) (s : Session) (cache : Cache) (node : Peer) (question : Ask) (answer : Answer) (heard : Session) (after : Cache) → s.stage ≡ Refreshing → Hears hss_judged r s cache node question answer heard after
+    → IsForData question × PutsMet met question
+get_fits_of met r s cache node question answer _ _ at (gets_on want wants next part) = route_or_get met question (wanted_key want) next.is_of
+get_fits_of met r s cache node question answer _ _ at (got want brought wants next whole) = route_or_get met question (wanted_key want) next.is_of
+get_fits_of met r s cache node question answer _ _ at (puts_on said q posts acks stage next part) = absurd (not_both s said (q ∷ posts) acks at stage)
+get_fits_of met r s cache node question answer _ _ at (puts said q posts acks came stage next whole) = absurd (not_both s said (q ∷ posts) acks at stage)
+
+lacking_refreshes : (s t : Session) → LacksMemory s t → s.stage ≡ Refreshing
+lacking_refreshes s _ (lacks notes shown given end xid asked at refreshed asks rest front) = at
+
+pub vain_asks_keep : VainAsksKeep
+vain_asks_keep c r p node question answer next heard t cache keeps hand ringed is_p fate hears lacking = (
+  ask_keeps c.world c.story r keeps ringed next node question answer fits.0 fits.1 fate c.story.acked,
+  lacking_keeps (record c { world = next }) r t in_hand lacking,
+)
+  where
+    fits : IsForData question × PutsMet c.world.met question
+    fits = get_fits_of c.world.met r c.session p.cache node question answer heard cache (lacking_refreshes c.session t lacking) hears
+
+    left_so : AskLeaves r c.world next
+    left_so = leaves c.world c.story r keeps ringed next node question answer fits.0 fits.1 fate
+
+    more_met : (b : List ℕ) → Contains c.world.met b → Contains next.met b
+    more_met = grows c.world c.story r keeps ringed next node question answer fits.0 fits.1 fate
+
+    peers_so : (q : Peer) → Contains (map peer_of c.world.nodes) q → Contains (map peer_of next.nodes) q
+    peers_so = still_peers c.world c.story r keeps ringed next node question answer fits.0 fits.1 fate
+
+    found_so : (q : Participant) → participant c.world c.session.by ≡ Some q → participant next c.session.by ≡ Some (changed q (unchanged q))
+    found_so q is = ap (λ (v : World). participant v c.session.by) left_so.rest ∙ is
+
+    in_hand : IsInHand (record c { world = next }) r
+    in_hand = record {
+      number = hand.number;
+      goes_on = goes_on_still c.world next more_met peers_so r c.session hand.goes_on (unchanged hand.goes_on.by) (found_so hand.goes_on.by hand.goes_on.is_by);
+      said = hand.said;
+      sound = λ apart. still_sound (hand.sound (subst (λ (v : World). NamesTellApart (named_bytes v)) left_so.rest apart));
+    }
+      where
+        still_sound : IsSoundSession c.world c.story c.session c.began → IsSoundSession next c.story c.session c.began
+        still_sound g = sound_still c.world next c.story more_met c.session c.began g (unchanged g.by) c.story.acked (found_so g.by g.is_by)

@@ -115,6 +115,12 @@ abbrev pub SettlingKeeps : Type 0
 SettlingKeeps = (c : Scene) (r : ℕ) (p : Participant) (after : Agent) (t : Session) → Keeps (c.world, c.story) → IsInHand c r → participant c.world c.session.by ≡ Some p → Settles p.agent c.session after t
     → (let next : Scene = record c { world = with_participant c.world (record p { agent = after }); session = t } in Keeps (next.world, next.story) × IsInHand next r)
 
+-- so does an ask whose answer isn't heard, since memory is wanting
+abbrev pub VainAsksKeep : Type 0
+VainAsksKeep = (c : Scene) (r : ℕ) (p : Participant) (node : Peer) (question : Ask) (answer : Answer) (world : World) (heard t : Session) (cache : Cache) → Keeps (c.world, c.story) → IsInHand c r
+    → c.world.replicas ≡ Some r → participant c.world c.session.by ≡ Some p → FateOf hss_judged c.world node question answer world → Hears hss_judged r c.session p.cache node question answer heard cache
+    → LacksMemory c.session t → Keeps (world, c.story) × IsInHand (record c { world = world; session = t }) r
+
 abbrev pub LackingKeeps : Type 0
 LackingKeeps = (c : Scene) (r : ℕ) (t : Session) → IsInHand c r → LacksMemory c.session t → IsInHand (record c { session = t }) r
 

@@ -17,7 +17,7 @@
 
 ghost use Rattle.world_laws.specs.Frames.{DamageLinesKeep, HeadlineOfRuns, JoinLinesKeep, KeeperLinesKeep, LinesKeepByThese, MildChangesKeep, MoreBlocksKeep, RingLinesKeep, RoundLinesKeep, StillLinesKeep, StopLinesKeep, ViewLinesKeep};
 ghost use Rattle.world_laws.specs.Kinds.{LineHasOneKind};
-ghost use Rattle.world_laws.specs.Laws.{AlikeTurnsAnswerAlike, ClashIsDecided, EmptyKeeps, FewerStayApart, FreshTurnsAreAnswered, GetsAreOne, GetsGoOnKeep, HeadsAreSavedFirst, KeptOnce, KnownIsOne, LackingKeeps, LeafSignsOnce, MetGrows, OneTruth, OtherLogsDontCount, PublishingKeeps, PutsAreOne, PutsKeep, RefreshBrings, RefreshEndsInTurn, RefreshMayTurn, SecondTurnIsAnswered, SettlingKeeps, StillLinesChangeNothing, UpperLeavesSignOnce, WholePublishingKeeps};
+ghost use Rattle.world_laws.specs.Laws.{AlikeTurnsAnswerAlike, ClashIsDecided, EmptyKeeps, FewerStayApart, FreshTurnsAreAnswered, GetsAreOne, GetsGoOnKeep, HeadsAreSavedFirst, KeptOnce, KnownIsOne, LackingKeeps, LeafSignsOnce, MetGrows, OneTruth, OtherLogsDontCount, PublishingKeeps, PutsAreOne, PutsKeep, RefreshBrings, RefreshEndsInTurn, RefreshMayTurn, SecondTurnIsAnswered, SettlingKeeps, StillLinesChangeNothing, UpperLeavesSignOnce, VainAsksKeep, WholePublishingKeeps};
 
 /// A law and no code: of any blocks, names tell them apart, or two of them clash.
 pub fn clashes_are_decided()
@@ -139,13 +139,14 @@ pub fn lines_without_sessions_keep()
     ensures view { ViewLinesKeep }
 {}
 
-/// Laws and no code: an ask of a put, one of a get by which nothing is brought yet, settling, and the end for want of memory of
-/// a session in hand leave such a world and such a session.
+/// Laws and no code: an ask of a put, one of a get by which nothing is brought yet, one that isn't heard, settling, and the end
+/// for want of memory of a session in hand leave such a world and such a session.
 pub fn some_steps_keep()
     ensures puts { PutsKeep }
     ensures gets_go_on { GetsGoOnKeep }
     ensures settling { SettlingKeeps }
     ensures lacking { LackingKeeps }
+    ensures vain { VainAsksKeep }
 {}
 
 /// A law and no code: where names tell the blocks apart, a floor names one set of records among them.

@@ -1,4 +1,4 @@
-use Rattle.world_laws.proofs.InHand.{gets_go_on_keep, lacking_keeps, puts_keep, settling_keeps}
+use Rattle.world_laws.proofs.InHand.{gets_go_on_keep, lacking_keeps, puts_keep, settling_keeps, vain_asks_keep}
 use Rattle.world_laws.proofs.some_steps_keep.Goals as goal
 
 pub returns-clause-puts : goal.returns-clause-puts
@@ -12,3 +12,6 @@ returns-clause-lacking c = lacking_keeps
 
 pub returns-clause-gets_go_on : goal.returns-clause-gets_go_on
 returns-clause-gets_go_on c = gets_go_on_keep
+
+pub returns-clause-vain : goal.returns-clause-vain
+returns-clause-vain c = vain_asks_keep
