@@ -34,3 +34,4 @@ pub mod InHand
 pub mod OneKnown
 pub mod OneTruth
 pub mod AllLines
+pub mod Taking
