@@ -113,16 +113,16 @@ module _ (c : Scene) (r : ℕ) (p : Participant) (keeps : Keeps (c.world, c.stor
 
   -- the session's agent, with a mild change of it
   module _ (d : Change) where
-    abbrev v : World
+    abbrev pub v : World
     v = with_participant c.world (changed p d)
 
     found : (q : Participant) → participant c.world c.session.by ≡ Some q → participant v c.session.by ≡ Some (changed q d)
     found q is = subst (λ o. participant v c.session.by ≡ Some (changed o d)) (some_same p q (sym is_p ∙ is)) (found_placed c.world keeps.apart c.session.by p is_p (changed p d) refl)
 
-    goes_on_then : GoesOn v r c.session
+    pub goes_on_then : GoesOn v r c.session
     goes_on_then = goes_on_still c.world v (λ b h. h) (λ q h. h) r c.session hand.goes_on d (found hand.goes_on.by hand.goes_on.is_by)
 
-    sound_then : IsSoundSession c.world c.story c.session c.began → IsSoundSession v c.story c.session c.began
+    pub sound_then : IsSoundSession c.world c.story c.session c.began → IsSoundSession v c.story c.session c.began
     sound_then h = sound_still c.world v c.story (λ b g. g) c.session c.began h d c.story.acked (found h.by h.is_by)
 
   settled_so : (after : Agent) (t : Session) → Settles p.agent c.session after t

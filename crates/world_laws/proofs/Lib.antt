@@ -35,3 +35,4 @@ pub mod OneKnown
 pub mod OneTruth
 pub mod AllLines
 pub mod Taking
+pub mod LackingSteps

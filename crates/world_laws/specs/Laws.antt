@@ -30,7 +30,7 @@ use Rattle.agent_model.specs.Turning.{TurnEnd}
 use Rattle.agent_model.specs.Standing.{Refresh, Standing}
 use Rattle.session_model.specs.Brought.{Want, brought_in, heads_at}
 use Rattle.session_model.specs.Refreshing.{Note}
-use Rattle.session_model.specs.Sessions.{Cache, Hears, Session, Refreshing, Over, IsGet, IsPut, put_question, wanted_key}
+use Rattle.session_model.specs.Sessions.{Cache, Hears, TakesSome, Session, Refreshing, Over, IsGet, IsPut, put_question, wanted_key}
 use Rattle.session_model.specs.Asking.{IsBegun, AsksOneNext, BeginsNoOther, GoesOnAlways}
 use Rattle.session_model.specs.Courses.{HasRefreshed, IsRefusal, LacksMemory, Settles}
 use Rattle.session_model.specs.Replies.{said_no_memory}
@@ -47,7 +47,7 @@ use Rattle.world_model.specs.Story.{HadTurn, empty_story, known_of}
 use Rattle.world_model.specs.Logs.{Played, Publishes}
 use Rattle.world_model.specs.Calls.{reply_line}
 use Rattle.world_model.specs.Step.{Does, IvyStep}
-use Rattle.world_model.specs.Steps.{Scene, Steps, ask_told, heads_by}
+use Rattle.world_model.specs.Steps.{Scene, Steps, ask_told, heads_by, with_cache}
 use Rattle.world_laws.specs.Causes.{IsOf}
 use Rattle.world_laws.specs.Keeps.{BeganFresh, HasNoSnapshot, IsInHand, IsSoundSession, Keeps, OnlyPublishes, sealed_with}
 use Rattle.world_laws.specs.Headline.{Headline, IsOnReplay, NewTurns, TurnHolds}
@@ -114,6 +114,12 @@ GetsGoOnKeep = (c : Scene) (r : ℕ) (p : Participant) (node : Peer) (question :
 abbrev pub SettlingKeeps : Type 0
 SettlingKeeps = (c : Scene) (r : ℕ) (p : Participant) (after : Agent) (t : Session) → Keeps (c.world, c.story) → IsInHand c r → participant c.world c.session.by ≡ Some p → Settles p.agent c.session after t
     → (let next : Scene = record c { world = with_participant c.world (record p { agent = after }); session = t } in Keeps (next.world, next.story) × IsInHand next r)
+
+-- so does a step at which what is at hand is taken, and then memory is wanting
+abbrev pub LackingStepsKeep : Type 0
+LackingStepsKeep = (c : Scene) (r : ℕ) (p : Participant) (taken t : Session) (cache : Cache) → Keeps (c.world, c.story) → IsInHand c r → participant c.world c.session.by ≡ Some p
+    → TakesSome hss_judged r c.session p.cache taken cache → LacksMemory taken t
+    → (let next : Scene = with_cache hss_judged r c p t cache in Keeps (next.world, next.story) × IsInHand next r)
 
 -- so does an ask whose answer isn't heard, since memory is wanting
 abbrev pub VainAsksKeep : Type 0
