@@ -1,14 +1,14 @@
 -- Which lines are still to be shown to leave a world that keeps what it should, and what follows from them.
-use Rattle.std.proofs.Common.{◌≡◌, ℕ, Bool, true, false, List, [], ◌∷◌, Option, Some, None, refl, sym, ◌∙◌, subst, nat_lt}
+use Rattle.std.proofs.Common.{◌≡◌, ℕ, Bool, true, false, List, [], ◌∷◌, Option, Some, None, refl, nat_lt}
 use Rattle.std.specs.Prelude.{MatchBool, length, sum_by}
 use Rattle.log_heads.specs.Signed.{hss_judged}
-use Rattle.script_driver.specs.Run.{Outcome, Goes, Ends, Refuses, Exceeds}
+use Rattle.script_driver.specs.Run.{Goes, Ends, Refuses, Exceeds}
 use Rattle.script_driver.proofs.RunLaws.{runs_with_law}
 use Rattle.script_model.specs.declared.command.Command.{Command}
 use Rattle.script_model.specs.declared.command.Command.TheVariants as command
 use Rattle.script_model.specs.Lines.{command_of}
 use Rattle.world_model.specs.Logs.{Played}
-use Rattle.world_model.specs.Step.{Does, IvyStep, MayDo, MayDoFirst, WithinLimit, most_bytes}
+use Rattle.world_model.specs.Step.{Does, IvyStep, MayDoFirst, WithinLimit, most_bytes}
 use Rattle.world_laws.specs.Headline.{Headline}
 use Rattle.world_laws.specs.Keeps.{Keeps}
 use Rattle.world_laws.specs.Frames.{HeadlineOfRuns, IsLeft, LinesKeepByThese}

@@ -1,7 +1,6 @@
 -- Memory is wanting behind what was taken without asking.
-use Rattle.std.proofs.Common.{◌≡◌, ⊎_elim, ℕ, List, [], ◌++◌, map, Option, Some, None, refl, sym, subst, arith}
+use Rattle.std.proofs.Common.{◌≡◌, ⊎_elim, ℕ, List, [], ◌++◌, Option, Some, None, refl, subst, arith}
 use Rattle.ivy_base.specs.Naming.{NamesTellApart}
-use Rattle.log_heads.specs.Signed.{hss_judged}
 use Rattle.log_model.proofs.Lists.{each}
 use Rattle.log_model.specs.Record.{Record}
 use Rattle.turn_model.specs.Basis.{Holding}
@@ -12,7 +11,7 @@ use Rattle.session_model.specs.Courses.{LacksMemory}
 use Rattle.session_model.specs.Courses.LacksMemory.{lacks}
 use Rattle.session_model.specs.Refreshing.{Note}
 use Rattle.session_model.specs.Replies.{said_no_memory}
-use Rattle.session_model.specs.Sessions.{Cache, Over, Session, Stage, TakesSome}
+use Rattle.session_model.specs.Sessions.{Cache, Over, Session, Stage}
 use Rattle.world_model.specs.Agents.{Agent}
 use Rattle.world_model.specs.World.{World, Participant, named_bytes, participant, with_participant}
 use Rattle.world_model.specs.Story.{Began, Story}

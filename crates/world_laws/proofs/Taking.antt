@@ -1,13 +1,12 @@
 -- What a session takes without asking was met, and has its name; so memory may be wanting behind it.
-use Rattle.std.proofs.Common.{◌≡◌, ◌⊎◌, inl, inr, ⊎_elim, ℕ, Bool, true, false, cond, ◌&&◌, not, List, [], ◌∷◌, ◌++◌, map, filter, Option, Some, None, Ok, refl, sym, ap, ◌∙◌, subst, Contains}
-use Rattle.std.specs.Prelude.{flat_map}
+use Rattle.std.proofs.Common.{◌≡◌, ◌⊎◌, inl, inr, ⊎_elim, ℕ, Bool, true, false, cond, ◌&&◌, not, List, [], ◌∷◌, ◌++◌, Option, Some, None, Ok, refl, sym, ap, ◌∙◌, subst, Contains}
 use Rattle.std.specs.List.{AllByRecursion, find}
 use Rattle.std.specs.Map.{lookup}
 use Rattle.std.specs.Option.{option_map_or}
 use Rattle.std.proofs.lemmas.List.Elements.{Contains-append_left, Contains-append_right, Contains-append_cases}
 use Rattle.ring_model.proofs.Lists.{filter_gives, all_weaker}
 use Rattle.ivy_base.specs.declared.key.Key.{Key}
-use Rattle.ivy_base.specs.Naming.{NamesTellApart, name}
+use Rattle.ivy_base.specs.Naming.{name}
 use Rattle.tree_model.specs.Tree.{same_key}
 use Rattle.tree_model.proofs.Keys.{same_key_is}
 use Rattle.tree_model.proofs.Sound.{both_true}
@@ -15,7 +14,7 @@ use Rattle.block_cache.specs.Blocks.{IsCache, block_of, moved_to_front, others}
 use Rattle.block_cache.specs.Blocks.{same_key as same_cached}
 use Rattle.block_cache.proofs.Pairs.{found_named as named_in_cache, moved_valid}
 use Rattle.log_heads.specs.Signed.{hss_judged}
-use Rattle.log_model.proofs.Lists.{each, in_cons, in_nothing}
+use Rattle.log_model.proofs.Lists.{in_cons, in_nothing}
 use Rattle.log_model.specs.Vector.{Entry}
 use Rattle.dht_ids.specs.declared.ask.Heard.{Heard}
 use Rattle.dht_ids.specs.declared.post.Post.{Post}
