@@ -13,6 +13,7 @@ use Rattle.log_model.specs.Spelling.{record_block}
 use Rattle.log_model.specs.Standing.{Stand, StandsAmong}
 use Rattle.log_model.proofs.Lists.{here, there, each, each_from}
 use Rattle.turn_model.specs.Basis.{Basis, nothing_held}
+use Rattle.view_blocks.specs.Faults.{HasKeys}
 use Rattle.agent_model.specs.Standing.{Refresh}
 use Rattle.agent_model.specs.Candidates.{Brings, MayTurn, StandsWithin}
 use Rattle.session_model.specs.Brought.{brought_in, heads_at}
@@ -60,9 +61,9 @@ module _ (P : Type 0) (Q : Key → Type 0) where
 
 -- the view that an agent may be saved with is one
 saved_view : (p : Participant) (view : View) → p.agent.view ≡ Some view → IsKeptSo IsSavedWell p → IsView view
-saved_view p view e saved = by p.agent.view e saved.2.agent.view
+saved_view p view e saved = by p.agent.view e saved.3.agent.view
   where
-    by : (o : Option View) → o ≡ Some view → IfSome o (λ v. IsView v × Contains v.members (own p.agent) × AllByRecursion (λ x. IsTrue (is_of_view v x.0)) p.agent.floor) → IsView view
+    by : (o : Option View) → o ≡ Some view → IfSome o (λ v. IsView v × HasKeys v × Contains v.members (own p.agent) × AllByRecursion (λ x. IsTrue (is_of_view v x.0)) p.agent.floor) → IsView view
     by None none h = cc none
     by (Some v) is h = subst IsView (cc is) h.0
 

@@ -5,6 +5,7 @@ use Rattle.ivy_base.specs.declared.key.Key.{Key}
 use Rattle.ivy_base.specs.Naming.{NamesTellApart, name, head_key_of}
 use Rattle.log_model.specs.Spelling.{IsMoment, record_block}
 use Rattle.log_model.specs.View.{View, IsView}
+use Rattle.view_blocks.specs.Faults.{HasKeys}
 use Rattle.log_model.specs.Vector.{Stamp, Entry, Dominates, seq_of}
 use Rattle.log_model.specs.Record.{Record}
 use Rattle.log_model.specs.Rank.{front, own_entry}
@@ -46,12 +47,12 @@ use Rattle.world_laws.specs.Causes.{HasCause, said_at}
 abbrev pub IsMetPost : List (List ℕ) → Post → Type 0
 IsMetPost met p = Contains met p.bytes × HasItsName p
 
--- the blocks of nodes and caches, and what agents have to publish, are met
+-- the blocks of nodes and caches, and what agents have to publish, are met; and views have a block that is theirs alone
 pub record BlocksAreMet (w : World) : Type 0 where
   pub held : AllByRecursion (λ n. IsStore n.blocks × AllByRecursion (λ e. Contains w.met e.1.bytes) n.blocks) w.nodes
   pub pending : AllByRecursion (λ p. AllByRecursion (IsMetPost w.met) p.agent.pending) w.participants
   pub cached : AllByRecursion (λ p. IsCache p.cache × AllByRecursion (λ e. Contains w.met e.1) p.cache) w.participants
-  pub views : AllByRecursion (λ v. IsView v.view) w.views
+  pub views : AllByRecursion (λ v. IsView v.view × HasKeys v.view) w.views
 
 -- each node has the identifier of its number, no two stand at one place, and each peer that a node knows is a node that was made
 pub record PeersAreMade (w : World) : Type 0 where
@@ -80,15 +81,14 @@ pub record SignsOnce (p : Participant) (k : Kept) : Type 0 where
   pub kept : AreSignedOnce k.signer k.signer.made (seq_of k.floor (head_key_of (own p.agent))) (p.left ++ heads_by k.pending)
   pub pending : AllByRecursion (Contains p.left) (heads_by p.agent.pending)
 
--- what its keeper holds, and what would be saved of it now, can be read again; and the keeper knows a view where the agent does
+-- what would be saved of the agent now may be saved; and the keeper knows a view where the agent does
 pub record IsSavedWell (p : Participant) (k : Kept) : Type 0 where
   pub agent : IsKept (kept_of p.agent)
-  pub kept : IsKept k
   pub entered : IsTrue (is_some p.agent.view) → IsTrue (is_some k.view)
 
--- each participant's keeper holds the bytes of something
+-- the participant's keeper holds the bytes of something that may be saved, and which is so
 abbrev pub IsKeptSo : (Participant → Kept → Type 0) → Participant → Type 0
-IsKeptSo Holds p = (k : Kept) × (p.keeper.kept ≡ Some (kept_bytes k)) × Holds p k
+IsKeptSo Holds p = (k : Kept) × IsKept k × (p.keeper.kept ≡ Some (kept_bytes k)) × Holds p k
 
 -- no name stands twice
 abbrev pub AreApart : List (List ℕ) → Type 0

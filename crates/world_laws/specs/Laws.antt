@@ -13,8 +13,10 @@ use Rattle.log_model.specs.Standing.{Stand}
 use Rattle.log_model.specs.Vector.{Stamp, Vector, stamp_at}
 use Rattle.log_model.specs.View.{View}
 use Rattle.turn_model.specs.Basis.{Knows}
-use Rattle.turn_model.specs.Known.{EndsAt}
+use Rattle.turn_model.specs.Known.{EndsAt, IsKnown}
 use Rattle.turn_model.specs.Turn.{Candidate, IsPrefixOf}
+use Rattle.dht_ids.specs.declared.ask.Answer.{Answer}
+use Rattle.dht_ids.specs.declared.ask.Ask.{Ask}
 use Rattle.dht_ids.specs.declared.judge.Judged.{Judged}
 use Rattle.hash_signature_model.specs.declared.keys.PrivateKey.{PrivateKey}
 use Rattle.hash_signature_model.specs.declared.set.Set.{Set}
@@ -25,8 +27,8 @@ use Rattle.agent_model.specs.Turning.{TurnEnd}
 use Rattle.agent_model.specs.Standing.{Refresh, Standing}
 use Rattle.session_model.specs.Brought.{brought_in, heads_at}
 use Rattle.session_model.specs.Refreshing.{Note}
-use Rattle.session_model.specs.Sessions.{Session, Over}
-use Rattle.session_model.specs.Courses.{HasRefreshed, IsRefusal, LacksMemory}
+use Rattle.session_model.specs.Sessions.{Cache, Hears, TakesSome, Session, Refreshing, Over}
+use Rattle.session_model.specs.Courses.{HasRefreshed, IsRefusal, LacksMemory, Settles}
 use Rattle.session_model.specs.Replies.{said_no_memory}
 use Rattle.script_driver.specs.Run.{Outcome, Goes, Ran, Runs, WithLaw, HasPiece}
 use Rattle.script_driver.specs.Seen.{HasStory, SeenStep}
@@ -35,12 +37,13 @@ use Rattle.script_model.specs.declared.command.Command.TheVariants as command
 use Rattle.script_model.specs.Lines.{command_of}
 use Rattle.world_model.specs.Agents.{Agent, IsKept, Kept, TakesTurn, kept_bytes, own}
 use Rattle.world_model.specs.Keepers.{fails_next}
-use Rattle.world_model.specs.World.{World, NamedSession, Participant, empty_world, named_bytes, participant}
+use Rattle.world_model.specs.World.{World, NamedSession, Participant, empty_world, named_bytes, participant, with_participant}
+use Rattle.world_model.specs.Fates.{FateOf}
 use Rattle.world_model.specs.Story.{HadTurn, empty_story, known_of}
-use Rattle.world_model.specs.Logs.{Played}
+use Rattle.world_model.specs.Logs.{Played, Publishes}
 use Rattle.world_model.specs.Calls.{reply_line}
 use Rattle.world_model.specs.Step.{Does, IvyStep}
-use Rattle.world_model.specs.Steps.{Scene, Steps, heads_by}
+use Rattle.world_model.specs.Steps.{Scene, Steps, ask_told, heads_by, with_cache}
 use Rattle.world_laws.specs.Causes.{IsOf}
 use Rattle.world_laws.specs.Keeps.{BeganFresh, HasNoSnapshot, IsInHand, IsSoundSession, Keeps, OnlyPublishes, sealed_with}
 use Rattle.world_laws.specs.Headline.{Headline, IsOnReplay, NewTurns, TurnHolds}
@@ -87,6 +90,41 @@ LinesKeep = (w next : Played) (line output : List ℕ) → Keeps w → IvyStep w
 abbrev pub StepsKeep : Type 0
 StepsKeep = (c next : Scene) (r : ℕ) → Keeps (c.world, c.story) → IsInHand c r → c.world.replicas ≡ Some r → Steps hss_judged r c.session.by c next
     → Keeps (next.world, next.story) × IsInHand next r × (more : List HadTurn) × NewTurns c.story next.story more × ((h : HadTurn) → Contains more h → TurnHolds h)
+
+-- Steps of it that are no get and no turn: an ask of a put, settling, and the end where memory is wanting.
+abbrev pub PutsKeep : Type 0
+PutsKeep = (c : Scene) (r : ℕ) (p : Participant) (node : Peer) (question : Ask) (answer : Answer) (world : World) (heard : Session) (cache : Cache) → Keeps (c.world, c.story) → IsInHand c r
+    → c.world.replicas ≡ Some r → participant c.world c.session.by ≡ Some p → c.session.stage ≢ Refreshing → FateOf hss_judged c.world node question answer world
+    → Hears hss_judged r c.session p.cache node question answer heard cache
+    → (let next : Scene = record { world = with_participant world (record p { cache = cache }); story = ask_told c.story p.name c.session heard; session = heard; began = c.began } in
+    Keeps (next.world, next.story) × IsInHand next r × (next.story.turns ≡ c.story.turns))
+
+-- so does an ask of a get by which nothing is brought yet
+abbrev pub GetsGoOnKeep : Type 0
+GetsGoOnKeep = (c : Scene) (r : ℕ) (p : Participant) (node : Peer) (question : Ask) (answer : Answer) (world : World) (heard : Session) (cache : Cache) → Keeps (c.world, c.story) → IsInHand c r
+    → c.world.replicas ≡ Some r → participant c.world c.session.by ≡ Some p → c.session.stage ≡ Refreshing → heard.parts ≡ c.session.parts → FateOf hss_judged c.world node question answer world
+    → Hears hss_judged r c.session p.cache node question answer heard cache
+    → (let next : Scene = record { world = with_participant world (record p { cache = cache }); story = ask_told c.story p.name c.session heard; session = heard; began = c.began } in
+    Keeps (next.world, next.story) × IsInHand next r × (next.story.turns ≡ c.story.turns))
+
+abbrev pub SettlingKeeps : Type 0
+SettlingKeeps = (c : Scene) (r : ℕ) (p : Participant) (after : Agent) (t : Session) → Keeps (c.world, c.story) → IsInHand c r → participant c.world c.session.by ≡ Some p → Settles p.agent c.session after t
+    → (let next : Scene = record c { world = with_participant c.world (record p { agent = after }); session = t } in Keeps (next.world, next.story) × IsInHand next r)
+
+-- so does a step at which what is at hand is taken, and then memory is wanting
+abbrev pub LackingStepsKeep : Type 0
+LackingStepsKeep = (c : Scene) (r : ℕ) (p : Participant) (taken t : Session) (cache : Cache) → Keeps (c.world, c.story) → IsInHand c r → participant c.world c.session.by ≡ Some p
+    → TakesSome hss_judged r c.session p.cache taken cache → LacksMemory taken t
+    → (let next : Scene = with_cache hss_judged r c p t cache in Keeps (next.world, next.story) × IsInHand next r)
+
+-- so does an ask whose answer isn't heard, since memory is wanting
+abbrev pub VainAsksKeep : Type 0
+VainAsksKeep = (c : Scene) (r : ℕ) (p : Participant) (node : Peer) (question : Ask) (answer : Answer) (world : World) (heard t : Session) (cache : Cache) → Keeps (c.world, c.story) → IsInHand c r
+    → c.world.replicas ≡ Some r → participant c.world c.session.by ≡ Some p → FateOf hss_judged c.world node question answer world → Hears hss_judged r c.session p.cache node question answer heard cache
+    → LacksMemory c.session t → Keeps (world, c.story) × IsInHand (record c { world = world; session = t }) r
+
+abbrev pub LackingKeeps : Type 0
+LackingKeeps = (c : Scene) (r : ℕ) (t : Session) → IsInHand c r → LacksMemory c.session t → IsInHand (record c { session = t }) r
 
 -- so does a step of a session that only publishes, which has no turn
 abbrev pub PublishingKeeps : Type 0
@@ -143,7 +181,7 @@ KeptOnce = (k l : Kept) → IsKept k → IsKept l → kept_bytes k ≡ kept_byte
 
 -- A line that makes no snapshot leaves a world without one so.
 abbrev pub NoSnapshotComes : Type 0
-NoSnapshotComes = (w next : Played) (line output log : List ℕ) → Keeps w → HasNoSnapshot w.0 → command_of line ≢ Some (command.Snap log) → IvyStep w line (Goes next output) → HasNoSnapshot next.0
+NoSnapshotComes = (w next : Played) (line output : List ℕ) → Keeps w → HasNoSnapshot w.0 → ((log : List ℕ) → command_of line ≢ Some (command.Snap log)) → IvyStep w line (Goes next output) → HasNoSnapshot next.0
 
 -- ---- keys
 
@@ -181,6 +219,11 @@ HeadsAreSavedFirst = (w : Played) (p : Participant) (k : Kept) (bytes : List ℕ
     → (number : ℕ) × (newest : Stamp) × (bytes ≡ sealed_with k.signer (number, newest)) × (number < k.signer.made)
 
 -- ---- one truth
+
+-- Where names tell the blocks apart, a floor names one set of records among them.
+abbrev pub KnownIsOne : Type 0
+KnownIsOne = (met : List (List ℕ)) (view : View) (floor : Vector) (known other : List Record) → NamesTellApart met → IsKnown view floor known → IsKnown view floor other
+    → Stand met known → Stand met other → known ≡ other
 
 -- each log has a key of its own, and each judged head that was met was made by its log's agent
 pub record IsHonest (w : World) : Type 0 where
@@ -236,3 +279,10 @@ abbrev pub FreshTurnsAreAnswered : Type 0
 FreshTurnsAreAnswered = (c next : Scene) (r : ℕ) (notes : List Note) (given : Refresh) → Keeps (c.world, c.story) → NamesTellApart (named_bytes c.world) → c.world.replicas ≡ Some r → IsInHand c r
     → (sound : IsSoundSession c.world c.story c.session c.began) → BeganFresh c.session sound.of
     → HasRefreshed c.session notes given → Steps hss_judged r c.session.by c next → HasTurned c next ⊎ LacksMemory c.session next.session
+
+-- ---- publishing as a whole
+
+-- A participant publishes all that its agent has to: the world that is left keeps what it should, and no turn was had.
+abbrev pub WholePublishingKeeps : Type 0
+WholePublishingKeeps = (w : Played) (r : ℕ) (p : Participant) (next : Played) → Keeps w → w.0.replicas ≡ Some r → participant w.0 p.name ≡ Some p → Publishes hss_judged r w p next
+    → Keeps next × (next.1.turns ≡ w.1.turns)

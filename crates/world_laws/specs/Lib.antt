@@ -3,4 +3,5 @@ pub mod Headline
 pub mod Keeps
 pub mod Kinds
 pub mod Laws
+pub mod Frames
 pub mod Calm

@@ -4,17 +4,20 @@
 //! play scripts.
 //! Statements, in reading order: `specs/Headline.antt` (each reply), `specs/Causes.antt` (why a session says what it
 //! says), `specs/Keeps.antt` (each world), `specs/Kinds.antt` (which lines are
-//! refused), `specs/Laws.antt` (steps and runs), `specs/Calm.antt` (rings that change little).
+//! refused), `specs/Laws.antt` (steps and runs), `specs/Frames.antt` (what may change of a world that keeps what it should), `specs/Calm.antt` (rings that change little).
 //! For the layers above, of a session in a world that keeps what it should (`Keeps`), where names tell the blocks apart: a
 //! refresh that is done brings what its heads name, and its turn may be held to the definition; its next step is that turn, and
 //! no other; a turn is refused once at most, and never where the session began with no snapshot to load and no basis.
 //! Lemmas to cite: `proofs/Bringing.antt` (what `Keeps` says of a session and its agent), `proofs/NotRefused.antt` (an agent
 //! that holds all that it knows isn't behind, and one without a basis isn't below the tide), `proofs/SecondTurns.antt`,
-//! `proofs/DoneSteps.antt`. Nothing here runs, so there are no costs.
+//! `proofs/DoneSteps.antt`, `proofs/SignedHeads.antt` (what holds of the one whose bytes a keeper holds), `proofs/Frames.antt`
+//! (changes of a world's nodes and of one participant), `proofs/Publishing.antt` (an ask by which only what was met is put),
+//! `proofs/OneTruth.antt` (linked records that end at one record). Nothing here runs, so there are no costs.
 #![tactic(auto)]
 
+ghost use Rattle.world_laws.specs.Frames.{DamageLinesKeep, HeadlineOfRuns, JoinLinesKeep, KeeperLinesKeep, LinesKeepByThese, MildChangesKeep, MoreBlocksKeep, RingLinesKeep, RoundLinesKeep, StillLinesKeep, StopLinesKeep, ViewLinesKeep};
 ghost use Rattle.world_laws.specs.Kinds.{LineHasOneKind};
-ghost use Rattle.world_laws.specs.Laws.{AlikeTurnsAnswerAlike, ClashIsDecided, EmptyKeeps, FewerStayApart, FreshTurnsAreAnswered, MetGrows, OtherLogsDontCount, RefreshBrings, RefreshEndsInTurn, RefreshMayTurn, SecondTurnIsAnswered, StillLinesChangeNothing, UpperLeavesSignOnce};
+ghost use Rattle.world_laws.specs.Laws.{AlikeTurnsAnswerAlike, ClashIsDecided, EmptyKeeps, FewerStayApart, FreshTurnsAreAnswered, GetsGoOnKeep, HeadsAreSavedFirst, KeptOnce, KnownIsOne, LackingKeeps, LackingStepsKeep, LeafSignsOnce, MetGrows, OneTruth, OtherLogsDontCount, PublishingKeeps, PutsKeep, RefreshBrings, RefreshEndsInTurn, RefreshMayTurn, SecondTurnIsAnswered, SettlingKeeps, StillLinesChangeNothing, UpperLeavesSignOnce, VainAsksKeep, WholePublishingKeeps};
 
 /// A law and no code: of any blocks, names tell them apart, or two of them clash.
 pub fn clashes_are_decided()
@@ -79,4 +82,82 @@ pub fn other_logs_dont_count()
 /// A law and no code: two turns of equal views, agents, sets, calls and moments give equal replies.
 pub fn alike_turns_answer_alike()
     ensures { AlikeTurnsAnswerAlike }
+{}
+
+/// A law and no code: what may be saved of an agent is told by its bytes.
+pub fn kept_bytes_are_of_one()
+    ensures { KeptOnce }
+{}
+
+/// A law and no code: a head that is to leave was signed under a number below that which its agent's keeper holds, so no number
+/// signs twice, whatever is lost of the agent.
+pub fn heads_are_saved_first()
+    ensures { HeadsAreSavedFirst }
+{}
+
+/// A law and no code: of the heads that left an agent two over records of one number, or by the same leaves, are one.
+pub fn leaves_sign_once()
+    ensures { LeafSignsOnce }
+{}
+
+/// A law and no code: mild changes leave a world that keeps what it should: nodes of the same peers that hold what was met,
+/// participants whose agents sign, know and hold the same, more blocks that are met, views, replies, moments and losses.
+pub fn mild_changes_keep()
+    ensures { MildChangesKeep }
+{}
+
+/// A law and no code: more blocks that are met leave a world that keeps what it should.
+pub fn more_blocks_keep()
+    ensures { MoreBlocksKeep }
+{}
+
+/// Laws and no code: a step of a session that only publishes leaves a world that keeps what it should, such a session, and no
+/// turn; so does a participant that publishes all that its agent has to.
+pub fn publishing_keeps()
+    ensures step { PublishingKeeps }
+    ensures whole { WholePublishingKeeps }
+{}
+
+/// Laws and no code: lines without sessions leave a world that keeps what it should: those that show something, or set the
+/// moment or a loss; a node that stops, a block that is spoilt, a save that is to fail; a ring that is made, a node that joins,
+/// and a round of maintenance, whatever is lost; and a view that is made.
+pub fn lines_without_sessions_keep()
+    ensures still { StillLinesKeep }
+    ensures stop { StopLinesKeep }
+    ensures damage { DamageLinesKeep }
+    ensures keeper { KeeperLinesKeep }
+    ensures ring { RingLinesKeep }
+    ensures join { JoinLinesKeep }
+    ensures round { RoundLinesKeep }
+    ensures view { ViewLinesKeep }
+{}
+
+/// Laws and no code: an ask of a put, one of a get by which nothing is brought yet, one that isn't heard, settling, and the end
+/// for want of memory of a session in hand leave such a world and such a session.
+pub fn some_steps_keep()
+    ensures puts { PutsKeep }
+    ensures gets_go_on { GetsGoOnKeep }
+    ensures settling { SettlingKeeps }
+    ensures lacking { LackingKeeps }
+    ensures vain { VainAsksKeep }
+    ensures lacking_step { LackingStepsKeep }
+{}
+
+/// A law and no code: where names tell the blocks apart, a floor names one set of records among them.
+pub fn floors_name_one_set()
+    ensures { KnownIsOne }
+{}
+
+/// A law and no code: where each log has a key of its own and each judged head that was met was made by its log's agent, what an
+/// agent knows of a log is the beginning of the one chain that the log's keeper names.
+pub fn there_is_one_truth()
+    ensures { OneTruth }
+{}
+
+/// Laws and no code: what is left to be shown of lines. Where the commands that log, use, restart and snap, those of sessions,
+/// and a view of no members leave such a world, so does each line; and where each line does, and the headline holds of each, it holds
+/// of each line of a run.
+pub fn lines_left()
+    ensures lines { LinesKeepByThese }
+    ensures runs { HeadlineOfRuns }
 {}

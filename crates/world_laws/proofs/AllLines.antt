@@ -1,0 +1,103 @@
+-- Which lines are still to be shown to leave a world that keeps what it should, and what follows from them.
+use Rattle.std.proofs.Common.{◌≡◌, ℕ, Bool, true, false, List, [], ◌∷◌, Option, Some, None, refl, nat_lt}
+use Rattle.std.specs.Prelude.{MatchBool, length, sum_by}
+use Rattle.log_heads.specs.Signed.{hss_judged}
+use Rattle.script_driver.specs.Run.{Goes, Ends, Refuses, Exceeds}
+use Rattle.script_driver.proofs.RunLaws.{runs_with_law}
+use Rattle.script_model.specs.declared.command.Command.{Command}
+use Rattle.script_model.specs.declared.command.Command.TheVariants as command
+use Rattle.script_model.specs.Lines.{command_of}
+use Rattle.world_model.specs.Logs.{Played}
+use Rattle.world_model.specs.Step.{Does, IvyStep, MayDoFirst, WithinLimit, most_bytes}
+use Rattle.world_laws.specs.Headline.{Headline}
+use Rattle.world_laws.specs.Keeps.{Keeps}
+use Rattle.world_laws.specs.Frames.{HeadlineOfRuns, IsLeft, LinesKeepByThese}
+use Rattle.world_laws.proofs.Lines.{damage_lines_keep, keeper_lines_keep, still_lines_keep, stop_lines_keep}
+use Rattle.world_laws.proofs.RingLines.{join_lines_keep, ring_lines_keep, round_lines_keep}
+use Rattle.world_laws.proofs.ViewLines.{view_lines_keep}
+
+pub headline_of_runs : HeadlineOfRuns
+headline_of_runs lines headline w number script ran keeps runs =
+    runs_with_law IvyStep Headline Keeps (λ now line outcome ok does. headline now line outcome ok does) (λ now after line text ok does. lines now after line text ok does) w number script ran keeps runs
+
+-- ---- what a line that goes on does
+
+abbrev Done : Played → Option Command → Played → List ℕ → Type 0
+Done w o next output = (c : Command) × (o ≡ Some c) × Does hss_judged w c (Goes next output)
+
+goes_or_refuses : (next : Played) (output : List ℕ) → Goes next output ≡ Refuses → ⊥
+goes_or_refuses next output e = cc e
+
+goes_or_exceeds : (next : Played) (output : List ℕ) → Goes next output ≡ Exceeds → ⊥
+goes_or_exceeds next output e = cc e
+
+goes_or_ends : (next : Played) (output : List ℕ) → Goes next output ≡ Ends → ⊥
+goes_or_ends next output e = cc e
+
+within : (full : Bool) (next : Played) (output : List ℕ) (may : Type 0) → MatchBool full (Goes next output ≡ Exceeds) may → may
+within true next output may h = absurd (goes_or_exceeds next output h)
+within false next output may h = h
+
+does_any : (w next : Played) (output : List ℕ) (o : Option Command) → WithinLimit w o (Goes next output) → Done w o next output
+does_any w next output None h = absurd (goes_or_refuses next output (within (nat_lt most_bytes (sum_by (λ b. length b) w.0.met)) next output (Goes next output ≡ Refuses) h))
+does_any w next output (Some c) h = (c, refl, within (nat_lt most_bytes (sum_by (λ b. length b) w.0.met)) next output (Does hss_judged w c (Goes next output)) h)
+
+does_line : (w next : Played) (output : List ℕ) (o : Option Command) → MayDoFirst w o (Goes next output) → Done w o next output
+does_line w next output None h = does_any w next output None h
+does_line w next output (Some (command.Ring nodes replicas)) h = does_any w next output (Some (command.Ring nodes replicas)) h
+does_line w next output (Some (command.Log log id seed sets)) h = does_any w next output (Some (command.Log log id seed sets)) h
+does_line w next output (Some (command.View view members former)) h = does_any w next output (Some (command.View view members former)) h
+does_line w next output (Some (command.Use log view)) h = does_any w next output (Some (command.Use log view)) h
+does_line w next output (Some (command.At sec nsec)) h = does_any w next output (Some (command.At sec nsec)) h
+does_line w next output (Some (command.As log pieces)) h = does_any w next output (Some (command.As log pieces)) h
+does_line w next output (Some (command.Open session log pieces)) h = does_any w next output (Some (command.Open session log pieces)) h
+does_line w next output (Some (command.Step session count)) h = does_any w next output (Some (command.Step session count)) h
+does_line w next output (Some (command.Finish session)) h = does_any w next output (Some (command.Finish session)) h
+does_line w next output (Some (command.Join number)) h = does_any w next output (Some (command.Join number)) h
+does_line w next output (Some (command.Stop node)) h = does_any w next output (Some (command.Stop node)) h
+does_line w next output (Some command.Round) h = does_any w next output (Some command.Round) h
+does_line w next output (Some (command.Lose count)) h = does_any w next output (Some (command.Lose count)) h
+does_line w next output (Some (command.Damage node key offset byte)) h = does_any w next output (Some (command.Damage node key offset byte)) h
+does_line w next output (Some (command.Snap log)) h = does_any w next output (Some (command.Snap log)) h
+does_line w next output (Some (command.Restart log)) h = does_any w next output (Some (command.Restart log)) h
+does_line w next output (Some (command.Keep log count new)) h = does_any w next output (Some (command.Keep log count new)) h
+does_line w next output (Some (command.Holds node)) h = does_any w next output (Some (command.Holds node)) h
+does_line w next output (Some (command.Order log)) h = does_any w next output (Some (command.Order log)) h
+does_line w next output (Some (command.Work log)) h = does_any w next output (Some (command.Work log)) h
+does_line w next output (Some command.Nothing) h = does_any w next output (Some command.Nothing) h
+does_line w next output (Some command.End) h = absurd (goes_or_ends next output h)
+
+-- ---- each command
+
+some_first : (m : List ℕ) (ms : List (List ℕ)) → m ∷ ms ≡ [] → ⊥
+some_first m ms e = cc e
+
+command_keeps : (w next : Played) (output : List ℕ) (c : Command) → (IsLeft c → Keeps next) → Keeps w → Does hss_judged w c (Goes next output) → Keeps next
+command_keeps w next output (command.Ring nodes replicas) left keeps does = ring_lines_keep nodes replicas w next output keeps does
+command_keeps w next output (command.Log log id seed sets) left keeps does = left tt
+command_keeps w next output (command.View view [] former) left keeps does = left tt
+command_keeps w next output (command.View view (m ∷ ms) former) left keeps does = view_lines_keep view (m ∷ ms) former (some_first m ms) w next output keeps does
+command_keeps w next output (command.Use log view) left keeps does = left tt
+command_keeps w next output (command.At sec nsec) left keeps does = still_lines_keep (command.At sec nsec) tt w next output keeps does
+command_keeps w next output (command.As log pieces) left keeps does = left tt
+command_keeps w next output (command.Open session log pieces) left keeps does = left tt
+command_keeps w next output (command.Step session count) left keeps does = left tt
+command_keeps w next output (command.Finish session) left keeps does = left tt
+command_keeps w next output (command.Join number) left keeps does = join_lines_keep number w next output keeps does
+command_keeps w next output (command.Stop node) left keeps does = stop_lines_keep node w next output keeps does
+command_keeps w next output command.Round left keeps does = round_lines_keep w next output keeps does
+command_keeps w next output (command.Lose count) left keeps does = still_lines_keep (command.Lose count) tt w next output keeps does
+command_keeps w next output (command.Damage node key offset byte) left keeps does = damage_lines_keep node key offset byte w next output keeps does
+command_keeps w next output (command.Snap log) left keeps does = left tt
+command_keeps w next output (command.Restart log) left keeps does = left tt
+command_keeps w next output (command.Keep log count new) left keeps does = keeper_lines_keep log count new w next output keeps does
+command_keeps w next output (command.Holds node) left keeps does = still_lines_keep (command.Holds node) tt w next output keeps does
+command_keeps w next output (command.Order log) left keeps does = still_lines_keep (command.Order log) tt w next output keeps does
+command_keeps w next output (command.Work log) left keeps does = still_lines_keep (command.Work log) tt w next output keeps does
+command_keeps w next output command.Nothing left keeps does = still_lines_keep command.Nothing tt w next output keeps does
+command_keeps w next output command.End left keeps does = absurd (goes_or_ends next output does)
+
+pub lines_keep_by_these : LinesKeepByThese
+lines_keep_by_these these w next line output keeps step =
+    let done = does_line w next output (command_of line) step in
+    command_keeps w next output done.0 (λ left. these done.0 w next line output left done.1 keeps done.2) keeps done.2

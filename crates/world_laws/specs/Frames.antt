@@ -1,0 +1,157 @@
+-- What may change of a world that keeps what it should, so that it goes on to: the lines and the asks that touch no more.
+use Rattle.std.specs.Prelude.{◌≡◌, ◌≢◌, ℕ, ◌≤◌, Bool, List, [], length, map, Contains, Option, Some, None}
+use Rattle.std.specs.List.{AllByRecursion}
+use Rattle.ivy_base.specs.declared.key.Key.{Key}
+use Rattle.ivy_base.specs.declared.operation.Moment.{Moment}
+use Rattle.log_heads.specs.Signed.{hss_judged}
+use Rattle.log_model.specs.Spelling.{IsMoment}
+use Rattle.log_model.specs.View.{IsView}
+use Rattle.view_blocks.specs.Faults.{HasKeys}
+use Rattle.dht_ids.specs.declared.peer.Peer.{Peer}
+use Rattle.dht_ids.specs.declared.post.Post.{Post}
+use Rattle.node_store.specs.Stores.{IsStore}
+use Rattle.block_cache.specs.Blocks.{IsCache}
+use Rattle.session_model.specs.Sessions.{Cache}
+use Rattle.script_driver.specs.Run.{Goes}
+use Rattle.script_model.specs.declared.command.Command.{Command}
+use Rattle.script_model.specs.declared.command.Command.TheVariants as command
+use Rattle.script_model.specs.Lines.{command_of}
+use Rattle.script_model.specs.declared.command.KeyWord.{KeyWord}
+use Rattle.script_model.specs.declared.command.NodeWord.{NodeWord}
+use Rattle.script_model.specs.Messages.{Given}
+use Rattle.world_model.specs.Keepers.{Keeper}
+use Rattle.world_model.specs.Nodes.{Node}
+use Rattle.world_model.specs.World.{World, NamedView, Participant, peer_of}
+use Rattle.world_model.specs.Story.{Story}
+use Rattle.world_model.specs.Logs.{Played}
+use Rattle.world_model.specs.Step.{Does}
+use Rattle.world_laws.specs.Keeps.{Keeps, PeersAreMade}
+use Rattle.world_laws.specs.Laws.{EachReplyIsOnReplay, HeadlineHolds, IsStill, LinesKeep}
+
+-- ---- participants
+
+-- what may change of a participant whose agent signs, knows and holds what it did
+pub record Change : Type 0 where
+  pub pending : List Post
+  pub has_failed : Bool
+  pub keeper : Keeper
+  pub cache : Cache
+  pub made : List (ℕ × Key)
+  pub printed : Option Key
+  pub work : ℕ
+
+abbrev pub changed : Participant → Change → Participant
+changed p d = record p { agent = record p.agent { pending = d.pending; has_failed = d.has_failed }; keeper = d.keeper; cache = d.cache; made = d.made; printed = d.printed; work = d.work }
+
+-- nothing of it
+abbrev pub unchanged : Participant → Change
+unchanged p = record { pending = p.agent.pending; has_failed = p.agent.has_failed; keeper = p.keeper; cache = p.cache; made = p.made; printed = p.printed; work = p.work }
+
+-- its keeper holds the same bytes, nothing more is to be published, and its cache has blocks that were met
+pub record IsMildChange (met : List (List ℕ)) (p : Participant) (d : Change) : Type 0 where
+  pub kept : d.keeper.kept ≡ p.keeper.kept
+  pub pending : (post : Post) → Contains d.pending post → Contains p.agent.pending post
+  pub fewer : length d.pending ≤ length p.agent.pending
+  pub cached : IsCache d.cache × AllByRecursion (λ e. Contains met e.1) d.cache
+
+-- ---- worlds
+
+-- what stands in place of the world's nodes, participants, views, replies, moment, losses and blocks, and of the story's acknowledgements
+pub record Changes : Type 0 where
+  pub nodes : List Node
+  pub change : Participant → Change
+  pub views : List NamedView
+  pub replies : List Given
+  pub now : Moment
+  pub asked : ℕ
+  pub lost : List ℕ
+  pub met : List (List ℕ)
+  pub acked : List Post
+
+abbrev pub changed_by : Changes → Played → Played
+changed_by c w = (
+  record w.0 { nodes = c.nodes; participants = map (λ p. changed p (c.change p)) w.0.participants; views = c.views; replies = c.replies; now = c.now; asked = c.asked; lost = c.lost; met = c.met },
+  record w.1 { acked = c.acked },
+)
+
+-- before there is a ring there is no node; then there is one, and r of them own a key
+abbrev pub AreOfRing : Option ℕ → List Node → Type 0
+AreOfRing None nodes = nodes ≡ []
+AreOfRing (Some r) nodes = (nodes ≢ []) × AllByRecursion (λ n. n.ring.replicas ≡ r) nodes
+
+-- Who was made is a node still, and nodes know of these alone; what nodes hold was met, and no block that was met is forgotten.
+pub record IsMild (w : World) (c : Changes) : Type 0 where
+  pub peers : (p : Peer) → Contains (map peer_of w.nodes) p → Contains (map peer_of c.nodes) p
+  pub made : PeersAreMade (record w { nodes = c.nodes })
+  pub ring : AreOfRing w.replicas c.nodes
+  pub held : AllByRecursion (λ n. IsStore n.blocks × AllByRecursion (λ e. Contains c.met e.1.bytes) n.blocks) c.nodes
+  pub views : AllByRecursion (λ v. IsView v.view × HasKeys v.view) c.views
+  pub moment : IsMoment c.now
+  pub grows : (b : List ℕ) → Contains w.met b → Contains c.met b
+  pub each : (p : Participant) → Contains w.participants p → IsMildChange c.met p (c.change p)
+
+-- ---- laws
+
+-- Such changes leave a world that keeps what it should.
+abbrev pub MildChangesKeep : Type 0
+MildChangesKeep = (w : Played) (c : Changes) → Keeps w → IsMild w.0 c → Keeps (changed_by c w)
+
+-- So do more blocks that are met: whatever holds over what was met holds over more.
+abbrev pub MoreBlocksKeep : Type 0
+MoreBlocksKeep = (w : World) (st : Story) (met : List (List ℕ)) → Keeps (w, st) → ((b : List ℕ) → Contains w.met b → Contains met b) → Keeps (record w { met = met }, st)
+
+-- ---- lines without sessions
+
+-- what the command does leaves such a world
+abbrev pub LineKeeps : Command → Type 0
+LineKeeps c = (w next : Played) (output : List ℕ) → Keeps w → Does hss_judged w c (Goes next output) → Keeps next
+
+abbrev pub StillLinesKeep : Type 0
+StillLinesKeep = (c : Command) → IsStill c → LineKeeps c
+
+-- a node that stops, a block that is spoilt, a save that is to fail
+abbrev pub StopLinesKeep : Type 0
+StopLinesKeep = (node : NodeWord) → LineKeeps (command.Stop node)
+
+abbrev pub DamageLinesKeep : Type 0
+DamageLinesKeep = (node : NodeWord) (key : KeyWord) (offset byte : ℕ) → LineKeeps (command.Damage node key offset byte)
+
+abbrev pub KeeperLinesKeep : Type 0
+KeeperLinesKeep = (log : List ℕ) (count : ℕ) (new : Bool) → LineKeeps (command.Keep log count new)
+
+-- the ring is made, a node joins, and all nodes have a round of maintenance, whatever is lost
+abbrev pub RingLinesKeep : Type 0
+RingLinesKeep = (nodes replicas : ℕ) → LineKeeps (command.Ring nodes replicas)
+
+abbrev pub JoinLinesKeep : Type 0
+JoinLinesKeep = (number : ℕ) → LineKeeps (command.Join number)
+
+abbrev pub RoundLinesKeep : Type 0
+RoundLinesKeep = LineKeeps command.Round
+
+-- a view of some members is made, and its block put
+abbrev pub ViewLinesKeep : Type 0
+ViewLinesKeep = (view : List ℕ) (members former : List (List ℕ)) → members ≢ [] → LineKeeps (command.View view members former)
+
+-- ---- all lines
+
+-- the commands of which it is still to be shown
+abbrev pub IsLeft : Command → Type 0
+IsLeft (command.Log log id seed sets) = Unit {0}
+IsLeft (command.View view [] former) = Unit {0}
+IsLeft (command.Use log view) = Unit {0}
+IsLeft (command.As log pieces) = Unit {0}
+IsLeft (command.Open session log pieces) = Unit {0}
+IsLeft (command.Step session count) = Unit {0}
+IsLeft (command.Finish session) = Unit {0}
+IsLeft (command.Snap log) = Unit {0}
+IsLeft (command.Restart log) = Unit {0}
+IsLeft _ = ⊥
+
+-- Where these commands, as lines say them, leave such a world, so does each line.
+abbrev pub LinesKeepByThese : Type 0
+LinesKeepByThese = ((c : Command) (w next : Played) (line output : List ℕ) → IsLeft c → command_of line ≡ Some c → Keeps w → Does hss_judged w c (Goes next output) → Keeps next) → LinesKeep
+
+-- Where each line leaves such a world, and the headline holds of each, it holds of each line of a run.
+abbrev pub HeadlineOfRuns : Type 0
+HeadlineOfRuns = LinesKeep → HeadlineHolds → EachReplyIsOnReplay
