@@ -9,4 +9,6 @@ pub mod Advancing
 pub mod Taking
 pub mod Stepping
 pub mod Nothing
+pub mod Lefts
+pub mod Falling
 pub mod Fetching

@@ -57,6 +57,10 @@ block_wanted (stage.Heads owner) = None
 block_wanted (stage.Log t) = wanted_of t.walk
 block_wanted stage.Through = None
 
+-- STUB
+pub gets_in : Gathering → ℕ
+gets_in g = 0
+
 -- ---- behind what was brought
 
 -- the heads of the member that were brought, where it isn't the own one, and what there is to try by them

