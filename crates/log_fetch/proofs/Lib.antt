@@ -3,6 +3,7 @@ pub mod Steps
 pub mod Getting
 pub mod Gathered
 pub mod Members
+pub mod Lefts
 pub mod Given
 pub mod Passing
 pub mod Advancing

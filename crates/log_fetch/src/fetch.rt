@@ -106,10 +106,11 @@ impl<J: Judge> Fetch<J> {
         requires { fetch_wanted self.old ≢ None }
         ensures { IfOk result (λ _. FetchWasGiven J.judges self.old self.new bytes.now) }
     {
-        let State::Free(gather) = mem::replace(&mut self.state, State::Over) else {
+        let State::Free(mut gather) = mem::replace(&mut self.state, State::Over) else {
             unreachable!()
         };
-        self.state = State::Free(gather.take_block(self.alloc, bytes)?);
+        gather.take_block(self.alloc, bytes)?;
+        self.state = State::Free(gather);
         Ok(())
     }
 
@@ -203,26 +204,29 @@ fn take(alloc: Global, gather: Gather, came: Came) -> Result<Step, Memory>
 }
 
 /// Takes the heads that a get brought. The error is want of memory.
-fn take_heads(alloc: Global, gather: Gather, heads: Result<Heads, Miss>) -> Result<Step, Memory>
+fn take_heads(alloc: Global, mut gather: Gather, heads: Result<Heads, Miss>) -> Result<Step, Memory>
     requires { heads_wanted gather.stage ≢ None }
     ensures { IfOk result (Takes gather (Came.Heads heads)) }
 {
     match heads {
         Ok(heads) => {
-            let owner = gather.wanted_heads().unwrap();
-            Ok(Step::Goes(gather.take_heads(alloc, owner, &heads)?))
+            gather.take_heads(alloc, &heads)?;
+            Ok(Step::Goes(gather))
         }
         Err(miss) => fail(gather, miss),
     }
 }
 
 /// Takes the block that a get brought. The error is want of memory.
-fn take_block(alloc: Global, gather: Gather, block: Result<Bytes, Miss>) -> Result<Step, Memory>
+fn take_block(alloc: Global, mut gather: Gather, block: Result<Bytes, Miss>) -> Result<Step, Memory>
     requires { block_wanted gather.stage ≢ None }
     ensures { IfOk result (Takes gather (Came.Block block)) }
 {
     match block {
-        Ok(bytes) => Ok(Step::Goes(gather.take_block(alloc, bytes.as_slice())?)),
+        Ok(bytes) => {
+            gather.take_block(alloc, bytes.as_slice())?;
+            Ok(Step::Goes(gather))
+        }
         Err(miss) => fail(gather, miss),
     }
 }
