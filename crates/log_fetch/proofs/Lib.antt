@@ -3,12 +3,12 @@ pub mod Steps
 pub mod Getting
 pub mod Gathered
 pub mod Members
+pub mod Lefts
 pub mod Given
 pub mod Passing
 pub mod Advancing
 pub mod Taking
 pub mod Stepping
 pub mod Nothing
-pub mod Lefts
 pub mod Falling
 pub mod Fetching
