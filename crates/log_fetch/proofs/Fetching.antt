@@ -36,10 +36,11 @@ use Rattle.log_fetch.specs.declared.get.Progress.TheVariants as progress
 use Rattle.log_fetch.specs.declared.get.Waiting.{Waiting}
 use Rattle.log_fetch.specs.Fetching.{Fetching, FetchIsAfter, FetchIsWanted, FetchHasHeard, FetchWasGiven, GetIsOver, HasFailed, AreParts, IsNeeded, IsSeen, IsSound, IsFor, IsGiven, Ends, EndsAs, aim, failed_in, most_asks}
 use Rattle.log_fetch.specs.Fetching.AreParts.{no_parts, was_got, was_given}
-use Rattle.log_fetch.specs.Gathering.{Gathering, Gathers, BlockGathered, heads_wanted, block_wanted, seen}
+use Rattle.log_fetch.specs.Gathering.{Gathering, Gathers, BlockGathered, heads_wanted, block_wanted, gets_in, seen}
 use Rattle.log_fetch.specs.Gets.{GetIsAfter, GoesTo, HearsTo, HasCame, IsKept, IsOfKind, IsSameGet, gets_left}
 use Rattle.log_fetch.specs.Stepping.{BeginsFor, CameAs, FailsWith, Finishes, GetsFor, IsMiss, IsWantedKind, StandsBehind}
 use Rattle.log_fetch.proofs.Getting.{heads_begin, block_begin}
+use Rattle.log_fetch.proofs.Lefts.{heads_left, block_left}
 use Rattle.log_fetch.proofs.Nothing.{asks_nobody, brings_nothing}
 use Rattle.log_fetch.proofs.Stepping.{fails_by, free_goes_on, heads_needed, block_needed}
 
@@ -286,6 +287,11 @@ module _ {J : Type 0} (judges : Judges J) (judge : J) (replicas : ℕ) (entries 
     pub begins : (p : Progress J) → GoesTo judges x p → BeginsFor judges judge replicas entries at (Some p)
     begins (progress.Waits y) to = (for_same at x y.get to.0 gets.0, to.3 entries [] gets.1, to.1, below (gets_left y.get) (gets_left x) most_asks to.2 gets.2)
     begins (progress.Comes given) to = (brings_nothing judges entries x given (to.1 entries [] gets.1), x, gets.0, to.1 entries [] gets.1)
+
+  -- something may still be wanted
+  pub some_left : (g : Gathering) (x : Get J) → IsFor judge replicas g.stage x → 0 < gets_in g
+  some_left g (get.Heads owner t) fits = heads_left g (λ none. cc (sym none ∙ fits.0))
+  some_left g (get.Block t) fits = block_left g (λ none. cc (sym none ∙ fits.0))
 
   -- ---- without a get on its way
 
