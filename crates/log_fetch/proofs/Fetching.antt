@@ -39,6 +39,7 @@ use Rattle.log_fetch.specs.Fetching.AreParts.{no_parts, was_got, was_given}
 use Rattle.log_fetch.specs.Gathering.{Gathering, Gathers, BlockGathered, heads_wanted, block_wanted, gets_in, seen}
 use Rattle.log_fetch.specs.Gets.{GetIsAfter, GoesTo, HearsTo, HasCame, IsKept, IsOfKind, IsSameGet, gets_left}
 use Rattle.log_fetch.specs.Stepping.{BeginsFor, CameAs, FailsWith, Finishes, GetsFor, IsMiss, IsWantedKind, StandsBehind}
+use Rattle.log_fetch.proofs.Falling.{first_asks}
 use Rattle.log_fetch.proofs.Getting.{heads_begin, block_begin}
 use Rattle.log_fetch.proofs.Lefts.{heads_left, block_left}
 use Rattle.log_fetch.proofs.Nothing.{asks_nobody, brings_nothing}
@@ -277,10 +278,10 @@ module _ {J : Type 0} (judges : Judges J) (judge : J) (replicas : ℕ) (entries 
   -- ---- the get of what is wanted
 
   pub for_heads : (at : Stage) (owner : PubKey) (x : Get J) → heads_wanted at ≡ Some owner → x ≡ get.Heads owner (head_begun judge (head_key_of owner) replicas entries) → GetsFor judges judge replicas entries at (Some x)
-  for_heads at owner x want is = subst (λ (y : Get J). GetsFor judges judge replicas entries at (Some y)) (sym is) ((want, refl, refl), heads_begin judges owner judge replicas entries, omega arith)
+  for_heads at owner x want is = subst (λ (y : Get J). GetsFor judges judge replicas entries at (Some y)) (sym is) ((want, refl, refl), heads_begin judges owner judge replicas entries, first_asks)
 
   pub for_block : (at : Stage) (key : Key) (x : Get J) → block_wanted at ≡ Some key → x ≡ get.Block (block_begun key replicas entries) → GetsFor judges judge replicas entries at (Some x)
-  for_block at key x want is = subst (λ (y : Get J). GetsFor judges judge replicas entries at (Some y)) (sym is) ((want, refl), block_begin judges key replicas entries, omega arith)
+  for_block at key x want is = subst (λ (y : Get J). GetsFor judges judge replicas entries at (Some y)) (sym is) ((want, refl), block_begin judges key replicas entries, first_asks)
 
   -- its first ask
   module _ (at : Stage) (x : Get J) (gets : GetsFor judges judge replicas entries at (Some x)) where

@@ -90,7 +90,7 @@ abbrev pub is_failed : {J : Type 0} → Fetching J → Bool
 is_failed f = failed_in f.state
 
 -- more asks than a get that begins may make
-abbrev pub most_asks : ℕ
+unfoldable pub most_asks : ℕ
 most_asks = 2 ^ 64 + 513
 
 abbrev pub left_in : {J : Type 0} → State J → ℕ
@@ -104,7 +104,7 @@ abbrev pub fetch_left : {J : Type 0} → Fetching J → ℕ
 fetch_left f = left_in f.state
 
 -- more than a fetch that begins may make: a view has at most 16 members
-abbrev pub most_left : ℕ
+unfoldable pub most_left : ℕ
 most_left = most_asks * (17 * (2 + 2 ^ 96))
 
 -- ---- what always holds
