@@ -1,8 +1,9 @@
 -- The fetch with its gets: how it goes on, and what it gives.
-use Rattle.std.proofs.Common.{◌≡◌, ◌⊎◌, inl, inr, ℕ, ◌<◌, ◌≤◌, List, [], ◌∷◌, ◌++◌, map, Contains, Option, Some, None, Result, Ok, Err, IfOk, refl, sym, ap, ◌∙◌, subst, arith}
+use Rattle.std.proofs.Common.{◌≡◌, ◌⊎◌, inl, inr, ℕ, ◌+◌, ◌-◌, ◌*◌, ◌<◌, ◌≤◌, List, [], ◌∷◌, ◌++◌, map, Contains, Option, Some, None, Result, Ok, Err, IfOk, refl, sym, ap, ◌∙◌, subst, arith}
 use Rattle.std.proofs.lemmas.List.{map-append}
 use Rattle.ivy_base.specs.declared.key.Key.{Key}
 use Rattle.ivy_base.specs.declared.key.PubKey.{PubKey}
+use Rattle.ivy_base.specs.declared.memory.Memory.{Memory}
 use Rattle.ivy_base.specs.Naming.{head_key_of}
 use Rattle.log_model.specs.Vector.{Vector}
 use Rattle.ring_model.proofs.Lists.{none_some}
@@ -34,16 +35,22 @@ use Rattle.log_fetch.specs.declared.get.Get.TheVariants as get
 use Rattle.log_fetch.specs.declared.get.Progress.{Progress}
 use Rattle.log_fetch.specs.declared.get.Progress.TheVariants as progress
 use Rattle.log_fetch.specs.declared.get.Waiting.{Waiting}
-use Rattle.log_fetch.specs.Fetching.{Fetching, FetchIsAfter, FetchIsWanted, FetchHasHeard, FetchWasGiven, GetIsOver, HasFailed, AreParts, IsNeeded, IsSeen, IsSound, IsFor, IsGiven, Ends, EndsAs, aim, failed_in, most_asks}
+use Rattle.log_fetch.specs.Fetching.{Fetching, FetchIsAfter, FetchIsWanted, FetchHasHeard, FetchWasGiven, GetIsOver, HasFailed, FetchStands, AreParts, IsNeeded, IsSeen, IsSound, IsFor, IsGiven, Ends, EndsAs, aim, aim_in, failed_in, left_in, most_asks}
 use Rattle.log_fetch.specs.Fetching.AreParts.{no_parts, was_got, was_given}
 use Rattle.log_fetch.specs.Gathering.{Gathering, Gathers, BlockGathered, heads_wanted, block_wanted, gets_in, seen}
 use Rattle.log_fetch.specs.Gets.{GetIsAfter, GoesTo, HearsTo, HasCame, IsKept, IsOfKind, IsSameGet, gets_left}
-use Rattle.log_fetch.specs.Stepping.{BeginsFor, CameAs, FailsWith, Finishes, GetsFor, IsMiss, IsWantedKind, StandsBehind}
-use Rattle.log_fetch.proofs.Falling.{first_asks}
+use Rattle.log_fetch.specs.Stepping.{BeginsFor, CameAs, FailsWith, Finishes, GetsFor, HearsNext, IsMiss, IsWantedKind, LeavesNoMore, StandsBehind, WantsNext}
+use Rattle.log_fetch.proofs.Falling.{first_asks, begins as get_begins, goes_on as get_goes_on, is_over as get_is_over}
 use Rattle.log_fetch.proofs.Getting.{heads_begin, block_begin}
 use Rattle.log_fetch.proofs.Lefts.{heads_left, block_left}
 use Rattle.log_fetch.proofs.Nothing.{asks_nobody, brings_nothing}
 use Rattle.log_fetch.proofs.Stepping.{fails_by, free_goes_on, heads_needed, block_needed}
+
+no_more : (n : ℕ) → n ≤ n
+no_more n = omega arith
+
+at_least : (n : ℕ) → 0 ≤ n
+at_least n = omega arith
 
 below : (a b c : ℕ) → a ≤ b → b < c → a < c
 below a b c h k = omega (arith, h, k)
@@ -122,7 +129,7 @@ module _ {J : Type 0} (judges : Judges J) (judge : J) (replicas : ℕ) (entries 
     (refl, refl, refl),
     begins.2,
     λ s start parts current h. (
-      record { whole = h.whole; asking = (h.asking.0, h.asking.1, subst (λ (l : List Heard). GetIsAfter judges entries l x.get) (sym h.asking.2) begins.1) },
+      record { whole = h.whole; asking = (h.asking.0, h.asking.1, subst (λ (l : List Heard). GetIsAfter judges entries l x.get) (sym h.asking.2) begins.1); sound = (begins.0, begins.2) },
       aim x.get,
       refl,
       is_needed s start parts g h.asking.0 h.asking.1 x.get begins.0,
@@ -168,7 +175,7 @@ module _ {J : Type 0} (judges : Judges J) (judge : J) (replicas : ℕ) (entries 
         let needed = is_needed s start parts g h.asking.0 h.asking.1 x fits in (
           h.asking.2,
           parts ++ p ∷ [],
-          inr (asks_nobody judges entries x given come, aim x, needed, c.what, refl),
+          inr (asks_nobody judges entries x given come, aim x, needed, c.what, c.gets, refl),
           was_got parts (aim x) [] c.what h.whole needed c.gets,
           FailsBy miss,
           subst (λ (b : List Brought). EndsAs s start b fetched (FailsBy miss)) (sym (brought_more parts p))
@@ -189,7 +196,7 @@ module _ {J : Type 0} (judges : Judges J) (judge : J) (replicas : ℕ) (entries 
             c.what,
             c.gets,
             refl,
-            record { whole = parts_now; asking = (subst (IsSeen s) (sym stands.0) is, subst (λ (b : List Brought). Gathers start b after) (sym (brought_more parts part)) w.0, refl) },
+            record { whole = parts_now; asking = (subst (IsSeen s) (sym stands.0) is, subst (λ (b : List Brought). Gathers start b after) (sym (brought_more parts part)) w.0, refl); sound = tt },
             w.1,
           )
       is_over (state.Asking after y) back stands = absurd stands
@@ -205,6 +212,7 @@ module _ {J : Type 0} (judges : Judges J) (judge : J) (replicas : ℕ) (entries 
                 w.0,
                 subst (λ (b : List Brought). EndsAs s start b fetched (FailsBy w.0)) (sym (brought_more parts part)) (ends_as s start g.known is (brought_in parts ++ c.what ∷ []) fetched (FailsBy w.0) w.1),
               );
+              sound = tt;
             },
             w.2,
           )
@@ -223,7 +231,7 @@ module _ {J : Type 0} (judges : Judges J) (judge : J) (replicas : ℕ) (entries 
       inl (
         ap (λ (w : Want). Some w) (aim_same x.get y.get hears.0.0),
         λ none. cc (sym none ∙ hears.1),
-        record { whole = h.whole; asking = (h.asking.0, h.asking.1, hears.0.1 entries current node question e h.asking.2) },
+        record { whole = h.whole; asking = (h.asking.0, h.asking.1, hears.0.1 entries current node question e h.asking.2); sound = (for_same g.stage x.get y.get hears.0.0 fits, hears.1) },
         refl,
       ),
     ),
@@ -266,6 +274,7 @@ module _ {J : Type 0} (judges : Judges J) (judge : J) (replicas : ℕ) (entries 
           record {
             whole = was_given parts key bytes h.whole needed;
             asking = (subst (IsSeen s) (sym known) h.asking.0, subst (λ (b : List Brought). Gathers start b after) (sym (brought_more parts p)) (gathered start (brought_in parts) key want h.asking.1), refl);
+            sound = tt;
           },
         ),
   )
@@ -273,7 +282,7 @@ module _ {J : Type 0} (judges : Judges J) (judge : J) (replicas : ℕ) (entries 
   -- ---- it starts
 
   pub first_state : (s : agent.Standing) (start : Vector) (g : Gathering) → IsSeen s g.known → Gathers start [] g → FetchIsAfter judges s start [] [] (At (state.Free g))
-  first_state s start g is h = record { whole = no_parts; asking = (is, h, refl) }
+  first_state s start g is h = record { whole = no_parts; asking = (is, h, refl); sound = tt }
 
   -- ---- the get of what is wanted
 
@@ -304,9 +313,50 @@ module _ {J : Type 0} (judges : Judges J) (judge : J) (replicas : ℕ) (entries 
   has_failed (state.Ended fetched) sound = λ s start parts current h none. (h.asking.0, h.asking.2.0, h.asking.2.1, FailsBy h.asking.1, h.asking.2.2, refl)
   has_failed state.Over sound = λ s start parts current h none. absurd h.asking
 
+  -- ---- from one state to the next
+
+  pub wants_again : (g : Gathering) (x : Waiting J) → IsSound judge replicas (state.Asking g x) → WantsNext judges (At state.Over) (state.Asking g x) (state.Asking g x, next.Ask x.node x.question)
+  wants_again g x sound = (asks_again g x sound.0 sound.1, sound, no_more (gets_left x.get + most_asks * (gets_in g - 1)))
+
+  pub wants_first : (g : Gathering) (x : Waiting J) → BeginsFor judges judge replicas entries g.stage (Some (progress.Waits x)) → WantsNext judges (At state.Over) (state.Free g) (state.Asking g x, next.Ask x.node x.question)
+  wants_first g x begins = (asks_first g x begins, (begins.0, begins.2), get_begins most_asks (gets_in g) (gets_left x.get) (some_left g x.get begins.0) begins.3)
+
+  pub wants_nothing : (g : Gathering) (given : Came) (miss : Miss) (fetched : Fetched) → BeginsFor judges judge replicas entries g.stage (Some (progress.Comes given)) → IsMiss given miss → FailsWith g miss fetched
+      → WantsNext judges (At state.Over) (state.Free g) (state.Over, next.Done fetched)
+  wants_nothing g given miss fetched begins none fails = (fails_first g begins.1 begins.2 given begins.3 miss none fetched fails, tt, at_least (most_asks * gets_in g))
+
+  pub wants_end : (g : Gathering) (fetched : Fetched) → Finishes g fetched → WantsNext judges (At state.Over) (state.Free g) (state.Over, next.Done fetched)
+  wants_end g fetched finishes = (through g fetched finishes, tt, at_least (most_asks * gets_in g))
+
+  pub wants_told : (fetched : Fetched) → WantsNext judges (At state.Over) (state.Ended fetched) (state.Over, next.Done fetched)
+  wants_told fetched = (tells fetched, tt, no_more 0)
+
+  pub hears_waits : (g : Gathering) (x y : Waiting J) (answer : Answer) → IsSound judge replicas (state.Asking g x) → HearsTo judges x.get answer (progress.Waits y) → HearsNext judges (At state.Over) (state.Asking g x) answer (state.Asking g y, None)
+  hears_waits g x y answer sound to = (hears_on g x y answer sound.0 to, sound_on g x y answer sound.0 to, get_goes_on most_asks (gets_in g - 1) (gets_left y.get) (gets_left x.get) to.2)
+
+  pub hears_comes : (g : Gathering) (x : Waiting J) (answer : Answer) (given : Came) → IsSound judge replicas (state.Asking g x) → HearsTo judges x.get answer (progress.Comes given) → (r : Result (State J × Option (Key × List ℕ)) Memory)
+      → IfOk r (StandsBehind g given) → IfOk r (λ (w : State J × Option (Key × List ℕ)). LeavesNoMore g w.0) → IfOk r (HearsNext judges (At state.Over) (state.Asking g x) answer)
+  hears_comes g x answer given sound to (Ok (st, back)) stands left =
+      (hears_over g x answer given st back sound.0 to stands, sound_over g given st back stands, get_is_over most_asks (gets_in g - 1) (left_in st) (gets_left x.get) left to.1)
+  hears_comes g x answer given sound to (Err e) stands left = tt
+
+  -- ---- what was brought comes to some end
+
+  pub stands_at : (st : State J) (s : agent.Standing) (start : Vector) (parts : List Part) (current : List Heard) → FetchIsAfter judges s start parts current (At st)
+      → (notes : List session.Note) × (chains : List agent.Chain) × (end : RefreshEnd) × FetchesAll s start s.view.members (brought_in parts) notes chains end × ((want : Want) → aim_in st ≡ Some want → end ≡ Needs want)
+  stands_at (state.Free g) s start parts current h =
+      let w = free_goes_on start (brought_in parts) g h.asking.1 in (w.notes, w.chains, w.end, fetches_as s start g.known h.asking.0 w.fetches, λ want e. cc e)
+  stands_at (state.Asking g x) s start parts current h =
+      let n = is_needed s start parts g h.asking.0 h.asking.1 x.get h.sound.0 in (n.0, n.1, Needs (aim x.get), n.2, λ want e. cc e)
+  stands_at (state.Ended fetched) s start parts current h = (h.asking.2.0, h.asking.2.1, FailsBy h.asking.1, h.asking.2.2, λ want e. cc e)
+  stands_at state.Over s start parts current h = absurd h.asking
+
 -- what comes is of the kind that is wanted
 pub kind_wanted : {J : Type 0} (judge : J) (replicas : ℕ) (at : Stage) (x : Get J) (given : Came) → IsFor judge replicas at x → IsOfKind x (next.Done given) → IsWantedKind at given
 kind_wanted judge replicas at (get.Heads owner t) (came.Heads heads) fits kind = λ none. cc (sym none ∙ fits.0)
 kind_wanted judge replicas at (get.Heads owner t) (came.Block block) fits kind = absurd kind
 kind_wanted judge replicas at (get.Block t) (came.Heads heads) fits kind = absurd kind
 kind_wanted judge replicas at (get.Block t) (came.Block block) fits kind = λ none. cc (sym none ∙ fits.0)
+
+pub fetch_stands : {J : Type 0} (judges : Judges J) → FetchStands judges
+fetch_stands judges f s start parts current h = stands_at judges f.judge f.replicas f.entries f.state s start parts current h

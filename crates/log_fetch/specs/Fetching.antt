@@ -161,6 +161,7 @@ IsAsking judges entries s start brought current state.Over = ⊥
 pub record FetchIsAfter {J : Type 0} (judges : Judges J) (s : agent.Standing) (start : Vector) (parts : List Part) (current : List Heard) (f : Fetching J) : Type 0 where
   pub whole : AreParts (judges f.judge) f.replicas f.entries s start parts
   pub asking : IsAsking judges f.entries s start (brought_in parts) current f.state
+  pub sound : IsSound f.judge f.replicas f.state
 
 -- ---- what it wants
 
@@ -173,7 +174,8 @@ Leads judges old new =
 -- these are all parts: where nobody may be asked, one comes last that took no ask
 abbrev pub AreAll : (Key → List ℕ → Option Judged) → ℕ → List Peer → agent.Standing → Vector → List Part → List Part → Type 0
 AreAll judged replicas entries s start parts all =
-    (all ≡ parts) ⊎ ((entries ≡ []) × (want : Want) × IsNeeded judged replicas entries s start parts want × (brought : Brought) × (all ≡ parts ++ record { brought = brought; asks = [] } ∷ []))
+    (all ≡ parts) ⊎ ((entries ≡ []) × (want : Want) × IsNeeded judged replicas entries s start parts want × (brought : Brought) × Gets judged replicas entries want [] brought
+    × (all ≡ parts ++ record { brought = brought; asks = [] } ∷ []))
 
 -- all that was wanted was brought, or something couldn't be had
 abbrev pub Ends : {J : Type 0} → Judges J → Fetching J → Fetched → Type 0
@@ -233,3 +235,11 @@ abbrev pub HasFailed : {J : Type 0} → Judges J → Fetching J → Bool → Typ
 HasFailed judges f failed =
     (s : agent.Standing) (start : Vector) (parts : List Part) (current : List Heard) → FetchIsAfter judges s start parts current f → fetch_awaited f ≡ None
     → (current ≡ []) × (notes : List session.Note) × (chains : List agent.Chain) × (end : RefreshEnd) × FetchesAll s start s.view.members (brought_in parts) notes chains end × (is_miss end ≡ failed)
+
+-- ---- a law
+
+-- what was brought came to some end; while a get is on its way, to that what it is for is wanted
+abbrev pub FetchStands : {J : Type 0} → Judges J → Type 0
+FetchStands {J} judges =
+    (f : Fetching J) (s : agent.Standing) (start : Vector) (parts : List Part) (current : List Heard) → FetchIsAfter judges s start parts current f
+    → (notes : List session.Note) × (chains : List agent.Chain) × (end : RefreshEnd) × FetchesAll s start s.view.members (brought_in parts) notes chains end × ((want : Want) → fetch_aim f ≡ Some want → end ≡ Needs want)

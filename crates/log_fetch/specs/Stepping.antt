@@ -3,6 +3,8 @@ use Rattle.std.specs.Prelude.{◌≡◌, ◌≢◌, ℕ, ◌-◌, ◌*◌, ◌<�
 use Rattle.ivy_base.specs.declared.key.Key.{Key}
 use Rattle.ivy_base.specs.declared.key.PubKey.{PubKey}
 use Rattle.log_model.specs.Vector.{Vector}
+use Rattle.dht_ids.specs.declared.ask.Answer.{Answer}
+use Rattle.dht_ids.specs.declared.ask.Want.{Want as Next}
 use Rattle.dht_ids.specs.declared.peer.Peer.{Peer}
 use Rattle.dhash_client.specs.declared.miss.Miss.{Miss}
 use Rattle.dhash_client.specs.GetHead.{Judges}
@@ -20,7 +22,7 @@ use Rattle.log_fetch.specs.declared.get.Came.TheVariants as came
 use Rattle.log_fetch.specs.declared.get.Get.{Get}
 use Rattle.log_fetch.specs.declared.get.Progress.{Progress}
 use Rattle.log_fetch.specs.declared.get.Progress.TheVariants as progress
-use Rattle.log_fetch.specs.Fetching.{IsFor, EndsAs, block_in, left_in, most_asks}
+use Rattle.log_fetch.specs.Fetching.{Fetching, FetchHasHeard, FetchIsWanted, IsFor, IsSound, EndsAs, block_in, left_in, most_asks}
 use Rattle.log_fetch.specs.Gathering.{Gathering, Gathers, heads_wanted, block_wanted, gets_in, noted_at, seen}
 use Rattle.log_fetch.specs.Gets.{GetIsAfter, HasCame, IsKept, gets_left}
 use Rattle.log_fetch.specs.Standings.{note_of_miss}
@@ -90,3 +92,13 @@ BeginsFor {J} judges judge replicas entries at None = at ≡ stage.Through
 -- all members are through
 abbrev pub Finishes : Gathering → Fetched → Type 0
 Finishes g given = (start : Vector) (brought : List Brought) → Gathers start brought g → EndsAs (seen g.known) start brought given Done
+
+-- ---- the fetch from one state to the next
+
+-- what it wants then
+abbrev pub WantsNext : {J : Type 0} → Judges J → Fetching J → State J → State J × Next Fetched → Type 0
+WantsNext judges f old given = FetchIsWanted judges (record f { state = old }) (record f { state = given.0 }) given.1 × IsSound f.judge f.replicas given.0 × (left_in given.0 ≤ left_in old)
+
+-- it heard this, and a block is handed out
+abbrev pub HearsNext : {J : Type 0} → Judges J → Fetching J → State J → Answer → State J × Option (Key × List ℕ) → Type 0
+HearsNext judges f old answer given = FetchHasHeard judges (record f { state = old }) (record f { state = given.0 }) answer given.1 × IsSound f.judge f.replicas given.0 × (left_in given.0 < left_in old)

@@ -1,10 +1,11 @@
 //! The fetch of all logs of a view.
 
-ghost use Rattle.std.specs.Prelude.{◌≡◌, ◌≢◌, ◌<◌, ◌≤◌, ◌*◌, [], None, IfOk, OnOk};
-ghost use Rattle.log_fetch.specs.Fetching.{fetch_awaited, fetch_left, fetch_wanted, is_failed, most_asks, most_left, FetchIsAfter, FetchIsWanted, FetchHasHeard, FetchWasGiven, HasFailed};
+ghost use Rattle.std.specs.Prelude.{◌≡◌, ◌≢◌, ◌<◌, ◌≤◌, [], Some, None, IfOk, false};
+ghost use Rattle.log_fetch.specs.Fetching.{awaited_in, fetch_awaited, fetch_left, fetch_wanted, is_failed, most_left, FetchIsAfter, FetchIsWanted, FetchHasHeard, FetchWasGiven, FetchStands, HasFailed, IsSound};
 ghost use Rattle.log_fetch.specs.Standings.{standing_of, note_of_miss};
-ghost use Rattle.log_fetch.specs.Gathering.{heads_wanted, block_wanted, gets_in};
-ghost use Rattle.log_fetch.specs.Stepping.{BeginsFor, BroughtNothing, GetsFor, IsMiss, Takes, FailsWith, Finishes, IsWantedKind, LeavesNoMore, StandsBehind};
+ghost use Rattle.log_fetch.specs.Gathering.{heads_wanted, block_wanted};
+ghost use Rattle.log_fetch.specs.Gets.{IsKept};
+ghost use Rattle.log_fetch.specs.Stepping.{BeginsFor, BroughtNothing, GetsFor, HearsNext, IsMiss, WantsNext, Takes, FailsWith, Finishes, IsWantedKind, LeavesNoMore, StandsBehind};
 
 use crate::gather::{Gather, Stage};
 use crate::get::{Came, Get, Progress, Waiting};
@@ -116,6 +117,7 @@ impl<J: Judge> Fetch<J> {
     pub fn give(&mut self, bytes: &[u8]) -> Result<(), Memory>
         requires { fetch_wanted self.old ≢ None }
         ensures given { IfOk result (λ _. FetchWasGiven J.judges self.old self.new bytes.now) }
+        ensures free { IfOk result (λ _. (fetch_awaited self.new ≡ None) × (is_failed self.new ≡ false)) }
         ensures left { IfOk result (λ _. fetch_left self.new < fetch_left self.old) }
     {
         let State::Free(mut gather) = mem::replace(&mut self.state, State::Over) else {
@@ -132,16 +134,10 @@ impl<J: Judge> Fetch<J> {
         ensures wanted { IfOk result (FetchIsWanted J.judges self.old self.new) }
         ensures left { IfOk result (λ _. fetch_left self.new ≤ fetch_left self.old) }
     {
-        match mem::replace(&mut self.state, State::Over) {
-            State::Free(gather) => self.begin(gather),
-            State::Asking(gather, waiting) => {
-                let (node, question) = waiting.again();
-                self.state = State::Asking(gather, waiting);
-                Ok(Want::Ask(node, question))
-            }
-            State::Ended(fetched) => Ok(Want::Done(fetched)),
-            State::Over => Err(Memory),
-        }
+        let state = mem::replace(&mut self.state, State::Over);
+        let (state, want) = self.go_on(state)?;
+        self.state = state;
+        Ok(want)
     }
 
     /// Hears what the node answered that was asked last, and takes what the get brought, where it is over with that: a block
@@ -151,36 +147,70 @@ impl<J: Judge> Fetch<J> {
         ensures heard { IfOk result (FetchHasHeard J.judges self.old self.new answer) }
         ensures left { IfOk result (λ _. fetch_left self.new < fetch_left self.old) }
     {
-        let State::Asking(gather, waiting) = mem::replace(&mut self.state, State::Over) else {
+        let state = mem::replace(&mut self.state, State::Over);
+        let (state, block) = self.hear(state, answer)?;
+        self.state = state;
+        Ok(block)
+    }
+
+    /// Hears what was answered in that state: how the fetch then stands, and the block that a get brought. The error is want of
+    /// memory.
+    fn hear(
+        &self,
+        state: State<J>,
+        answer: Answer,
+    ) -> Result<(State<J>, Option<(Key, Bytes)>), Memory>
+        requires awaited { awaited_in state ≢ None }
+        requires sound { IsSound self.now.judge self.now.replicas state }
+        ensures { IfOk result (HearsNext J.judges self.now state answer) }
+    {
+        let State::Asking(gather, waiting) = state else {
             unreachable!()
         };
-        match waiting.get.hear(answer)? {
-            Progress::Waits(waiting) => {
-                self.state = State::Asking(gather, waiting);
-                Ok(None)
-            }
-            Progress::Comes(came) => {
-                let (state, block) = stand(self.alloc, gather, came)?;
-                self.state = state;
-                Ok(block)
-            }
+        match waiting.hear(answer)? {
+            Progress::Waits(waiting) => Ok((State::Asking(gather, waiting), None)),
+            Progress::Comes(came) => stand(self.alloc, gather, came),
+        }
+    }
+
+    /// What is wanted in that state, and how the fetch then stands. The error is want of memory.
+    fn go_on(&self, state: State<J>) -> Result<(State<J>, Want<Fetched>), Memory>
+        requires { IsSound self.now.judge self.now.replicas state }
+        ensures { IfOk result (WantsNext J.judges self.now state) }
+    {
+        match state {
+            State::Free(gather) => self.begin(gather),
+            State::Asking(gather, waiting) => Ok(ask(gather, waiting)),
+            State::Ended(fetched) => Ok((State::Over, Want::Done(fetched))),
+            State::Over => Err(Memory),
         }
     }
 
     /// Begins a get of what is wanted, where something is. The error is want of memory.
-    fn begin(&mut self, gather: Gather) -> Result<Want<Fetched>, Memory>
-        requires { self.old.state ≡ State.Over }
-        ensures wanted { IfOk result (FetchIsWanted J.judges (record self.old { state = State.Free gather }) self.new) }
-        ensures left { IfOk result (λ _. fetch_left self.new ≤ most_asks * gets_in gather) }
+    fn begin(&self, gather: Gather) -> Result<(State<J>, Want<Fetched>), Memory>
+        ensures { IfOk result (WantsNext J.judges self.now (State.Free gather)) }
     {
         match self.first(&gather)? {
-            Some(Progress::Waits(waiting)) => {
-                let (node, question) = waiting.again();
-                self.state = State::Asking(gather, waiting);
-                Ok(Want::Ask(node, question))
+            Some(progress) => self.begun(gather, progress),
+            None => Ok((State::Over, Want::Done(finish(gather)?))),
+        }
+    }
+
+    /// Asks the first ask of a get, or ends the fetch where there is none. The error is want of memory.
+    fn begun(
+        &self,
+        gather: Gather,
+        progress: Progress<J>,
+    ) -> Result<(State<J>, Want<Fetched>), Memory>
+        requires { BeginsFor J.judges self.now.judge self.now.replicas self.now.entries gather.stage (Some progress) }
+        ensures { IfOk result (WantsNext J.judges self.now (State.Free gather)) }
+    {
+        match progress {
+            Progress::Waits(waiting) => Ok(ask(gather, waiting)),
+            Progress::Comes(came) => {
+                let fetched = fail(gather, miss_in(came))?;
+                Ok((State::Over, Want::Done(fetched)))
             }
-            Some(Progress::Comes(came)) => Ok(Want::Done(fail(gather, miss_in(came))?)),
-            None => Ok(Want::Done(finish(gather)?)),
         }
     }
 
@@ -207,6 +237,15 @@ impl<J: Judge> Fetch<J> {
             None => Ok(None),
         }
     }
+}
+
+/// Has the node of that ask asked.
+fn ask<J: Judge>(gather: Gather, waiting: Waiting<J>) -> (State<J>, Want<Fetched>)
+    requires { IsKept waiting }
+    ensures { result ≡ (State.Asking gather waiting, Want.Ask waiting.node waiting.question) }
+{
+    let (node, question) = waiting.again();
+    (State::Asking(gather, waiting), Want::Ask(node, question))
 }
 
 /// Gathers what a get brought: then no get is on its way, or something couldn't be had. A block is handed out with its
@@ -318,4 +357,10 @@ fn note_of(miss: &Miss) -> Note
         Miss::Missing { key, .. } => Note::Missing(*key),
         Miss::Damaged { key, .. } => Note::Damaged(*key),
     }
+}
+
+/// Whatever a fetch was brought is known to come to some end, and while a get is on its way to that what it is for is wanted.
+pub fn fetch_stands<J: Judge>()
+    ensures { FetchStands J.judges }
+{
 }

@@ -128,6 +128,14 @@ impl<J: Judge> Get<J> {
 }
 
 impl<J: Judge> Waiting<J> {
+    /// Hears what the node answered, and goes on to the next ask, where there is one. The error is want of memory.
+    pub(crate) fn hear(self, answer: Answer) -> Result<Progress<J>, Memory>
+        requires { get_awaited self.get ≢ None }
+        ensures { IfOk result (HearsTo J.judges self.get answer) }
+    {
+        self.get.hear(answer)
+    }
+
     /// The node that was asked and what it was asked, again.
     pub(crate) fn again(&self) -> (Peer, Ask)
         requires { IsOfGet self.now.question }
