@@ -1,4 +1,5 @@
 use Rattle.std.proofs.Common.{◌≡◌, IfOk, sym, subst}
+use Rattle.dht_ids.specs.declared.ask.Want.TheVariants as next
 use Rattle.log_fetch.specs.declared.fetch.State.{State}
 use Rattle.log_fetch.specs.declared.fetch.State.TheVariants as state
 use Rattle.log_fetch.specs.Fetching.{IsSound}
@@ -22,4 +23,4 @@ returns-in-Asking g c =
 pub returns-in-Ended : goal.returns-in-Ended
 returns-in-Ended g c =
     let f = c.args.self.now in
-    subst (λ (st : State g.row.J.Denot). WantsNext g.J.Judge.judges f st _) (sym c.in-Ended.is) (wants_told g.J.Judge.judges f.judge f.replicas f.entries c.in-Ended.fetched)
+    subst (λ (st : State g.row.J.Denot). WantsNext g.J.Judge.judges f st (state.Over, next.Done c.in-Ended.fetched)) (sym c.in-Ended.is) (wants_told g.J.Judge.judges f.judge f.replicas f.entries c.in-Ended.fetched)
