@@ -1,5 +1,5 @@
 -- The fetch with its gets: how it goes on, and what it gives.
-use Rattle.std.proofs.Common.{◌≡◌, ◌⊎◌, inl, inr, ℕ, ◌+◌, ◌-◌, ◌*◌, ◌<◌, ◌≤◌, List, [], ◌∷◌, ◌++◌, map, Contains, Option, Some, None, Result, Ok, Err, IfOk, refl, sym, ap, ◌∙◌, subst, arith}
+use Rattle.std.proofs.Common.{◌≡◌, ◌⊎◌, inl, inr, false, ℕ, ◌+◌, ◌-◌, ◌*◌, ◌<◌, ◌≤◌, List, [], ◌∷◌, ◌++◌, map, Contains, Option, Some, None, Result, Ok, Err, IfOk, refl, sym, ap, ◌∙◌, subst, arith}
 use Rattle.std.proofs.lemmas.List.{map-append}
 use Rattle.ivy_base.specs.declared.key.Key.{Key}
 use Rattle.ivy_base.specs.declared.key.PubKey.{PubKey}
@@ -312,6 +312,12 @@ module _ {J : Type 0} (judges : Judges J) (judge : J) (replicas : ℕ) (entries 
   has_failed (state.Asking g x) sound = λ s start parts current h none. absurd (none_some (x.node, x.question) (sym none ∙ sound.1))
   has_failed (state.Ended fetched) sound = λ s start parts current h none. (h.asking.0, h.asking.2.0, h.asking.2.1, FailsBy h.asking.1, h.asking.2.2, refl)
   has_failed state.Over sound = λ s start parts current h none. absurd h.asking
+
+  pub not_failed : (st : State J) → ((given : Fetched) → st ≡ state.Ended given → ⊥) → failed_in st ≡ false
+  not_failed (state.Free g) other = refl
+  not_failed (state.Asking g x) other = refl
+  not_failed (state.Ended fetched) other = absurd (other fetched refl)
+  not_failed state.Over other = refl
 
   -- ---- from one state to the next
 
