@@ -1,26 +1,23 @@
 -- The fetch of all members begins, goes on, and is through.
-use Rattle.std.proofs.Common.{◌≡◌, ℕ, ◌+◌, ◌-◌, ◌*◌, ◌^◌, ◌<◌, ◌≤◌, List, [], ◌∷◌, ◌++◌, map, take, drop, length, get_or, Contains, Option, Some, None, Result, Ok, Err, IfOk, refl, sym, ap, ◌∙◌, subst, zero, suc, arith}
+use Rattle.std.proofs.Common.{◌≡◌, ℕ, ◌+◌, ◌-◌, ◌*◌, ◌^◌, ◌<◌, ◌≤◌, List, [], ◌∷◌, ◌++◌, take, drop, length, get_or, Contains, Some, None, refl, sym, ap, ◌∙◌, subst, arith}
 use Rattle.std.specs.Prelude.{◌≢◌}
-use Rattle.std.proofs.lemmas.List.{append-nil, append_assoc}
+use Rattle.std.proofs.lemmas.List.{append-nil}
 use Rattle.std.proofs.Math.Seq.{take-length}
-use Rattle.ivy_base.specs.declared.key.Key.{Key}
 use Rattle.ivy_base.specs.declared.key.PubKey.{PubKey}
 use Rattle.ivy_base.specs.Naming.{head_key_of}
 use Rattle.log_model.specs.View.{IsView}
 use Rattle.log_model.specs.Vector.{Stamp, Vector, stamp_at, seq_of}
-use Rattle.dht_ids.specs.declared.judge.Judged.{Judged}
 use Rattle.agent_model.specs.Standing as agent
-use Rattle.session_model.specs.Brought.{Brought, HeadsOf, BlockOf, stamp_of}
+use Rattle.session_model.specs.Brought.{Brought}
 use Rattle.log_walks.specs.Order.{AreToTry}
-use Rattle.log_walks.specs.Walking.{wanted_at, wanted_of}
 use Rattle.log_walks.specs.Trying.{Trying, HasTried, trial_left}
 use Rattle.log_fetch.specs.declared.gather.Known.{Known}
 use Rattle.log_fetch.specs.declared.gather.Passed.{Passed}
 use Rattle.log_fetch.specs.declared.gather.Stage.{Stage}
 use Rattle.log_fetch.specs.declared.gather.Stage.TheVariants as stage
 use Rattle.log_fetch.specs.Edges.{edge_in}
-use Rattle.log_fetch.specs.Gathering.{Gathering, HeadsCame, StandsSo, HasPassed, Gathers, IsPassing, IsNext, IsGathering, StandsWith, BeginsLog, GoesOnLog, GathersFrom, Advances, gathering_of, block_wanted, gets_in, seen}
-use Rattle.log_fetch.specs.Gathering.HeadsCame.{of_own, of_other}
+use Rattle.log_fetch.specs.Gathering.{HeadsCame, StandsSo, HasPassed, Gathers, IsPassing, IsNext, IsGathering, StandsWith, BeginsLog, GathersFrom, Advances, gathering_of, gets_in, seen}
+use Rattle.log_fetch.specs.Gathering.HeadsCame.{of_own}
 use Rattle.log_fetch.specs.Gathering.StandsSo.{wants_heads, wants_block, all_through}
 use Rattle.log_fetch.proofs.Lefts.{heads_behind, blocks_behind, none_behind}
 use Rattle.log_fetch.proofs.Members.{rest_at, no_rest, in_take}

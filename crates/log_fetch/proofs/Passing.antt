@@ -1,8 +1,7 @@
 -- A member's log is begun with, goes on, and is through.
-use Rattle.std.proofs.Common.{◌≡◌, ⊎_elim, ℕ, ◌+◌, List, [], ◌∷◌, ◌++◌, map, take, drop, Contains, Option, Some, None, Result, Ok, Err, IfOk, refl, sym, ap, ◌∙◌, subst}
+use Rattle.std.proofs.Common.{◌≡◌, ⊎_elim, ℕ, ◌+◌, List, [], ◌∷◌, ◌++◌, map, take, drop, Contains, Option, None, Result, Ok, Err, IfOk, refl, sym, ap, ◌∙◌, subst}
 use Rattle.std.proofs.lemmas.List.{append-nil, append_assoc, map-append}
 use Rattle.std.proofs.lemmas.List.Elements.{Contains-append_left, Contains-append_right, Contains-append_cases}
-use Rattle.ivy_base.specs.declared.key.Key.{Key}
 use Rattle.ivy_base.specs.declared.key.PubKey.{PubKey}
 use Rattle.ivy_base.specs.declared.memory.Memory.{Memory}
 use Rattle.ivy_base.specs.Naming.{head_key_of}
@@ -22,14 +21,12 @@ use Rattle.session_model.specs.Walks.{Tries, LogEnd, Lacks, Stops, Gives, GivesN
 use Rattle.log_walks.specs.declared.trial.Settled.{Settled}
 use Rattle.log_walks.specs.declared.trial.Settled.TheVariants as settled
 use Rattle.log_walks.specs.Order.{AreToTry}
-use Rattle.log_walks.specs.Trying.{Trying, HasTried, GivesTo, first_of}
+use Rattle.log_walks.specs.Trying.{Trying, HasTried, GivesTo}
 use Rattle.log_fetch.specs.declared.gather.Known.{Known}
 use Rattle.log_fetch.specs.declared.gather.Passed.{Passed}
-use Rattle.log_fetch.specs.declared.gather.Stage.{Stage}
-use Rattle.log_fetch.specs.declared.gather.Stage.TheVariants as stage
 use Rattle.log_fetch.specs.declared.note.Note.{Note}
 use Rattle.log_fetch.specs.Edges.{edge_in}
-use Rattle.log_fetch.specs.Gathering.{Gathering, HeadsCame, StandsSo, HasPassed, Gathers, IsPassing, IsNext, PassesAs, StandsWith, BeginsLog, GoesOnLog, at_behind, noted_for, one_more, seen}
+use Rattle.log_fetch.specs.Gathering.{HeadsCame, HasPassed, IsPassing, IsNext, PassesAs, StandsWith, BeginsLog, GoesOnLog, at_behind, noted_for, one_more, seen}
 use Rattle.log_fetch.specs.Logs.{StandsAt, Opens, GoesOn}
 use Rattle.log_fetch.specs.Standings.{note_of}
 use Rattle.log_fetch.proofs.Gathered.{one_through, same_notes}

@@ -1,23 +1,21 @@
 -- What the fetch wants by how far it has come, and how it ends.
 use Rattle.std.specs.Prelude.{◌≢◌, false}
-use Rattle.std.proofs.Common.{◌≡◌, ◌<◌, ◌≤◌, ℕ, zero, suc, List, [], ◌∷◌, ◌++◌, map, take, drop, Contains, Option, Some, None, Result, Ok, Err, IfOk, refl, sym, ap, ◌∙◌, subst}
+use Rattle.std.proofs.Common.{◌≡◌, ℕ, zero, suc, List, [], ◌∷◌, ◌++◌, map, drop, Contains, Option, Some, None, Ok, Err, refl, sym, ap, ◌∙◌, subst}
 use Rattle.std.proofs.lemmas.List.{append-nil, append_assoc, map-append}
 use Rattle.ivy_base.specs.declared.key.Key.{Key}
 use Rattle.ivy_base.specs.declared.key.PubKey.{PubKey}
-use Rattle.ivy_base.specs.declared.memory.Memory.{Memory}
 use Rattle.log_model.specs.Vector.{Vector}
 use Rattle.dht_ids.specs.declared.judge.Judged.{Judged}
 use Rattle.dhash_client.specs.declared.miss.Miss.{Miss}
 use Rattle.log_records.specs.Batches.{Batch, AreUnder, owners_in}
 use Rattle.agent_model.specs.Standing as agent
 use Rattle.agent_model.specs.Standing.{chain_of}
-use Rattle.session_model.specs.Brought.{Brought, HeadsOf, BlockOf, Want, Heads, Content}
+use Rattle.session_model.specs.Brought.{Brought, HeadsOf, BlockOf, Heads, Content}
 use Rattle.session_model.specs.Refreshing as session
 use Rattle.session_model.specs.Refreshing.{RefreshEnd, Needs, FailsBy, Done, FetchesAll}
 use Rattle.log_walks.specs.Walking.{wanted_at, wanted_of}
 use Rattle.log_walks.specs.Trying.{Trying}
 use Rattle.log_fetch.specs.declared.fetch.Fetched.{Fetched}
-use Rattle.log_fetch.specs.declared.fetch.State.{State}
 use Rattle.log_fetch.specs.declared.fetch.State.TheVariants as state
 use Rattle.log_fetch.specs.declared.fetch.Step.TheVariants as step
 use Rattle.log_fetch.specs.declared.gather.Stage.{Stage}
@@ -27,9 +25,9 @@ use Rattle.log_fetch.specs.declared.get.Came.TheVariants as came
 use Rattle.log_fetch.specs.declared.note.Note.{Note}
 use Rattle.log_fetch.specs.Edges.{edge_in}
 use Rattle.log_fetch.specs.Gathering.{Gathering, StandsSo, Gathers, IsGathering, HeadsGathered, BlockGathered, heads_wanted, block_wanted, gets_in, noted_at, seen}
-use Rattle.log_fetch.specs.Standings.{note_of, note_of_miss, notes_of}
+use Rattle.log_fetch.specs.Standings.{note_of, note_of_miss}
 use Rattle.log_fetch.specs.Fetching.{EndsAs, block_in, is_miss, most_asks}
-use Rattle.log_fetch.specs.Stepping.{CameAs, IsMiss, BroughtNothing, GathersMore, Takes, FailsWith, StandsBehind, LeavesNoMore}
+use Rattle.log_fetch.specs.Stepping.{CameAs, IsMiss, GathersMore, Takes, FailsWith, StandsBehind, LeavesNoMore}
 use Rattle.log_fetch.proofs.Gathered.{heads_lack, heads_miss, log_lacks, log_misses, all_done_at}
 use Rattle.log_fetch.proofs.Members.{in_take}
 use Rattle.log_fetch.proofs.Advancing.{under_way}

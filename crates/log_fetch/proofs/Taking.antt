@@ -22,7 +22,7 @@ use Rattle.log_fetch.specs.declared.gather.Stage.{Stage}
 use Rattle.log_fetch.specs.declared.gather.Stage.TheVariants as stage
 use Rattle.log_fetch.specs.declared.note.Note.{Note}
 use Rattle.log_fetch.specs.Edges.{edge_in}
-use Rattle.log_fetch.specs.Gathering.{Gathering, HeadsCame, StandsSo, HasPassed, Gathers, IsPassing, IsNext, IsGathering, StandsWith, BeginsLog, GoesOnLog, GathersFrom, Advances, HeadsTaken, BlockTaken, HeadsGathered, BlockGathered, gathering_of, at_behind, heads_wanted, block_wanted, gets_in, noted_for, noted_at, seen}
+use Rattle.log_fetch.specs.Gathering.{Gathering, HeadsCame, StandsSo, HasPassed, Gathers, IsPassing, IsNext, IsGathering, BeginsLog, GoesOnLog, GathersFrom, Advances, HeadsTaken, BlockTaken, HeadsGathered, BlockGathered, gathering_of, at_behind, heads_wanted, block_wanted, gets_in, noted_for, noted_at, seen}
 use Rattle.log_fetch.specs.Gathering.HeadsCame.{of_other}
 use Rattle.log_fetch.specs.Logs.{GoesOn}
 use Rattle.log_fetch.proofs.Advancing.{UnderWay, under_way, awaits, log_gathering, log_gathers, at_next, next_at}

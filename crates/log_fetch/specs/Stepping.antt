@@ -9,7 +9,7 @@ use Rattle.dht_ids.specs.declared.peer.Peer.{Peer}
 use Rattle.dhash_client.specs.declared.miss.Miss.{Miss}
 use Rattle.dhash_client.specs.GetHead.{Judges}
 use Rattle.session_model.specs.Brought.{Brought, HeadsOf, BlockOf}
-use Rattle.session_model.specs.Refreshing.{RefreshEnd, FailsBy, Done}
+use Rattle.session_model.specs.Refreshing.{FailsBy, Done}
 use Rattle.log_fetch.specs.declared.fetch.Fetched.{Fetched}
 use Rattle.log_fetch.specs.declared.fetch.State.{State}
 use Rattle.log_fetch.specs.declared.fetch.State.TheVariants as state

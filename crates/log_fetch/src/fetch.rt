@@ -362,5 +362,4 @@ fn note_of(miss: &Miss) -> Note
 /// Whatever a fetch was brought is known to come to some end, and while a get is on its way to that what it is for is wanted.
 pub fn fetch_stands<J: Judge>()
     ensures { FetchStands J.judges }
-{
-}
+{}

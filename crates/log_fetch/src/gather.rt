@@ -1,6 +1,6 @@
 //! The fetch of all members of a view, apart from how blocks come.
 
-ghost use Rattle.std.specs.Prelude.{◌≡◌, ◌≢◌, ◌*◌, ◌+◌, ◌^◌, ◌<◌, ◌≤◌, ◌↔◌, IsTrue, [], ◌++◌, map, Some, None, Ok, IfOk, OnOk, OnErr};
+ghost use Rattle.std.specs.Prelude.{◌≡◌, ◌≢◌, ◌*◌, ◌+◌, ◌^◌, ◌<◌, ◌↔◌, IsTrue, [], ◌++◌, map, Some, None, Ok, IfOk, OnOk, OnErr};
 ghost use Rattle.ivy_base.specs.declared.key.PubKey.{PubKey};
 ghost use Rattle.ivy_base.specs.Naming.{head_key_of};
 ghost use Rattle.session_model.specs.Brought.{stamp_of};

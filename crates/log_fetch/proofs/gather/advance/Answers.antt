@@ -1,4 +1,4 @@
-use Rattle.std.proofs.Common.{[], Some, ◌≡◌, ◌<◌, ◌≤◌, length, ap, subst, Option, List, get_or, refl, ◌^◌, arith}
+use Rattle.std.proofs.Common.{[], ◌<◌, ◌≤◌, length, subst, Option, List, get_or, refl, ◌^◌, arith}
 use Rattle.std.proofs.lemmas.Bool.{false≢true}
 use Rattle.ivy_base.specs.declared.key.PubKey.{PubKey}
 use Rattle.log_walks.specs.Trying.{Trying}

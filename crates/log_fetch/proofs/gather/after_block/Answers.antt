@@ -1,4 +1,4 @@
-use Rattle.std.proofs.Common.{[], ◌<◌, sym, subst, refl, length, List, get_or, Option, Some, None, arith}
+use Rattle.std.proofs.Common.{[], ◌<◌, sym, subst, refl, length, List, get_or, Option, arith}
 use Rattle.ivy_base.specs.declared.key.PubKey.{PubKey}
 use Rattle.log_walks.specs.Trying.{Trying, trial_left}
 use Rattle.log_fetch.specs.Gathering.{GoesOnLog, waits_left}

@@ -1,4 +1,4 @@
-use Rattle.std.proofs.Common.{Some, None, Option, map, subst, ◌<◌, ◌^◌}
+use Rattle.std.proofs.Common.{Option, map, subst, ◌<◌, ◌^◌}
 use Rattle.session_model.specs.Brought.{stamp_of}
 use Rattle.log_walks.specs.Trying.{Trying}
 use Rattle.log_fetch.specs.Gathering.{BeginsLog, waits_left}

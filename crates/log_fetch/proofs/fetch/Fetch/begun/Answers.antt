@@ -1,4 +1,4 @@
-use Rattle.std.proofs.Common.{Some, sym, ap, subst}
+use Rattle.std.proofs.Common.{Some, sym, subst}
 use Rattle.log_fetch.specs.declared.fetch.State.TheVariants as state
 use Rattle.log_fetch.specs.declared.get.Progress.{Progress}
 use Rattle.log_fetch.specs.Stepping.{BeginsFor, WantsNext}

@@ -1,4 +1,4 @@
-use Rattle.std.proofs.Common.{◌≡◌, None, IfOk, sym, subst}
+use Rattle.std.proofs.Common.{None, IfOk, sym, subst}
 use Rattle.std.specs.Prelude.{◌≢◌}
 use Rattle.log_fetch.specs.declared.fetch.State.{State}
 use Rattle.log_fetch.specs.declared.fetch.State.TheVariants as state

@@ -1,4 +1,4 @@
-use Rattle.std.proofs.Common.{◌≡◌, ◌≤◌, ◌∙◌, sym, ap, subst}
+use Rattle.std.proofs.Common.{◌≤◌, ◌∙◌, sym, ap, subst}
 use Rattle.log_fetch.specs.declared.fetch.State.{State}
 use Rattle.log_fetch.specs.Fetching.{Fetching, FetchIsWanted, IsSound, fetch_left, left_in}
 use Rattle.log_fetch.proofs.fetch.Fetch.next.Goals as goal
