@@ -7,3 +7,16 @@ pub mod Placed
 pub mod Newest
 pub mod Older
 pub mod Entered
+pub mod Growing
+pub mod Applied
+pub mod Drafting
+pub mod Appending
+pub mod Committed
+pub mod Drawn
+pub mod Planned
+pub mod Absorbed
+pub mod Defined
+pub mod Trees
+pub mod News
+pub mod Takes
+pub mod Turned

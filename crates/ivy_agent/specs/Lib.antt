@@ -3,3 +3,9 @@ pub mod Saves
 pub mod Making
 pub mod Entering
 pub mod Edges
+pub mod Grounds
+pub mod Drafts
+pub mod Outcomes
+pub mod Writing
+pub mod Answering
+pub mod Taking

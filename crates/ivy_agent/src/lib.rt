@@ -30,13 +30,20 @@
 #![tactic(auto)]
 
 pub mod agent;
+pub mod answering;
+mod drafts;
 mod entering;
 pub mod fault;
+mod grounds;
 mod keys;
 mod opening;
+mod outcome;
+mod posting;
 mod saving;
 mod settling;
 mod standing;
+mod taking;
+pub mod writing;
 
 pub use agent::Agent;
 pub use fault::{EnterFault, MakeFault};

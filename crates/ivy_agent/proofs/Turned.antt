@@ -1,0 +1,67 @@
+-- What is answered on what a turn took.
+use Rattle.std.proofs.Common.{◌≡◌, ℕ, ◌≤◌, Bool, List, Option, Some, None, Result, Ok, Err, refl, sym, ap, ◌∙◌, subst, arith}
+use Rattle.std.specs.Prelude.{IfSome, IsSomeAnd}
+use Rattle.ivy_base.specs.declared.key.Key.{Key}
+use Rattle.ivy_base.specs.declared.operation.Moment.{Moment}
+use Rattle.ivy_base.specs.Naming.{head_key_of}
+use Rattle.log_model.specs.Record.{Record}
+use Rattle.log_model.specs.Spelling.{most_records}
+use Rattle.log_model.specs.Vector.{Vector, seq_of}
+use Rattle.log_model.specs.View.{View, IsView}
+use Rattle.log_records.specs.Batches.{Batch}
+use Rattle.record_sets.specs.Rows.{IsRow}
+use Rattle.turn_model.specs.Basis.{Holding}
+use Rattle.turn_model.specs.Turn.{Asked}
+use Rattle.turn_model.specs.Work.{applied_between}
+use Rattle.turn_taking.specs.Taking.{IsWithin}
+use Rattle.replay_engine.specs.Places.{AreNew}
+use Rattle.agent_model.specs.Agent.{Signing, joined, own_key}
+use Rattle.agent_model.specs.Taking.{TakesNew, refresh_with, with_new}
+use Rattle.ivy_agent.specs.Answering.{Answers, MayGoOn}
+use Rattle.ivy_agent.specs.Taking.{MayTakeFrom, TakesAndAnswers}
+use Rattle.ivy_agent.specs.declared.saving.Kept.{Kept}
+use Rattle.ivy_agent.specs.declared.writing.Done.{Done}
+use Rattle.ivy_agent.proofs.News.{are_new, may_go_on, row_new}
+
+module _ {S : Type 0} (signs : Signing S) (k : Kept S) (h : Holding) (b : Batch) (new : List Record) (front : Vector) where
+  abbrev TakesIn : Option View → Type 0
+  TakesIn o = IfSome o (λ view. TakesNew view (own_key signs k.signer) k.floor h (refresh_with b None) new × (front ≡ joined (with_new h new)) × IsWithin view (own_key signs k.signer) k.floor front)
+
+  abbrev MayFrom : Option View → Type 0
+  MayFrom o = IsSomeAnd o (λ view. MayTakeFrom view (own_key signs k.signer) k.floor h b)
+
+  pub may_answer : (o : Option View) → TakesIn o → MayFrom o → IsSomeAnd o IsView → IsSomeAnd o (λ view. MayGoOn view (own_key signs k.signer) k.floor front (with_new h new))
+  may_answer None t may well = absurd well
+  may_answer (Some view) t may well = may_go_on view (own_key signs k.signer) k.floor h (refresh_with b None) new t.0 front well t.2 may.begun may.keys
+
+  pub row_taken : (o : Option View) → TakesIn o → MayFrom o → IsRow new
+  row_taken None t may = absurd may
+  row_taken (Some view) t may = row_new view (own_key signs k.signer) k.floor h (refresh_with b None) new t.0
+
+  pub new_taken : (o : Option View) → TakesIn o → MayFrom o → IsRow h.held → AreNew h.held new
+  new_taken None t may row = absurd may
+  new_taken (Some view) t may row = are_new view (own_key signs k.signer) k.floor h (refresh_with b None) new t.0 row
+
+  pub front_taken : (o : Option View) → TakesIn o → MayFrom o → front ≡ joined (with_new h new)
+  front_taken None t may = absurd may
+  front_taken (Some view) t may = t.1
+
+  pub few_taken : (o : Option View) → TakesIn o → MayFrom o → k.log ≡ head_key_of (own_key signs k.signer) → seq_of front k.log ≤ most_records
+  few_taken None t may log = absurd may
+  few_taken (Some view) t may log =
+      let low = t.2.own_log in
+      let few = may.few in
+      let same : seq_of front k.log ≡ seq_of front (head_key_of (own_key signs k.signer)) = ap (λ (l : Key). seq_of front l) log in
+      omega (arith, low, few, same)
+
+  module _ {K : Type 0} (saves : K → List ℕ → Bool → K → Type 0) (asked : Asked) (now : Moment) (has_failed : Bool) (keeper : K) (k_after : Kept S) (h_after : Holding) (keeper_after : K) (done : Done) where
+    pub turned : (o : Option View) → TakesIn o
+        → IfSome o (λ view. Answers signs saves view asked now k has_failed (with_new h new) front keeper (applied_between h.held (with_new h new).held) k_after h_after keeper_after done)
+        → IfSome o (λ view. TakesAndAnswers signs saves view b asked now k has_failed h keeper k_after h_after keeper_after done)
+    turned None t a = tt
+    turned (Some view) t a = record {
+      new = new;
+      takes = t.0;
+      inside = subst (λ (f : Vector). IsWithin view (own_key signs k.signer) k.floor f) t.1 t.2;
+      answers = subst (λ (f : Vector). Answers signs saves view asked now k has_failed (with_new h new) f keeper (applied_between h.held (with_new h new).held) k_after h_after keeper_after done) t.1 a;
+    }
