@@ -30,10 +30,10 @@ module _ (e e_with : Engine) (new : List Record) (row : IsRow e.held) (new_row :
     pub count_is : applied ≡ applied_between e.held (in_order (e.held ++ records_of new))
     count_is = count ∙ ap (λ (n : ℕ). applied_for (length e.held) n (first_place e.held (records_of new))) (sym (length-map new record_of)) ∙ applied_is_between e.held (records_of new) row new_row are_new
 
-    pub answered_with : {K S : Type 0} (signs : Signing S) (saves : K → List ℕ → Bool → K → Type 0) (asked : Asked) (now : Moment) (k : Kept S) (has_failed : Bool) (front : Vector) (keeper : K) (k_after : Kept S) (h_after : Holding) (keeper_after : K) (done : Done) (o : Option View)
-        → IfSome o (λ view. Answers signs saves view asked now k has_failed (holding e_with) front keeper applied k_after h_after keeper_after done)
-        → IfSome o (λ view. Answers signs saves view asked now k has_failed (with_new (holding e) (records_of new)) front keeper (applied_between e.held (in_order (e.held ++ records_of new))) k_after h_after keeper_after done)
-    answered_with signs saves asked now k has_failed front keeper k_after h_after keeper_after done None a = tt
-    answered_with signs saves asked now k has_failed front keeper k_after h_after keeper_after done (Some view) a =
-        subst (λ (n : ℕ). Answers signs saves view asked now k has_failed (with_new (holding e) (records_of new)) front keeper n k_after h_after keeper_after done) count_is
-        (subst (λ (x : Engine). Answers signs saves view asked now k has_failed (holding x) front keeper applied k_after h_after keeper_after done) taken a)
+    pub answered_with : {K S : Type 0} (signs : Signing S) (IsWhole : S → Type 0) (saves : K → List ℕ → Bool → K → Type 0) (asked : Asked) (now : Moment) (k : Kept S) (has_failed : Bool) (front : Vector) (keeper : K) (k_after : Kept S) (h_after : Holding) (keeper_after : K) (done : Done) (o : Option View)
+        → IfSome o (λ view. Answers signs IsWhole saves view asked now k has_failed (holding e_with) front keeper applied k_after h_after keeper_after done)
+        → IfSome o (λ view. Answers signs IsWhole saves view asked now k has_failed (with_new (holding e) (records_of new)) front keeper (applied_between e.held (in_order (e.held ++ records_of new))) k_after h_after keeper_after done)
+    answered_with signs IsWhole saves asked now k has_failed front keeper k_after h_after keeper_after done None a = tt
+    answered_with signs IsWhole saves asked now k has_failed front keeper k_after h_after keeper_after done (Some view) a =
+        subst (λ (n : ℕ). Answers signs IsWhole saves view asked now k has_failed (with_new (holding e) (records_of new)) front keeper n k_after h_after keeper_after done) count_is
+        (subst (λ (x : Engine). Answers signs IsWhole saves view asked now k has_failed (holding x) front keeper applied k_after h_after keeper_after done) taken a)

@@ -30,17 +30,18 @@ use Rattle.ivy_agent.proofs.Appending.{held_above}
 abbrev pub shown : Turned → Vector → Done
 shown turned front = record { turned = turned; front = front; has_failed = false }
 
-module _ {K S : Type 0} (signs : Signing S) (saves : K → List ℕ → Bool → K → Type 0) (asked : Asked) (ops : List Op) (k k_after : Kept S) (e e_after : Engine) (front : Vector) (keeper keeper_after : K) (applied : ℕ) (d : Draft S) (turned : Turned)
+module _ {K S : Type 0} (signs : Signing S) (IsWhole : S → Type 0) (saves : K → List ℕ → Bool → K → Type 0) (asked : Asked) (ops : List Op) (k k_after : Kept S) (e e_after : Engine) (front : Vector) (keeper keeper_after : K) (applied : ℕ) (d : Draft S) (turned : Turned)
     (row : IsRow e.held) (new_row : IsRow (records_of d.records.items)) (behind : AreBehind e.held (records_of d.records.items)) (taken : e_after ≡ taken_in e (records_of d.records.items))
-    (saved : saves keeper (kept_bytes signs (saved_of (kept_with k d.next))) false keeper_after) (kept : k_after ≡ kept_with k d.next) where
+    (whole : IsWhole d.next.signer) (saved : saves keeper (kept_bytes signs (saved_of (kept_with k d.next))) false keeper_after) (kept : k_after ≡ kept_with k d.next) where
   same : holding e_after ≡ with_held (holding e) (records_of d.records.items)
   same = ap holding taken ∙ held_above e (records_of d.records.items) row new_row behind
 
   pub has_written : (o : Option View)
       → IfSome o (λ view. Gives (finish (kept_tree (holding (undone e_after))) (kept_tree (holding e_after)) view asked.caller asked.args ops) (kept_with k d.next) d.front applied turned)
-      → IfSome o (λ view. HasWritten signs saves view asked ops k (holding e) front keeper applied d k_after (holding e_after) keeper_after (shown turned d.front))
+      → IfSome o (λ view. HasWritten signs IsWhole saves view asked ops k (holding e) front keeper applied d k_after (holding e_after) keeper_after (shown turned d.front))
   has_written None given = tt
   has_written (Some view) given = record {
+    whole = whole;
     saved = saved;
     kept = kept;
     held = same;

@@ -7,7 +7,6 @@ pub mod Placed
 pub mod Newest
 pub mod Older
 pub mod Entered
-pub mod Growing
 pub mod Applied
 pub mod Drafting
 pub mod Appending
@@ -20,3 +19,8 @@ pub mod Trees
 pub mod News
 pub mod Takes
 pub mod Turned
+pub mod Citing
+pub mod Published
+pub mod Becoming
+pub mod Going
+pub mod Ended

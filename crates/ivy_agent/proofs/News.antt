@@ -34,6 +34,9 @@ held_in : (s new : List Record) (q : Record) → Contains s q → Contains (unio
 held_in s [] q c = c
 held_in s (r ∷ new) q c = held_in (with_record s r) new q (with_old s r q c)
 
+pub row_of_closed : (view : View) (base : Vector) (s : List Record) → IsClosed view base s → IsRow s
+row_of_closed view base s closed = record { ascending = closed.ascending; spelled = each_from HasSpelling s (λ r c. (good_in view base s closed r c).spelled) }
+
 module _ (view : View) (own : PubKey) (floor : Vector) (h : Holding) (brought : Refresh) (new : List Record) (takes : TakesNew view own floor h brought new) where
   pub closed_with : IsClosed view h.basis.front (in_order (h.held ++ new))
   closed_with = takes.part.largest.closed

@@ -48,16 +48,18 @@ module _ {S : Type 0} (signs : Signing S) (view : View) (asked : Asked) (now : M
     same_log : seq_of front k.log ≡ seq_of front (head_key_of (own_key signs k.signer))
     same_log = ap (λ (l : Key). seq_of front l) log
 
-    begun : 1 ≤ seq_of front (head_key_of (own_key signs k.signer))
+    pub begun : 1 ≤ seq_of front (head_key_of (own_key signs k.signer))
     begun =
         let of_floor = may.begun in
         let same : seq_of k.floor k.log ≡ seq_of k.floor (head_key_of (own_key signs k.signer)) = ap (λ (l : Key). seq_of k.floor l) log in
         omega (arith, of_floor, same, at, same_log)
 
+    pub may_stand : AllMayBeWritten (own_key signs k.signer) (seq_of front (head_key_of (own_key signs k.signer)) + 1) ops
+    may_stand = subst (λ (n : ℕ). AllMayBeWritten (own_key signs k.signer) (n + 1) ops) same_log
+        (writes_may_stand (goes_by signs view k has_failed) (kept_tree h) (seq_of front k.log) asked now ops may.keys call.caller call.args call.moment served)
+
     pub goods : AllByRecursion (IsGood view (own_key signs k.signer)) (written_over (own_key signs k.signer) now front ops)
-    goods = written_are_good view (own_key signs k.signer) now front ops may.well (record { whole = whole; named = may.named }) call.moment begun
-        (subst (λ (n : ℕ). AllMayBeWritten (own_key signs k.signer) (n + 1) ops) same_log
-        (writes_may_stand (goes_by signs view k has_failed) (kept_tree h) (seq_of front k.log) asked now ops may.keys call.caller call.args call.moment served))
+    goods = written_are_good view (own_key signs k.signer) now front ops may.well (record { whole = whole; named = may.named }) call.moment begun may_stand
 
     module _ (row : IsRow h.held) (is_front : front ≡ joined h) where
       both : IsAscending (written_over (own_key signs k.signer) now front ops) × AreBehind h.held (written_over (own_key signs k.signer) now front ops)
@@ -100,25 +102,25 @@ module _ {S : Type 0} (signs : Signing S) (asked : Asked) (now : Moment) (k : Ke
     behind_written None served call may whole at row is_front = absurd served
     behind_written (Some view) served call may whole at row is_front = are_behind signs view asked now ops k has_failed h front log served call may whole at row is_front
 
-    module _ {K : Type 0} (saves : K → List ℕ → Bool → K → Type 0) (k_after : Kept S) (h_after : Holding) (keeper keeper_after : K) (applied : ℕ) (at : seq_of front k.log ≡ seq_of k.floor k.log) where
-      answered_in : (o : Option View) → AreServed o → (done : Done) → IfSome o (λ view. WritesDraft signs saves view asked now ops k h front keeper applied k_after h_after keeper_after done)
-          → IfSome o (λ view. Answers signs saves view asked now k has_failed h front keeper applied k_after h_after keeper_after done)
+    module _ {K : Type 0} (IsWhole : S → Type 0) (saves : K → List ℕ → Bool → K → Type 0) (k_after : Kept S) (h_after : Holding) (keeper keeper_after : K) (applied : ℕ) (at : seq_of front k.log ≡ seq_of k.floor k.log) where
+      answered_in : (o : Option View) → AreServed o → (done : Done) → IfSome o (λ view. WritesDraft signs IsWhole saves view asked now ops k h front keeper applied k_after h_after keeper_after done)
+          → IfSome o (λ view. Answers signs IsWhole saves view asked now k has_failed h front keeper applied k_after h_after keeper_after done)
       answered_in None served done w = tt
       answered_in (Some view) served done w = writes ops served at w
 
-      pub answered : {E : Type 0} (o : Option View) → AreServed o → (r : Result Done E) → IfOk r (λ done. IfSome o (λ view. WritesDraft signs saves view asked now ops k h front keeper applied k_after h_after keeper_after done))
-          → IfOk r (λ done. IfSome o (λ view. Answers signs saves view asked now k has_failed h front keeper applied k_after h_after keeper_after done))
+      pub answered : {E : Type 0} (o : Option View) → AreServed o → (r : Result Done E) → IfOk r (λ done. IfSome o (λ view. WritesDraft signs IsWhole saves view asked now ops k h front keeper applied k_after h_after keeper_after done))
+          → IfOk r (λ done. IfSome o (λ view. Answers signs IsWhole saves view asked now k has_failed h front keeper applied k_after h_after keeper_after done))
       answered o served (Ok done) w = answered_in o served done w
       answered o served (Err e) w = tt
 
-  module _ {K : Type 0} (saves : K → List ℕ → Bool → K → Type 0) (k_after : Kept S) (keeper : K) (applied : ℕ) (reply : Reply) where
+  module _ {K : Type 0} (IsWhole : S → Type 0) (saves : K → List ℕ → Bool → K → Type 0) (k_after : Kept S) (keeper : K) (applied : ℕ) (reply : Reply) where
     replied_in : (o : Option View) → IfSome o (λ view. Replies reply ≡ served_on signs view k has_failed h front asked now) → (done : Done) → k_after ≡ kept_to k front → done.front ≡ front → done.has_failed ≡ has_failed → Gives reply k_after front applied done.turned
-        → IfSome o (λ view. Answers signs saves view asked now k has_failed h front keeper applied k_after h keeper done)
+        → IfSome o (λ view. Answers signs IsWhole saves view asked now k has_failed h front keeper applied k_after h keeper done)
     replied_in None served done kept front_is failed given = tt
     replied_in (Some view) served done kept front_is failed given = replies reply (sym served) kept refl refl front_is failed given
 
     pub replied : {E : Type 0} (o : Option View) → IfSome o (λ view. Replies reply ≡ served_on signs view k has_failed h front asked now) → (r : Result Done E) → OnOk r (k_after ≡ kept_to k front) → IfOk r (λ done. done.front ≡ front)
         → IfOk r (λ done. done.has_failed ≡ has_failed) → IfOk r (λ done. Gives reply k_after front applied done.turned)
-        → IfOk r (λ done. IfSome o (λ view. Answers signs saves view asked now k has_failed h front keeper applied k_after h keeper done))
+        → IfOk r (λ done. IfSome o (λ view. Answers signs IsWhole saves view asked now k has_failed h front keeper applied k_after h keeper done))
     replied o served (Ok done) kept front_is failed given = replied_in o served done kept front_is failed given
     replied o served (Err e) kept front_is failed given = tt

@@ -14,6 +14,7 @@ use Rattle.turn_model.specs.Basis.{Holding}
 use Rattle.turn_model.specs.Turn.{Asked}
 use Rattle.turn_model.specs.Work.{applied_between}
 use Rattle.turn_taking.specs.Taking.{IsWithin}
+use Rattle.version_vectors.specs.Vectors.{IsVector}
 use Rattle.replay_engine.specs.Places.{AreNew}
 use Rattle.agent_model.specs.Agent.{Signing, joined, own_key}
 use Rattle.agent_model.specs.Taking.{TakesNew, refresh_with, with_new}
@@ -21,7 +22,7 @@ use Rattle.ivy_agent.specs.Answering.{Answers, MayGoOn}
 use Rattle.ivy_agent.specs.Taking.{MayTakeFrom, TakesAndAnswers}
 use Rattle.ivy_agent.specs.declared.saving.Kept.{Kept}
 use Rattle.ivy_agent.specs.declared.writing.Done.{Done}
-use Rattle.ivy_agent.proofs.News.{are_new, may_go_on, row_new}
+use Rattle.ivy_agent.proofs.News.{are_new, may_go_on, row_new, row_of_closed}
 
 module _ {S : Type 0} (signs : Signing S) (k : Kept S) (h : Holding) (b : Batch) (new : List Record) (front : Vector) where
   abbrev TakesIn : Option View → Type 0
@@ -38,9 +39,13 @@ module _ {S : Type 0} (signs : Signing S) (k : Kept S) (h : Holding) (b : Batch)
   row_taken None t may = absurd may
   row_taken (Some view) t may = row_new view (own_key signs k.signer) k.floor h (refresh_with b None) new t.0
 
-  pub new_taken : (o : Option View) → TakesIn o → MayFrom o → IsRow h.held → AreNew h.held new
-  new_taken None t may row = absurd may
-  new_taken (Some view) t may row = are_new view (own_key signs k.signer) k.floor h (refresh_with b None) new t.0 row
+  pub row_held : (o : Option View) → MayFrom o → IsRow h.held
+  row_held None may = absurd may
+  row_held (Some view) may = row_of_closed view h.basis.front h.held may.closed
+
+  pub new_taken : (o : Option View) → TakesIn o → MayFrom o → AreNew h.held new
+  new_taken None t may = absurd may
+  new_taken (Some view) t may = are_new view (own_key signs k.signer) k.floor h (refresh_with b None) new t.0 (row_of_closed view h.basis.front h.held may.closed)
 
   pub front_taken : (o : Option View) → TakesIn o → MayFrom o → front ≡ joined (with_new h new)
   front_taken None t may = absurd may
@@ -54,14 +59,16 @@ module _ {S : Type 0} (signs : Signing S) (k : Kept S) (h : Holding) (b : Batch)
       let same : seq_of front k.log ≡ seq_of front (head_key_of (own_key signs k.signer)) = ap (λ (l : Key). seq_of front l) log in
       omega (arith, low, few, same)
 
-  module _ {K : Type 0} (saves : K → List ℕ → Bool → K → Type 0) (asked : Asked) (now : Moment) (has_failed : Bool) (keeper : K) (k_after : Kept S) (h_after : Holding) (keeper_after : K) (done : Done) where
-    pub turned : (o : Option View) → TakesIn o
-        → IfSome o (λ view. Answers signs saves view asked now k has_failed (with_new h new) front keeper (applied_between h.held (with_new h new).held) k_after h_after keeper_after done)
-        → IfSome o (λ view. TakesAndAnswers signs saves view b asked now k has_failed h keeper k_after h_after keeper_after done)
-    turned None t a = tt
-    turned (Some view) t a = record {
+  module _ {K : Type 0} (IsWhole : S → Type 0) (saves : K → List ℕ → Bool → K → Type 0) (asked : Asked) (now : Moment) (has_failed : Bool) (keeper : K) (k_after : Kept S) (h_after : Holding) (keeper_after : K) (done : Done) where
+    pub turned : (o : Option View) → TakesIn o → IsVector h.basis.front → IsVector front
+        → IfSome o (λ view. Answers signs IsWhole saves view asked now k has_failed (with_new h new) front keeper (applied_between h.held (with_new h new).held) k_after h_after keeper_after done)
+        → IfSome o (λ view. TakesAndAnswers signs IsWhole saves view b asked now k has_failed h keeper k_after h_after keeper_after done)
+    turned None t base whole a = tt
+    turned (Some view) t base whole a = record {
       new = new;
       takes = t.0;
       inside = subst (λ (f : Vector). IsWithin view (own_key signs k.signer) k.floor f) t.1 t.2;
-      answers = subst (λ (f : Vector). Answers signs saves view asked now k has_failed (with_new h new) f keeper (applied_between h.held (with_new h new).held) k_after h_after keeper_after done) t.1 a;
+      base = base;
+      front = subst IsVector t.1 whole;
+      answers = subst (λ (f : Vector). Answers signs IsWhole saves view asked now k has_failed (with_new h new) f keeper (applied_between h.held (with_new h new).held) k_after h_after keeper_after done) t.1 a;
     }

@@ -43,11 +43,11 @@ module _ {S : Type 0} (signs : Signing S) where
   abbrev pub served_on : View → Kept S → Bool → Holding → Vector → Asked → Moment → Served
   served_on view k has_failed h front asked now = serve_on (goes_by view k has_failed) (kept_tree h) (seq_of front k.log) asked now
 
-module _ {K S : Type 0} (signs : Signing S) where
+module _ {K S : Type 0} (signs : Signing S) (IsWhole : S → Type 0) where
   -- A reply, and what is held goes into the floor; or operations, where the front goes as far in the own log as the floor does, and they are written, or their save fails.
   pub data Answers (saves : K → List ℕ → Bool → K → Type 0) (view : View) (asked : Asked) (now : Moment) (k : Kept S) (has_failed : Bool) (h : Holding) (front : Vector) (keeper : K) (applied : ℕ)
       (k_after : Kept S) (h_after : Holding) (keeper_after : K) (done : Done) : Type 0 where
     replies : (reply : Reply) → served_on signs view k has_failed h front asked now ≡ Replies reply → k_after ≡ kept_to k front → h_after ≡ h → keeper_after ≡ keeper
         → done.front ≡ front → done.has_failed ≡ has_failed → Gives reply k_after front applied done.turned → Answers saves view asked now k has_failed h front keeper applied k_after h_after keeper_after done
     writes : (ops : List Op) → served_on signs view k has_failed h front asked now ≡ IsToWrite ops → seq_of front k.log ≡ seq_of k.floor k.log
-        → WritesDraft signs saves view asked now ops k h front keeper applied k_after h_after keeper_after done → Answers saves view asked now k has_failed h front keeper applied k_after h_after keeper_after done
+        → WritesDraft signs IsWhole saves view asked now ops k h front keeper applied k_after h_after keeper_after done → Answers saves view asked now k has_failed h front keeper applied k_after h_after keeper_after done

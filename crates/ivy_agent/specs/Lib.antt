@@ -9,3 +9,4 @@ pub mod Outcomes
 pub mod Writing
 pub mod Answering
 pub mod Taking
+pub mod Turns

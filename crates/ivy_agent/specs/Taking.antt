@@ -20,6 +20,7 @@ use Rattle.agent_model.specs.Agent.{Signing, joined, own_key}
 use Rattle.agent_model.specs.Taking.{TakesNew, refresh_with, with_new}
 use Rattle.agent_model.specs.Turning.{is_behind, is_below_tide}
 use Rattle.turn_taking.specs.Taking.{IsWithin}
+use Rattle.version_vectors.specs.Vectors.{IsVector}
 use Rattle.ivy_agent.specs.Answering.{Answers}
 use Rattle.ivy_agent.specs.declared.saving.Kept.{Kept}
 use Rattle.ivy_agent.specs.declared.writing.Done.{Done}
@@ -38,13 +39,15 @@ pub record MayTakeFrom (view : View) (own : PubKey) (floor : Vector) (h : Holdin
   pub under : (edges : Key → Option Edge) × AreUnder view edges b
   pub members : AllByRecursion (λ c. Contains view.members (owner_of c.1)) b.chains
 
-module _ {K S : Type 0} (signs : Signing S) (saves : K → List ℕ → Bool → K → Type 0) (view : View) (b : Batch) (asked : Asked) (now : Moment) (k : Kept S) (has_failed : Bool) (h : Holding) (keeper : K) where
+module _ {K S : Type 0} (signs : Signing S) (IsWhole : S → Type 0) (saves : K → List ℕ → Bool → K → Type 0) (view : View) (b : Batch) (asked : Asked) (now : Moment) (k : Kept S) (has_failed : Bool) (h : Holding) (keeper : K) where
   -- the new records were taken, and the call is answered on them
   pub record TakesAndAnswers (k_after : Kept S) (h_after : Holding) (keeper_after : K) (done : Done) : Type 0 where
     pub new : List Record
     pub takes : TakesNew view (own_key signs k.signer) k.floor h (refresh_with b None) new
     pub inside : IsWithin view (own_key signs k.signer) k.floor (joined (with_new h new))
-    pub answers : Answers signs saves view asked now k has_failed (with_new h new) (joined (with_new h new)) keeper (applied_between h.held (with_new h new).held) k_after h_after keeper_after done
+    pub base : IsVector h.basis.front
+    pub front : IsVector (joined (with_new h new))
+    pub answers : Answers signs IsWhole saves view asked now k has_failed (with_new h new) (joined (with_new h new)) keeper (applied_between h.held (with_new h new).held) k_after h_after keeper_after done
 
   abbrev pub TurnsOn : Result Done Refusal → Kept S → Holding → K → Type 0
   TurnsOn (Ok done) k_after h_after keeper_after = TakesAndAnswers k_after h_after keeper_after done

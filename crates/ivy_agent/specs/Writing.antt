@@ -1,5 +1,5 @@
 -- What comes of writing operations on what a turn took.
-use Rattle.std.specs.Prelude.{◌≡◌, ◌≢◌, ◌+◌, ℕ, length, Bool, true, false, List, [], Result, Ok, Err, if◌then◌else◌}
+use Rattle.std.specs.Prelude.{◌≡◌, ◌≢◌, ◌+◌, ℕ, length, Bool, true, false, List, [], if◌then◌else◌}
 use Rattle.ivy_base.specs.declared.operation.Moment.{Moment}
 use Rattle.ivy_base.specs.declared.operation.Op.{Op}
 use Rattle.log_model.specs.Record.{Record}
@@ -20,8 +20,6 @@ use Rattle.ivy_agent.specs.Saves.{saved_of}
 use Rattle.ivy_agent.specs.Drafts.{IsDraft, kept_with}
 use Rattle.ivy_agent.specs.Outcomes.{Gives, kept_to}
 use Rattle.ivy_agent.specs.declared.saving.Kept.{Kept}
-use Rattle.ivy_agent.specs.declared.saving.SaveFault.{SaveFault}
-use Rattle.ivy_agent.specs.declared.saving.SaveFault.TheVariants as fault
 use Rattle.ivy_agent.specs.declared.drafts.Draft.{Draft}
 use Rattle.ivy_agent.specs.declared.writing.Done.{Done}
 
@@ -39,15 +37,10 @@ lost_reply asked = Refused ServerFault (bare_tail asked.args)
 abbrev pub written_reply : View → Asked → List Op → Holding → List Record → Reply
 written_reply view asked ops h written = finish (kept_tree h) (kept_tree (with_held h written)) view asked.caller asked.args ops
 
--- how asking the keeper to save these bytes left it, by what came of it
-abbrev pub HasAsked : {K A : Type 0} → (K → List ℕ → Bool → K → Type 0) → K → List ℕ → Result A SaveFault → K → Type 0
-HasAsked saves before bytes (Ok done) after = saves before bytes false after
-HasAsked saves before bytes (Err fault.Keeper) after = saves before bytes true after
-HasAsked saves before bytes (Err fault.Memory) after = after ≡ before
-
-module _ {K S : Type 0} (signs : Signing S) (saves : K → List ℕ → Bool → K → Type 0) where
-  -- the keeper was asked to save the draft's records, and by how that ended they are kept and held, or what is held goes into the floor alone
+module _ {K S : Type 0} (signs : Signing S) (IsWhole : S → Type 0) (saves : K → List ℕ → Bool → K → Type 0) where
+  -- the keeper was asked to save the draft's records, with a key that can be, and by how that ended they are kept and held, or what is held goes into the floor alone
   pub record HasWritten (view : View) (asked : Asked) (ops : List Op) (k : Kept S) (h : Holding) (front : Vector) (keeper : K) (applied : ℕ) (d : Draft S) (k_after : Kept S) (h_after : Holding) (keeper_after : K) (done : Done) : Type 0 where
+    pub whole : IsWhole d.next.signer
     pub saved : saves keeper (kept_bytes signs (saved_of (kept_with k d.next))) done.has_failed keeper_after
     pub kept : k_after ≡ (if done.has_failed then kept_to k front else kept_with k d.next)
     pub held : h_after ≡ (if done.has_failed then h else with_held h (records_of d.records.items))

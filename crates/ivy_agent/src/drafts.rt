@@ -10,7 +10,7 @@ ghost use Rattle.turn_answers.specs.Newest.{stamp_of};
 ghost use Rattle.agent_model.specs.Agent.{head_post, own_key, record_post};
 ghost use Rattle.ivy_agent.specs.Holders.{signing};
 ghost use Rattle.agent_model.specs.SavedBytes.{kept_bytes};
-ghost use Rattle.ivy_agent.specs.Saves.{HasSaved, saved_of};
+ghost use Rattle.ivy_agent.specs.Saves.{HasSaved, IsWholeAfter, saved_of};
 ghost use Rattle.ivy_agent.specs.Drafts.{IsDraft, IsSigned, kept_with};
 
 use crate::posting::posts_with;
@@ -136,6 +136,7 @@ pub fn save_next<K: Keeper, S: Signs + Drop>(
     requires log { kept.old.log ≡ head_key_of (own_key (signing S.key S.remaining S.signature S.next S.saved) kept.old.signer) }
     requires key { S.key next.signer ≡ S.key kept.old.signer }
     ensures saved { HasSaved K.saves keeper.old (kept_bytes (signing S.key S.remaining S.signature S.next S.saved) (saved_of (kept_with kept.old next))) result keeper.new }
+    ensures whole { IsWholeAfter (S.is_whole next.signer) result }
     ensures ok { OnOk result (kept.new ≡ kept_with kept.old next) }
     ensures err { OnErr result (kept.new ≡ kept.old) }
 {

@@ -50,6 +50,8 @@ fn over_basis(
         return Ok(None);
     }
     let front = basis.front.copy(alloc)?;
+    // That it is a vector.
+    let _ = front.len();
     Ok(Some(Ground {
         engine: Engine::over(alloc, basis)?,
         front,

@@ -46,4 +46,5 @@ mod taking;
 pub mod writing;
 
 pub use agent::Agent;
-pub use fault::{EnterFault, MakeFault};
+pub use answering::Turned;
+pub use fault::{EnterFault, MakeFault, TurnFault};

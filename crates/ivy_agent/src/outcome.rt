@@ -1,6 +1,6 @@
 //! Answering a call on what a turn took.
 
-ghost use Rattle.std.specs.Prelude.{◌≡◌, ◌≢◌, ◌≤◌, [], IfOk, OnOk, OnErr, IfSome, IsSomeAnd};
+ghost use Rattle.std.specs.Prelude.{◌≡◌, ◌≢◌, ◌≤◌, ◌+◌, [], IfOk, OnOk, OnErr, IfSome, IsSomeAnd};
 ghost use Rattle.ivy_base.specs.Naming.{head_key_of};
 ghost use Rattle.log_fetch.specs.Standings.{asked_of};
 ghost use Rattle.log_model.specs.Spelling.{most_records};
@@ -81,10 +81,11 @@ fn write_on<K: Keeper, S: Signs + Drop, L: Ledger>(
     requires held { IsRow engine.old.held }
     requires front { front ≡ joined (holding engine.old) }
     requires served { IsSomeAnd kept.old.view (λ view. served_on (signing S.key S.remaining S.signature S.next S.saved) view kept.old has_failed (holding engine.old) front (asked_of asked.now) now ≡ IsToWrite ops.now) }
-    ensures done { IfOk result (λ done. IfSome kept.old.view (λ view. Answers (signing S.key S.remaining S.signature S.next S.saved) K.saves view (asked_of asked.now) now kept.old has_failed (holding engine.old) front keeper.old applied kept.new (holding engine.new) keeper.new done)) }
+    ensures done { IfOk result (λ done. IfSome kept.old.view (λ view. Answers (signing S.key S.remaining S.signature S.next S.saved) S.is_whole K.saves view (asked_of asked.now) now kept.old has_failed (holding engine.old) front keeper.old applied kept.new (holding engine.new) keeper.new done)) }
     ensures kept { OnErr result (kept.new ≡ kept.old) }
     ensures keeper { OnErr result (keeper.new ≡ keeper.old) }
     ensures engine { OnErr result (StandsAs engine.old engine.new) }
+    ensures steps { IfOk result (λ done. steps.new + applied ≡ steps.old + done.turned.applied) }
 {
     // That it is a vector, so that it may be cited.
     let _ = front.len();
@@ -140,10 +141,11 @@ pub fn answer<K: Keeper, S: Signs + Drop, L: Ledger>(
     requires some { engine.old.before ≢ [] }
     requires held { IsRow engine.old.held }
     requires front { front ≡ joined (holding engine.old) }
-    ensures done { IfOk result (λ done. IfSome kept.old.view (λ view. Answers (signing S.key S.remaining S.signature S.next S.saved) K.saves view (asked_of asked.now) now kept.old has_failed (holding engine.old) front keeper.old applied kept.new (holding engine.new) keeper.new done)) }
+    ensures done { IfOk result (λ done. IfSome kept.old.view (λ view. Answers (signing S.key S.remaining S.signature S.next S.saved) S.is_whole K.saves view (asked_of asked.now) now kept.old has_failed (holding engine.old) front keeper.old applied kept.new (holding engine.new) keeper.new done)) }
     ensures kept { OnErr result (kept.new ≡ kept.old) }
     ensures keeper { OnErr result (keeper.new ≡ keeper.old) }
     ensures engine { OnErr result (StandsAs engine.old engine.new) }
+    ensures steps { IfOk result (λ done. steps.new + applied ≡ steps.old + done.turned.applied) }
 {
     let served = serve_held(alloc, kept, engine, &front, has_failed, asked, now)?;
     match served {

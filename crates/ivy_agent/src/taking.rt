@@ -1,6 +1,6 @@
 //! A turn on what is held: the new records are taken in, and the call is answered on them.
 
-ghost use Rattle.std.specs.Prelude.{◌≡◌, ◌≤◌, ◌++◌, IfOk, OnErr, IfSome, IsSomeAnd};
+ghost use Rattle.std.specs.Prelude.{◌≡◌, ◌≤◌, ◌+◌, ◌++◌, IfOk, OnErr, IfSome, IsSomeAnd};
 ghost use Rattle.ivy_base.specs.Naming.{head_key_of};
 ghost use Rattle.log_fetch.specs.Standings.{asked_of};
 ghost use Rattle.log_model.specs.Replay.{in_order};
@@ -55,10 +55,11 @@ pub fn answer_with<K: Keeper, S: Signs + Drop, L: Ledger>(
     requires row { IsRow (records_of new.items) }
     requires new { AreNew engine.old.held (records_of new.items) }
     requires front { front ≡ joined (with_new (holding engine.old) (records_of new.items)) }
-    ensures done { IfOk result (λ done. IfSome kept.old.view (λ view. Answers (signing S.key S.remaining S.signature S.next S.saved) K.saves view (asked_of asked.now) now kept.old has_failed (with_new (holding engine.old) (records_of new.items)) front keeper.old (applied_between engine.old.held (in_order (engine.old.held ++ records_of new.items))) kept.new (holding engine.new) keeper.new done)) }
+    ensures done { IfOk result (λ done. IfSome kept.old.view (λ view. Answers (signing S.key S.remaining S.signature S.next S.saved) S.is_whole K.saves view (asked_of asked.now) now kept.old has_failed (with_new (holding engine.old) (records_of new.items)) front keeper.old (applied_between engine.old.held (in_order (engine.old.held ++ records_of new.items))) kept.new (holding engine.new) keeper.new done)) }
     ensures kept { OnErr result (kept.new ≡ kept.old) }
     ensures keeper { OnErr result (keeper.new ≡ keeper.old) }
     ensures engine { OnErr result (holding engine.new ≡ holding engine.old) }
+    ensures steps { IfOk result (λ done. steps.new ≡ steps.old + done.turned.applied) }
 {
     let applied = engine.absorb(alloc, new, steps)?;
     match answer(
@@ -128,13 +129,15 @@ pub fn turn_on<K: Keeper, S: Signs + Drop, L: Ledger>(
     requires from { IsSomeAnd kept.old.view (λ view. MayTakeFrom view (own_key (signing S.key S.remaining S.signature S.next S.saved) kept.old.signer) kept.old.floor (holding engine.old) batch) }
     requires well { IsSomeAnd kept.old.view IsView }
     requires call { IsCall (asked_of asked.now) now }
-    requires held { IsRow engine.old.held }
     requires front { front.now ≡ joined (holding engine.old) }
-    ensures turned { IfSome kept.old.view (λ view. TurnsOn (signing S.key S.remaining S.signature S.next S.saved) K.saves view batch (asked_of asked.now) now kept.old has_failed (holding engine.old) keeper.old result kept.new (holding engine.new) keeper.new) }
+    ensures turned { IfSome kept.old.view (λ view. TurnsOn (signing S.key S.remaining S.signature S.next S.saved) S.is_whole K.saves view batch (asked_of asked.now) now kept.old has_failed (holding engine.old) keeper.old result kept.new (holding engine.new) keeper.new) }
     ensures kept { OnErr result (kept.new ≡ kept.old) }
     ensures keeper { OnErr result (keeper.new ≡ keeper.old) }
     ensures engine { OnErr result (holding engine.new ≡ holding engine.old) }
+    ensures steps { IfOk result (λ done. steps.new ≡ steps.old + done.turned.applied) }
 {
+    // That it is a vector.
+    let _ = engine.basis_front().len();
     let Ok(taken) = take_new(alloc, kept, engine, front, batch) else {
         return Err(Refusal::Memory);
     };
@@ -142,6 +145,7 @@ pub fn turn_on<K: Keeper, S: Signs + Drop, L: Ledger>(
         Taken::Behind => Err(Refusal::Behind),
         Taken::BelowTide => Err(Refusal::BelowTide),
         Taken::New(new, front) => {
+            let _ = front.len();
             let answered = answer_with(
                 alloc, keeper, kept, engine, new, front, has_failed, asked, now, steps,
             );

@@ -19,10 +19,10 @@ ghost use Rattle.agent_model.specs.SavedBytes.{kept_bytes};
 ghost use Rattle.ivy_agent.specs.Holders.{signing};
 ghost use Rattle.record_sets.specs.Rows.{IsRow};
 ghost use Rattle.replay_engine.specs.Places.{AreBehind};
-ghost use Rattle.ivy_agent.specs.Saves.{saved_of};
+ghost use Rattle.ivy_agent.specs.Saves.{saved_of, HasSaved, IsWholeAfter};
 ghost use Rattle.ivy_agent.specs.Drafts.{IsDraft, kept_with};
 ghost use Rattle.ivy_agent.specs.Outcomes.{Gives, kept_to};
-ghost use Rattle.ivy_agent.specs.Writing.{HasAsked, HasWritten, StandsAs, WritesDraft, lost_reply};
+ghost use Rattle.ivy_agent.specs.Writing.{HasWritten, StandsAs, WritesDraft, lost_reply};
 
 use crate::answering::{Turned, give};
 use crate::drafts::{Draft, Next, make_draft, save_next};
@@ -135,7 +135,9 @@ fn conclude<K: Keeper, S: Signs + Drop>(
     requires key { S.key next.signer ≡ S.key kept.old.signer }
     requires view { IsSomeAnd kept.old.view (λ view. Unit {0}) }
     requires some { engine.now.before ≢ [] }
-    ensures saved { HasAsked K.saves keeper.old (kept_bytes (signing S.key S.remaining S.signature S.next S.saved) (saved_of (kept_with kept.old next))) result keeper.new }
+    ensures saved { HasSaved K.saves keeper.old (kept_bytes (signing S.key S.remaining S.signature S.next S.saved) (saved_of (kept_with kept.old next))) result keeper.new }
+    ensures whole { IsWholeAfter (S.is_whole next.signer) result }
+    ensures count { IfOk result (λ t. t.applied ≡ applied) }
     ensures ok { OnOk result (kept.new ≡ kept_with kept.old next) }
     ensures err { OnErr result (kept.new ≡ kept.old) }
     ensures given { IfOk result (λ t. IfSome kept.old.view (λ view. Gives (finish (kept_tree (holding (undone engine.now))) (kept_tree (holding engine.now)) view (asked_of asked.now).caller asked.now.args ops.now) (kept_with kept.old next) front.now applied t)) }
@@ -183,10 +185,11 @@ fn commit<K: Keeper, S: Signs + Drop, L: Ledger>(
     requires behind { AreBehind engine.old.held (records_of draft.records.items) }
     requires floor { lost.floor ≡ join kept.old.floor front }
     requires given { Gives (lost_reply (asked_of asked.now)) (kept_to kept.old front) front applied lost.turned }
-    ensures done { IfOk result (λ done. IfSome kept.old.view (λ view. HasWritten (signing S.key S.remaining S.signature S.next S.saved) K.saves view (asked_of asked.now) ops.now kept.old (holding engine.old) front keeper.old applied draft kept.new (holding engine.new) keeper.new done)) }
+    ensures done { IfOk result (λ done. IfSome kept.old.view (λ view. HasWritten (signing S.key S.remaining S.signature S.next S.saved) S.is_whole K.saves view (asked_of asked.now) ops.now kept.old (holding engine.old) front keeper.old applied draft kept.new (holding engine.new) keeper.new done)) }
     ensures kept { OnErr result (kept.new ≡ kept.old) }
     ensures keeper { OnErr result (keeper.new ≡ keeper.old) }
     ensures engine { OnErr result (StandsAs engine.old engine.new) }
+    ensures count { IfOk result (λ done. done.turned.applied ≡ applied) }
     ensures steps { OnOk result (steps.new ≡ steps.old + length draft.records.items) }
 {
     engine.append(alloc, draft.records, steps)?;
@@ -285,10 +288,11 @@ pub fn write<K: Keeper, S: Signs + Drop, L: Ledger>(
     requires held { IsRow engine.old.held }
     requires row { IsRow (written_over (own_key (signing S.key S.remaining S.signature S.next S.saved) kept.old.signer) now front ops.now) }
     requires behind { AreBehind engine.old.held (written_over (own_key (signing S.key S.remaining S.signature S.next S.saved) kept.old.signer) now front ops.now) }
-    ensures done { IfOk result (λ done. IfSome kept.old.view (λ view. WritesDraft (signing S.key S.remaining S.signature S.next S.saved) K.saves view (asked_of asked.now) now ops.now kept.old (holding engine.old) front keeper.old applied kept.new (holding engine.new) keeper.new done)) }
+    ensures done { IfOk result (λ done. IfSome kept.old.view (λ view. WritesDraft (signing S.key S.remaining S.signature S.next S.saved) S.is_whole K.saves view (asked_of asked.now) now ops.now kept.old (holding engine.old) front keeper.old applied kept.new (holding engine.new) keeper.new done)) }
     ensures kept { OnErr result (kept.new ≡ kept.old) }
     ensures keeper { OnErr result (keeper.new ≡ keeper.old) }
     ensures engine { OnErr result (StandsAs engine.old engine.new) }
+    ensures steps { IfOk result (λ done. steps.new + applied ≡ steps.old + done.turned.applied) }
 {
     let prepared = prepare(alloc, kept, &front, asked, now, ops, applied)?;
     commit(

@@ -18,4 +18,4 @@ pub write-requires-clause-behind : goal.write-requires-clause-behind
 write-requires-clause-behind g c = behind_written (signing g.S.Signs.key g.S.Signs.remaining g.S.Signs.signature g.S.Signs.next g.S.Signs.saved) (asked_of c.args.asked.now) c.args.now c.args.kept.now c.args.has_failed (holding c.args.engine.now) c.args.front c.args.ops.now c.requires.log _ c.requires.served c.requires.call c.requires.view c.len.ensures.fits (sym c.seq_of.ensures ∙ c.if-seq_of.false ∙ c.seq_of-2.ensures) c.requires.held c.requires.front
 
 pub returns-clause-done : goal.returns-clause-done
-returns-clause-done g c = answered (signing g.S.Signs.key g.S.Signs.remaining g.S.Signs.signature g.S.Signs.next g.S.Signs.saved) (asked_of c.args.asked.now) c.args.now c.args.kept.now c.args.has_failed (holding c.args.engine.now) c.args.front c.args.ops.now c.requires.log g.K.Keeper.saves _ _ c.args.keeper.now _ c.args.applied (sym c.seq_of.ensures ∙ c.if-seq_of.false ∙ c.seq_of-2.ensures) _ c.requires.served _ c.write.ensures.done
+returns-clause-done g c = answered (signing g.S.Signs.key g.S.Signs.remaining g.S.Signs.signature g.S.Signs.next g.S.Signs.saved) (asked_of c.args.asked.now) c.args.now c.args.kept.now c.args.has_failed (holding c.args.engine.now) c.args.front c.args.ops.now c.requires.log g.S.Signs.is_whole g.K.Keeper.saves _ _ c.args.keeper.now _ c.args.applied (sym c.seq_of.ensures ∙ c.if-seq_of.false ∙ c.seq_of-2.ensures) _ c.requires.served _ c.write.ensures.done
