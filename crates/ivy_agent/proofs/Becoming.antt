@@ -27,7 +27,7 @@ use Rattle.causal_order.specs.Over.{IsClosed}
 use Rattle.nfs_model.specs.declared.replies.Reply.{Reply}
 use Rattle.nfs_model.specs.Results.{result as bytes_of}
 use Rattle.dht_ids.specs.declared.post.Post.{Post}
-use Rattle.turn_model.specs.Basis.{Basis, Holding}
+use Rattle.turn_model.specs.Basis.{Basis, Holding, kept_tree}
 use Rattle.turn_model.specs.Turn.{Asked}
 use Rattle.turn_model.specs.Work.{applied_between}
 use Rattle.turn_answers.specs.Appended.{MayBeCited, written_over}
@@ -39,13 +39,13 @@ use Rattle.turn_answers.proofs.Fronts.{held_front, newest_is_reached}
 use Rattle.turn_answers.proofs.Records.{written_are_next}
 use Rattle.turn_taking.specs.Taking.{IsWithin}
 use Rattle.replay_engine.specs.Engines.{Engine, holding}
-use Rattle.agent_model.specs.Agent.{Agent, Kept as model_kept, Signing, failed, head_post, joined, kept_of, own_key, own_reach, with_posts}
-use Rattle.agent_model.specs.Agent as model
+use Rattle.agent_model.specs.Agent.{Agent, Kept as Saved, Signing, failed, head_post, joined, kept_of, own_key, own_reach, with_posts}
 use Rattle.agent_model.specs.SavedBytes.{ArePostsSpelled, IsKept, kept_bytes}
 use Rattle.agent_model.specs.Standing.{going_on}
 use Rattle.agent_model.specs.Taking.{TakesNew, refresh_with, with_new}
-use Rattle.agent_model.specs.Turning.{Answered, AreNext, Becomes, IsByDefinition, MayTake, MayWrite, Turns, answers as turn_answers, loses, reads, saves as has_saved, taking, with_held, written_by}
-use Rattle.ivy_agent.specs.Answering.{Answers, IsCall, MayGoOn, replies as has_replied, served_on, writes as has_written}
+use Rattle.agent_model.specs.Turning.{Answered, AreNext, Becomes, IsByDefinition, MayTake, MayWrite, Turns, loses, reads, taking, with_held, written_by}
+use Rattle.agent_model.specs.Turning as turning
+use Rattle.ivy_agent.specs.Answering.{Answers, IsCall, MayGoOn, goes_by, replies, served_on, writes}
 use Rattle.ivy_agent.specs.Drafts.{IsDraft, kept_with}
 use Rattle.ivy_agent.specs.Holders.{Holder, IsSound, Stands, StandsIn, agent_of}
 use Rattle.ivy_agent.specs.Outcomes.{Gives, kept_to}
@@ -82,9 +82,9 @@ module _ {S : Type 0} (signs : Signing S) (view : View) where
   }
 
   -- what is kept, with a front joined into its floor
-  module _ (k : model_kept S) (kept : IsKept signs IsAny k) (in_view : k.view ≡ Some view) (f : Vector) (cited : MayBeCited view f) (f_few : seq_of f (head_key_of (own_key signs k.signer)) ≤ most_records) where
-    abbrev log : Key
-    log = head_key_of (own_key signs k.signer)
+  module _ (k : Saved S) (kept : IsKept signs IsAny k) (in_view : k.view ≡ Some view) (f : Vector) (cited : MayBeCited view f) (f_few : seq_of f (head_key_of (own_key signs k.signer)) ≤ most_records) where
+    abbrev its_log : Key
+    its_log = head_key_of (own_key signs k.signer)
 
     abbrev floor_then : Vector
     floor_then = join k.floor f
@@ -102,10 +102,10 @@ module _ {S : Type 0} (signs : Signing S) (view : View) where
         → IsKept signs IsWhole (record { signer = signer; view = k.view; floor = floor_then; pending = pending; snapshot = k.snapshot })
     kept_then IsWhole signer pending same whole posts =
         let own_is : own_key signs k.signer ≡ own_key signs signer = (λ i. record { 0 = sym same i }) in
-        let far : seq_of k.floor log ≤ seq_of floor_then log = join_from_first log k.floor f in
+        let far : seq_of k.floor its_log ≤ seq_of floor_then its_log = join_from_first its_log k.floor f in
         let some = kept.some in
-        let reached : 1 ≤ seq_of floor_then log = omega (arith, far, some) in
-        let few : seq_of floor_then log ≤ most_records = join_up_to log most_records k.floor f floor_cited.whole.in_order cited.whole.in_order kept.few f_few in
+        let reached : 1 ≤ seq_of floor_then its_log = omega (arith, far, some) in
+        let few : seq_of floor_then its_log ≤ most_records = join_up_to its_log most_records k.floor f floor_cited.whole.in_order cited.whole.in_order kept.few f_few in
         record {
           signer = whole;
           some = subst (λ (o : PubKey). 1 ≤ seq_of floor_then (head_key_of o)) own_is reached;
@@ -119,12 +119,12 @@ module _ {S : Type 0} (signs : Signing S) (view : View) where
 
     pub within_then : (v : Vector) → IsWithin view (own_key signs k.signer) k.floor v → IsWithin view (own_key signs k.signer) floor_then v
     within_then v h =
-        let far : seq_of k.floor log ≤ seq_of floor_then log = join_from_first log k.floor f in
+        let far : seq_of k.floor its_log ≤ seq_of floor_then its_log = join_from_first its_log k.floor f in
         let low = h.own_log in
         record { named = h.named; own_log = omega (arith, far, low) }
 
     pub front_within : IsWithin view (own_key signs k.signer) floor_then f
-    front_within = record { named = cited.named; own_log = join_from_second log k.floor f }
+    front_within = record { named = cited.named; own_log = join_from_second its_log k.floor f }
 
 module _ {K S : Type 0} (signs : Signing S) (IsWhole : S → Type 0) (saves : K → List ℕ → Bool → K → Type 0) (asked : Asked) (now : Moment) (k : Kept S) (e : Engine) (to_load : Option Key) (has_failed : Bool)
     (log : k.log ≡ head_key_of (own_key signs k.signer)) (kept : IsKept signs IsAny (saved_of k)) (view : View) (in_view : k.view ≡ Some view) (batch : Batch) (basis : Option Basis) (call : IsCall asked now) (well : IsView view)
@@ -157,7 +157,7 @@ module _ {K S : Type 0} (signs : Signing S) (IsWhole : S → Type 0) (saves : K 
   taken = record { caught_up = takes.caught_up; above = takes.above; part = takes.part }
 
   -- the definition's turn, where this becomes of the agent
-  as_answered : (x : Agent S) (written : List Record) (saving : Option (model_kept S)) (fails : Bool) (reply : Reply) → Becomes signs view a h fails written x saving
+  as_answered : (x : Agent S) (written : List Record) (saving : Option (Saved S)) (fails : Bool) (reply : Reply) → Becomes signs view a h fails written x saving
       → IsByDefinition signs (refresh_with batch basis) a view fails asked now h written reply → IfSome saving (IsKept signs IsWhole) → (keeper keeper_after : K) → Saves saves keeper (option_map (kept_bytes signs) saving) fails keeper_after
       → (y : Agent S) → y ≡ x → (t : Turned) → t.applied ≡ applied_between gone.held h.held + length written → t.reply ≡ bytes_of reply → t.posts ≡ x.pending → t.front ≡ joined x.holding
       → IsAnswered signs IsWhole saves view (refresh_with batch basis) asked now (record { agent = a; keeper = keeper }) t (record { agent = y; keeper = keeper_after })
@@ -167,7 +167,7 @@ module _ {K S : Type 0} (signs : Signing S) (IsWhole : S → Type 0) (saves : K 
     turns = record {
       saving = saving;
       turns = subst (λ (p : ℕ × Agent S). Turns signs (refresh_with batch basis) a view fails asked now (Answered reply p.0) p.1 saving) (λ i. (sym count i, sym y_is i))
-          (turn_answers h written reply x saving takes.caught_up takes.above refl may_take becomes by_definition);
+          (turning.answers h written reply x saving takes.caught_up takes.above refl may_take becomes by_definition);
       keeper = left;
       kept = may_be;
     };
@@ -185,7 +185,7 @@ module _ {K S : Type 0} (signs : Signing S) (IsWhole : S → Type 0) (saves : K 
   stands_taking : StandsIn signs (taking signs a h) view
   stands_taking = record {
     closed = takes.part.largest.closed;
-    keys = from.keys;
+    bounds = from.bounds;
     base = within_then signs view (saved_of k) kept in_view f cited few_held gone.basis.front from.base;
     front = front_within signs view (saved_of k) kept in_view f cited few_held;
   }
@@ -193,7 +193,7 @@ module _ {K S : Type 0} (signs : Signing S) (IsWhole : S → Type 0) (saves : K 
   sound_taking : (failed : Bool) → IsSound signs (record (taking signs a h) { has_failed = failed }) k.log f
   sound_taking failed = sound_in signs view (record (taking signs a h) { has_failed = failed }) k.log f in_view log refl
       (kept_then signs view (saved_of k) kept in_view f cited few_held IsAny k.signer k.pending refl tt kept.posts)
-      (record { closed = stands_taking.closed; keys = stands_taking.keys; base = stands_taking.base; front = stands_taking.front })
+      (record { closed = stands_taking.closed; bounds = stands_taking.bounds; base = stands_taking.base; front = stands_taking.front })
 
   module _ (keeper : K) (k_after : Kept S) (e_after : Engine) (keeper_after : K) (done : Done) where
     abbrev y : Agent S
@@ -219,7 +219,7 @@ module _ {K S : Type 0} (signs : Signing S) (IsWhole : S → Type 0) (saves : K 
         }) in
         let count = given.count in (
           as_answered (taking signs a h) [] None false reply reads
-          (replies_by_definition signs a view batch basis from.under.0 new asked now well from.under.1 taken false reply (ap (λ (l : Key). serve_on _ _ (seq_of f l) asked now) (sym log) ∙ served))
+          (replies_by_definition signs a view batch basis from.under.0 new asked now well from.under.1 taken false reply (ap (λ (l : Key). serve_on (goes_by signs view k has_failed) (kept_tree h) (seq_of f l) asked now) (sym log) ∙ served))
           tt keeper keeper_after keeper_is y y_is done.turned (omega (arith, count)) given.bytes (given.posts ∙ ap (λ (q : Kept S). q.pending) kept_is) given.its_front,
           subst (λ (p : Agent S × Key × Vector). IsSound signs p.0 p.1 p.2) (λ i. (sym y_is i, (sym kept_is i).log, sym front_is i)) (sound_taking has_failed),
         )
@@ -231,7 +231,7 @@ module _ {K S : Type 0} (signs : Signing S) (IsWhole : S → Type 0) (saves : K 
       written = drafted.start ++ drafted.last ∷ []
 
       may_go : MayGoOn view own k.floor f h
-      may_go = may_go_on view own k.floor gone (refresh_with batch None) new takes f well inside from.begun from.keys
+      may_go = may_go_on view own k.floor gone (refresh_with batch None) new takes f well inside from.begun from.bounds
 
       good_over : AllByRecursion (IsGood view own) (written_over own now f ops)
       good_over = goods signs view asked now ops k has_failed h f log served call may_go whole at
@@ -266,8 +266,8 @@ module _ {K S : Type 0} (signs : Signing S) (IsWhole : S → Type 0) (saves : K 
             drafted.signed.each drafted.signed.head (subst (λ (ps : List Post). length ps < 2 ^ 32) drafted.signed.posts drafted.signed.few);
       }
 
-      served_is : serve_on _ _ (seq_of f (head_key_of own)) asked now ≡ Writes ops
-      served_is = ap (λ (l : Key). serve_on _ _ (seq_of f l) asked now) (sym log) ∙ served
+      served_is : serve_on (goes_by signs view k has_failed) (kept_tree h) (seq_of f (head_key_of own)) asked now ≡ Writes ops
+      served_is = ap (λ (l : Key). serve_on (goes_by signs view k has_failed) (kept_tree h) (seq_of f l) asked now) (sym log) ∙ served
 
       -- ---- how far all goes then
 
@@ -326,7 +326,7 @@ module _ {K S : Type 0} (signs : Signing S) (IsWhole : S → Type 0) (saves : K 
       sound_with : IsSound signs x k.log front_with
       sound_with = sound_in signs view x k.log front_with in_view (log ∙ ap head_key_of own_is) refl (kept_with_them IsAny tt) (record {
         closed = closed_with;
-        keys = from.keys;
+        bounds = from.bounds;
         base = subst (λ (o : PubKey). IsWithin view o (join k.floor front_with) gone.basis.front) own_is (within_then signs view (saved_of k) kept in_view front_with cited_with few_with gone.basis.front from.base);
         front = subst (λ (o : PubKey). IsWithin view o (join k.floor front_with) front_with) own_is (front_within signs view (saved_of k) kept in_view front_with cited_with few_with);
       })
@@ -338,7 +338,7 @@ module _ {K S : Type 0} (signs : Signing S) (IsWhole : S → Type 0) (saves : K 
         whole_next = subst IsWhole drafted.signed.next w.whole
 
         asked_to : saves keeper (kept_bytes signs (kept_of x)) done.has_failed keeper_after
-        asked_to = subst (λ (q : model_kept S). saves keeper (kept_bytes signs q) done.has_failed keeper_after) saved_is w.saved
+        asked_to = subst (λ (q : Saved S). saves keeper (kept_bytes signs q) done.has_failed keeper_after) saved_is w.saved
 
         count_is : done.turned.applied ≡ applied_between gone.held h.held + length written
         count_is = w.given.count ∙ ap (λ (l : List Record). applied_between gone.held h.held + length l) drafted.records
@@ -362,7 +362,7 @@ module _ {K S : Type 0} (signs : Signing S) (IsWhole : S → Type 0) (saves : K 
               pending = drafted.signed.posts i;
               has_failed = (is ∙ sym may_write.unfailed) i;
             }) in (
-              as_answered x written (Some (kept_of x)) false (written_reply view asked ops h written) (has_saved drafted.start drafted.last may_write refl)
+              as_answered x written (Some (kept_of x)) false (written_reply view asked ops h written) (turning.saves drafted.start drafted.last may_write refl)
               (subst (λ (l : List Record). IsByDefinition signs (refresh_with batch basis) a view false asked now h l (written_reply view asked ops h l)) drafted.written
               (saved_by_definition signs a view batch basis from.under.0 new asked now well from.under.1 taken ops served_is))
               (kept_with_them IsWhole whole_next) keeper keeper_after (subst (λ (b : Bool). saves keeper (kept_bytes signs (kept_of x)) b keeper_after) is asked_to)
@@ -400,7 +400,7 @@ module _ {K S : Type 0} (signs : Signing S) (IsWhole : S → Type 0) (saves : K 
         ends_written false is = saved is
 
     pub ends_answered : (h_after : Holding) → holding e_after ≡ h_after → Answers signs IsWhole saves view asked now k has_failed h f keeper (applied_between gone.held h.held) k_after h_after keeper_after done → Ends
-    ends_answered h_after after_is (has_replied reply served kept_is held_is keeper_is front_is failed_is given) = ends_replied reply served kept_is (after_is ∙ held_is) keeper_is front_is failed_is given
-    ends_answered h_after after_is (has_written ops served at w) = ends_written ops served at w.draft w.is_draft
+    ends_answered h_after after_is (replies reply served kept_is held_is keeper_is front_is failed_is given) = ends_replied reply served kept_is (after_is ∙ held_is) keeper_is front_is failed_is given
+    ends_answered h_after after_is (writes ops served at w) = ends_written ops served at w.draft w.is_draft
         (subst (λ (g : Holding). HasWritten signs IsWhole saves view asked ops k h f keeper (applied_between gone.held h.held + length (records_of w.draft.records.items)) w.draft k_after g keeper_after done) (sym after_is) w.written)
         done.has_failed refl

@@ -5,7 +5,6 @@ use Rattle.std.specs.List.{AllByRecursion}
 use Rattle.ivy_base.specs.declared.key.Key.{Key}
 use Rattle.ivy_base.specs.declared.key.PubKey.{PubKey}
 use Rattle.ivy_base.specs.Naming.{head_key_of}
-use Rattle.log_model.specs.Laws.{NumbersAreKeys}
 use Rattle.log_model.specs.Vector.{Entry, Stamp, Vector, reach, seq_of, stamp_at}
 use Rattle.log_model.specs.View.{View, IsView, is_named}
 use Rattle.log_model.proofs.Lists.{each, each_from}
@@ -22,6 +21,7 @@ use Rattle.wire_model.specs.Xdr.{IsAny}
 use Rattle.agent_model.specs.Agent.{Agent, Signing, joined, kept_of, own, own_key}
 use Rattle.agent_model.specs.SavedBytes.{IsKept}
 use Rattle.agent_model.specs.Standing.{dominates, going_on}
+use Rattle.ivy_agent.specs.Bounds.{HasBounds}
 use Rattle.ivy_agent.specs.Grounds.{taken_basis}
 use Rattle.ivy_agent.specs.Holders.{IsSound, Stands, StandsIn}
 use Rattle.ivy_agent.specs.Taking.{MayTakeFrom}
@@ -62,7 +62,7 @@ module _ {S : Type 0} (signs : Signing S) (a : Agent S) (log : Key) (front : Vec
     member = (of_view view is).2;
     begun = sound.kept.some;
     few = sound.kept.few;
-    keys = (stands_in view is).keys;
+    bounds = (stands_in view is).bounds;
     closed = (stands_in view is).closed;
     base = (stands_in view is).base;
     inside = (stands_in view is).front;
@@ -70,13 +70,13 @@ module _ {S : Type 0} (signs : Signing S) (a : Agent S) (log : Key) (front : Vec
     members = fetched.members;
   }
 
-  from_basis : (b : Basis) → IsVector b.front → dominates a.floor b.front ≡ true → NumbersAreKeys b.tree → (view : View) → a.view ≡ Some view → IsFetchedIn view batch
+  from_basis : (b : Basis) → IsVector b.front → dominates a.floor b.front ≡ true → HasBounds b.tree → (view : View) → a.view ≡ Some view → IsFetchedIn view batch
       → MayTakeFrom view (own signs a) a.floor (record { basis = b; held = [] }) batch
-  from_basis b whole knows keys view is fetched = record {
+  from_basis b whole knows bounds view is fetched = record {
     member = (of_view view is).2;
     begun = sound.kept.some;
     few = sound.kept.few;
-    keys = keys;
+    bounds = bounds;
     closed = none_closed view b.front;
     base = within_floor view (own signs a) a.floor b.front (of_view view is).3 whole knows;
     inside = within_floor view (own signs a) a.floor b.front (of_view view is).3 whole knows;
@@ -92,7 +92,7 @@ module _ {S : Type 0} (signs : Signing S) (a : Agent S) (log : Key) (front : Vec
   well_in P None is h = absurd h
   well_in P (Some view) is h = (of_view view is).0
 
-  pub basis_from : (b : Basis) → IsVector b.front → dominates a.floor b.front ≡ true → NumbersAreKeys b.tree → (o : Option View) → a.view ≡ o → IsSomeAnd o (λ view. IsFetchedIn view batch)
+  pub basis_from : (b : Basis) → IsVector b.front → dominates a.floor b.front ≡ true → HasBounds b.tree → (o : Option View) → a.view ≡ o → IsSomeAnd o (λ view. IsFetchedIn view batch)
       → IsSomeAnd o (λ view. MayTakeFrom view (own signs a) a.floor (record { basis = b; held = [] }) batch)
-  basis_from b whole knows keys None is h = absurd h
-  basis_from b whole knows keys (Some view) is h = from_basis b whole knows keys view is h
+  basis_from b whole knows bounds None is h = absurd h
+  basis_from b whole knows bounds (Some view) is h = from_basis b whole knows bounds view is h

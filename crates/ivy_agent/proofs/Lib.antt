@@ -18,6 +18,7 @@ pub mod Defined
 pub mod Trees
 pub mod News
 pub mod Takes
+pub mod Short
 pub mod Turned
 pub mod Citing
 pub mod Published

@@ -7,7 +7,6 @@ use Rattle.std.specs.declared.cmp.Ordering.{Ordering}
 use Rattle.std.specs.declared.cmp.Ordering.TheVariants.{Less, Equal, Greater}
 use Rattle.ivy_base.specs.declared.key.PubKey.{PubKey}
 use Rattle.ivy_base.specs.Naming.{head_key_of}
-use Rattle.log_model.specs.Laws.{NumbersAreKeys}
 use Rattle.log_model.specs.Rank.{record_cmp}
 use Rattle.log_model.specs.Record.{Record}
 use Rattle.log_model.specs.Replay.{in_order, with_record}
@@ -28,7 +27,8 @@ use Rattle.agent_model.specs.Agent.{joined}
 use Rattle.agent_model.specs.Standing.{Refresh}
 use Rattle.agent_model.specs.Taking.{TakesNew, with_new}
 use Rattle.ivy_agent.specs.Answering.{MayGoOn}
-use Rattle.ivy_agent.proofs.Trees.{keys_replayed}
+use Rattle.ivy_agent.specs.Bounds.{HasBounds}
+use Rattle.ivy_agent.proofs.Trees.{bounds_replayed}
 
 held_in : (s new : List Record) (q : Record) → Contains s q → Contains (union s new) q
 held_in s [] q c = c
@@ -65,9 +65,9 @@ module _ (view : View) (own : PubKey) (floor : Vector) (h : Holding) (brought : 
     are_new = each_from (λ r. AllByRecursion (λ q. IsTrue (not (is_eq (record_cmp r q)))) h.held) new
         (λ r c. each_from (λ q. IsTrue (not (is_eq (record_cmp r q)))) h.held (λ q d. differs r q c d (record_cmp r q) refl))
 
-  pub keys_with : NumbersAreKeys h.basis.tree → NumbersAreKeys (kept_tree (with_new h new))
-  keys_with keys = keys_replayed h.basis.tree (in_order (h.held ++ new)) keys
+  pub bounds_with : HasBounds h.basis.tree → HasBounds (kept_tree (with_new h new))
+  bounds_with bounds = bounds_replayed h.basis.tree (in_order (h.held ++ new)) bounds
       (each_from (λ r. OperationFits r.op) (in_order (h.held ++ new)) (λ r c. (good_in view h.basis.front (in_order (h.held ++ new)) closed_with r c).spelled.operation))
 
-  pub may_go_on : (front : Vector) → IsView view → IsWithin view own floor front → 1 ≤ seq_of floor (head_key_of own) → NumbersAreKeys h.basis.tree → MayGoOn view own floor front (with_new h new)
-  may_go_on front well inside begun keys = record { well = well; named = inside.named; begun = begun; keys = keys_with keys }
+  pub may_go_on : (front : Vector) → IsView view → IsWithin view own floor front → 1 ≤ seq_of floor (head_key_of own) → HasBounds h.basis.tree → MayGoOn view own floor front (with_new h new)
+  may_go_on front well inside begun bounds = record { well = well; named = inside.named; begun = begun; bounds = bounds_with bounds }

@@ -56,7 +56,7 @@ module _ {S : Type 0} (signs : Signing S) (view : View) (asked : Asked) (now : M
 
     pub may_stand : AllMayBeWritten (own_key signs k.signer) (seq_of front (head_key_of (own_key signs k.signer)) + 1) ops
     may_stand = subst (λ (n : ℕ). AllMayBeWritten (own_key signs k.signer) (n + 1) ops) same_log
-        (writes_may_stand (goes_by signs view k has_failed) (kept_tree h) (seq_of front k.log) asked now ops may.keys call.caller call.args call.moment served)
+        (writes_may_stand (goes_by signs view k has_failed) (kept_tree h) (seq_of front k.log) asked now ops may.bounds.numbers call.caller call.args call.moment served)
 
     pub goods : AllByRecursion (IsGood view (own_key signs k.signer)) (written_over (own_key signs k.signer) now front ops)
     goods = written_are_good view (own_key signs k.signer) now front ops may.well (record { whole = whole; named = may.named }) call.moment begun may_stand

@@ -16,12 +16,14 @@ use Rattle.turn_model.specs.Work.{applied_between}
 use Rattle.turn_taking.specs.Taking.{IsWithin}
 use Rattle.version_vectors.specs.Vectors.{IsVector}
 use Rattle.replay_engine.specs.Places.{AreNew}
+use Rattle.nfs_laws.specs.Lengths.{AnswersFit, FinishesFit, PlansFit}
 use Rattle.agent_model.specs.Agent.{Signing, joined, own_key}
 use Rattle.agent_model.specs.Taking.{TakesNew, refresh_with, with_new}
 use Rattle.ivy_agent.specs.Answering.{Answers, MayGoOn}
 use Rattle.ivy_agent.specs.Taking.{MayTakeFrom, TakesAndAnswers}
 use Rattle.ivy_agent.specs.declared.saving.Kept.{Kept}
 use Rattle.ivy_agent.specs.declared.writing.Done.{Done}
+use Rattle.ivy_agent.proofs.Short.{answered_short}
 use Rattle.ivy_agent.proofs.News.{are_new, may_go_on, row_new, row_of_closed}
 
 module _ {S : Type 0} (signs : Signing S) (k : Kept S) (h : Holding) (b : Batch) (new : List Record) (front : Vector) where
@@ -33,7 +35,7 @@ module _ {S : Type 0} (signs : Signing S) (k : Kept S) (h : Holding) (b : Batch)
 
   pub may_answer : (o : Option View) → TakesIn o → MayFrom o → IsSomeAnd o IsView → IsSomeAnd o (λ view. MayGoOn view (own_key signs k.signer) k.floor front (with_new h new))
   may_answer None t may well = absurd well
-  may_answer (Some view) t may well = may_go_on view (own_key signs k.signer) k.floor h (refresh_with b None) new t.0 front well t.2 may.begun may.keys
+  may_answer (Some view) t may well = may_go_on view (own_key signs k.signer) k.floor h (refresh_with b None) new t.0 front well t.2 may.begun may.bounds
 
   pub row_taken : (o : Option View) → TakesIn o → MayFrom o → IsRow new
   row_taken None t may = absurd may
@@ -60,15 +62,17 @@ module _ {S : Type 0} (signs : Signing S) (k : Kept S) (h : Holding) (b : Batch)
       omega (arith, low, few, same)
 
   module _ {K : Type 0} (IsWhole : S → Type 0) (saves : K → List ℕ → Bool → K → Type 0) (asked : Asked) (now : Moment) (has_failed : Bool) (keeper : K) (k_after : Kept S) (h_after : Holding) (keeper_after : K) (done : Done) where
-    pub turned : (o : Option View) → TakesIn o → IsVector h.basis.front → IsVector front
+    pub turned : AnswersFit → PlansFit → FinishesFit → (o : Option View) → TakesIn o → MayFrom o → IsSomeAnd o IsView → IsVector h.basis.front → IsVector front
         → IfSome o (λ view. Answers signs IsWhole saves view asked now k has_failed (with_new h new) front keeper (applied_between h.held (with_new h new).held) k_after h_after keeper_after done)
         → IfSome o (λ view. TakesAndAnswers signs IsWhole saves view b asked now k has_failed h keeper k_after h_after keeper_after done)
-    turned None t base whole a = tt
-    turned (Some view) t base whole a = record {
+    turned answers plans finishes None t may well base whole a = tt
+    turned answers plans finishes (Some view) t may well base whole a = record {
       new = new;
       takes = t.0;
       inside = subst (λ (f : Vector). IsWithin view (own_key signs k.signer) k.floor f) t.1 t.2;
       base = base;
       front = subst IsVector t.1 whole;
+      short = answered_short answers plans finishes signs IsWhole saves view asked now k has_failed (with_new h new) front keeper (applied_between h.held (with_new h new).held) k_after h_after keeper_after done
+          (may_go_on view (own_key signs k.signer) k.floor h (refresh_with b None) new t.0 front well t.2 may.begun may.bounds).bounds a;
       answers = subst (λ (f : Vector). Answers signs IsWhole saves view asked now k has_failed (with_new h new) f keeper (applied_between h.held (with_new h new).held) k_after h_after keeper_after done) t.1 a;
     }

@@ -5,7 +5,6 @@ use Rattle.ivy_base.specs.Naming.{head_key_of}
 use Rattle.ivy_base.specs.declared.key.PubKey.{PubKey}
 use Rattle.ivy_base.specs.declared.operation.Moment.{Moment}
 use Rattle.ivy_base.specs.declared.operation.Op.{Op}
-use Rattle.log_model.specs.Laws.{NumbersAreKeys}
 use Rattle.log_model.specs.Spelling.{IsMoment, most_records}
 use Rattle.log_model.specs.Vector.{Vector, seq_of}
 use Rattle.log_model.specs.View.{View, IsView, is_named}
@@ -16,6 +15,7 @@ use Rattle.turn_model.specs.Basis.{Holding, kept_tree}
 use Rattle.turn_model.specs.Turn.{Agent as Inputs, Asked}
 use Rattle.turn_answers.specs.Serving.{Served, Replies, Writes as IsToWrite, serve_on}
 use Rattle.agent_model.specs.Agent.{Signing, own_key}
+use Rattle.ivy_agent.specs.Bounds.{HasBounds}
 use Rattle.ivy_agent.specs.Outcomes.{Gives, kept_to}
 use Rattle.ivy_agent.specs.Writing.{WritesDraft}
 use Rattle.ivy_agent.specs.declared.saving.Kept.{Kept}
@@ -27,12 +27,12 @@ pub record IsCall (asked : Asked) (now : Moment) : Type 0 where
   pub args : ArgumentsFit asked.args
   pub moment : IsMoment now
 
--- The front may be cited in the view, the own log is begun in the floor, and there is no further than a log goes; and the tree's inodes have keys.
+-- The front may be cited in the view, the own log is begun in the floor, and there is no further than a log goes; and the tree has its bounds.
 pub record MayGoOn (view : View) (own : PubKey) (floor front : Vector) (h : Holding) : Type 0 where
   pub well : IsView view
   pub named : AllByRecursion (λ e. IsTrue (is_named view e.0)) front
   pub begun : 1 ≤ seq_of floor (head_key_of own)
-  pub keys : NumbersAreKeys (kept_tree h)
+  pub bounds : HasBounds (kept_tree h)
 
 module _ {S : Type 0} (signs : Signing S) where
   -- what a call is served by

@@ -1,11 +1,10 @@
 -- What a turn on what is held comes to.
-use Rattle.std.specs.Prelude.{◌≡◌, ◌≤◌, ℕ, Bool, true, false, List, Contains, Option, None, Result, Ok, Err}
+use Rattle.std.specs.Prelude.{◌≡◌, ◌≤◌, ℕ, length, Bool, true, false, List, Contains, Option, None, Result, Ok, Err}
 use Rattle.std.specs.List.{AllByRecursion}
 use Rattle.ivy_base.specs.declared.key.Key.{Key}
 use Rattle.ivy_base.specs.declared.key.PubKey.{PubKey}
 use Rattle.ivy_base.specs.declared.operation.Moment.{Moment}
 use Rattle.ivy_base.specs.Naming.{head_key_of}
-use Rattle.log_model.specs.Laws.{NumbersAreKeys}
 use Rattle.log_model.specs.Record.{Record}
 use Rattle.log_model.specs.Spelling.{most_records}
 use Rattle.log_model.specs.Vector.{Vector, seq_of}
@@ -21,6 +20,7 @@ use Rattle.agent_model.specs.Taking.{TakesNew, refresh_with, with_new}
 use Rattle.agent_model.specs.Turning.{is_behind, is_below_tide}
 use Rattle.turn_taking.specs.Taking.{IsWithin}
 use Rattle.version_vectors.specs.Vectors.{IsVector}
+use Rattle.ivy_agent.specs.Bounds.{HasBounds}
 use Rattle.ivy_agent.specs.Answering.{Answers}
 use Rattle.ivy_agent.specs.declared.saving.Kept.{Kept}
 use Rattle.ivy_agent.specs.declared.writing.Done.{Done}
@@ -32,7 +32,7 @@ pub record MayTakeFrom (view : View) (own : PubKey) (floor : Vector) (h : Holdin
   pub member : Contains view.members own
   pub begun : 1 ≤ seq_of floor (head_key_of own)
   pub few : seq_of floor (head_key_of own) ≤ most_records
-  pub keys : NumbersAreKeys h.basis.tree
+  pub bounds : HasBounds h.basis.tree
   pub closed : IsClosed view h.basis.front h.held
   pub base : IsWithin view own floor h.basis.front
   pub inside : IsWithin view own floor (joined h)
@@ -47,6 +47,7 @@ module _ {K S : Type 0} (signs : Signing S) (IsWhole : S → Type 0) (saves : K 
     pub inside : IsWithin view (own_key signs k.signer) k.floor (joined (with_new h new))
     pub base : IsVector h.basis.front
     pub front : IsVector (joined (with_new h new))
+    pub short : length done.turned.reply ≤ 32772
     pub answers : Answers signs IsWhole saves view asked now k has_failed (with_new h new) (joined (with_new h new)) keeper (applied_between h.held (with_new h new).held) k_after h_after keeper_after done
 
   abbrev pub TurnsOn : Result Done Refusal → Kept S → Holding → K → Type 0

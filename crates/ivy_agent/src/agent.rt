@@ -1,7 +1,6 @@
 //! Agents.
 
-ghost use Rattle.std.specs.Prelude.{◌≡◌, ◌+◌, Option, None, false, IfOk, OnOk, OnErr, IfSome, IsSomeAnd};
-ghost use Rattle.log_model.specs.Laws.{NumbersAreKeys};
+ghost use Rattle.std.specs.Prelude.{◌≡◌, ◌≤◌, ◌+◌, length, Option, None, false, IfOk, OnOk, OnErr, IfSome, IsSomeAnd};
 ghost use Rattle.log_records.specs.Records.{records_of};
 ghost use Rattle.turn_model.specs.Basis.{Basis, kept_tree};
 ghost use Rattle.agent_model.specs.Others.{settled};
@@ -13,6 +12,7 @@ ghost use Rattle.ivy_agent.specs.Holders.{IsSound, agent_of, signing};
 ghost use Rattle.ivy_agent.specs.Making.{Makes};
 ghost use Rattle.ivy_agent.specs.Entering.{Enters, GoesIn, IsTakenIn, MayEnter};
 ghost use Rattle.ivy_agent.specs.Answering.{IsCall};
+ghost use Rattle.ivy_agent.specs.Bounds.{HasBounds};
 ghost use Rattle.ivy_agent.specs.Taking.{MayTakeFrom};
 ghost use Rattle.ivy_agent.specs.Turns.{ComesFrom, ComesTo, IsFetchedIn, Refuses, TakesTurn, dropping};
 
@@ -197,7 +197,7 @@ impl<K: Keeper, S: Signs> Agent<K, S> {
 
     /// A turn: takes what the refresh brought, and answers the call on what is held then. What the call plans is written: its
     /// records are held, and the agent is saved with them and a head over them; where that fails nothing is written, the reply
-    /// says so, and the agent saves no more. There is a step for each record that is applied.
+    /// says so, and the agent saves no more. There is a step for each record that is applied. A reply has 32,772 bytes at most.
     ///
     /// # Errors
     ///
@@ -214,10 +214,11 @@ impl<K: Keeper, S: Signs> Agent<K, S> {
         steps: &mut Steps<L>,
     ) -> Result<Turned, TurnFault>
         requires batch { IsSomeAnd self.old.agent.view (λ view. IsFetchedIn view refresh.batch) }
-        requires keys { IfSome refresh.basis (λ basis. NumbersAreKeys basis.tree) }
+        requires bounds { IfSome refresh.basis (λ basis. HasBounds basis.tree) }
         requires call { IsCall (asked_of asked.now) now }
         ensures turn { IfSome self.old.agent.view (λ view. TakesTurn (signing S.key S.remaining S.signature S.next S.saved) S.is_whole K.saves view (refresh_of refresh) (asked_of asked.now) now self.old result self.new) }
         ensures steps { IfOk result (λ turned. steps.new ≡ steps.old + turned.applied) }
+        ensures short { IfOk result (λ turned. length turned.reply ≤ 32772) }
     {
         match self.take_turn(alloc, refresh, asked, now, steps) {
             Ok(turned) => Ok(turned),
@@ -236,10 +237,11 @@ impl<K: Keeper, S: Signs> Agent<K, S> {
         steps: &mut Steps<L>,
     ) -> Result<Turned, Refusal>
         requires batch { IsSomeAnd self.old.agent.view (λ view. IsFetchedIn view refresh.batch) }
-        requires keys { IfSome refresh.basis (λ basis. NumbersAreKeys basis.tree) }
+        requires bounds { IfSome refresh.basis (λ basis. HasBounds basis.tree) }
         requires call { IsCall (asked_of asked.now) now }
         ensures turn { IfSome self.old.agent.view (λ view. ComesTo (signing S.key S.remaining S.signature S.next S.saved) S.is_whole K.saves view (refresh_of refresh) (asked_of asked.now) now self.old result self.new) }
         ensures steps { IfOk result (λ turned. steps.new ≡ steps.old + turned.applied) }
+        ensures short { IfOk result (λ turned. length turned.reply ≤ 32772) }
     {
         let Refresh { batch, basis } = refresh;
         match ground_of(alloc, self.to_load, &self.kept.floor, basis) {
@@ -262,6 +264,7 @@ impl<K: Keeper, S: Signs> Agent<K, S> {
         requires call { IsCall (asked_of asked.now) now }
         ensures turn { IfSome self.old.agent.view (λ view. ComesFrom (signing S.key S.remaining S.signature S.next S.saved) S.is_whole K.saves view batch (asked_of asked.now) now self.old self.old.agent.holding result self.new) }
         ensures steps { IfOk result (λ turned. steps.new ≡ steps.old + turned.applied) }
+        ensures short { IfOk result (λ turned. length turned.reply ≤ 32772) }
     {
         let done = turn_on(
             alloc,
@@ -297,6 +300,7 @@ impl<K: Keeper, S: Signs> Agent<K, S> {
         requires call { IsCall (asked_of asked.now) now }
         ensures turn { IfSome self.old.agent.view (λ view. ComesFrom (signing S.key S.remaining S.signature S.next S.saved) S.is_whole K.saves view batch (asked_of asked.now) now self.old (holding ground.engine) result self.new) }
         ensures steps { IfOk result (λ turned. steps.new ≡ steps.old + turned.applied) }
+        ensures short { IfOk result (λ turned. length turned.reply ≤ 32772) }
     {
         let done = turn_on(
             alloc,

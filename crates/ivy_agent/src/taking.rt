@@ -27,6 +27,7 @@ use ivy_base::{Memory, Moment, Steps};
 use ivy_io::Keeper;
 use log_fetch::Asked;
 use log_records::{Batch, Record};
+use nfs_laws::results_are_short;
 use replay_engine::Engine;
 use std::alloc::Global;
 use std::sync::ledger::Ledger;
@@ -136,7 +137,8 @@ pub fn turn_on<K: Keeper, S: Signs + Drop, L: Ledger>(
     ensures engine { OnErr result (holding engine.new ≡ holding engine.old) }
     ensures steps { IfOk result (λ done. steps.new ≡ steps.old + done.turned.applied) }
 {
-    // That it is a vector.
+    // What is answered is short, and the front is a vector.
+    results_are_short();
     let _ = engine.basis_front().len();
     let Ok(taken) = take_new(alloc, kept, engine, front, batch) else {
         return Err(Refusal::Memory);
