@@ -1,5 +1,5 @@
 -- How a turn ends, by what an agent keeps.
-use Rattle.std.proofs.Common.{◌≡◌, ℕ, Bool, true, false, List, [], Option, Some, None, Ok, Err, refl, sym, ap, ◌∙◌, subst}
+use Rattle.std.proofs.Common.{◌≡◌, ◌≤◌, ℕ, length, Bool, true, false, List, [], Option, Some, None, Ok, Err, refl, sym, ap, ◌∙◌, subst}
 use Rattle.std.specs.Prelude.{IfSome, IsSomeAnd}
 use Rattle.ivy_base.specs.declared.key.Key.{Key}
 use Rattle.ivy_base.specs.declared.operation.Moment.{Moment}
@@ -58,6 +58,10 @@ module _ {K S : Type 0} (signs : Signing S) (IsWhole : S → Type 0) (saves : K 
     sound_in_view h (Some view) in_view basis going from t =
         (ends view in_view basis (subst (λ (g : Holding). MayTakeFrom view (own_key signs k.signer) k.floor g batch) (sym going) from)
         (subst (λ (g : Holding). TakesAndAnswers signs IsWhole saves view batch asked now k has_failed g keeper k_after (holding e_after) keeper_after done) (sym going) t)).1
+
+    pub short_from : (h : Holding) (o : Option View) → MayFrom h o → Takes h o → length done.turned.reply ≤ 32772
+    short_from h None from t = absurd from
+    short_from h (Some view) from t = t.short
 
     -- on what is held
     pub turned_here : MayFrom (holding e) k.view → Takes (holding e) k.view → IfSome before.agent.view (λ view. ComesFrom signs IsWhole saves view batch asked now before before.agent.holding (Ok done.turned) after)

@@ -25,3 +25,4 @@ pub mod Published
 pub mod Becoming
 pub mod Going
 pub mod Ended
+pub mod Refused

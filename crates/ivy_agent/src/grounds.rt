@@ -49,9 +49,9 @@ fn over_basis(
     if !is_taken(to_load, floor, &basis.front) {
         return Ok(None);
     }
-    let front = basis.front.copy(alloc)?;
     // That it is a vector.
-    let _ = front.len();
+    let _ = basis.front.len();
+    let front = basis.front.copy(alloc)?;
     Ok(Some(Ground {
         engine: Engine::over(alloc, basis)?,
         front,
