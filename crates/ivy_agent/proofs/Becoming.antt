@@ -63,14 +63,30 @@ use Rattle.ivy_agent.proofs.News.{may_go_on}
 use Rattle.ivy_agent.proofs.Planned.{begun, goods, may_stand, planned}
 use Rattle.ivy_agent.proofs.Published.{posts_spelled}
 
+-- ---- numbers
+
+through : (a b c : ℕ) → a ≤ b → b ≤ c → a ≤ c
+through a b c h g = omega (arith, h, g)
+
+with_none : (m n : ℕ) → m ≡ n → m ≡ n + 0
+with_none m n h = omega (arith, h)
+
+moved : (a b n m : ℕ) → a + n ≤ m → a ≡ b → b + n ≤ m
+moved a b n m h e = omega (arith, h, e)
+
+counted : (a b n l m : ℕ) → a + n ≤ m → l ≡ n → a ≡ b → b + l ≤ m
+counted a b n l m h c e = omega (arith, h, c, e)
+
+up_to : (t s m : ℕ) → t ≡ s → s ≤ m → t ≤ m
+up_to t s m e h = omega (arith, e, h)
+
 -- with the newest stamp of the own log it goes no further than that
 newest_up_to : (own : PubKey) (o : Option Stamp) (f : Vector) (n : ℕ) → seq_of f (head_key_of own) ≤ n → ((t : Stamp) → o ≡ Some t → t.seq ≤ n) → seq_of (with_newest own o f) (head_key_of own) ≤ n
 newest_up_to own None f n far newest = far
 newest_up_to own (Some t) f n far newest =
     let at : seq_of (with_newest own (Some t) f) (head_key_of own) ≡ t.seq =
     ap reach (find-put key_cmp keys_total (head_key_of own) (head_key_of own) t f ∙ ap (λ (b : Bool). cond b (Some t) _) (same_key_itself (head_key_of own))) in
-    let few : t.seq ≤ n = newest t refl in
-    omega (arith, at, few)
+    up_to (seq_of (with_newest own (Some t) f) (head_key_of own)) t.seq n at (newest t refl)
 
 module _ {S : Type 0} (signs : Signing S) (view : View) where
   pub sound_in : (x : Agent S) (log : Key) (front : Vector) → x.view ≡ Some view → log ≡ head_key_of (own_key signs x.signer) → front ≡ joined x.holding → IsKept signs IsAny (kept_of x) → StandsIn signs x view → IsSound signs x log front
@@ -103,8 +119,7 @@ module _ {S : Type 0} (signs : Signing S) (view : View) where
     kept_then IsWhole signer pending same whole posts =
         let own_is : own_key signs k.signer ≡ own_key signs signer = (λ i. record { 0 = sym same i }) in
         let far : seq_of k.floor its_log ≤ seq_of floor_then its_log = join_from_first its_log k.floor f in
-        let some = kept.some in
-        let reached : 1 ≤ seq_of floor_then its_log = omega (arith, far, some) in
+        let reached : 1 ≤ seq_of floor_then its_log = through 1 (seq_of k.floor its_log) (seq_of floor_then its_log) kept.some far in
         let few : seq_of floor_then its_log ≤ most_records = join_up_to its_log most_records k.floor f floor_cited.whole.in_order cited.whole.in_order kept.few f_few in
         record {
           signer = whole;
@@ -120,8 +135,7 @@ module _ {S : Type 0} (signs : Signing S) (view : View) where
     pub within_then : (v : Vector) → IsWithin view (own_key signs k.signer) k.floor v → IsWithin view (own_key signs k.signer) floor_then v
     within_then v h =
         let far : seq_of k.floor its_log ≤ seq_of floor_then its_log = join_from_first its_log k.floor f in
-        let low = h.own_log in
-        record { named = h.named; own_log = omega (arith, far, low) }
+        record { named = h.named; own_log = through (seq_of v its_log) (seq_of k.floor its_log) (seq_of floor_then its_log) h.own_log far }
 
     pub front_within : IsWithin view (own_key signs k.signer) floor_then f
     front_within = record { named = cited.named; own_log = join_from_second its_log k.floor f }
@@ -180,7 +194,7 @@ module _ {K S : Type 0} (signs : Signing S) (IsWhole : S → Type 0) (saves : K 
 
   -- what is held then stands, with that front joined into the floor
   few_held : seq_of f (head_key_of own) ≤ most_records
-  few_held = let low = inside.own_log in let few = from.few in omega (arith, low, few)
+  few_held = through (seq_of f (head_key_of own)) (seq_of k.floor (head_key_of own)) most_records inside.own_log from.few
 
   stands_taking : StandsIn signs (taking signs a h) view
   stands_taking = record {
@@ -217,10 +231,10 @@ module _ {K S : Type 0} (signs : Signing S) (IsWhole : S → Type 0) (saves : K 
           pending = (kept_is i).pending;
           has_failed = failed_is i;
         }) in
-        let count = given.count in (
+        (
           as_answered (taking signs a h) [] None false reply reads
           (replies_by_definition signs a view batch basis from.under.0 new asked now well from.under.1 taken false reply (ap (λ (l : Key). serve_on (goes_by signs view k has_failed) (kept_tree h) (seq_of f l) asked now) (sym log) ∙ served))
-          tt keeper keeper_after keeper_is y y_is done.turned (omega (arith, count)) given.bytes (given.posts ∙ ap (λ (q : Kept S). q.pending) kept_is) given.its_front,
+          tt keeper keeper_after keeper_is y y_is done.turned (with_none done.turned.applied (applied_between gone.held h.held) given.count) given.bytes (given.posts ∙ ap (λ (q : Kept S). q.pending) kept_is) given.its_front,
           subst (λ (p : Agent S × Key × Vector). IsSound signs p.0 p.1 p.2) (λ i. (sym y_is i, (sym kept_is i).log, sym front_is i)) (sound_taking has_failed),
         )
 
@@ -243,10 +257,7 @@ module _ {K S : Type 0} (signs : Signing S) (IsWhole : S → Type 0) (saves : K 
       same_log v = ap (λ (l : Key). seq_of v l) log
 
       few_over : seq_of f (head_key_of own) + length ops ≤ most_records
-      few_over =
-          let few = (planned signs view asked now ops k has_failed h f log served).few in
-          let same = same_log f in
-          omega (arith, few, same)
+      few_over = moved (seq_of f k.log) (seq_of f (head_key_of own)) (length ops) most_records (planned signs view asked now ops k has_failed h f log served).few (same_log f)
 
       count_written : length written ≡ length ops
       count_written = ap length (sym drafted.written) ∙ (written_are_next own now f ops).1
@@ -260,7 +271,7 @@ module _ {K S : Type 0} (signs : Signing S) (IsWhole : S → Type 0) (saves : K 
         is_left = (planned signs view asked now ops k has_failed h f log served).is_left;
         good = good;
         next = subst (λ (p : ℕ × List Record). AreNext p.0 p.1) (λ i. (reach_is i, drafted.written i)) (written_are_next own now f ops).0;
-        few = let few = few_over in let count = count_written in let same = reach_is in omega (arith, few, count, same);
+        few = counted (seq_of f (head_key_of own)) (own_reach signs a) (length ops) (length written) most_records few_over count_written reach_is;
         posts = posts_spelled signs k.signer (own_entry drafted.last).1 k.pending written kept.posts
             (each_from HasSpelling written (λ r c. (each (IsGood view own) written r good c).spelled))
             drafted.signed.each drafted.signed.head (subst (λ (ps : List Post). length ps < 2 ^ 32) drafted.signed.posts drafted.signed.few);
@@ -289,7 +300,7 @@ module _ {K S : Type 0} (signs : Signing S) (IsWhole : S → Type 0) (saves : K 
       few_with : seq_of front_with (head_key_of own) ≤ most_records
       few_with = subst (λ (v : Vector). seq_of v (head_key_of own) ≤ most_records) with_is
           (newest_up_to own (newest_stamp (written_over own now f ops)) f most_records few_held
-          (λ t is. let reached = (newest_is_reached own now f ops t is).0 in let few = few_over in omega (arith, reached, few)))
+          (λ t is. up_to t.seq (seq_of f (head_key_of own) + length ops) most_records (newest_is_reached own now f ops t is).0 few_over))
 
       closed_with : IsClosed view h.basis.front (h.held ++ written)
       closed_with = subst (λ (l : List Record). IsClosed view h.basis.front (h.held ++ l)) drafted.written

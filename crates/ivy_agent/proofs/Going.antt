@@ -33,7 +33,7 @@ use Rattle.fs_tree.specs.declared.basis.Basis as kept
 use Rattle.replay_engine.specs.Engines.{Engine, holding}
 
 -- nothing is closed over any front
-none_closed : (view : View) (front : Vector) → IsClosed view front []
+pub none_closed : (view : View) (front : Vector) → IsClosed view front []
 none_closed view front = record { ascending = tt; members = tt; chains = (λ owner. by owner (stamp_at front (head_key_of owner))); causes = tt }
   where
     by : (owner : PubKey) (o : Option Stamp) → GoesOnFrom view owner o []
@@ -152,35 +152,36 @@ loaded_bounds (Some x) b is h = let same : basis_of x ≡ b = cc is in subst (λ
 -- ---- of an agent and its keeper
 
 module _ {K S : Type 0} (signs : Signing S) (k : Kept S) (e : Engine) (to_load : Option Key) (has_failed : Bool) (keeper : K) (before : Holder K S) (is : record { agent = agent_of k e to_load has_failed; keeper = keeper } ≡ before)
-    (front : Vector) (sound : IsSound signs (agent_of k e to_load has_failed) k.log front) (batch : Batch) (loaded : Option kept.Basis) where
+    (front : Vector) (sound : IsSound signs (agent_of k e to_load has_failed) k.log front) (batch : Batch) where
   abbrev a : Agent S
   a = agent_of k e to_load has_failed
-
-  pub going_here : IsGround (taken_basis to_load k.floor (option_map basis_of loaded)) None → going_on before.agent (option_map basis_of loaded) ≡ before.agent.holding
-  going_here h = subst (λ (b : Holder K S). going_on b.agent (option_map basis_of loaded) ≡ b.agent.holding) is (goes_on_held a (option_map basis_of loaded) h)
-
-  module _ (g : Ground) (h : IsGround (taken_basis to_load k.floor (option_map basis_of loaded)) (Some g)) where
-    its : IsLoaded to_load k.floor (option_map basis_of loaded) g
-    its = is_loaded to_load k.floor (option_map basis_of loaded) g h
-
-    pub front_over : g.front ≡ joined (holding g.engine)
-    front_over = its.front ∙ sym (ap joined its.held)
-
-    pub going_over : going_on before.agent (option_map basis_of loaded) ≡ holding g.engine
-    going_over = subst (λ (b : Holder K S). going_on b.agent (option_map basis_of loaded) ≡ holding g.engine) is
-        (ap (going_on a) its.is ∙ goes_on_basis a its.basis its.taken ∙ sym its.held)
-
-    pub from_over : IfSome loaded (λ x. HasBounds x.tree) → IsSomeAnd before.agent.view (λ view. IsFetchedIn view batch)
-        → IsSomeAnd before.agent.view (λ view. MayTakeFrom view (own signs before.agent) before.agent.floor (holding g.engine) batch)
-    from_over bounds fetched = subst (λ (b : Holder K S). IsSomeAnd b.agent.view (λ view. MayTakeFrom view (own signs b.agent) b.agent.floor (holding g.engine) batch)) is
-        (subst (λ (x : Holding). IsSomeAnd k.view (λ view. MayTakeFrom view (own signs a) k.floor x batch)) (sym its.held)
-        (basis_from signs a k.log front sound batch its.basis its.whole (knows to_load k.floor its.basis its.taken) (loaded_bounds loaded its.basis its.is bounds) k.view refl
-        (subst (λ (b : Holder K S). IsSomeAnd b.agent.view (λ view. IsFetchedIn view batch)) (sym is) fetched)))
-
-  -- ---- what is gone on from, where it is what is held
 
   pub from_here : IsSomeAnd before.agent.view (λ view. IsFetchedIn view batch) → IsSomeAnd k.view (λ view. MayTakeFrom view (own signs a) k.floor (holding e) batch)
   from_here fetched = held_from signs a k.log front sound batch k.view refl (subst (λ (b : Holder K S). IsSomeAnd b.agent.view (λ view. IsFetchedIn view batch)) (sym is) fetched)
 
   pub well_here : (P : Agent S → View → Type 0) → IsSomeAnd before.agent.view (P before.agent) → IsSomeAnd k.view IsView
   well_here P h = well_in signs a k.log front sound batch (P a) k.view refl (subst (λ (b : Holder K S). IsSomeAnd b.agent.view (P b.agent)) (sym is) h)
+
+  -- ---- by what was loaded
+
+  module _ (loaded : Option kept.Basis) where
+    pub going_here : IsGround (taken_basis to_load k.floor (option_map basis_of loaded)) None → going_on before.agent (option_map basis_of loaded) ≡ before.agent.holding
+    going_here h = subst (λ (b : Holder K S). going_on b.agent (option_map basis_of loaded) ≡ b.agent.holding) is (goes_on_held a (option_map basis_of loaded) h)
+
+    module _ (g : Ground) (h : IsGround (taken_basis to_load k.floor (option_map basis_of loaded)) (Some g)) where
+      its : IsLoaded to_load k.floor (option_map basis_of loaded) g
+      its = is_loaded to_load k.floor (option_map basis_of loaded) g h
+
+      pub front_over : g.front ≡ joined (holding g.engine)
+      front_over = its.front ∙ sym (ap joined its.held)
+
+      pub going_over : going_on before.agent (option_map basis_of loaded) ≡ holding g.engine
+      going_over = subst (λ (b : Holder K S). going_on b.agent (option_map basis_of loaded) ≡ holding g.engine) is
+          (ap (going_on a) its.is ∙ goes_on_basis a its.basis its.taken ∙ sym its.held)
+
+      pub from_over : IfSome loaded (λ x. HasBounds x.tree) → IsSomeAnd before.agent.view (λ view. IsFetchedIn view batch)
+          → IsSomeAnd before.agent.view (λ view. MayTakeFrom view (own signs before.agent) before.agent.floor (holding g.engine) batch)
+      from_over bounds fetched = subst (λ (b : Holder K S). IsSomeAnd b.agent.view (λ view. MayTakeFrom view (own signs b.agent) b.agent.floor (holding g.engine) batch)) is
+          (subst (λ (x : Holding). IsSomeAnd k.view (λ view. MayTakeFrom view (own signs a) k.floor x batch)) (sym its.held)
+          (basis_from signs a k.log front sound batch its.basis its.whole (knows to_load k.floor its.basis its.taken) (loaded_bounds loaded its.basis its.is bounds) k.view refl
+          (subst (λ (b : Holder K S). IsSomeAnd b.agent.view (λ view. IsFetchedIn view batch)) (sym is) fetched)))

@@ -19,10 +19,11 @@ pub mod Trees
 pub mod News
 pub mod Takes
 pub mod Short
-pub mod Turned
+pub mod Answered
 pub mod Citing
 pub mod Published
 pub mod Becoming
 pub mod Going
 pub mod Ended
 pub mod Refused
+pub mod Dropped

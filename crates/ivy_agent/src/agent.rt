@@ -154,6 +154,7 @@ impl<K: Keeper, S: Signs> Agent<K, S> {
     }
 
     /// Enters a view that takes in what the agent knows. The error is `Keeper` or `Memory`.
+    #[tactic(auto, using(crate::proofs::Trees::bounds_at_first))]
     fn go_in(&mut self, alloc: Global, view: View) -> Result<(), EnterFault>
         requires { IsTakenIn (signing S.key S.remaining S.signature S.next S.saved) view self.old.agent }
         ensures { GoesIn (signing S.key S.remaining S.signature S.next S.saved) S.is_whole K.saves view self.old result self.new }
@@ -195,6 +196,87 @@ impl<K: Keeper, S: Signs> Agent<K, S> {
         })
     }
 
+    /// What a refusal is told as. Where memory runs out nothing has changed.
+    fn refuse(&mut self, alloc: Global, refusal: Refusal) -> TurnFault
+        requires { IsSomeAnd self.old.agent.view (λ view. Unit {0}) }
+        ensures { IfSome self.old.agent.view (λ view. Refuses (signing S.key S.remaining S.signature S.next S.saved) view self.old refusal result self.new) }
+    {
+        match refusal {
+            Refusal::Behind => match self.anew(alloc) {
+                Ok(standing) => TurnFault::Behind(standing),
+                Err(Memory) => TurnFault::Memory,
+            },
+            Refusal::BelowTide => match self.drop_held(alloc) {
+                Ok(standing) => TurnFault::BelowTide(standing),
+                Err(Memory) => TurnFault::Memory,
+            },
+            Refusal::Memory => TurnFault::Memory,
+        }
+    }
+
+    /// What a session is given that begins anew, without a snapshot. The error is want of memory.
+    fn anew(&self, alloc: Global) -> Result<Standing, Memory>
+        requires { IsSomeAnd self.now.agent.view (λ view. Unit {0}) }
+        ensures { IfOk result (λ s. IfSome self.now.agent.view (λ view. standing_of s ≡ anew_in (signing S.key S.remaining S.signature S.next S.saved) self.now.agent view)) }
+    {
+        let mut standing = self.standing(alloc)?;
+        standing.basis = None;
+        Ok(standing)
+    }
+
+    /// Drops what is held, and gives what a session is given that begins anew then. The error is want of memory, and then
+    /// nothing has changed.
+    fn drop_held(&mut self, alloc: Global) -> Result<Standing, Memory>
+        requires { IsSomeAnd self.old.agent.view (λ view. Unit {0}) }
+        ensures ok { OnOk result (self.new ≡ record self.old { agent = dropping self.old.agent }) }
+        ensures standing { IfOk result (λ s. IfSome self.old.agent.view (λ view. standing_of s ≡ anew_in (signing S.key S.remaining S.signature S.next S.saved) (dropping self.old.agent) view)) }
+        ensures err { OnErr result (self.new ≡ self.old) }
+    {
+        let mut standing = self.anew(alloc)?;
+        let Ok(nothing) = hold_nothing(alloc) else {
+            return Err(Memory);
+        };
+        standing.held = Vector::empty(alloc);
+        standing.edges = Edges::of(Vec::new(alloc));
+        self.engine = nothing;
+        self.front = Vector::empty(alloc);
+        self.to_load = None;
+        Ok(standing)
+    }
+
+    /// Drops the posts that are acknowledged. It takes no memory.
+    pub fn settle(&mut self, acks: &Acks)
+        ensures { self.new ≡ record self.old { agent = settled self.old.agent acks.now } }
+    {
+        let posts = replace(&mut self.kept.pending, Posts::of(Vec::new(self.alloc)));
+        let mut posts = posts.into_vec();
+        keep_unsettled(&mut posts, acks.as_slice());
+        self.kept.pending = Posts::of(posts);
+    }
+
+    /// The blocks that are still to be published, in their order.
+    pub fn pending(&self) -> &Posts
+        ensures { result.now ≡ self.now.agent.pending }
+    {
+        &self.kept.pending
+    }
+
+    /// The records that are held above the basis, ascending by rank.
+    pub fn order(&self) -> &[Record]
+        ensures { records_of result.now ≡ self.now.agent.holding.held }
+    {
+        self.engine.records()
+    }
+
+    /// The tree that they make of the basis's.
+    pub fn tree(&self) -> &Tree
+        ensures { result.now ≡ kept_tree self.now.agent.holding }
+    {
+        self.engine.tree()
+    }
+}
+
+impl<K: Keeper, S: Signs + Drop> Agent<K, S> {
     /// A turn: takes what the refresh brought, and answers the call on what is held then. What the call plans is written: its
     /// records are held, and the agent is saved with them and a head over them; where that fails nothing is written, the reply
     /// says so, and the agent saves no more. There is a step for each record that is applied. A reply has 32,772 bytes at most.
@@ -319,84 +401,5 @@ impl<K: Keeper, S: Signs> Agent<K, S> {
         self.to_load = None;
         self.has_failed = done.has_failed;
         Ok(done.turned)
-    }
-
-    /// What a refusal is told as. Where memory runs out nothing has changed.
-    fn refuse(&mut self, alloc: Global, refusal: Refusal) -> TurnFault
-        requires { IsSomeAnd self.old.agent.view (λ view. Unit {0}) }
-        ensures { IfSome self.old.agent.view (λ view. Refuses (signing S.key S.remaining S.signature S.next S.saved) view self.old refusal result self.new) }
-    {
-        match refusal {
-            Refusal::Behind => match self.anew(alloc) {
-                Ok(standing) => TurnFault::Behind(standing),
-                Err(Memory) => TurnFault::Memory,
-            },
-            Refusal::BelowTide => match self.drop_held(alloc) {
-                Ok(standing) => TurnFault::BelowTide(standing),
-                Err(Memory) => TurnFault::Memory,
-            },
-            Refusal::Memory => TurnFault::Memory,
-        }
-    }
-
-    /// What a session is given that begins anew, without a snapshot. The error is want of memory.
-    fn anew(&self, alloc: Global) -> Result<Standing, Memory>
-        requires { IsSomeAnd self.now.agent.view (λ view. Unit {0}) }
-        ensures { IfOk result (λ s. IfSome self.now.agent.view (λ view. standing_of s ≡ anew_in (signing S.key S.remaining S.signature S.next S.saved) self.now.agent view)) }
-    {
-        let mut standing = self.standing(alloc)?;
-        standing.basis = None;
-        Ok(standing)
-    }
-
-    /// Drops what is held, and gives what a session is given that begins anew then. The error is want of memory, and then
-    /// nothing has changed.
-    fn drop_held(&mut self, alloc: Global) -> Result<Standing, Memory>
-        requires { IsSomeAnd self.old.agent.view (λ view. Unit {0}) }
-        ensures ok { OnOk result (self.new ≡ record self.old { agent = dropping self.old.agent }) }
-        ensures standing { IfOk result (λ s. IfSome self.old.agent.view (λ view. standing_of s ≡ anew_in (signing S.key S.remaining S.signature S.next S.saved) (dropping self.old.agent) view)) }
-        ensures err { OnErr result (self.new ≡ self.old) }
-    {
-        let mut standing = self.anew(alloc)?;
-        let Ok(nothing) = hold_nothing(alloc) else {
-            return Err(Memory);
-        };
-        standing.held = Vector::empty(alloc);
-        standing.edges = Edges::of(Vec::new(alloc));
-        self.engine = nothing;
-        self.front = Vector::empty(alloc);
-        self.to_load = None;
-        Ok(standing)
-    }
-
-    /// Drops the posts that are acknowledged. It takes no memory.
-    pub fn settle(&mut self, acks: &Acks)
-        ensures { self.new ≡ record self.old { agent = settled self.old.agent acks.now } }
-    {
-        let posts = replace(&mut self.kept.pending, Posts::of(Vec::new(self.alloc)));
-        let mut posts = posts.into_vec();
-        keep_unsettled(&mut posts, acks.as_slice());
-        self.kept.pending = Posts::of(posts);
-    }
-
-    /// The blocks that are still to be published, in their order.
-    pub fn pending(&self) -> &Posts
-        ensures { result.now ≡ self.now.agent.pending }
-    {
-        &self.kept.pending
-    }
-
-    /// The records that are held above the basis, ascending by rank.
-    pub fn order(&self) -> &[Record]
-        ensures { records_of result.now ≡ self.now.agent.holding.held }
-    {
-        self.engine.records()
-    }
-
-    /// The tree that they make of the basis's.
-    pub fn tree(&self) -> &Tree
-        ensures { result.now ≡ kept_tree self.now.agent.holding }
-    {
-        self.engine.tree()
     }
 }

@@ -3,7 +3,7 @@ use Rattle.version_vectors.specs.Vectors.{IsVector}
 use Rattle.log_fetch.specs.Standings.{asked_of}
 use Rattle.replay_engine.specs.Engines.{holding}
 use Rattle.ivy_agent.specs.Holders.{signing}
-use Rattle.ivy_agent.proofs.Turned.{may_answer, new_taken, row_held, row_taken, turned}
+use Rattle.ivy_agent.proofs.Answered.{may_answer, new_taken, row_held, row_taken, turned}
 use Rattle.ivy_agent.proofs.taking.turn_on.Goals as goal
 
 pub answer_with-answered-requires-clause-view : goal.answer_with-answered-requires-clause-view
