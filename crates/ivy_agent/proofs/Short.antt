@@ -26,6 +26,7 @@ use Rattle.turn_model.specs.Turn.{Agent as Inputs, Asked, bare_tail}
 use Rattle.turn_answers.specs.Serving.{Replies, Served, Writes, is_full, serve_on, serve_plan}
 use Rattle.turn_answers.proofs.Turns.{writes_are_planned}
 use Rattle.agent_model.specs.Agent.{Signing}
+use Rattle.agent_model.specs.Turning.{with_held}
 use Rattle.ivy_agent.specs.Answering.{Answers, goes_by, replies, writes}
 use Rattle.ivy_agent.specs.Bounds.{HasBounds}
 use Rattle.ivy_agent.specs.Writing.{lost_reply, written_reply}
@@ -102,7 +103,7 @@ module _ (answers : AnswersFit) (plans : PlansFit) (finishes : FinishesFit) wher
 
         written_short : (b : Bool) → IsShort (cond b (lost_reply asked) (written_reply view asked ops h (records_of w.draft.records.items)))
         written_short true = refused_short ServerFault (bare_tail asked.args)
-        written_short false = finishes (kept_tree h) _ view asked.caller asked.args now (goes_by signs view k has_failed).own (seq_of front k.log + 1) ops bounds.numbers planned
+        written_short false = finishes (kept_tree h) (kept_tree (with_held h (records_of w.draft.records.items))) view asked.caller asked.args now (goes_by signs view k has_failed).own (seq_of front k.log + 1) ops bounds.numbers planned
 
         by : (b : Bool) → done.turned.reply ≡ result (cond b (lost_reply asked) (written_reply view asked ops h (records_of w.draft.records.items))) → length done.turned.reply ≤ 32772
         by b is = subst (λ (bytes : List ℕ). length bytes ≤ 32772) (sym is) (written_short b)
