@@ -26,6 +26,10 @@ use Rattle.ivy_agent.specs.declared.writing.Done.{Done}
 use Rattle.ivy_agent.proofs.Short.{answered_short}
 use Rattle.ivy_agent.proofs.News.{are_new, may_go_on, row_new, row_of_closed}
 
+pub row_held : {S : Type 0} (signs : Signing S) (k : Kept S) (h : Holding) (b : Batch) (o : Option View) → IsSomeAnd o (λ view. MayTakeFrom view (own_key signs k.signer) k.floor h b) → IsRow h.held
+row_held signs k h b None may = absurd may
+row_held signs k h b (Some view) may = row_of_closed view h.basis.front h.held may.closed
+
 module _ {S : Type 0} (signs : Signing S) (k : Kept S) (h : Holding) (b : Batch) (new : List Record) (front : Vector) where
   abbrev TakesIn : Option View → Type 0
   TakesIn o = IfSome o (λ view. TakesNew view (own_key signs k.signer) k.floor h (refresh_with b None) new × (front ≡ joined (with_new h new)) × IsWithin view (own_key signs k.signer) k.floor front)
@@ -40,10 +44,6 @@ module _ {S : Type 0} (signs : Signing S) (k : Kept S) (h : Holding) (b : Batch)
   pub row_taken : (o : Option View) → TakesIn o → MayFrom o → IsRow new
   row_taken None t may = absurd may
   row_taken (Some view) t may = row_new view (own_key signs k.signer) k.floor h (refresh_with b None) new t.0
-
-  pub row_held : (o : Option View) → MayFrom o → IsRow h.held
-  row_held None may = absurd may
-  row_held (Some view) may = row_of_closed view h.basis.front h.held may.closed
 
   pub new_taken : (o : Option View) → TakesIn o → MayFrom o → AreNew h.held new
   new_taken None t may = absurd may

@@ -14,7 +14,7 @@ use Rattle.log_model.specs.Chain.{IsGood}
 use Rattle.log_model.specs.Rank.{own_entry}
 use Rattle.log_model.specs.Record.{Record}
 use Rattle.log_model.specs.Spelling.{HasSpelling, IsKey, most_records}
-use Rattle.log_model.specs.Vector.{Stamp, Vector, join, reach, seq_of}
+use Rattle.log_model.specs.Vector.{Stamp, Vector, join, reach, seq_of, stamp_at}
 use Rattle.log_model.specs.View.{View, IsView, is_named}
 use Rattle.log_model.proofs.Lists.{each, each_from}
 use Rattle.log_records.specs.Batches.{Batch}
@@ -85,7 +85,7 @@ newest_up_to : (own : PubKey) (o : Option Stamp) (f : Vector) (n : ℕ) → seq_
 newest_up_to own None f n far newest = far
 newest_up_to own (Some t) f n far newest =
     let at : seq_of (with_newest own (Some t) f) (head_key_of own) ≡ t.seq =
-    ap reach (find-put key_cmp keys_total (head_key_of own) (head_key_of own) t f ∙ ap (λ (b : Bool). cond b (Some t) _) (same_key_itself (head_key_of own))) in
+    ap reach (find-put key_cmp keys_total (head_key_of own) (head_key_of own) t f ∙ ap (λ (b : Bool). cond b (Some t) (stamp_at f (head_key_of own))) (same_key_itself (head_key_of own))) in
     up_to (seq_of (with_newest own (Some t) f) (head_key_of own)) t.seq n at (newest t refl)
 
 module _ {S : Type 0} (signs : Signing S) (view : View) where

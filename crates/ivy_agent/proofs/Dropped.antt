@@ -1,5 +1,5 @@
 -- An agent that drops what it held.
-use Rattle.std.proofs.Common.{◌≡◌, ℕ, ◌≤◌, Bool, [], Option, Some, None, refl, sym, ap, subst, arith}
+use Rattle.std.proofs.Common.{◌≡◌, ℕ, ◌≤◌, Bool, [], Option, Some, None, refl, sym, ap, ◌∙◌, subst, arith}
 use Rattle.std.specs.Prelude.{IfSome}
 use Rattle.ivy_base.specs.declared.key.Key.{Key}
 use Rattle.log_model.specs.Vector.{Vector}
@@ -36,10 +36,10 @@ module _ {S : Type 0} (signs : Signing S) (k : Kept S) (nothing : Engine) (has_f
   stands_then (Some view) = stands_with_nothing view
 
   module _ (e : Engine) (to_load : Option Key) where
-    pub dropped_sound : (front : Vector) → IsSound signs (agent_of k e to_load has_failed) k.log front → IsSound signs (agent_of k nothing None has_failed) k.log []
-    dropped_sound front sound = record {
+    pub dropped_sound : (front empty : Vector) → IsSound signs (agent_of k e to_load has_failed) k.log front → empty ≡ [] → IsSound signs (agent_of k nothing None has_failed) k.log empty
+    dropped_sound front empty sound empty_is = record {
       its_log = sound.its_log;
-      its_front = sym (ap joined is);
+      its_front = empty_is ∙ sym (ap joined is);
       kept = sound.kept;
       stands = stands_then k.view;
     }

@@ -49,7 +49,7 @@ module _ {K S : Type 0} (signs : Signing S) (IsWhole : S → Type 0) (saves : K 
 
     turned_in : (h : Holding) (o : Option View) → k.view ≡ o → MayFrom h o → Takes h o → IfSome o (λ view. ComesFrom signs IsWhole saves view batch asked now (record { agent = a; keeper = keeper }) h (Ok done.turned) after)
     turned_in h None in_view from t = tt
-    turned_in h (Some view) in_view from t basis going =
+    turned_in h (Some view) in_view from t = λ basis going.
         (ends view in_view basis (subst (λ (g : Holding). MayTakeFrom view (own_key signs k.signer) k.floor g batch) (sym going) from)
         (subst (λ (g : Holding). TakesAndAnswers signs IsWhole saves view batch asked now k has_failed g keeper k_after (holding e_after) keeper_after done) (sym going) t)).0
 
@@ -119,7 +119,7 @@ module _ {K S : Type 0} (signs : Signing S) (IsWhole : S → Type 0) (saves : K 
       refused_in : (o : Option View) (why : Refusal) → IfSome o (λ view. TurnsOn signs IsWhole saves view batch asked now k has_failed h keeper (Err why) k_after h_after keeper_after)
           → IfSome o (λ view. ComesFrom signs IsWhole saves view batch asked now (record { agent = a; keeper = keeper }) h (Err why) same)
       refused_in None why t = tt
-      refused_in (Some view) why t basis going = comes_to view why basis going t
+      refused_in (Some view) why t = λ basis going. comes_to view why basis going t
 
     pub refused_here : (h_after : Holding) (why : Refusal) → IfSome k.view (λ view. TurnsOn signs IsWhole saves view batch asked now k has_failed (holding e) keeper (Err why) k_after h_after keeper_after)
         → IfSome before.agent.view (λ view. ComesFrom signs IsWhole saves view batch asked now before before.agent.holding (Err why) same)

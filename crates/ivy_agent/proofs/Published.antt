@@ -28,8 +28,7 @@ pub posts_spelled : {S : Type 0} (signs : Signing S) (signer : S) (newest : Stam
     → ArePostsSpelled (with_posts pending written (head_post signs signer newest))
 posts_spelled signs signer newest pending written before h counted head few = record {
   few = few;
-  each = each_append IsPost (filter (λ p. not (is_head p.kind)) pending) (map record_post written ++ head_post signs signer newest ∷ [])
-      (some_spelled (λ p. not (is_head p.kind)) pending before).each
-      (each_append IsPost (map record_post written) (head_post signs signer newest ∷ []) (each_written written h counted)
-      ((is_key (own_key signs signer).0, inl refl, head), tt));
+  each = each_append IsPost (filter (λ p. not (is_head p.kind)) pending ++ map record_post written) (head_post signs signer newest ∷ [])
+      (each_append IsPost (filter (λ p. not (is_head p.kind)) pending) (map record_post written) (some_spelled (λ p. not (is_head p.kind)) pending before).each (each_written written h counted))
+      ((is_key (own_key signs signer).0, inl refl, head), tt);
 }

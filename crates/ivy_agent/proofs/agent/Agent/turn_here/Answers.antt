@@ -6,12 +6,12 @@ use Rattle.ivy_agent.proofs.Ended.{refused_here, sound_here, sound_same, turned_
 use Rattle.ivy_agent.proofs.Going.{from_here, well_here}
 use Rattle.ivy_agent.proofs.agent.Agent.turn_here.Goals as goal
 
-pub turn_on-done-requires-clause-from : goal.turn_on-done-requires-clause-from
-turn_on-done-requires-clause-from g c = from_here (signing g.S.Signs.key g.S.Signs.remaining g.S.Signs.signature g.S.Signs.next g.S.Signs.saved) c.self.inside.kept c.self.inside.engine c.self.inside.to_load c.self.inside.has_failed c.self.inside.keeper c.args.self.now c.self.view_is c.self.inside.front c.self.invariant c.args.batch c.requires.batch
+pub turn_on-requires-clause-from : goal.turn_on-requires-clause-from
+turn_on-requires-clause-from g c = from_here (signing g.S.Signs.key g.S.Signs.remaining g.S.Signs.signature g.S.Signs.next g.S.Signs.saved) c.self.inside.kept c.self.inside.engine c.self.inside.to_load c.self.inside.has_failed c.self.inside.keeper c.args.self.now c.self.view_is c.self.inside.front c.self.invariant c.args.batch c.requires.batch
 
-pub turn_on-done-requires-clause-well : goal.turn_on-done-requires-clause-well
-turn_on-done-requires-clause-well g c = well_here (signing g.S.Signs.key g.S.Signs.remaining g.S.Signs.signature g.S.Signs.next g.S.Signs.saved) c.self.inside.kept c.self.inside.engine c.self.inside.to_load c.self.inside.has_failed c.self.inside.keeper c.args.self.now c.self.view_is c.self.inside.front c.self.invariant c.args.batch (λ a view. IsFetchedIn view c.args.batch) c.requires.batch
+pub turn_on-requires-clause-well : goal.turn_on-requires-clause-well
+turn_on-requires-clause-well g c = well_here (signing g.S.Signs.key g.S.Signs.remaining g.S.Signs.signature g.S.Signs.next g.S.Signs.saved) c.self.inside.kept c.self.inside.engine c.self.inside.to_load c.self.inside.has_failed c.self.inside.keeper c.args.self.now c.self.view_is c.self.inside.front c.self.invariant c.args.batch (λ a view. IsFetchedIn view c.args.batch) c.requires.batch
 
 pub returns-clause-turn : goal.returns-clause-turn
-returns-clause-turn g c = turned_here (signing g.S.Signs.key g.S.Signs.remaining g.S.Signs.signature g.S.Signs.next g.S.Signs.saved) g.S.Signs.is_whole g.K.Keeper.saves (asked_of c.args.asked.now) c.args.now c.self.inside.kept c.self.inside.engine c.self.inside.to_load c.self.inside.has_failed c.self.inside.keeper c.args.self.now c.self.view_is c.self.inside.front c.self.invariant c.args.batch c.requires.call _ _ _ c.in_ok-done.done
+returns-clause-turn g c = turned_here (signing g.S.Signs.key g.S.Signs.remaining g.S.Signs.signature g.S.Signs.next g.S.Signs.saved) g.S.Signs.is_whole g.K.Keeper.saves (asked_of c.args.asked.now) c.args.now c.self.inside.kept c.self.inside.engine c.self.inside.to_load c.self.inside.has_failed c.self.inside.keeper c.args.self.now c.self.view_is c.self.inside.front c.self.invariant c.args.batch c.requires.call c.turn_on.new.kept c.turn_on.new.engine c.turn_on.new.keeper c.in_ok-done.done
     (from_here (signing g.S.Signs.key g.S.Signs.remaining g.S.Signs.signature g.S.Signs.next g.S.Signs.saved) c.self.inside.kept c.self.inside.engine c.self.inside.to_load c.self.inside.has_failed c.self.inside.keeper c.args.self.now c.self.view_is c.self.inside.front c.self.invariant c.args.batch c.requires.batch) c.in_ok-done.ensures.turned
