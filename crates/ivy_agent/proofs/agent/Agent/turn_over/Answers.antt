@@ -17,3 +17,6 @@ turn_on-requires-clause-well g c = well_here (signing g.S.Signs.key g.S.Signs.re
 pub returns-clause-turn : goal.returns-clause-turn
 returns-clause-turn g c = turned_over (signing g.S.Signs.key g.S.Signs.remaining g.S.Signs.signature g.S.Signs.next g.S.Signs.saved) g.S.Signs.is_whole g.K.Keeper.saves (asked_of c.args.asked.now) c.args.now c.self.inside.kept c.self.inside.engine c.self.inside.to_load c.self.inside.has_failed c.self.inside.keeper c.args.self.now c.self.view_is c.self.inside.front c.self.invariant c.args.batch c.requires.call c.turn_on.new.kept c.turn_on.new.engine c.turn_on.new.keeper c.in_ok-done.done (holding c.args.ground.engine)
     (may_over (signing g.S.Signs.key g.S.Signs.remaining g.S.Signs.signature g.S.Signs.next g.S.Signs.saved) g.S.Signs.is_whole g.K.Keeper.saves (asked_of c.args.asked.now) c.args.now c.self.inside.kept c.self.inside.engine c.self.inside.to_load c.self.inside.has_failed c.self.inside.keeper c.args.self.now c.self.view_is c.self.inside.front c.self.invariant c.args.batch (holding c.args.ground.engine) c.requires.from) c.in_ok-done.ensures.turned
+
+pub invariant_of-self-2 : goal.invariant_of-self-2
+invariant_of-self-2 g c = sound_over (signing g.S.Signs.key g.S.Signs.remaining g.S.Signs.signature g.S.Signs.next g.S.Signs.saved) g.S.Signs.is_whole g.K.Keeper.saves (asked_of c.args.asked.now) c.args.now c.self.inside.kept c.self.inside.engine c.self.inside.to_load c.self.inside.has_failed c.self.inside.keeper c.args.self.now c.self.view_is c.self.inside.front c.self.invariant c.args.batch c.requires.call c.turn_on.new.kept c.turn_on.new.engine c.turn_on.new.keeper c.in_ok-done.done (holding c.args.ground.engine) c.requires.going (may_over (signing g.S.Signs.key g.S.Signs.remaining g.S.Signs.signature g.S.Signs.next g.S.Signs.saved) g.S.Signs.is_whole g.K.Keeper.saves (asked_of c.args.asked.now) c.args.now c.self.inside.kept c.self.inside.engine c.self.inside.to_load c.self.inside.has_failed c.self.inside.keeper c.args.self.now c.self.view_is c.self.inside.front c.self.invariant c.args.batch (holding c.args.ground.engine) c.requires.from) c.in_ok-done.ensures.turned
