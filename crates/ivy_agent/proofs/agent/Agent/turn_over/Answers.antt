@@ -1,3 +1,4 @@
+use Rattle.std.proofs.Common.{refl}
 use Rattle.std.proofs.lemmas.Result.{err_from_is_err_and}
 use Rattle.log_fetch.specs.Standings.{asked_of}
 use Rattle.replay_engine.specs.Engines.{holding}
@@ -20,3 +21,8 @@ returns-clause-turn g c = turned_over (signing g.S.Signs.key g.S.Signs.remaining
 
 pub invariant_of-self-2 : goal.invariant_of-self-2
 invariant_of-self-2 g c = sound_over (signing g.S.Signs.key g.S.Signs.remaining g.S.Signs.signature g.S.Signs.next g.S.Signs.saved) g.S.Signs.is_whole g.K.Keeper.saves (asked_of c.args.asked.now) c.args.now c.self.inside.kept c.self.inside.engine c.self.inside.to_load c.self.inside.has_failed c.self.inside.keeper c.args.self.now c.self.view_is c.self.inside.front c.self.invariant c.args.batch c.requires.call c.turn_on.new.kept c.turn_on.new.engine c.turn_on.new.keeper c.in_ok-done.done (holding c.args.ground.engine) c.requires.going (may_over (signing g.S.Signs.key g.S.Signs.remaining g.S.Signs.signature g.S.Signs.next g.S.Signs.saved) g.S.Signs.is_whole g.K.Keeper.saves (asked_of c.args.asked.now) c.args.now c.self.inside.kept c.self.inside.engine c.self.inside.to_load c.self.inside.has_failed c.self.inside.keeper c.args.self.now c.self.view_is c.self.inside.front c.self.invariant c.args.batch (holding c.args.ground.engine) c.requires.from) c.in_ok-done.ensures.turned
+
+pub returns-in_err-done-clause-turn : goal.returns-in_err-done-clause-turn
+returns-in_err-done-clause-turn g c =
+    let p = err_from_is_err_and c.from_residual.result c.from_residual.ensures.1 in
+    rw (p.1, p.2) (refused_over (signing g.S.Signs.key g.S.Signs.remaining g.S.Signs.signature g.S.Signs.next g.S.Signs.saved) g.S.Signs.is_whole g.K.Keeper.saves (asked_of c.args.asked.now) c.args.now c.self.inside.kept c.self.inside.engine c.self.inside.to_load c.self.inside.has_failed c.self.inside.keeper c.args.self.now c.self.view_is c.self.inside.front c.self.invariant c.args.batch c.turn_on.new.kept c.self.inside.engine c.turn_on.new.keeper c.in_err-done.ensures.kept refl c.in_err-done.ensures.keeper (holding c.args.ground.engine) _ c.in_err-done.field-0.0 c.in_err-done.ensures.turned)
