@@ -52,6 +52,6 @@ module _ {S : Type 0} (signs : Signing S) (k : Kept S) (nothing : Engine) (has_f
     })
 
 -- what a session is given that begins anew then
-pub dropped_standing : {S : Type 0} (signs : Signing S) (a : Agent S) (s : Standing) (o : Option View) → IfSome o (λ view. s ≡ anew_in signs a view) → IfSome o (λ view. record s { held = []; edges = [] } ≡ anew_in signs (dropping a) view)
-dropped_standing signs a s None is = tt
-dropped_standing signs a s (Some view) is = ap (λ (x : Standing). record x { held = []; edges = [] }) is
+pub dropped_standing : {S : Type 0} (signs : Signing S) (a : Agent S) (s t : Standing) (o : Option View) → IfSome o (λ view. s ≡ anew_in signs a view) → t ≡ record s { held = []; edges = [] } → IfSome o (λ view. t ≡ anew_in signs (dropping a) view)
+dropped_standing signs a s t None is t_is = tt
+dropped_standing signs a s t (Some view) is t_is = t_is ∙ ap (λ (x : Standing). record x { held = []; edges = [] }) is

@@ -24,14 +24,14 @@ use crate::keys::is_among;
 use crate::opening::{Opened, hold_nothing, open};
 use crate::saving::{Kept, SaveFault, save};
 use crate::settling::keep_unsettled;
-use crate::standing::newest_edges;
+use crate::standing::{newest_edges, without_held};
 use crate::taking::{Refusal, turn_on};
 use dht_ids::{Acks, Posts};
 use fs_tree::Tree;
 use hss_keys::Signs;
 use ivy_base::{Key, Memory, Moment, Steps};
 use ivy_io::Keeper;
-use log_fetch::{Asked, Edges, Refresh, Standing};
+use log_fetch::{Asked, Refresh, Standing};
 use log_records::{Batch, Record};
 use replay_engine::Engine;
 use std::alloc::Global;
@@ -232,12 +232,11 @@ impl<K: Keeper, S: Signs> Agent<K, S> {
         ensures standing { IfOk result (λ s. IfSome self.old.agent.view (λ view. standing_of s ≡ anew_in (signing S.key S.remaining S.signature S.next S.saved) (dropping self.old.agent) view)) }
         ensures err { OnErr result (self.new ≡ self.old) }
     {
-        let mut standing = self.anew(alloc)?;
+        let before = self.anew(alloc)?;
         let Ok(nothing) = hold_nothing(alloc) else {
             return Err(Memory);
         };
-        standing.held = Vector::empty(alloc);
-        standing.edges = Edges::of(Vec::new(alloc));
+        let standing = without_held(alloc, before);
         self.engine = nothing;
         self.front = Vector::empty(alloc);
         self.to_load = None;
