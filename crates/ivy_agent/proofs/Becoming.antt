@@ -230,11 +230,10 @@ module _ {K S : Type 0} (signs : Signing S) (IsWhole : S → Type 0) (saves : K 
           snapshot = (kept_is i).snapshot;
           pending = (kept_is i).pending;
           has_failed = failed_is i;
-        }) in
-        (
+        }) in (
           as_answered (taking signs a h) [] None false reply reads
-          (replies_by_definition signs a view batch basis from.under.0 new asked now well from.under.1 taken false reply (ap (λ (l : Key). serve_on (goes_by signs view k has_failed) (kept_tree h) (seq_of f l) asked now) (sym log) ∙ served))
-          tt keeper keeper_after keeper_is y y_is done.turned (with_none done.turned.applied (applied_between gone.held h.held) given.count) given.bytes (given.posts ∙ ap (λ (q : Kept S). q.pending) kept_is) given.its_front,
+              (replies_by_definition signs a view batch basis from.under.0 new asked now well from.under.1 taken false reply (ap (λ (l : Key). serve_on (goes_by signs view k has_failed) (kept_tree h) (seq_of f l) asked now) (sym log) ∙ served))
+              tt keeper keeper_after keeper_is y y_is done.turned (with_none done.turned.applied (applied_between gone.held h.held) given.count) given.bytes (given.posts ∙ ap (λ (q : Kept S). q.pending) kept_is) given.its_front,
           subst (λ (p : Agent S × Key × Vector). IsSound signs p.0 p.1 p.2) (λ i. (sym y_is i, (sym kept_is i).log, sym front_is i)) (sound_taking has_failed),
         )
 
@@ -374,10 +373,10 @@ module _ {K S : Type 0} (signs : Signing S) (IsWhole : S → Type 0) (saves : K 
               has_failed = (is ∙ sym may_write.unfailed) i;
             }) in (
               as_answered x written (Some (kept_of x)) false (written_reply view asked ops h written) (turning.saves drafted.start drafted.last may_write refl)
-              (subst (λ (l : List Record). IsByDefinition signs (refresh_with batch basis) a view false asked now h l (written_reply view asked ops h l)) drafted.written
-              (saved_by_definition signs a view batch basis from.under.0 new asked now well from.under.1 taken ops served_is))
-              (kept_with_them IsWhole whole_next) keeper keeper_after (subst (λ (b : Bool). saves keeper (kept_bytes signs (kept_of x)) b keeper_after) is asked_to)
-              y y_is done.turned count_is bytes (w.given.posts ∙ ap (λ (q : Kept S). q.pending) kept_is ∙ drafted.signed.posts) (w.given.its_front ∙ done_front),
+                  (subst (λ (l : List Record). IsByDefinition signs (refresh_with batch basis) a view false asked now h l (written_reply view asked ops h l)) drafted.written
+                  (saved_by_definition signs a view batch basis from.under.0 new asked now well from.under.1 taken ops served_is))
+                  (kept_with_them IsWhole whole_next) keeper keeper_after (subst (λ (b : Bool). saves keeper (kept_bytes signs (kept_of x)) b keeper_after) is asked_to)
+                  y y_is done.turned count_is bytes (w.given.posts ∙ ap (λ (q : Kept S). q.pending) kept_is ∙ drafted.signed.posts) (w.given.its_front ∙ done_front),
               subst (λ (p : Agent S × Key × Vector). IsSound signs p.0 p.1 p.2) (λ i. (sym y_is i, (sym kept_is i).log, sym done_front i)) sound_with,
             )
 
@@ -399,10 +398,10 @@ module _ {K S : Type 0} (signs : Signing S) (IsWhole : S → Type 0) (saves : K 
               has_failed = is i;
             }) in (
               as_answered (failed (taking signs a h)) written (Some (kept_of x)) true (lost_reply asked) (loses drafted.start drafted.last may_write refl)
-              (subst (λ (l : List Record). IsByDefinition signs (refresh_with batch basis) a view true asked now h l (lost_reply asked)) drafted.written
-              (lost_by_definition signs a view batch basis from.under.0 new asked now well from.under.1 taken ops served_is))
-              (kept_with_them IsWhole whole_next) keeper keeper_after (subst (λ (b : Bool). saves keeper (kept_bytes signs (kept_of x)) b keeper_after) is asked_to)
-              y y_is done.turned count_is bytes (w.given.posts ∙ ap (λ (q : Kept S). q.pending) kept_is) (w.given.its_front ∙ done_front),
+                  (subst (λ (l : List Record). IsByDefinition signs (refresh_with batch basis) a view true asked now h l (lost_reply asked)) drafted.written
+                  (lost_by_definition signs a view batch basis from.under.0 new asked now well from.under.1 taken ops served_is))
+                  (kept_with_them IsWhole whole_next) keeper keeper_after (subst (λ (b : Bool). saves keeper (kept_bytes signs (kept_of x)) b keeper_after) is asked_to)
+                  y y_is done.turned count_is bytes (w.given.posts ∙ ap (λ (q : Kept S). q.pending) kept_is) (w.given.its_front ∙ done_front),
               subst (λ (p : Agent S × Key × Vector). IsSound signs p.0 p.1 p.2) (λ i. (sym y_is i, (sym kept_is i).log, sym done_front i)) (sound_taking true),
             )
 
