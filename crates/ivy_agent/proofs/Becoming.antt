@@ -53,7 +53,7 @@ use Rattle.ivy_agent.specs.Saves.{Saves, saved_of}
 use Rattle.ivy_agent.specs.Taking.{MayTakeFrom, TakesAndAnswers}
 use Rattle.ivy_agent.specs.Turns.{IsAnswered}
 use Rattle.ivy_agent.specs.Writing.{HasWritten, WritesDraft, lost_reply, written_reply}
-use Rattle.ivy_agent.specs.declared.answering.Turned.{Turned}
+use Rattle.log_fetch.specs.declared.turned.Turned.{Turned}
 use Rattle.ivy_agent.specs.declared.drafts.Draft.{Draft}
 use Rattle.ivy_agent.specs.declared.saving.Kept.{Kept}
 use Rattle.ivy_agent.specs.declared.writing.Done.{Done}

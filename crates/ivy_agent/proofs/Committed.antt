@@ -22,7 +22,7 @@ use Rattle.ivy_agent.specs.Outcomes.{Gives}
 use Rattle.ivy_agent.specs.Writing.{HasWritten, written_reply}
 use Rattle.ivy_agent.specs.declared.saving.Kept.{Kept}
 use Rattle.ivy_agent.specs.declared.drafts.Draft.{Draft}
-use Rattle.ivy_agent.specs.declared.answering.Turned.{Turned}
+use Rattle.log_fetch.specs.declared.turned.Turned.{Turned}
 use Rattle.ivy_agent.specs.declared.writing.Done.{Done}
 use Rattle.ivy_agent.proofs.Appending.{held_above}
 

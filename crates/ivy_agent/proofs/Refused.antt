@@ -15,9 +15,9 @@ use Rattle.agent_model.specs.Turning.{TurnEnd, Turns}
 use Rattle.agent_model.specs.Turning as turning
 use Rattle.ivy_agent.specs.Holders.{Holder}
 use Rattle.ivy_agent.specs.Turns.{ComesFrom, ComesTo, IsRefused, Refuses, TakesTurn, dropping}
-use Rattle.ivy_agent.specs.declared.answering.Turned.{Turned}
-use Rattle.ivy_agent.specs.declared.fault.TurnFault.{TurnFault}
-use Rattle.ivy_agent.specs.declared.fault.TurnFault.TheVariants as fault
+use Rattle.log_fetch.specs.declared.turned.Turned.{Turned}
+use Rattle.log_fetch.specs.declared.turned.TurnFault.{TurnFault}
+use Rattle.log_fetch.specs.declared.turned.TurnFault.TheVariants as fault
 use Rattle.ivy_agent.specs.declared.taking.Refusal.{Refusal}
 use Rattle.ivy_agent.specs.declared.taking.Refusal.TheVariants as refusal
 

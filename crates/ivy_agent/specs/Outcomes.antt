@@ -20,7 +20,7 @@ use Rattle.agent_model.specs.Agent.{Agent, Signing, failed, joined, kept_of, own
 use Rattle.agent_model.specs.SavedBytes.{kept_bytes}
 use Rattle.agent_model.specs.Turning.{MayWrite, inputs_before, taking, with_held, written_by}
 use Rattle.ivy_agent.specs.declared.saving.Kept.{Kept}
-use Rattle.ivy_agent.specs.declared.answering.Turned.{Turned}
+use Rattle.log_fetch.specs.declared.turned.Turned.{Turned}
 
 -- what is kept, with what is held joined into its floor
 abbrev pub kept_to : {S : Type 0} → Kept S → Vector → Kept S

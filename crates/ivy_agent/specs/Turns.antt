@@ -19,9 +19,9 @@ use Rattle.agent_model.specs.Taking.{refresh_with}
 use Rattle.agent_model.specs.Turning.{TurnEnd, Behind, BelowTide, Answered, Turns, is_behind, is_below_tide}
 use Rattle.ivy_agent.specs.Holders.{Holder}
 use Rattle.ivy_agent.specs.Saves.{Saves}
-use Rattle.ivy_agent.specs.declared.answering.Turned.{Turned}
-use Rattle.ivy_agent.specs.declared.fault.TurnFault.{TurnFault}
-use Rattle.ivy_agent.specs.declared.fault.TurnFault.TheVariants as fault
+use Rattle.log_fetch.specs.declared.turned.Turned.{Turned}
+use Rattle.log_fetch.specs.declared.turned.TurnFault.{TurnFault}
+use Rattle.log_fetch.specs.declared.turned.TurnFault.TheVariants as fault
 use Rattle.ivy_agent.specs.declared.taking.Refusal.{Refusal}
 use Rattle.ivy_agent.specs.declared.taking.Refusal.TheVariants as refusal
 

@@ -7,24 +7,12 @@ ghost use Rattle.ivy_agent.specs.Outcomes.{Gives, kept_to};
 use crate::saving::Kept;
 use dht_ids::Posts;
 use hss_keys::Signs;
-use ivy_base::{Bytes, Memory};
+use ivy_base::Memory;
+use log_fetch::Turned;
 use nfs_model::Reply;
 use nfs3_replies::write_reply;
 use std::alloc::Global;
 use version_vectors::Vector;
-
-/// What a turn gives.
-#[derive(Drop)]
-pub struct Turned {
-    /// The result's bytes, from its status on.
-    pub reply: Bytes,
-    /// The blocks that are still to be published.
-    pub posts: Posts,
-    /// The front of all that is held.
-    pub front: Vector,
-    /// How many records were applied.
-    pub applied: u64,
-}
 
 /// What is given where this is the reply, these posts are pending, and all that is held has this front. The error is want of
 /// memory; it also comes where a part of the reply is too long to be counted.

@@ -1,7 +1,6 @@
 //! What keeps an agent from being made, and from entering a view.
 
 use ivy_base::Key;
-use log_fetch::Standing;
 use thiserror::Error;
 
 /// Why no agent was made.
@@ -33,17 +32,5 @@ pub enum EnterFault {
     Keeper,
     /// Want of memory. No clause ties this to a cause.
     #[error("out of memory")]
-    Memory,
-}
-
-/// Why a turn answered nothing. What began anew has the agent's standing then, without a snapshot.
-#[derive(Drop)]
-pub enum TurnFault {
-    /// The refresh began with more than is held by now, or the record of a member's log that the floor names is neither held
-    /// nor new.
-    Behind(Standing),
-    /// A new record isn't above the basis. Nothing is held any more.
-    BelowTide(Standing),
-    /// Want of memory. No clause ties this to a cause.
     Memory,
 }

@@ -39,7 +39,7 @@
 #![tactic(auto)]
 
 pub mod agent;
-pub mod answering;
+mod answering;
 mod drafts;
 mod entering;
 pub mod fault;
@@ -55,5 +55,4 @@ mod taking;
 pub mod writing;
 
 pub use agent::Agent;
-pub use answering::Turned;
-pub use fault::{EnterFault, MakeFault, TurnFault};
+pub use fault::{EnterFault, MakeFault};

@@ -24,14 +24,14 @@ ghost use Rattle.ivy_agent.specs.Drafts.{IsDraft, kept_with};
 ghost use Rattle.ivy_agent.specs.Outcomes.{Gives, kept_to};
 ghost use Rattle.ivy_agent.specs.Writing.{HasWritten, StandsAs, WritesDraft, lost_reply};
 
-use crate::answering::{Turned, give};
+use crate::answering::give;
 use crate::drafts::{Draft, Next, make_draft, save_next};
 use crate::saving::{Kept, SaveFault};
 use dht_ids::Posts;
 use hss_keys::Signs;
 use ivy_base::{Memory, Moment, Op, Steps};
 use ivy_io::Keeper;
-use log_fetch::Asked;
+use log_fetch::{Asked, Turned};
 use nfs_model::{Args, NfsStatus, Reply};
 use nfs3_writes::{Ops, finish};
 use replay_engine::Engine;

@@ -5,6 +5,7 @@
 //! which give standings and take refreshes, and below sessions.
 //! For the layers above: a [`Standing`], a [`Refresh`] and an [`Asked`] are those of the definitions in `agent_model` and
 //! `turn_model`, and [`Notes`] are what `session_model` notes, and why a refresh failed (`specs/Standings.antt`).
+//! [`Turned`] and [`TurnFault`] are what an agent's turn hands to its session.
 //! [`Edges`] always ascend by log, and none of them knows anything of its own log, so that a chain can be tested over
 //! each ([`Edges::at`]). A [`Fetch`] is driven: [`Fetch::next`] says which node is to be asked, and [`Fetch::heard`] takes its
 //! answer. With its last answer a get is over, and a block that it brought is handed out. Between gets a block that is at hand
@@ -36,6 +37,7 @@ pub mod log;
 pub mod note;
 pub mod refresh;
 pub mod standing;
+pub mod turned;
 
 pub use asked::Asked;
 pub use edges::{Edge, Edges};
@@ -44,3 +46,4 @@ pub use get::{Came, Get};
 pub use note::{Note, Notes};
 pub use refresh::Refresh;
 pub use standing::Standing;
+pub use turned::{TurnFault, Turned};
