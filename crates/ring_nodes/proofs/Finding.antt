@@ -1,22 +1,15 @@
 -- Nodes that are found, and their peers.
-use Rattle.std.proofs.Common.{◌≡◌, ◌⊎◌, inl, inr, ℕ, zero, suc, ◌-◌, ◌<◌, ◌≤◌, Bool, true, false, cond, List, [], ◌∷◌, length, map, filter, find, get_or, take, drop, refl, sym, ap, ◌∙◌, subst, Option, Some, None, arith}
-use Rattle.std.specs.Prelude.{nat_lt}
-use Rattle.std.specs.List.{position, slice_get}
-use Rattle.std.proofs.lemmas.Bool.{cond-true, lt-ltb, ltb-true}
+use Rattle.std.proofs.Common.{◌≡◌, inl, inr, ℕ, Bool, true, false, cond, List, [], ◌∷◌, map, find, get_or, refl, sym, ap, ◌∙◌, subst, Option, Some, None}
+use Rattle.std.specs.List.{position}
 use Rattle.ivy_base.specs.declared.key.Key.{Key}
-use Rattle.ring_model.specs.Circle.{number}
-use Rattle.ring_model.specs.Members.{IsAmong, first, from_place, owners}
+use Rattle.ring_model.specs.Members.{IsAmong}
 use Rattle.ring_model.proofs.Lists.{none_some, some_same}
 use Rattle.dht_ids.specs.declared.peer.Peer.{Peer}
-use Rattle.dht_ids.specs.declared.post.Post.{Post}
-use Rattle.dht_ids.specs.Peers.{place}
 use Rattle.world_model.specs.Nodes.{Node}
-use Rattle.world_model.specs.World.{World, peer_of}
-use Rattle.world_model.specs.Ring.{in_ring_order, live_in_order}
-use Rattle.world_model.specs.Faults.{owner_of_key}
+use Rattle.world_model.specs.World.{peer_of}
 use Rattle.round_laws.specs.RingOf.{AreApart}
 use Rattle.round_laws.proofs.Rounding.{at_own}
-use Rattle.ring_nodes.specs.NodesState.{NodesState, IsNodesOf, IsPeerOf, held_by, node_of}
+use Rattle.ring_nodes.specs.NodesState.{NodesState, IsPeerOf, held_by, node_of}
 use Rattle.ring_nodes.proofs.Places.{found_at, has_id, none_found}
 
 found_among : (p : Node → Bool) (nodes : List Node) (n : Node) → find p nodes ≡ Some n → IsAmong n nodes

@@ -1,7 +1,7 @@
 -- Lists in which each element is put before the first one that is to stand behind it.
-use Rattle.std.proofs.Common.{◌≡◌, ℕ, suc, ◌+◌, ◌<◌, ◌≤◌, Bool, true, false, cond, not, List, [], ◌∷◌, ◌++◌, length, take, drop, fold, refl, sym, ap, ◌∙◌, subst, Option, Some, None, arith}
+use Rattle.std.proofs.Common.{◌≡◌, ℕ, suc, ◌+◌, ◌≤◌, Bool, true, false, cond, not, List, [], ◌∷◌, ◌++◌, length, fold, refl, sym, ap, ◌∙◌, subst, Option, Some, None, arith}
 use Rattle.std.specs.Prelude.{nat_lt, insert, unwrap_or}
-use Rattle.std.specs.List.{position, position_or_len, prefix_len}
+use Rattle.std.specs.List.{position, position_or_len}
 use Rattle.std.specs.List.Sorted.{IsPermutation}
 use Rattle.std.proofs.lemmas.Bool.{ltb-false}
 use Rattle.std.proofs.lemmas.List.{append_assoc}

@@ -6,12 +6,10 @@ use Rattle.ivy_base.specs.declared.key.Key.{Key}
 use Rattle.ivy_base.specs.declared.memory.Memory.{Memory}
 use Rattle.ivy_base.specs.Naming.{key_cmp}
 use Rattle.dht_ids.specs.declared.ask.Answer.{Answer}
-use Rattle.dht_ids.specs.declared.ask.Answer.TheVariants as answer
 use Rattle.dht_ids.specs.declared.ask.Ask.{Ask}
 use Rattle.dht_ids.specs.declared.ask.Ask.TheVariants as ask
 use Rattle.dht_ids.specs.declared.ask.StoreFault.{StoreFault}
 use Rattle.dht_ids.specs.declared.judge.Judged.{Judged}
-use Rattle.dht_ids.specs.declared.peer.Peer.{Peer}
 use Rattle.node_store.specs.declared.fault.PutFault.{PutFault}
 use Rattle.node_store.specs.declared.fault.PutFault.TheVariants as fault
 use Rattle.node_store.specs.Stores.{Block, Blocks, Tells, content, content_fault, head, head_fault}

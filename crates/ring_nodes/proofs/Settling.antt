@@ -3,7 +3,6 @@ use Rattle.std.proofs.Common.{◌≡◌, ℕ, zero, suc, ◌+◌, Bool, true, fa
 use Rattle.std.specs.List.Sorted.{IsPermutation}
 use Rattle.std.proofs.Math.Seq.{take-suc}
 use Rattle.std.proofs.lemmas.List.Sorted.{IsPermutation-sym}
-use Rattle.ivy_base.specs.declared.key.Key.{Key}
 use Rattle.ring_model.specs.Members.{IsAmong, IsAscending}
 use Rattle.ring_model.proofs.Lists.{among-cases}
 use Rattle.dht_ids.specs.NodeIds.{node_id_of}
@@ -16,7 +15,7 @@ use Rattle.world_model.specs.World.{peer_of}
 use Rattle.world_model.specs.Ring.{AreSettled, empty_node, first_peers, in_ring_order, is_known_id, peer_numbered}
 use Rattle.world_model.specs.Ring.AreSettled.{none as nobody, more as one_more}
 use Rattle.round_laws.specs.RingOf.{AreApart}
-use Rattle.round_laws.proofs.Nodes.{Shape, made_by, order_by}
+use Rattle.round_laws.proofs.Nodes.{Shape, made_by}
 use Rattle.round_laws.proofs.Order.{order_ascends}
 use Rattle.round_laws.proofs.Ringing.{apart_with, is_known, one_id}
 use Rattle.ring_nodes.proofs.Numbering.{order_moves}

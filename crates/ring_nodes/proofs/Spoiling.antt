@@ -1,5 +1,5 @@
 -- What a byte that is changed leaves.
-use Rattle.std.proofs.Common.{◌≡◌, ℕ, ◌<◌, ◌≤◌, Bool, true, false, cond, List, [], length, map, set, get_or, refl, sym, ap, ◌∙◌, subst, Option, Some, None, option_map, Result, Ok, Err, IfOk}
+use Rattle.std.proofs.Common.{◌≡◌, ℕ, ◌<◌, Bool, true, false, cond, List, [], length, map, set, get_or, refl, sym, ap, ◌∙◌, subst, Option, Some, None, option_map, Result, Ok, Err, IfOk}
 use Rattle.std.specs.Prelude.{nat_lt, option_and_then}
 use Rattle.std.specs.FinMap.Entries.{find as value_at, put}
 use Rattle.std.specs.List.{position}
@@ -10,7 +10,7 @@ use Rattle.ivy_base.specs.Naming.{key_cmp}
 use Rattle.ring_model.proofs.Lists.{some_same, none_some}
 use Rattle.node_store.specs.Stores.{Block, Blocks, bytes_at, spoiled, with_byte}
 use Rattle.node_store.proofs.Held.{put_is_held}
-use Rattle.script_driver.specs.Run.{Outcome, Goes, Refuses}
+use Rattle.script_driver.specs.Run.{Goes, Refuses}
 use Rattle.world_model.specs.Nodes.{Node}
 use Rattle.world_model.specs.World.{World, peer_of, with_node}
 use Rattle.world_model.specs.Faults.{damage_by, damaged_to, meets_some}

@@ -1,8 +1,8 @@
 -- A node that stops.
-use Rattle.std.proofs.Common.{◌≡◌, ℕ, Bool, true, false, cond, List, [], map, set, get_or, length, refl, sym, ap, ◌∙◌, Option, Some, None}
+use Rattle.std.proofs.Common.{◌≡◌, ℕ, Bool, false, cond, [], map, set, get_or, refl, sym, ap, ◌∙◌, Some, None}
 use Rattle.std.specs.List.{position}
 use Rattle.ivy_base.specs.declared.key.Key.{Key}
-use Rattle.script_driver.specs.Run.{Outcome, Goes, Refuses}
+use Rattle.script_driver.specs.Run.{Goes, Refuses}
 use Rattle.world_model.specs.Nodes.{Node}
 use Rattle.world_model.specs.World.{World, peer_of, with_node}
 use Rattle.world_model.specs.Ring.{stop_line}

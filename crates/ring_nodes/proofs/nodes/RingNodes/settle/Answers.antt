@@ -1,4 +1,4 @@
-use Rattle.std.proofs.Common.{sym, ap, ◌∙◌, subst}
+use Rattle.std.proofs.Common.{sym, ◌∙◌, subst}
 use Rattle.world_model.specs.Ring.{in_ring_order}
 use Rattle.round_laws.specs.RingOf.{AreApart}
 use Rattle.ring_nodes.proofs.Settling.{first_apart, settled_peers}
