@@ -1,0 +1,11 @@
+pub mod Ids
+pub mod Putting
+pub mod Places
+pub mod Reaching
+pub mod Numbering
+pub mod Stopping
+pub mod Settling
+pub mod Spoiling
+pub mod Behind
+pub mod Finding
+pub mod Losing

@@ -1,0 +1,26 @@
+use Rattle.std.proofs.Common.{◌≡◌, map, get_or, set, sym, ap, ◌∙◌, subst}
+use Rattle.world_model.specs.World.{peer_of}
+use Rattle.round_laws.specs.RingOf.{AreApart}
+use Rattle.ring_nodes.specs.NodesState.{NodesState}
+use Rattle.ring_nodes.proofs.Places.{apart_set, peers_set}
+use Rattle.ring_nodes.proofs.Stopping.{none_stops, stops_by}
+use Rattle.ring_nodes.proofs.nodes.RingNodes.stop.Goals as goal
+
+pub returns-in_default-clause-line : goal.returns-in_default-clause-line
+returns-in_default-clause-line c = λ w is. none_stops c.args.self.now c.args.id.now w (sym c.place_of.ensures ∙ c.in_default.is)
+
+pub invariant_of-self : goal.invariant_of-self
+invariant_of-self c = apart_set c.self.inside.nodes.items c.in-Some.place c.stop.new.self c.index_mut.result.now c.self.invariant c.index_mut.ensures.value (ap peer_of c.stop.ensures.stopped)
+
+pub returns-clause-line : goal.returns-clause-line
+returns-clause-line c =
+    stops_by c.args.self.now (record { nodes = set c.self.inside.nodes.items c.in-Some.place c.stop.new.self; asked = c.self.inside.asked; lost = c.self.inside.lost.items }) c.args.id.now c.in-Some.place c.index_mut.result.now c.stop.new.self c.stop.result
+    (subst (λ (s : NodesState). AreApart (map peer_of s.nodes)) c.self.view_is c.self.invariant)
+    (sym c.place_of.ensures ∙ c.in-Some.is) (subst (λ (s : NodesState). c.index_mut.result.now ≡ get_or s.nodes c.in-Some.place c.index_mut.result.now) c.self.view_is c.index_mut.ensures.value)
+    c.stop.ensures.lived c.stop.ensures.stopped
+    (ap (λ (s : NodesState). set s.nodes c.in-Some.place c.stop.new.self) c.self.view_is) (ap (λ (s : NodesState). s.asked) c.self.view_is) (ap (λ (s : NodesState). s.lost) c.self.view_is)
+
+pub returns-clause-made : goal.returns-clause-made
+returns-clause-made c =
+    peers_set c.self.inside.nodes.items c.in-Some.place c.stop.new.self c.index_mut.result.now c.index_mut.ensures.value (ap peer_of c.stop.ensures.stopped)
+    ∙ ap (λ (s : NodesState). map peer_of s.nodes) c.self.view_is

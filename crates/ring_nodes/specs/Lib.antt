@@ -1,0 +1,3 @@
+pub mod NodesState
+pub mod Puts
+pub mod Spoiling

@@ -1,0 +1,269 @@
+//! All nodes of a ring.
+
+ghost use Rattle.std.specs.Prelude.{◌≡◌, ◌+◌, ◌≤◌, [], ◌∷◌, ◌==◌, filter, find, map, nat_lt, option_map, position, Some, None, IfOk, OnOk, OnErr, if◌then◌else◌};
+ghost use Rattle.std.specs.Bool.{OnFalse};
+ghost use Rattle.std.specs.Ordering.{eq_by_cmp};
+ghost use Rattle.ivy_base.specs.Naming.{key_cmp};
+ghost use Rattle.ring_model.specs.Members.{IsAmong};
+ghost use Rattle.world_model.specs.World.{World, entries, peer_of, with_numbered};
+
+use crate::node::{RingNode, is_id};
+use crate::order::{from_key, put_in_order};
+use crate::settle;
+use dht_ids::{Answer, Ask, Judge, Peer, Peers, Posts};
+use ivy_base::{Bytes, Key, Memory};
+use std::alloc::Global;
+use std::marker::Model;
+
+/// The nodes of a ring in the order in which they were made, no two at one place, how many asks were made, and which asks
+/// are lost.
+#[derive(Drop)]
+pub struct RingNodes {
+    nodes: Vec<RingNode>,
+    asked: u64,
+    /// The newest first.
+    lost: Vec<u64>,
+}
+
+impl Model for RingNodes {
+    ghost use Rattle.std.specs.Prelude.{map};
+    ghost use Rattle.world_model.specs.World.{peer_of};
+    ghost use Rattle.round_laws.specs.RingOf.{AreApart};
+    ghost use Rattle.ring_nodes.specs.NodesState.{NodesState};
+
+    ghost Value = { NodesState };
+
+    ghost view = { λ n. record { nodes = n.nodes.items; asked = n.asked; lost = n.lost.items } };
+
+    ghost invariant = { λ n. AreApart (map peer_of n.nodes.items) };
+}
+
+impl RingNodes {
+    ghost use Rattle.script_driver.specs.Run.{Goes, Refuses};
+    ghost use Rattle.world_model.specs.Ring.{AreSettled, first_peers, in_ring_order, stop_line};
+    ghost use Rattle.world_model.specs.Faults.{damage_by, owner_of_key};
+    ghost use Rattle.ring_nodes.specs.Spoiling.{damaged_world};
+    ghost use Rattle.world_model.specs.Fates.{FateOf, IsLost, counted};
+    ghost use Rattle.ring_nodes.specs.NodesState.{IsNodesOf, IsPeerOf, held_by, made_peers, no_nodes, node_of, with_nodes};
+
+    /// No node. It takes no memory.
+    pub fn new(alloc: Global) -> RingNodes
+        ensures { result ≡ no_nodes }
+    {
+        RingNodes {
+            nodes: Vec::new(alloc),
+            asked: 0,
+            lost: Vec::new(alloc),
+        }
+    }
+
+    /// Makes the settled ring of the first `count` numbers, 1 to 256, in place of all nodes; a number whose identifier stands
+    /// already is left out. r is 1 to 8. What was asked and what is lost stay. The error is want of memory; nothing is
+    /// changed then.
+    pub fn settle(&mut self, alloc: Global, count: u32, replicas: u32) -> Result<(), Memory>
+        requires count { (1 ≤ count) × (count ≤ 256) }
+        requires few { (1 ≤ replicas) × (replicas ≤ 8) }
+        ensures settled { OnOk result (AreSettled (in_ring_order (first_peers count)) replicas (first_peers count) self.new.nodes) }
+        ensures unchanged { OnErr result (self.new ≡ self.old) }
+        ensures asked { self.new.asked ≡ self.old.asked }
+        ensures lost { self.new.lost ≡ self.old.lost }
+    {
+        let members = settle::first(alloc, count)?;
+        let nodes = settle::settled(alloc, replicas, &members)?;
+        self.nodes = nodes;
+        Ok(())
+    }
+
+    /// What becomes of one ask of a node that was made: silence where the ask is lost or the node is stopped, and else what
+    /// the node answers by what it keeps. The error is want of memory, or 2^64 asks; all is as before then, the count of
+    /// asks too.
+    pub fn ask<J: Judge>(
+        &mut self,
+        alloc: Global,
+        judge: &J,
+        to: &Peer,
+        question: &Ask,
+    ) -> Result<Answer, Memory>
+        requires { IsAmong to.now (made_peers self.old) }
+        ensures fate { IfOk result (λ answer. (w : World) → IsNodesOf w self.old → FateOf (J.judges judge.now) w to.now question.now answer (with_nodes w self.new)) }
+        ensures unchanged { OnErr result (self.new ≡ self.old) }
+        ensures made { made_peers self.new ≡ made_peers self.old }
+    {
+        let Some(number) = self.asked.checked_add(1) else {
+            return Err(Memory);
+        };
+        let answer = if self.lost.contains(&number) {
+            Answer::Silent
+        } else {
+            self.reach(alloc, judge, to, question)?
+        };
+        self.asked = number;
+        Ok(answer)
+    }
+
+    /// What becomes of an ask that isn't lost. It isn't counted.
+    fn reach<J: Judge>(
+        &mut self,
+        alloc: Global,
+        judge: &J,
+        to: &Peer,
+        question: &Ask,
+    ) -> Result<Answer, Memory>
+        requires { IsAmong to.now (made_peers self.old) }
+        ensures fate { IfOk result (λ answer. (w : World) → IsNodesOf w self.old → (IsLost w → ⊥) → FateOf (J.judges judge.now) w to.now question.now answer (counted (with_nodes w self.new))) }
+        ensures unchanged { OnErr result (self.new ≡ self.old) }
+        ensures made { made_peers self.new ≡ made_peers self.old }
+        ensures asked { self.new.asked ≡ self.old.asked }
+        ensures lost { self.new.lost ≡ self.old.lost }
+    {
+        let Some(place) = self.place_of(&to.id) else {
+            unreachable!();
+        };
+        let node = &mut self.nodes[place];
+        if !node.is_live() {
+            return Ok(Answer::Silent);
+        }
+        node.answer(alloc, judge, question)
+    }
+
+    /// Where the node of the identifier is.
+    fn place_of(&self, id: &Key) -> Option<usize>
+        ensures { result ≡ position (λ n. eq_by_cmp key_cmp (peer_of n).id id.now) self.now.nodes }
+    {
+        self.nodes
+            .iter()
+            .position(|node| is_id(&node.peer().id, id))
+    }
+
+    /// All peers that were made, by number: those that a session knows. The error is want of memory.
+    pub fn entries(&self, alloc: Global) -> Result<Peers, Memory>
+        ensures { IfOk result (λ peers. (w : World) → IsNodesOf w self.now → peers ≡ entries w) }
+    {
+        let mut peers = Vec::with_capacity(alloc, self.nodes.len())?;
+        'numbered: for node in &self.nodes {
+            put_numbered(&mut peers, node.peer())?;
+        }
+        Ok(Peers::of(peers))
+    }
+
+    /// From now on the ask of that number is lost, the next one being 1. The error is want of memory, or an ask past 2^64;
+    /// nothing is changed then.
+    pub fn lose(&mut self, count: u64) -> Result<(), Memory>
+        ensures lost { OnOk result (self.new ≡ record self.old { lost = (self.old.asked + count) ∷ self.old.lost }) }
+        ensures unchanged { OnErr result (self.new ≡ self.old) }
+    {
+        let Some(number) = self.asked.checked_add(count) else {
+            return Err(Memory);
+        };
+        self.lost.insert(0, number)?;
+        Ok(())
+    }
+
+    /// Stops the node of the identifier, where it lives.
+    pub fn stop(&mut self, id: &Key) -> bool
+        ensures line { (w : World) → IsNodesOf w self.old → stop_line w (node_of self.old id.now) ≡ (if result then Goes (with_nodes w self.new) [] else Refuses) }
+        ensures unchanged { OnFalse result (self.new ≡ self.old) }
+        ensures made { made_peers self.new ≡ made_peers self.old }
+    {
+        let Some(place) = self.place_of(id) else {
+            return false;
+        };
+        self.nodes[place].stop()
+    }
+
+    /// Changes the byte at an offset of the block that the node of the identifier holds under the key, and gives the block as
+    /// it is then; None where there is no such node or byte, and nothing is changed then. The error is want of memory, and
+    /// nothing is changed then either.
+    pub fn damage(
+        &mut self,
+        alloc: Global,
+        id: &Key,
+        key: &Key,
+        offset: u64,
+        byte: u8,
+    ) -> Result<Option<Bytes>, Memory>
+        ensures line { IfOk result (λ bytes. (w : World) → IsNodesOf w self.old → damage_by w (node_of self.old id.now) (Some key.now) offset byte ≡ damaged_world (with_nodes w self.new) bytes) }
+        ensures refused { IfOk result (λ bytes. bytes ≡ None → self.new ≡ self.old) }
+        ensures unchanged { OnErr result (self.new ≡ self.old) }
+        ensures made { made_peers self.new ≡ made_peers self.old }
+    {
+        let Some(place) = self.place_of(id) else {
+            return Ok(None);
+        };
+        self.nodes[place].spoil(alloc, key, offset, byte)
+    }
+
+    /// The peer of that number, where a node has it.
+    pub fn numbered(&self, number: u32) -> Option<Peer>
+        ensures { IsPeerOf self.now (find (λ n. (peer_of n).number == number) self.now.nodes) result }
+    {
+        let node = node_numbered(&self.nodes, number)?;
+        Some(node.peer())
+    }
+
+    /// The key's owner of that number, from 1, among the live nodes, where r nodes own a key; None where there is none. The
+    /// error is want of memory.
+    pub fn owner_of(
+        &self,
+        alloc: Global,
+        replicas: u32,
+        count: u64,
+        key: &Key,
+    ) -> Result<Option<Peer>, Memory>
+        ensures { IfOk result (λ owner. (w : World) → IsNodesOf w self.now → owner ≡ owner_of_key w replicas count key.now) }
+    {
+        if count == 0 || count > replicas as u64 {
+            return Ok(None);
+        }
+        let live = self.live_in_order(alloc)?;
+        let owners = from_key(alloc, &live, key)?;
+        Ok(owners.get((count - 1) as usize).copied())
+    }
+
+    /// The live peers in the order of their places. The error is want of memory.
+    fn live_in_order(&self, alloc: Global) -> Result<Vec<Peer>, Memory>
+        ensures { IfOk result (λ peers. peers.items ≡ in_ring_order (map peer_of (filter (λ n. n.is_live) self.now.nodes))) }
+    {
+        let mut peers = Vec::with_capacity(alloc, self.nodes.len())?;
+        'live: for node in &self.nodes {
+            if node.is_live() {
+                put_in_order(&mut peers, node.peer())?;
+            }
+        }
+        Ok(peers)
+    }
+
+    /// Copies of the blocks that the node of the identifier holds, their keys ascending; None where there is no such node,
+    /// or it is stopped. The error is want of memory.
+    pub fn held(&self, alloc: Global, id: &Key) -> Result<Option<Posts>, Memory>
+        ensures { IfOk result (λ posts. posts ≡ held_by (node_of self.now id.now)) }
+    {
+        let Some(place) = self.place_of(id) else {
+            return Ok(None);
+        };
+        self.nodes[place].held(alloc)
+    }
+}
+
+/// The node of that number.
+fn node_numbered(nodes: &[RingNode], number: u32) -> Option<&RingNode>
+    ensures { option_map (λ n. n.now) result ≡ find (λ n. (peer_of n).number == number) nodes.now }
+{
+    nodes.iter().find(|node| node.peer().number == number)
+}
+
+/// Puts a peer where it belongs by its number, behind those of its number.
+fn put_numbered(peers: &mut Vec<Peer>, peer: Peer) -> Result<(), Memory>
+    ensures { OnOk result (peers.new.items ≡ with_numbered peers.old.items peer) }
+{
+    let place = first_above(peers, peer.number).unwrap_or(peers.len());
+    peers.insert(place, peer)?;
+    Ok(())
+}
+
+/// Where the first peer of a greater number is.
+fn first_above(peers: &[Peer], number: u32) -> Option<usize>
+    ensures { result ≡ position (λ q. nat_lt number q.number) peers.now }
+{
+    peers.iter().position(|peer| number < peer.number)
+}
