@@ -1,5 +1,5 @@
 -- Lengths of pieces in a row, as they are told one by one.
-use Rattle.std.proofs.Common.{◌≡◌, ℕ, ◌+◌, ◌*◌, ◌≤◌, ◌<◌, nat_le, Bool, true, false, List, [], ◌∷◌, ◌++◌, length, Option, Some, None, refl, sym, ap, ◌∙◌, arith, length-append}
+use Rattle.std.proofs.Common.{◌≡◌, ℕ, ◌+◌, ◌*◌, ◌≤◌, ◌<◌, nat_le, Bool, true, false, List, ◌∷◌, ◌++◌, length, Option, Some, None, refl, sym, ap, ◌∙◌, arith, length-append}
 use Rattle.std.specs.Prelude.{if◌then◌else◌, get_or, drop}
 use Rattle.std.proofs.lemmas.Bool.{leb-true, leb-false}
 use Rattle.std.proofs.lemmas.List.{at_drop_more}
@@ -8,31 +8,8 @@ use Rattle.script_model.specs.declared.command.Piece.{Piece}
 use Rattle.script_model.specs.Messages.{Given, piece_bytes, bytes_of_pieces}
 use Rattle.script_model.specs.Words.{◌>>=◌}
 use Rattle.script_model.specs.declared.command.Piece.TheVariants as piece
-use Rattle.command_messages.specs.Lengths.{longest_message, not_too_long, within, length_of, length_behind, length_of_piece}
+use Rattle.command_messages.specs.Lengths.{longest_message, within, length_of, length_behind, length_of_piece}
 use Rattle.command_messages.proofs.Groups.{head_has, root_has}
-
--- a message that has no length is none
-pub none_is_short : (bytes : Option (List ℕ)) → length_of bytes ≡ None → (bytes >>= not_too_long) ≡ None
-none_is_short None none = refl
-none_is_short (Some b) none = by (nat_le (length b) longest_message) none
-  where
-    by : (t : Bool) → (if t then Some (length b) else None) ≡ None → (if t then Some b else None) ≡ None
-    by true h = cc h
-    by false h = refl
-
--- and one that has is its bytes
-pub short_is_whole : (bytes : Option (List ℕ)) (n : ℕ) → length_of bytes ≡ Some n → (bytes >>= not_too_long) ≡ bytes
-short_is_whole None n some = refl
-short_is_whole (Some b) n some = by (nat_le (length b) longest_message) some
-  where
-    by : (t : Bool) → (if t then Some (length b) else None) ≡ Some n → (if t then Some b else None) ≡ Some b
-    by true h = refl
-    by false h = cc h
-
--- so bytes that have one are a message
-pub has_message : (bytes : Option (List ℕ)) (n : ℕ) → length_of bytes ≡ Some n → (bytes >>= not_too_long) ≡ None → ⊥
-has_message None n some none = cc some
-has_message (Some b) n some none = cc (sym none ∙ short_is_whole (Some b) n some)
 
 -- ---- lengths within the bound
 
@@ -83,15 +60,6 @@ in_front total next n (Some b) (Some r) some fits =
     let same : total + length (b ++ r) ≡ next + length r = omega (arith, size.0, sum.0, length-append b r) in
     ap within same
 
-too_long : (total n : ℕ) (bytes rest : Option (List ℕ)) → length_of bytes ≡ Some n → within (total + n) ≡ None
-    → length_behind total (bytes >>= λ b. rest >>= λ r. Some (b ++ r)) ≡ None
-too_long total n None rest some more = cc some
-too_long total n (Some b) None some more = refl
-too_long total n (Some b) (Some r) some more =
-    let size = within_is (length b) n some in
-    let sum = not_within (total + n) more in
-    above (total + length (b ++ r)) (omega (arith, size.0, sum, length-append b r))
-
 no_length : (total : ℕ) (bytes rest : Option (List ℕ)) → length_of bytes ≡ None
     → length_behind total (bytes >>= λ b. rest >>= λ r. Some (b ++ r)) ≡ None
 no_length total None rest none = refl
@@ -112,10 +80,6 @@ module _ (replies : List Given) (view : View) (pieces : List Piece) (i : ℕ) (p
   pub goes_on : (total next n : ℕ) → length_of_piece replies view p ≡ Some n → within (total + n) ≡ Some next
       → length_behind total (bytes_of_pieces replies view (drop i pieces)) ≡ length_behind next (bytes_of_pieces replies view (drop (i + 1) pieces))
   goes_on total next n some fits = there total ∙ in_front total next n (piece_bytes replies view p) (bytes_of_pieces replies view (drop (i + 1) pieces)) some fits
-
-  pub one_too_long : (total n : ℕ) → length_of_piece replies view p ≡ Some n → within (total + n) ≡ None
-      → length_behind total (bytes_of_pieces replies view (drop i pieces)) ≡ None
-  one_too_long total n some more = there total ∙ too_long total n (piece_bytes replies view p) (bytes_of_pieces replies view (drop (i + 1) pieces)) some more
 
   pub one_without : (total : ℕ) → length_of_piece replies view p ≡ None → length_behind total (bytes_of_pieces replies view (drop i pieces)) ≡ None
   one_without total none = there total ∙ no_length total (piece_bytes replies view p) (bytes_of_pieces replies view (drop (i + 1) pieces)) none
