@@ -1,5 +1,5 @@
 -- The words of a session's first line.
-use Rattle.std.proofs.Common.{◌≡◌, ℕ, ◌+◌, ◌≤◌, List, [], ◌∷◌, length, drop, get_or, Option, Result, Bor, arith}
+use Rattle.std.proofs.Common.{◌≡◌, ℕ, ◌≤◌, List, [], ◌∷◌, length, drop, get_or, Option, Result, Bor, arith}
 use Rattle.std.specs.Prelude.{IfOk}
 use Rattle.script_model.specs.declared.command.Command.{Command}
 use Rattle.script_model.specs.Words.{each_of, piece_of}
