@@ -1,12 +1,14 @@
-//! The lines that make nodes and views, and set the moment.
+//! The lines that make nodes, logs and views, and set the moment.
 
 ghost use Rattle.std.specs.Prelude.{◌≡◌, IfOk, map, [], ◌∷◌};
-ghost use Rattle.script_model.specs.Lines.{ring_of, view_of, use_of, at_of};
+ghost use Rattle.script_model.specs.Lines.{ring_of, log_of, view_of, use_of, at_of};
 
+use crate::hex_digits::{identifier, seed};
 use crate::names::{name, names};
 use crate::numbers::number_u64;
+use crate::sets::key_sets;
 use ivy_base::{Bytes, Memory};
-use script_model::{Command, Names};
+use script_model::{Command, Names, SetWords};
 use std::alloc::Global;
 
 /// `ring N R`, of the words behind the first.
@@ -20,6 +22,29 @@ pub fn ring(words: &[&[u8]]) -> Option<Command>
         nodes: number_u64(nodes)?,
         replicas: number_u64(replicas)?,
     })
+}
+
+/// `log P ID SEED SETS`, of the words behind the first. The error is want of memory.
+pub fn log(alloc: Global, words: &[&[u8]]) -> Result<Option<Command>, Memory>
+    ensures { IfOk result (λ command. command ≡ log_of (map (λ word. word.now) words.now)) }
+{
+    let [log, id, key_seed, sets] = words else {
+        return Ok(None);
+    };
+    let (Some(log), Some(id), Some(seed)) = (name(log), identifier(id), seed(key_seed)) else {
+        return Ok(None);
+    };
+    let Some(sets) = key_sets(alloc, sets)? else {
+        return Ok(None);
+    };
+    let log = Bytes::copy_of(alloc, log)?;
+    let sets = SetWords::of(sets);
+    Ok(Some(Command::Log {
+        log,
+        id,
+        seed,
+        sets,
+    }))
 }
 
 /// A view of these members that nothing came before. The error is want of memory.
