@@ -1,0 +1,94 @@
+//! The lines of nodes and of their blocks.
+
+ghost use Rattle.std.specs.Prelude.{◌≡◌, IfOk, map};
+ghost use Rattle.script_model.specs.Lines.{join_of, stop_of, round_of, lose_of, damage_of, holds_of};
+
+use crate::hex_digits::byte;
+use crate::keys::{key, node};
+use crate::numbers::{number_u32, number_u64};
+use ivy_base::Memory;
+use script_model::Command;
+use std::alloc::Global;
+
+/// `join I`, of the words behind the first.
+pub fn join(words: &[&[u8]]) -> Option<Command>
+    ensures { result ≡ join_of (map (λ word. word.now) words.now) }
+{
+    let [number] = words else {
+        return None;
+    };
+    let node = number_u32(number)?;
+    Some(Command::Join { node })
+}
+
+/// `stop NODE`, of the words behind the first. The error is want of memory.
+pub fn stop(alloc: Global, words: &[&[u8]]) -> Result<Option<Command>, Memory>
+    ensures { IfOk result (λ command. command ≡ stop_of (map (λ word. word.now) words.now)) }
+{
+    let [word] = words else {
+        return Ok(None);
+    };
+    let Some(node) = node(alloc, word)? else {
+        return Ok(None);
+    };
+    Ok(Some(Command::Stop { node }))
+}
+
+/// `round`, of the words behind the first.
+pub fn round(words: &[&[u8]]) -> Option<Command>
+    ensures { result ≡ round_of (map (λ word. word.now) words.now) }
+{
+    if words.is_empty() {
+        Some(Command::Round)
+    } else {
+        None
+    }
+}
+
+/// `lose K`, of the words behind the first.
+pub fn lose(words: &[&[u8]]) -> Option<Command>
+    ensures { result ≡ lose_of (map (λ word. word.now) words.now) }
+{
+    let [count] = words else {
+        return None;
+    };
+    let count = number_u64(count)?;
+    Some(Command::Lose { count })
+}
+
+/// `damage NODE KEY OFFSET BYTE`, of the words behind the first. The error is want of memory.
+pub fn damage(alloc: Global, words: &[&[u8]]) -> Result<Option<Command>, Memory>
+    ensures { IfOk result (λ command. command ≡ damage_of (map (λ word. word.now) words.now)) }
+{
+    let [node_word, key_word, offset, digits] = words else {
+        return Ok(None);
+    };
+    let (Some(offset), Some(byte)) = (number_u64(offset), byte(digits)) else {
+        return Ok(None);
+    };
+    let Some(node) = node(alloc, node_word)? else {
+        return Ok(None);
+    };
+    let Some(key) = key(alloc, key_word)? else {
+        return Ok(None);
+    };
+    Ok(Some(Command::Damage {
+        node,
+        key,
+        offset,
+        byte,
+    }))
+}
+
+/// `holds NODE`, of the words behind the first. The error is want of memory.
+pub fn holds(alloc: Global, words: &[&[u8]]) -> Result<Option<Command>, Memory>
+    ensures { IfOk result (λ command. command ≡ holds_of (map (λ word. word.now) words.now)) }
+{
+    let [word] = words else {
+        return Ok(None);
+    };
+    let Some(node) = node(alloc, word)? else {
+        return Ok(None);
+    };
+    Ok(Some(Command::Holds { node }))
+}

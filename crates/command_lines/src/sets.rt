@@ -1,0 +1,57 @@
+//! The parameter sets of a key.
+
+ghost use Rattle.std.specs.Prelude.{◌≡◌, IfOk, map};
+ghost use Rattle.std.specs.Option.{option_map};
+ghost use Rattle.script_model.specs.Words.{set_of, each_of, sets_of};
+
+use crate::words::parts;
+use hash_signature_model::{Height, Set, Width};
+use ivy_base::Memory;
+use std::alloc::Global;
+
+/// The most levels of a key.
+const LEVEL_LIMIT: usize = 3;
+
+/// The parameter set that the word names, if it names one.
+fn named_set(word: &[u8]) -> Option<Set>
+    ensures { result ≡ set_of word.now }
+{
+    let (w, h) = if word == b"w4h5".as_slice() {
+        (Width::W4, Height::H5)
+    } else if word == b"w4h10".as_slice() {
+        (Width::W4, Height::H10)
+    } else if word == b"w8h5".as_slice() {
+        (Width::W8, Height::H5)
+    } else if word == b"w8h10".as_slice() {
+        (Width::W8, Height::H10)
+    } else {
+        return None;
+    };
+    Some(Set { w, h })
+}
+
+/// The sets that these words name, if each names one. The error is want of memory.
+fn all_sets(alloc: Global, words: &[&[u8]]) -> Result<Option<Vec<Set>>, Memory>
+    ensures { IfOk result (λ sets. option_map (λ s. s.items) sets ≡ each_of set_of (map (λ word. word.now) words.now)) }
+{
+    let mut sets = Vec::new(alloc);
+    for word in words {
+        let Some(set) = named_set(word) else {
+            return Ok(None);
+        };
+        sets.push(set)?;
+    }
+    Ok(Some(sets))
+}
+
+/// The sets that a word names, the top level's first, if it is one to three names of sets joined by commas. The error is
+/// want of memory.
+pub fn key_sets(alloc: Global, word: &[u8]) -> Result<Option<Vec<Set>>, Memory>
+    ensures { IfOk result (λ sets. option_map (λ s. s.items) sets ≡ sets_of word.now) }
+{
+    let words = parts(alloc, word, b',')?;
+    if words.len() > LEVEL_LIMIT {
+        return Ok(None);
+    }
+    all_sets(alloc, &words)
+}
