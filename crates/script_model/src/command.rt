@@ -69,6 +69,22 @@ impl Model for SetWords {
     ghost view = { λ s. s.sets.items };
 }
 
+impl SetWords {
+    /// The sets of a vector, which is not copied.
+    pub fn of(sets: Vec<Set>) -> SetWords
+        ensures { result ≡ sets.items }
+    {
+        SetWords { sets }
+    }
+
+    /// The sets as a slice.
+    pub fn as_slice(&self) -> &[Set]
+        ensures { result.now ≡ self.now }
+    {
+        self.sets.as_slice()
+    }
+}
+
 /// A block's key, as a line names it.
 #[derive(Drop)]
 pub enum KeyWord {
