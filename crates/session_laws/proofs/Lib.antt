@@ -13,3 +13,5 @@ mod MadeBlocks
 pub mod Loading
 mod OneCourse
 pub mod OneRefresh
+mod GoingChains
+mod GoingCourse
