@@ -1,14 +1,13 @@
 -- Of records that were read it is known whether they are sound and onward, or else why their head is passed over.
-use Rattle.std.proofs.Common.{◌≡◌, ◌≢◌, ◌⊎◌, inl, inr, ⊎_elim, ℕ, suc, ◌+◌, ◌<◌, List, [], ◌∷◌, ◌++◌, Option, Some, None, refl, sym, ap, ◌∙◌, subst, arith, Contains}
+use Rattle.std.proofs.Common.{◌≡◌, ◌≢◌, inl, inr, ⊎_elim, ℕ, suc, ◌+◌, List, [], ◌∷◌, ◌++◌, Option, Some, None, refl, ap, ◌∙◌}
 use Rattle.std.specs.Prelude.{IsTrue}
 use Rattle.std.specs.List.{AllByRecursion}
-use Rattle.ivy_base.specs.declared.key.Key.{Key}
 use Rattle.ivy_base.specs.declared.key.PubKey.{PubKey}
 use Rattle.ivy_base.specs.declared.operation.Op.{Op}
 use Rattle.ivy_base.specs.declared.operation.Op.TheVariants as op
 use Rattle.ivy_base.specs.Naming.{head_key_of, inode_number}
 use Rattle.log_model.specs.View.{View, is_named}
-use Rattle.log_model.specs.Vector.{Stamp, Vector, stamp_at, reach, Dominates, with_entry}
+use Rattle.log_model.specs.Vector.{Stamp, Vector, reach, Dominates, with_entry}
 use Rattle.log_model.specs.Record.{Record}
 use Rattle.log_model.specs.Rank.{own_entry, full_vector}
 use Rattle.log_model.specs.Spelling.{HasSpelling, no_name}
@@ -19,7 +18,7 @@ use Rattle.log_model.proofs.Lists.{here, there, in_cons, in_nothing}
 use Rattle.log_records.specs.declared.edge.Edge.{Edge}
 use Rattle.log_records.specs.declared.chain_fault.ChainFault.{ChainFault}
 use Rattle.log_records.specs.declared.chain_fault.ChainFault.TheVariants.{Bad, Fork, Memory}
-use Rattle.log_records.specs.Batches.{ChainFails, EndsAt, GoesOnFrom, HasRecord, IsOnward, IsSound, KnowsEdge, MayBeNext, Names, OldestNames, PassesFloor, stamp_in}
+use Rattle.log_records.specs.Batches.{ChainFails, EndsAt, GoesOnFrom, HasRecord, IsOnward, IsSound, KnowsEdge, MayBeNext, OldestNames, PassesFloor, stamp_in}
 use Rattle.candidate_laws.proofs.RecordReading.{Known, both_known, if_known, key_known, number_known, truth_known, at_most_known}
 use Rattle.candidate_laws.proofs.SomeCandidate.{owner_known}
 

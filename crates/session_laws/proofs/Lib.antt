@@ -15,3 +15,5 @@ mod OneCourse
 pub mod OneRefresh
 mod GoingChains
 mod GoingCourse
+mod GoingHeads
+pub mod Going
