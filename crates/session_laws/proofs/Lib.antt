@@ -17,3 +17,4 @@ mod GoingChains
 mod GoingCourse
 mod GoingHeads
 pub mod Going
+pub mod Missing

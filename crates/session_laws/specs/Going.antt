@@ -1,17 +1,24 @@
 -- A refresh goes on, whatever comes of what it wants.
-use Rattle.std.specs.Prelude.{◌≡◌, ◌⊎◌, ℕ, List, [], ◌∷◌, ◌++◌, IfSome}
+use Rattle.std.specs.Prelude.{◌≡◌, ◌⊎◌, ℕ, List, [], ◌∷◌, ◌++◌, Err, IfSome}
+use Rattle.dhash_client.specs.declared.miss.Miss.{Miss}
 use Rattle.turn_model.specs.Basis.{Basis}
 use Rattle.snapshot_model.specs.Reading.{AreOf, Names, Part}
 use Rattle.ivy_base.specs.declared.key.Key.{Key}
 use Rattle.agent_model.specs.Standing.{Standing, Refresh}
 use Rattle.session_model.specs.Brought.{Brought, HeadsOf, BlockOf, Want, Heads, Content}
-use Rattle.session_model.specs.Refreshing.{Note, RefreshEnd, Refreshes, Needs}
+use Rattle.session_model.specs.Refreshing.{Note, RefreshEnd, Refreshes, Needs, FailsBy}
 
 -- it is what came of that want, or why nothing did
 abbrev pub IsOfWant : Want → Brought → Type 0
 IsOfWant (Heads owner) (HeadsOf log came) = log ≡ owner
 IsOfWant (Content key) (BlockOf name came) = name ≡ key
 IsOfWant _ _ = ⊥
+
+-- nothing came, for that reason
+abbrev pub IsMissed : Miss → Brought → Type 0
+IsMissed miss (HeadsOf owner (Err other)) = other ≡ miss
+IsMissed miss (BlockOf key (Err other)) = other ≡ miss
+IsMissed miss _ = ⊥
 
 -- what a refresh has come to with what was brought
 pub record ComesTo (s : Standing) (brought : List Brought) : Type 0 where
@@ -35,3 +42,8 @@ RefreshBegins = (s : Standing) → ComesTo s []
 abbrev pub RefreshGoesOn : Type 0
 RefreshGoesOn = (s : Standing) (brought : List Brought) (notes : List Note) (given : Refresh) (want : Want) (came : Brought) → IfSome s.to_load (λ root. SnapshotsAreDecided)
     → Refreshes s brought notes given (Needs want) → IsOfWant want came → ComesTo s (brought ++ came ∷ [])
+
+-- A refresh that has failed was brought nothing last, for that reason.
+abbrev pub FailsByTheLast : Type 0
+FailsByTheLast = (s : Standing) (brought : List Brought) (notes : List Note) (given : Refresh) (miss : Miss) → Refreshes s brought notes given (FailsBy miss)
+    → (before : List Brought) × (last : Brought) × (brought ≡ before ++ last ∷ []) × IsMissed miss last

@@ -21,7 +21,7 @@
 #![tactic(auto)]
 
 ghost use Rattle.session_laws.specs.Bringing.{FetchedIsBrought, FloorIsBrought, RefreshedIsBrought, FloorIsReached, DoneIsNotBehind};
-ghost use Rattle.session_laws.specs.Going.{RefreshBegins, RefreshGoesOn};
+ghost use Rattle.session_laws.specs.Going.{FailsByTheLast, RefreshBegins, RefreshGoesOn};
 ghost use Rattle.session_laws.specs.Loading.{LoadedIsMade, BasisIsKnown};
 ghost use Rattle.session_laws.specs.Once.{RefreshIsOne};
 ghost use Rattle.session_laws.specs.Starting.{StartIsKnown, StartIsSorted};
@@ -74,8 +74,9 @@ pub fn refreshes_are_one()
 /// A law and no code.
 ///
 /// Whatever came of what a refresh wants, it goes on: it wants something again, or has failed, or is done; and so it begins. Where
-/// there is a snapshot to load, that asks that of any blocks it can be told whether they are one.
+/// there is a snapshot to load, that asks that of any blocks it can be told whether they are one. It fails only by what came last.
 pub fn refreshes_go_on()
     ensures begins { RefreshBegins }
     ensures goes_on { RefreshGoesOn }
+    ensures fails { FailsByTheLast }
 {}
