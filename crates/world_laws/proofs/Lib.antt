@@ -31,3 +31,4 @@ pub mod OneTruth
 pub mod AllLines
 pub mod Taking
 pub mod LackingSteps
+pub mod TakingOn

@@ -1,5 +1,5 @@
 -- Laws of the world's steps and of its runs. Each is stated here, and proved by the crates above.
-use Rattle.std.specs.Prelude.{◌≡◌, ◌≢◌, ◌⊎◌, ◌↔◌, ℕ, ◌+◌, ◌<◌, List, [], ◌∷◌, ◌++◌, map, take, Contains, Option, Some}
+use Rattle.std.specs.Prelude.{◌≡◌, ◌≢◌, ◌⊎◌, ◌↔◌, ℕ, ◌+◌, ◌<◌, List, [], ◌∷◌, ◌++◌, map, take, Contains, Option, Some, IfSome}
 use Rattle.std.specs.List.{AllByRecursion}
 use Rattle.ivy_base.specs.declared.key.Key.{Key}
 use Rattle.ivy_base.specs.declared.key.PubKey.{PubKey}
@@ -31,6 +31,7 @@ use Rattle.session_model.specs.Refreshing.{Note}
 use Rattle.session_model.specs.Sessions.{Cache, Hears, TakesSome, Session, Refreshing, Over}
 use Rattle.session_model.specs.Courses.{HasRefreshed, IsRefusal, LacksMemory, Settles}
 use Rattle.session_model.specs.Replies.{said_no_memory}
+use Rattle.session_laws.specs.Going.{SnapshotsAreDecided}
 use Rattle.script_driver.specs.Run.{Outcome, Goes, Ran, Runs, WithLaw, HasPiece}
 use Rattle.script_driver.specs.Seen.{HasStory, SeenStep}
 use Rattle.script_model.specs.declared.command.Command.{Command}
@@ -117,6 +118,12 @@ abbrev pub LackingStepsKeep : Type 0
 LackingStepsKeep = (c : Scene) (r : ℕ) (p : Participant) (taken t : Session) (cache : Cache) → Keeps (c.world, c.story) → IsInHand c r → participant c.world c.session.by ≡ Some p
     → TakesSome hss_judged r c.session p.cache taken cache → LacksMemory taken t
     → (let next : Scene = with_cache hss_judged r c p t cache in Keeps (next.world, next.story) × IsInHand next r)
+
+-- so does taking what is at hand, after which the refresh goes on
+abbrev pub TakingKeeps : Type 0
+TakingKeeps = (c : Scene) (r : ℕ) (p : Participant) (taken : Session) (cache : Cache) → Keeps (c.world, c.story) → IsInHand c r → participant c.world c.session.by ≡ Some p
+    → IfSome c.session.standing.to_load (λ root. SnapshotsAreDecided) → TakesSome hss_judged r c.session p.cache taken cache
+    → (let next : Scene = with_cache hss_judged r c p taken cache in Keeps (next.world, next.story) × IsInHand next r)
 
 -- so does an ask whose answer isn't heard, since memory is wanting
 abbrev pub VainAsksKeep : Type 0
