@@ -32,3 +32,4 @@ pub mod AllLines
 pub mod Taking
 pub mod LackingSteps
 pub mod TakingOn
+pub mod Receiving

@@ -10,7 +10,7 @@ use Rattle.log_model.specs.Chain.{LinkedFrom}
 use Rattle.log_model.specs.Closed.{log_of}
 use Rattle.log_model.specs.Spelling.{HasSpelling, no_name, record_block}
 use Rattle.log_model.specs.Standing.{Stand}
-use Rattle.log_model.specs.Vector.{Stamp, Vector, stamp_at}
+use Rattle.log_model.specs.Vector.{Entry, Stamp, Vector, stamp_at}
 use Rattle.log_model.specs.View.{View}
 use Rattle.turn_model.specs.Basis.{Knows}
 use Rattle.turn_model.specs.Known.{EndsAt, IsKnown}
@@ -41,13 +41,13 @@ use Rattle.world_model.specs.Agents.{Agent, IsKept, Kept, TakesTurn, kept_bytes,
 use Rattle.world_model.specs.Keepers.{fails_next}
 use Rattle.world_model.specs.World.{World, NamedSession, Participant, empty_world, named_bytes, participant, with_participant}
 use Rattle.world_model.specs.Fates.{FateOf}
-use Rattle.world_model.specs.Story.{HadTurn, empty_story, known_of}
+use Rattle.world_model.specs.Story.{HadTurn, Story, empty_story, known_of, receiving}
 use Rattle.world_model.specs.Logs.{Played, Publishes}
 use Rattle.world_model.specs.Calls.{reply_line}
 use Rattle.world_model.specs.Step.{Does, IvyStep}
 use Rattle.world_model.specs.Steps.{Scene, Steps, ask_told, heads_by, with_cache}
 use Rattle.world_laws.specs.Causes.{IsOf}
-use Rattle.world_laws.specs.Keeps.{BeganFresh, HasNoSnapshot, IsInHand, IsSoundSession, Keeps, OnlyPublishes, sealed_with}
+use Rattle.world_laws.specs.Keeps.{BeganFresh, HasNoSnapshot, IsInHand, IsMetHead, IsSoundSession, Keeps, OnlyPublishes, sealed_with}
 use Rattle.world_laws.specs.Headline.{Headline, IsOnReplay, NewTurns, TurnHolds}
 
 -- ---- blocks met
@@ -124,6 +124,10 @@ abbrev pub TakingKeeps : Type 0
 TakingKeeps = (c : Scene) (r : ℕ) (p : Participant) (taken : Session) (cache : Cache) → Keeps (c.world, c.story) → IsInHand c r → participant c.world c.session.by ≡ Some p
     → IfSome c.session.standing.to_load (λ root. SnapshotsAreDecided) → TakesSome hss_judged r c.session p.cache taken cache
     → (let next : Scene = with_cache hss_judged r c p taken cache in Keeps (next.world, next.story) × IsInHand next r)
+
+-- so do more heads that a participant received, which were met
+abbrev pub ReceivingKeeps : Type 0
+ReceivingKeeps = (w : World) (st : Story) (name : List ℕ) (heads : List Entry) → Keeps (w, st) → AllByRecursion (IsMetHead w.met) heads → Keeps (w, receiving st name heads)
 
 -- so does an ask whose answer isn't heard, since memory is wanting
 abbrev pub VainAsksKeep : Type 0

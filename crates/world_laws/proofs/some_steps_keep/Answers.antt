@@ -1,5 +1,6 @@
 use Rattle.world_laws.proofs.InHand.{gets_go_on_keep, lacking_keeps, puts_keep, settling_keeps, vain_asks_keep}
 use Rattle.world_laws.proofs.LackingSteps.{lacking_steps_keep}
+use Rattle.world_laws.proofs.Receiving.{receiving_keeps}
 use Rattle.world_laws.proofs.TakingOn.{taking_keeps}
 use Rattle.world_laws.proofs.some_steps_keep.Goals as goal
 
@@ -23,3 +24,6 @@ returns-clause-lacking_step c = lacking_steps_keep
 
 pub returns-clause-taking : goal.returns-clause-taking
 returns-clause-taking c = taking_keeps
+
+pub returns-clause-receiving : goal.returns-clause-receiving
+returns-clause-receiving c = receiving_keeps
