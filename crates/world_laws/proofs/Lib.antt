@@ -33,3 +33,5 @@ pub mod Taking
 pub mod LackingSteps
 pub mod TakingOn
 pub mod Receiving
+mod GotParts
+pub mod GetsBring

@@ -29,7 +29,7 @@ use Rattle.agent_model.specs.Standing.{Refresh, Standing}
 use Rattle.session_model.specs.Brought.{brought_in, heads_at}
 use Rattle.session_model.specs.Refreshing.{Note}
 use Rattle.session_model.specs.Sessions.{Cache, Hears, TakesSome, Session, Refreshing, Over}
-use Rattle.session_model.specs.Courses.{HasRefreshed, IsRefusal, LacksMemory, Settles}
+use Rattle.session_model.specs.Courses.{Fails, HasRefreshed, IsRefusal, LacksMemory, Settles}
 use Rattle.session_model.specs.Replies.{said_no_memory}
 use Rattle.session_laws.specs.Going.{SnapshotsAreDecided}
 use Rattle.script_driver.specs.Run.{Outcome, Goes, Ran, Runs, WithLaw, HasPiece}
@@ -118,6 +118,14 @@ abbrev pub LackingStepsKeep : Type 0
 LackingStepsKeep = (c : Scene) (r : ℕ) (p : Participant) (taken t : Session) (cache : Cache) → Keeps (c.world, c.story) → IsInHand c r → participant c.world c.session.by ≡ Some p
     → TakesSome hss_judged r c.session p.cache taken cache → LacksMemory taken t
     → (let next : Scene = with_cache hss_judged r c p t cache in Keeps (next.world, next.story) × IsInHand next r)
+
+-- so does an ask of a get that is over with it, by which something is brought: the refresh goes on, or has failed
+abbrev pub GetsBringKeep : Type 0
+GetsBringKeep = (c : Scene) (r : ℕ) (p : Participant) (node : Peer) (question : Ask) (answer : Answer) (world : World) (heard t : Session) (cache : Cache) → Keeps (c.world, c.story) → IsInHand c r
+    → c.world.replicas ≡ Some r → participant c.world c.session.by ≡ Some p → c.session.stage ≡ Refreshing → heard.parts ≢ c.session.parts → IfSome c.session.standing.to_load (λ root. SnapshotsAreDecided)
+    → FateOf hss_judged c.world node question answer world → Hears hss_judged r c.session p.cache node question answer heard cache → Fails heard t
+    → (let next : Scene = record { world = with_participant world (record p { cache = cache }); story = ask_told c.story p.name c.session t; session = t; began = c.began } in
+    Keeps (next.world, next.story) × IsInHand next r × (next.story.turns ≡ c.story.turns))
 
 -- so does taking what is at hand, after which the refresh goes on
 abbrev pub TakingKeeps : Type 0

@@ -1,3 +1,4 @@
+use Rattle.world_laws.proofs.GetsBring.{gets_bring_keep}
 use Rattle.world_laws.proofs.InHand.{gets_go_on_keep, lacking_keeps, puts_keep, settling_keeps, vain_asks_keep}
 use Rattle.world_laws.proofs.LackingSteps.{lacking_steps_keep}
 use Rattle.world_laws.proofs.Receiving.{receiving_keeps}
@@ -27,3 +28,6 @@ returns-clause-taking c = taking_keeps
 
 pub returns-clause-receiving : goal.returns-clause-receiving
 returns-clause-receiving c = receiving_keeps
+
+pub returns-clause-gets_bring : goal.returns-clause-gets_bring
+returns-clause-gets_bring c = gets_bring_keep
