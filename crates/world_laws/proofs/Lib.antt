@@ -35,3 +35,4 @@ pub mod TakingOn
 pub mod Receiving
 mod GotParts
 pub mod GetsBring
+mod StepsLeft

@@ -12,9 +12,10 @@ use Rattle.log_model.specs.Spelling.{HasSpelling, no_name, record_block}
 use Rattle.log_model.specs.Standing.{Stand}
 use Rattle.log_model.specs.Vector.{Entry, Stamp, Vector, stamp_at}
 use Rattle.log_model.specs.View.{View}
+use Rattle.nfs_model.specs.declared.replies.Reply.{Reply}
 use Rattle.turn_model.specs.Basis.{Knows}
 use Rattle.turn_model.specs.Known.{EndsAt, IsKnown}
-use Rattle.turn_model.specs.Turn.{Candidate, IsPrefixOf}
+use Rattle.turn_model.specs.Turn.{Candidate, IsPrefixOf, Turned}
 use Rattle.dht_ids.specs.declared.ask.Answer.{Answer}
 use Rattle.dht_ids.specs.declared.ask.Ask.{Ask}
 use Rattle.dht_ids.specs.declared.judge.Judged.{Judged}
@@ -24,7 +25,7 @@ use Rattle.hash_signature_model.specs.declared.set.Set.{Set}
 use Rattle.hss_keys.specs.Signer.{Signer, leaf_used, leaves_used, left_of, lower_key, signed_lower}
 use Rattle.log_heads.specs.Signed.{hss_judged}
 use Rattle.agent_model.specs.Candidates.{AreCandidatesOf, Brings, MayTurn}
-use Rattle.agent_model.specs.Turning.{TurnEnd}
+use Rattle.agent_model.specs.Turning.{Answered, TurnEnd}
 use Rattle.agent_model.specs.Standing.{Refresh, Standing}
 use Rattle.session_model.specs.Brought.{brought_in, heads_at}
 use Rattle.session_model.specs.Refreshing.{Note}
@@ -37,7 +38,7 @@ use Rattle.script_driver.specs.Seen.{HasStory, SeenStep}
 use Rattle.script_model.specs.declared.command.Command.{Command}
 use Rattle.script_model.specs.declared.command.Command.TheVariants as command
 use Rattle.script_model.specs.Lines.{command_of}
-use Rattle.world_model.specs.Agents.{Agent, IsKept, Kept, TakesTurn, kept_bytes, own}
+use Rattle.world_model.specs.Agents.{Agent, IsKept, IsTurnIn, Kept, TakesTurn, kept_bytes, own}
 use Rattle.world_model.specs.Keepers.{fails_next}
 use Rattle.world_model.specs.World.{World, NamedSession, Participant, empty_world, named_bytes, participant, with_participant}
 use Rattle.world_model.specs.Fates.{FateOf}
@@ -45,7 +46,7 @@ use Rattle.world_model.specs.Story.{HadTurn, Story, empty_story, known_of, recei
 use Rattle.world_model.specs.Logs.{Played, Publishes}
 use Rattle.world_model.specs.Calls.{reply_line}
 use Rattle.world_model.specs.Step.{Does, IvyStep}
-use Rattle.world_model.specs.Steps.{Scene, Steps, ask_told, heads_by, with_cache}
+use Rattle.world_model.specs.Steps.{Scene, Steps, after_turn, ask_told, heads_by, turn_told, with_cache, world_after}
 use Rattle.world_laws.specs.Causes.{IsOf}
 use Rattle.world_laws.specs.Keeps.{BeganFresh, HasNoSnapshot, IsInHand, IsMetHead, IsSoundSession, Keeps, OnlyPublishes, sealed_with}
 use Rattle.world_laws.specs.Headline.{Headline, IsOnReplay, NewTurns, TurnHolds}
@@ -145,6 +146,31 @@ VainAsksKeep = (c : Scene) (r : ℕ) (p : Participant) (node : Peer) (question :
 
 abbrev pub LackingKeeps : Type 0
 LackingKeeps = (c : Scene) (r : ℕ) (t : Session) → IsInHand c r → LacksMemory c.session t → IsInHand (record c { session = t }) r
+
+-- ---- what is left to be shown of steps
+
+-- such a world and such a session, and each turn in the step is on the replay
+abbrev pub StepLeaves : Scene → Scene → ℕ → Type 0
+StepLeaves c next r = Keeps (next.world, next.story) × IsInHand next r × (more : List HadTurn) × NewTurns c.story next.story more × ((h : HadTurn) → Contains more h → TurnHolds h)
+
+-- a turn that is answered
+abbrev pub AnsweredTurnsKeep : Type 0
+AnsweredTurnsKeep = (c : Scene) (r : ℕ) (p : Participant) (view : View) (reply : Reply) (applied : ℕ) (after : Agent) (saving : Option Kept) (t : Session) (turned : Turned) → Keeps (c.world, c.story) → IsInHand c r
+    → c.world.replicas ≡ Some r → participant c.world c.session.by ≡ Some p → p.agent.view ≡ Some view
+    → TakesTurn c.world.now p.agent view (fails_next p.keeper) c.session (Answered reply applied) after saving t → turned.reply ≡ reply
+    → (NamesTellApart (named_bytes c.world) → IsTurnIn (named_bytes c.world) c.world.now p.agent view (fails_next p.keeper) c.session c.began.knew (known_of c.story p.name) turned)
+    → StepLeaves c (record { world = world_after c.world (record (after_turn p after saving) { work = applied }); story = turn_told c p view after turned; session = t; began = c.began }) r
+
+-- a turn that is refused
+abbrev pub RefusedTurnsKeep : Type 0
+RefusedTurnsKeep = (c : Scene) (r : ℕ) (p : Participant) (view : View) (end : TurnEnd) (after : Agent) (saving : Option Kept) (t : Session) → Keeps (c.world, c.story) → IsInHand c r
+    → c.world.replicas ≡ Some r → participant c.world c.session.by ≡ Some p → p.agent.view ≡ Some view → IsRefusal end
+    → TakesTurn c.world.now p.agent view (fails_next p.keeper) c.session end after saving t
+    → StepLeaves c (record c { world = world_after c.world (after_turn p after saving); session = t; began = record c.began { knew = known_of c.story p.name } }) r
+
+-- Where turns leave such a world and such a session, and it can be told whether blocks are a snapshot, so does each step.
+abbrev pub StepsKeepByTurns : Type 0
+StepsKeepByTurns = SnapshotsAreDecided → AnsweredTurnsKeep → RefusedTurnsKeep → StepsKeep
 
 -- so does a step of a session that only publishes, which has no turn
 abbrev pub PublishingKeeps : Type 0

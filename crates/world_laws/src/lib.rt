@@ -17,7 +17,7 @@
 
 ghost use Rattle.world_laws.specs.Frames.{DamageLinesKeep, HeadlineOfRuns, JoinLinesKeep, KeeperLinesKeep, LinesKeepByThese, MildChangesKeep, MoreBlocksKeep, RingLinesKeep, RoundLinesKeep, StillLinesKeep, StopLinesKeep, ViewLinesKeep};
 ghost use Rattle.world_laws.specs.Kinds.{LineHasOneKind};
-ghost use Rattle.world_laws.specs.Laws.{AlikeTurnsAnswerAlike, ClashIsDecided, EmptyKeeps, FewerStayApart, FreshTurnsAreAnswered, GetsBringKeep, GetsGoOnKeep, HeadsAreSavedFirst, KeptOnce, KnownIsOne, LackingKeeps, LackingStepsKeep, LeafSignsOnce, MetGrows, OneTruth, OtherLogsDontCount, PublishingKeeps, PutsKeep, ReceivingKeeps, RefreshBrings, RefreshEndsInTurn, RefreshMayTurn, SecondTurnIsAnswered, SettlingKeeps, TakingKeeps, StillLinesChangeNothing, UpperLeavesSignOnce, VainAsksKeep, WholePublishingKeeps};
+ghost use Rattle.world_laws.specs.Laws.{AlikeTurnsAnswerAlike, ClashIsDecided, EmptyKeeps, FewerStayApart, FreshTurnsAreAnswered, GetsBringKeep, GetsGoOnKeep, HeadsAreSavedFirst, KeptOnce, KnownIsOne, LackingKeeps, LackingStepsKeep, LeafSignsOnce, MetGrows, OneTruth, OtherLogsDontCount, PublishingKeeps, PutsKeep, ReceivingKeeps, RefreshBrings, RefreshEndsInTurn, RefreshMayTurn, SecondTurnIsAnswered, SettlingKeeps, StepsKeepByTurns, StillLinesChangeNothing, TakingKeeps, UpperLeavesSignOnce, VainAsksKeep, WholePublishingKeeps};
 
 /// A law and no code: of any blocks, names tell them apart, or two of them clash.
 pub fn clashes_are_decided()
@@ -132,8 +132,9 @@ pub fn lines_without_sessions_keep()
     ensures view { ViewLinesKeep }
 {}
 
-/// Laws and no code: an ask of a put, one of a get by which nothing is brought yet, one that isn't heard, settling, and the end
-/// for want of memory of a session in hand leave such a world and such a session.
+/// Laws and no code: an ask of a put or of a get, whatever it brings, one that isn't heard, settling, what is at hand taken, and the
+/// end for want of memory of a session in hand leave such a world and such a session; and so do more heads received. Where there is
+/// a snapshot to load, that asks that of any blocks it can be told whether they are one.
 pub fn some_steps_keep()
     ensures puts { PutsKeep }
     ensures gets_go_on { GetsGoOnKeep }
@@ -155,6 +156,12 @@ pub fn floors_name_one_set()
 /// agent knows of a log is the beginning of the one chain that the log's keeper names.
 pub fn there_is_one_truth()
     ensures { OneTruth }
+{}
+
+/// A law and no code: what is left to be shown of steps. Where turns, answered or refused, leave such a world and such a session,
+/// so does each step, if of any blocks it can be told whether they are a snapshot.
+pub fn steps_left()
+    ensures { StepsKeepByTurns }
 {}
 
 /// Laws and no code: what is left to be shown of lines. Where the commands that log, use, restart and snap, those of sessions,
