@@ -36,3 +36,4 @@ pub mod Receiving
 mod GotParts
 pub mod GetsBring
 mod StepsLeft
+pub mod Beginning

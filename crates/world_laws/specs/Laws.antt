@@ -42,9 +42,9 @@ use Rattle.world_model.specs.Agents.{Agent, IsKept, IsTurnIn, Kept, TakesTurn, k
 use Rattle.world_model.specs.Keepers.{fails_next}
 use Rattle.world_model.specs.World.{World, NamedSession, Participant, empty_world, named_bytes, participant, with_participant}
 use Rattle.world_model.specs.Fates.{FateOf}
-use Rattle.world_model.specs.Story.{HadTurn, Story, empty_story, known_of, receiving}
+use Rattle.world_model.specs.Story.{HadTurn, Story, beginning, empty_story, having_begun, known_of, receiving}
 use Rattle.world_model.specs.Logs.{Played, Publishes}
-use Rattle.world_model.specs.Calls.{reply_line}
+use Rattle.world_model.specs.Calls.{BeginsWith, Sending, reply_line}
 use Rattle.world_model.specs.Step.{Does, IvyStep}
 use Rattle.world_model.specs.Steps.{Scene, Steps, after_turn, ask_told, heads_by, turn_told, with_cache, world_after}
 use Rattle.world_laws.specs.Causes.{IsOf}
@@ -146,6 +146,13 @@ VainAsksKeep = (c : Scene) (r : ℕ) (p : Participant) (node : Peer) (question :
 
 abbrev pub LackingKeeps : Type 0
 LackingKeeps = (c : Scene) (r : ℕ) (t : Session) → IsInHand c r → LacksMemory c.session t → IsInHand (record c { session = t }) r
+
+-- ---- calls that begin
+
+-- a session that begins is in hand
+abbrev pub CallsBegin : Type 0
+CallsBegin = (w : Played) (r : ℕ) (s : Sending) (t : Session) → Keeps w → w.0.replicas ≡ Some r → participant w.0 s.by.name ≡ Some s.by → s.by.agent.view ≡ Some s.view → BeginsWith w.0 s t
+    → IsInHand (record { world = w.0; story = having_begun w.1; session = t; began = beginning w.1 s.by.name }) r
 
 -- ---- what is left to be shown of steps
 
