@@ -37,3 +37,4 @@ mod GotParts
 pub mod GetsBring
 mod StepsLeft
 pub mod Beginning
+mod Opening

@@ -37,6 +37,7 @@ use Rattle.script_driver.specs.Run.{Outcome, Goes, Ran, Runs, WithLaw, HasPiece}
 use Rattle.script_driver.specs.Seen.{HasStory, SeenStep}
 use Rattle.script_model.specs.declared.command.Command.{Command}
 use Rattle.script_model.specs.declared.command.Command.TheVariants as command
+use Rattle.script_model.specs.declared.command.Piece.{Piece}
 use Rattle.script_model.specs.Lines.{command_of}
 use Rattle.world_model.specs.Agents.{Agent, IsKept, IsTurnIn, Kept, TakesTurn, kept_bytes, own}
 use Rattle.world_model.specs.Keepers.{fails_next}
@@ -153,6 +154,10 @@ LackingKeeps = (c : Scene) (r : ℕ) (t : Session) → IsInHand c r → LacksMem
 abbrev pub CallsBegin : Type 0
 CallsBegin = (w : Played) (r : ℕ) (s : Sending) (t : Session) → Keeps w → w.0.replicas ≡ Some r → participant w.0 s.by.name ≡ Some s.by → s.by.agent.view ≡ Some s.view → BeginsWith w.0 s t
     → IsInHand (record { world = w.0; story = having_begun w.1; session = t; began = beginning w.1 s.by.name }) r
+
+-- so the line that opens a session leaves such a world
+abbrev pub OpenLineKeeps : Type 0
+OpenLineKeeps = (session log : List ℕ) (pieces : List Piece) (w next : Played) (output : List ℕ) → Keeps w → Does hss_judged w (command.Open session log pieces) (Goes next output) → Keeps next
 
 -- ---- what is left to be shown of steps
 
