@@ -1,16 +1,15 @@
 -- A session that begins in a world that keeps what it should is one that keeps what it should.
-use Rattle.std.proofs.Common.{◌≡◌, ℕ, List, [], ◌∷◌, ◌++◌, Option, Some, None, refl, sym, subst, arith, le_refl}
+use Rattle.std.proofs.Common.{◌≡◌, ℕ, List, [], ◌∷◌, ◌++◌, Option, Some, refl, subst, arith, le_refl}
 use Rattle.std.specs.Prelude.{IfSome, Contains}
 use Rattle.std.specs.List.{AllByRecursion}
 use Rattle.dhash_client.specs.declared.miss.Miss.{Miss}
-use Rattle.ivy_base.specs.Naming.{NamesTellApart}
 use Rattle.log_model.proofs.Lists.{each, in_nothing}
 use Rattle.log_model.specs.Vector.{seq_of}
 use Rattle.log_model.specs.View.{View}
 use Rattle.turn_model.specs.Basis.{nothing_held}
 use Rattle.session_model.specs.Brought.{Brought, BlockOf}
 use Rattle.std.specs.Prelude.{Ok}
-use Rattle.session_model.specs.Courses.{Begins, fresh_session}
+use Rattle.session_model.specs.Courses.{fresh_session}
 use Rattle.session_model.specs.Courses.Begins.{alone as answered_alone, refreshes as begins_refreshing}
 use Rattle.session_model.specs.Refreshing.{FailsBy, Refreshes}
 use Rattle.session_model.specs.Replies.{said_bare}
@@ -21,10 +20,9 @@ use Rattle.session_laws.proofs.Going.{refresh_begins}
 use Rattle.session_laws.proofs.Missing.{fails_by_the_last}
 use Rattle.world_model.specs.Agents.{standing_in}
 use Rattle.world_model.specs.Calls.{BeginsWith, Sending}
-use Rattle.world_model.specs.World.{Participant, entries, named_bytes, participant}
+use Rattle.world_model.specs.World.{Participant, entries, participant}
 use Rattle.world_model.specs.Story.{Began, beginning, having_begun, knowing_of, known_of}
 use Rattle.world_model.specs.Logs.{Played}
-use Rattle.world_model.specs.Steps.{Scene}
 use Rattle.world_laws.specs.Causes.{said_at}
 use Rattle.world_laws.specs.Causes.HasCause.{alone}
 use Rattle.world_laws.specs.Keeps.{AreSound, HasSaid, IsAtStage, IsInHand, IsMetPost, IsSound, IsSoundIn, IsSoundSession, Keeps}

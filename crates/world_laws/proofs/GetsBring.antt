@@ -1,5 +1,5 @@
 -- An ask of a get that is over with it: something is brought, and the refresh goes on, or has failed.
-use Rattle.std.proofs.Common.{◌≡◌, ◌≢◌, ◌⊎◌, inl, inr, ⊎_elim, ℕ, Bool, true, false, cond, List, [], ◌∷◌, ◌++◌, map, length, Option, Some, None, Ok, Err, refl, sym, ap, ◌∙◌, subst, arith, Contains}
+use Rattle.std.proofs.Common.{◌≡◌, ◌≢◌, ◌⊎◌, inl, inr, ⊎_elim, ℕ, Bool, true, false, cond, List, [], ◌∷◌, ◌++◌, map, length, Option, Some, Ok, refl, sym, ap, ◌∙◌, subst, arith, Contains}
 use Rattle.std.specs.Prelude.{IfSome, drop}
 use Rattle.std.specs.List.{AllByRecursion, find}
 use Rattle.std.specs.Str.{bytes_eq}
@@ -14,7 +14,6 @@ use Rattle.log_model.proofs.Lists.{each, each_append, in_cons, in_nothing}
 use Rattle.log_model.specs.Record.{Record}
 use Rattle.log_model.specs.Vector.{Entry}
 use Rattle.turn_model.specs.Basis.{Holding}
-use Rattle.turn_model.specs.Turn.{Asked}
 use Rattle.dht_ids.specs.Asked.{IsForData, told}
 use Rattle.dht_ids.specs.declared.ask.Answer.{Answer}
 use Rattle.dht_ids.specs.declared.ask.Ask.{Ask}
@@ -27,7 +26,7 @@ use Rattle.dhash_client.specs.declared.miss.Miss.{Miss}
 use Rattle.agent_model.specs.Standing.{Refresh}
 use Rattle.session_model.specs.Asking.{AsksNext}
 use Rattle.session_model.specs.Brought.{Brought, BlockOf, Part, Want, all_heads, brought_in, heads_of}
-use Rattle.session_model.specs.Courses.{Fails, ended}
+use Rattle.session_model.specs.Courses.{Fails}
 use Rattle.session_model.specs.Courses.Fails.{fails as refresh_fails, goes_on as refresh_goes}
 use Rattle.session_model.specs.Refreshing.{FailsBy, Note, Refreshes}
 use Rattle.session_model.specs.Replies.{missed_reply, said_of}
@@ -37,7 +36,7 @@ use Rattle.session_laws.specs.Going.{ComesTo, SnapshotsAreDecided}
 use Rattle.world_model.specs.Agents.{Agent}
 use Rattle.world_model.specs.Fates.{FateOf}
 use Rattle.world_model.specs.World.{World, Participant, named_bytes, participant, peer_of, with_participant}
-use Rattle.world_model.specs.Story.{Began, Knowing, Story, knowing_of, known_of, receiving}
+use Rattle.world_model.specs.Story.{Began, Knowing, Story, knowing_of, receiving}
 use Rattle.world_model.specs.Steps.{Scene, acked_by, ask_told}
 use Rattle.world_laws.specs.Causes.{said_at}
 use Rattle.world_laws.specs.Causes.HasCause.{missed as missed_cause}

@@ -1,14 +1,13 @@
 -- What a get brings was met, where what was answered was.
-use Rattle.std.proofs.Common.{◌≡◌, ℕ, zero, suc, Bool, true, false, cond, List, [], ◌∷◌, ◌++◌, map, Option, Some, None, Result, Ok, Err, refl, sym, ap, ◌∙◌, subst, Contains, not}
+use Rattle.std.proofs.Common.{◌≡◌, ℕ, zero, suc, List, [], ◌∷◌, map, Option, Some, None, Result, Ok, Err, refl, sym, ◌∙◌, subst, Contains, not}
 use Rattle.std.specs.Prelude.{filter_map, option_map, take}
 use Rattle.std.specs.List.{AllByRecursion, cons_option}
 use Rattle.ring_model.proofs.Lists.{all-among, all_weaker, filter_gives}
-use Rattle.ring_model.specs.Gets.{Got, Right, Damaged, Missing, IsHeadGet, IsBlockGet, given, judged}
+use Rattle.ring_model.specs.Gets.{Got, Right, Damaged, Missing, IsHeadGet, IsBlockGet, given}
 use Rattle.ivy_base.specs.declared.key.Key.{Key}
-use Rattle.ivy_base.specs.Naming.{head_key_of, name}
+use Rattle.ivy_base.specs.Naming.{head_key_of}
 use Rattle.log_heads.specs.Signed.{hss_judged}
 use Rattle.log_model.proofs.Lists.{each_right}
-use Rattle.log_model.specs.Vector.{Entry}
 use Rattle.dht_ids.specs.declared.ask.Answer.{Answer}
 use Rattle.dht_ids.specs.declared.ask.Answer.TheVariants as answer
 use Rattle.dht_ids.specs.declared.ask.Ask.TheVariants as ask
@@ -16,14 +15,14 @@ use Rattle.dht_ids.specs.declared.ask.Heard.{Heard}
 use Rattle.dht_ids.specs.declared.judge.Judged.{Judged}
 use Rattle.dht_ids.specs.declared.peer.Peer.{Peer}
 use Rattle.dhash_client.specs.declared.miss.Miss.{Miss}
-use Rattle.dhash_client.specs.Course.{IsCourse, Told, result_of, told_all}
+use Rattle.dhash_client.specs.Course.{Told, result_of, told_all}
 use Rattle.dhash_client.specs.Course.IsCourse.{no_route, of_owners}
-use Rattle.dhash_client.specs.GetBlock.{EndsGet, IsGetOfBlock, block_in, is_of_get}
-use Rattle.dhash_client.specs.GetHead.{EndsHeadGet, IsGetOfHead}
-use Rattle.block_cache.specs.Blocks.{kept, others}
+use Rattle.dhash_client.specs.GetBlock.{IsGetOfBlock, block_in, is_of_get}
+use Rattle.dhash_client.specs.GetHead.{IsGetOfHead}
+use Rattle.block_cache.specs.Blocks.{others}
 use Rattle.block_cache.specs.Blocks.{same_key as same_cached}
 use Rattle.block_cache.proofs.Pairs.{kept_valid}
-use Rattle.session_model.specs.Brought.{Brought, HeadsOf, BlockOf, Want, Heads, Content, heads_of, stamp_of}
+use Rattle.session_model.specs.Brought.{Brought, HeadsOf, BlockOf, Want, heads_of, stamp_of}
 use Rattle.session_model.specs.Sessions.{Cache, Gets, keeping}
 use Rattle.session_model.specs.Sessions.Gets.{heads as got_heads, content as got_content}
 use Rattle.session_laws.specs.Going.{IsOfWant}

@@ -10,7 +10,7 @@ use Rattle.ivy_base.specs.Naming.{NamesTellApart}
 use Rattle.log_heads.specs.Signed.{hss_judged}
 use Rattle.log_model.proofs.Lists.{each, each_append, each_from, here, in_cons, in_nothing, there}
 use Rattle.log_model.specs.View.{View}
-use Rattle.script_driver.specs.Run.{Outcome, Goes, Refuses}
+use Rattle.script_driver.specs.Run.{Outcome, Goes}
 use Rattle.script_model.specs.Words.{◌>>=◌}
 use Rattle.script_model.specs.declared.command.Piece.{Piece}
 use Rattle.script_model.specs.Messages.{message_of}
@@ -28,7 +28,6 @@ use Rattle.world_laws.specs.Laws.{OpenLineKeeps}
 use Rattle.world_laws.proofs.Beginning.{calls_begin}
 use Rattle.world_laws.proofs.Bringing.{found_named}
 use Rattle.world_laws.proofs.Frames.{goes_on_still, into_map}
-use Rattle.world_laws.proofs.SignedHeads.{from_map}
 
 -- ---- lists
 

@@ -8,8 +8,7 @@ use Rattle.std.proofs.lemmas.List.Elements.{Contains-append_left, Contains-appen
 use Rattle.std.proofs.lemmas.Slice.Eq.{bytes_eq-Decides}
 use Rattle.ring_model.proofs.Lists.{all_weaker}
 use Rattle.ivy_base.specs.declared.key.PubKey.{PubKey}
-use Rattle.ivy_base.specs.Naming.{NamesTellApart}
-use Rattle.log_model.proofs.Lists.{each, each_append, in_nothing}
+use Rattle.log_model.proofs.Lists.{each, each_append}
 use Rattle.log_model.specs.View.{View}
 use Rattle.log_model.specs.Vector.{Entry, Vector}
 use Rattle.log_model.specs.Record.{Record}
@@ -18,8 +17,8 @@ use Rattle.session_model.specs.Sessions.{Said, Session}
 use Rattle.session_laws.specs.Loading.{IsSnapshotOf}
 use Rattle.turn_model.specs.Basis.{nothing_held}
 use Rattle.world_model.specs.Agents.{Kept}
-use Rattle.world_model.specs.World.{World, NamedSession, Participant, named_bytes}
-use Rattle.world_model.specs.Story.{Began, Knowing, Story, began_of, knowing_nothing, knowing_of, known_of, receiving}
+use Rattle.world_model.specs.World.{World, Participant}
+use Rattle.world_model.specs.Story.{Began, Knowing, Story, began_of, knowing_nothing, knowing_of, receiving}
 use Rattle.world_laws.specs.Causes.{HasCause, said_at}
 use Rattle.world_laws.specs.Causes.HasCause.{alone, missed, turned, no_memory}
 use Rattle.world_laws.specs.Keeps.{AreSound, HasSaid, IsKeptSo, IsMetHead, IsSoundIn, IsSoundKeptIn, IsSoundSession, Keeps, KeepsUp}

@@ -1,5 +1,5 @@
 -- Where turns leave a world that keeps what it should, and such a session, so does each step.
-use Rattle.std.proofs.Common.{◌≡◌, ◌≢◌, inl, inr, ⊎_elim, ℕ, Bool, true, false, List, [], ◌∷◌, ◌++◌, length, length-append, Option, Some, None, refl, sym, ap, ◌∙◌, subst, arith, Contains}
+use Rattle.std.proofs.Common.{◌≡◌, inl, ℕ, Bool, true, false, List, [], ◌∷◌, ◌++◌, length, length-append, Option, Some, None, refl, sym, ap, ◌∙◌, subst, arith}
 use Rattle.std.specs.Prelude.{IfSome}
 use Rattle.std.proofs.lemmas.List.{append-nil}
 use Rattle.ivy_base.specs.declared.key.Key.{Key}
@@ -20,7 +20,7 @@ use Rattle.session_model.specs.Sessions.TakesSome.{none as some_none, more as so
 use Rattle.session_laws.specs.Going.{SnapshotsAreDecided}
 use Rattle.world_model.specs.Fates.{FateOf}
 use Rattle.world_model.specs.World.{World, Participant, participant, with_participant}
-use Rattle.world_model.specs.Story.{HadTurn, Story}
+use Rattle.world_model.specs.Story.{Story}
 use Rattle.world_model.specs.Steps.{Acts, Scene, Steps, acked_by, ask_told, with_cache}
 use Rattle.world_model.specs.Steps.Acts.{asks, asks_in_vain, turns, is_refused, settles}
 use Rattle.world_model.specs.Steps.Steps.{acts, lacks_memory}
@@ -30,7 +30,7 @@ use Rattle.world_laws.specs.Laws.{AnsweredTurnsKeep, RefusedTurnsKeep, StepLeave
 use Rattle.world_laws.proofs.Bringing.{found_named}
 use Rattle.world_laws.proofs.Frames.{found_placed}
 use Rattle.world_laws.proofs.GetsBring.{gets_bring_keep}
-use Rattle.world_laws.proofs.InHand.{gets_go_on_keep, lacking_keeps, puts_keep, settling_keeps, vain_asks_keep}
+use Rattle.world_laws.proofs.InHand.{gets_go_on_keep, puts_keep, settling_keeps, vain_asks_keep}
 use Rattle.world_laws.proofs.LackingSteps.{lacking_steps_keep, sound_taken}
 use Rattle.world_laws.proofs.Taking.{HasTaken, takes_some_so}
 use Rattle.world_laws.proofs.TakingOn.{taking_keeps}

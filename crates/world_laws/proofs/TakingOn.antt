@@ -1,5 +1,5 @@
 -- What is at hand is taken, and the refresh goes on: that leaves a world that keeps what it should, and such a session.
-use Rattle.std.proofs.Common.{◌≡◌, ◌≢◌, ◌⊎◌, inl, inr, ⊎_elim, ℕ, List, [], ◌∷◌, ◌++◌, map, Option, Some, None, Ok, Err, refl, sym, ap, ◌∙◌, subst, arith}
+use Rattle.std.proofs.Common.{◌≡◌, ◌≢◌, ◌⊎◌, inl, inr, ⊎_elim, ℕ, List, [], ◌∷◌, ◌++◌, Some, Ok, refl, sym, ap, ◌∙◌, subst, arith}
 use Rattle.std.specs.Prelude.{IfSome}
 use Rattle.std.specs.List.{AllByRecursion}
 use Rattle.ivy_base.specs.declared.key.Key.{Key}
@@ -27,7 +27,7 @@ use Rattle.world_laws.proofs.Bringing.{found_named}
 use Rattle.world_laws.proofs.Frames.{participant_keeps, same_keys}
 use Rattle.world_laws.proofs.InHand.{goes_on_then, sound_then}
 use Rattle.world_laws.proofs.LackingSteps.{sound_taken}
-use Rattle.world_laws.proofs.Taking.{HasTaken, IsMetCache, takes_some_so}
+use Rattle.world_laws.proofs.Taking.{HasTaken, takes_some_so}
 
 -- ---- the refresh goes on
 

@@ -12,7 +12,9 @@
 //! that holds all that it knows isn't behind, and one without a basis isn't below the tide), `proofs/SecondTurns.antt`,
 //! `proofs/DoneSteps.antt`, `proofs/SignedHeads.antt` (what holds of the one whose bytes a keeper holds), `proofs/Frames.antt`
 //! (changes of a world's nodes and of one participant), `proofs/Publishing.antt` (an ask by which only what was met is put),
-//! `proofs/OneTruth.antt` (linked records that end at one record). Nothing here runs, so there are no costs.
+//! `proofs/OneTruth.antt` (linked records that end at one record), `proofs/Receiving.antt` (what more heads leave as it was),
+//! `proofs/TakingOn.antt` and `proofs/GetsBring.antt` (a session that is brought something goes on), `proofs/Beginning.antt` (a
+//! session that begins). Nothing here runs, so there are no costs.
 #![tactic(auto)]
 
 ghost use Rattle.world_laws.specs.Frames.{DamageLinesKeep, HeadlineOfRuns, JoinLinesKeep, KeeperLinesKeep, LinesKeepByThese, MildChangesKeep, MoreBlocksKeep, RingLinesKeep, RoundLinesKeep, StillLinesKeep, StopLinesKeep, ViewLinesKeep};
