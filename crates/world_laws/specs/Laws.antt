@@ -148,6 +148,11 @@ VainAsksKeep = (c : Scene) (r : ℕ) (p : Participant) (node : Peer) (question :
 abbrev pub LackingKeeps : Type 0
 LackingKeeps = (c : Scene) (r : ℕ) (t : Session) → IsInHand c r → LacksMemory c.session t → IsInHand (record c { session = t }) r
 
+-- so does a step of a session that only publishes, which has no turn
+abbrev pub PublishingKeeps : Type 0
+PublishingKeeps = (c next : Scene) (r : ℕ) → Keeps (c.world, c.story) → OnlyPublishes c.world r c.session → c.world.replicas ≡ Some r → Steps hss_judged r c.session.by c next
+    → Keeps (next.world, next.story) × OnlyPublishes next.world r next.session × (next.story.turns ≡ c.story.turns)
+
 -- ---- calls that begin
 
 -- a session that begins is in hand
@@ -184,10 +189,7 @@ RefusedTurnsKeep = (c : Scene) (r : ℕ) (p : Participant) (view : View) (end : 
 abbrev pub StepsKeepByTurns : Type 0
 StepsKeepByTurns = SnapshotsAreDecided → AnsweredTurnsKeep → RefusedTurnsKeep → StepsKeep
 
--- so does a step of a session that only publishes, which has no turn
-abbrev pub PublishingKeeps : Type 0
-PublishingKeeps = (c next : Scene) (r : ℕ) → Keeps (c.world, c.story) → OnlyPublishes c.world r c.session → c.world.replicas ≡ Some r → Steps hss_judged r c.session.by c next
-    → Keeps (next.world, next.story) × OnlyPublishes next.world r next.session × (next.story.turns ≡ c.story.turns)
+-- ---- replies
 
 -- in such a world the headline holds of each line; so it holds of each line of a run
 abbrev pub HeadlineHolds : Type 0
