@@ -13,3 +13,8 @@ mod MadeBlocks
 pub mod Loading
 mod OneCourse
 pub mod OneRefresh
+mod GoingChains
+mod GoingCourse
+mod GoingHeads
+pub mod Going
+pub mod Missing

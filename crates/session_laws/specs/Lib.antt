@@ -2,3 +2,4 @@ pub mod Bringing
 pub mod Starting
 pub mod Loading
 pub mod Once
+pub mod Going

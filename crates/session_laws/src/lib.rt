@@ -6,18 +6,22 @@
 //! `agent_model` holds a turn to (`Brings`), and the floor's record where the floor goes further than what it started from, so
 //! that its own agent isn't behind (`is_behind`). All ask that it starts from known records, which it does
 //! (`start_is_known`), also where it goes by a basis, since what it loads is what was made (`loaded_is_made`). What a refresh was
-//! brought tells how it stands (`refreshes_are_one`), so one that is done wants nothing more.
+//! brought tells how it stands (`refreshes_are_one`), so one that is done wants nothing more; and whatever comes of what it wants,
+//! it goes on (`refreshes_go_on`).
 //! Definitions: `specs/Bringing.antt` (`AreMet`, `StartsFrom`, and the laws on what is brought), `specs/Starting.antt`,
-//! `specs/Loading.antt` (`IsSnapshotOf`), `specs/Once.antt`.
+//! `specs/Loading.antt` (`IsSnapshotOf`), `specs/Once.antt`, `specs/Going.antt` (`ComesTo`).
 //! Lemmas, each file on those before it: `proofs/ReadBack.antt`, that a walk back by names reads the linked records that end at
 //! the name; `proofs/Cuts.antt`, that a chain is sound and onward above the held record; `proofs/OneHead.antt`,
 //! `proofs/OneLog.antt`, `proofs/OwnParts.antt`, `proofs/AllLogs.antt`: one head, one log, each log's part of what was brought,
 //! all logs; `proofs/NotBehind.antt`, `proofs/Refreshed.antt`. By themselves: `proofs/Starting.antt`; `proofs/Loading.antt`
 //! over `proofs/WholeTrees.antt` (trees that operations make have the facts of a snapshot's tree) and `proofs/MadeBlocks.antt`;
-//! `proofs/SortedEntries.antt`; `proofs/OneRefresh.antt` over `proofs/OneCourse.antt` (walks, and the heads of one log).
+//! `proofs/SortedEntries.antt`; `proofs/OneRefresh.antt` over `proofs/OneCourse.antt` (walks, and the heads of one log);
+//! `proofs/Going.antt` over `proofs/GoingCourse.antt`, `proofs/GoingChains.antt` (whether records are sound and onward is known)
+//! and `proofs/GoingHeads.antt` (heads can be put in order).
 #![tactic(auto)]
 
 ghost use Rattle.session_laws.specs.Bringing.{FetchedIsBrought, FloorIsBrought, RefreshedIsBrought, FloorIsReached, DoneIsNotBehind};
+ghost use Rattle.session_laws.specs.Going.{FailsByTheLast, RefreshBegins, RefreshGoesOn};
 ghost use Rattle.session_laws.specs.Loading.{LoadedIsMade, BasisIsKnown};
 ghost use Rattle.session_laws.specs.Once.{RefreshIsOne};
 ghost use Rattle.session_laws.specs.Starting.{StartIsKnown, StartIsSorted};
@@ -65,4 +69,14 @@ pub fn loaded_is_made()
 /// that is done wants nothing more.
 pub fn refreshes_are_one()
     ensures { RefreshIsOne }
+{}
+
+/// A law and no code.
+///
+/// Whatever came of what a refresh wants, it goes on: it wants something again, or has failed, or is done; and so it begins. Where
+/// there is a snapshot to load, that asks that of any blocks it can be told whether they are one. It fails only by what came last.
+pub fn refreshes_go_on()
+    ensures begins { RefreshBegins }
+    ensures goes_on { RefreshGoesOn }
+    ensures fails { FailsByTheLast }
 {}

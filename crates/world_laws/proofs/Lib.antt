@@ -31,3 +31,10 @@ pub mod OneTruth
 pub mod AllLines
 pub mod Taking
 pub mod LackingSteps
+pub mod TakingOn
+pub mod Receiving
+mod GotParts
+pub mod GetsBring
+mod StepsLeft
+pub mod Beginning
+mod Opening

@@ -1,5 +1,5 @@
 -- Laws of the world's steps and of its runs. Each is stated here, and proved by the crates above.
-use Rattle.std.specs.Prelude.{◌≡◌, ◌≢◌, ◌⊎◌, ◌↔◌, ℕ, ◌+◌, ◌<◌, List, [], ◌∷◌, ◌++◌, map, take, Contains, Option, Some}
+use Rattle.std.specs.Prelude.{◌≡◌, ◌≢◌, ◌⊎◌, ◌↔◌, ℕ, ◌+◌, ◌<◌, List, [], ◌∷◌, ◌++◌, map, take, Contains, Option, Some, IfSome}
 use Rattle.std.specs.List.{AllByRecursion}
 use Rattle.ivy_base.specs.declared.key.Key.{Key}
 use Rattle.ivy_base.specs.declared.key.PubKey.{PubKey}
@@ -10,11 +10,12 @@ use Rattle.log_model.specs.Chain.{LinkedFrom}
 use Rattle.log_model.specs.Closed.{log_of}
 use Rattle.log_model.specs.Spelling.{HasSpelling, no_name, record_block}
 use Rattle.log_model.specs.Standing.{Stand}
-use Rattle.log_model.specs.Vector.{Stamp, Vector, stamp_at}
+use Rattle.log_model.specs.Vector.{Entry, Stamp, Vector, stamp_at}
 use Rattle.log_model.specs.View.{View}
+use Rattle.nfs_model.specs.declared.replies.Reply.{Reply}
 use Rattle.turn_model.specs.Basis.{Knows}
 use Rattle.turn_model.specs.Known.{EndsAt, IsKnown}
-use Rattle.turn_model.specs.Turn.{Candidate, IsPrefixOf}
+use Rattle.turn_model.specs.Turn.{Candidate, IsPrefixOf, Turned}
 use Rattle.dht_ids.specs.declared.ask.Answer.{Answer}
 use Rattle.dht_ids.specs.declared.ask.Ask.{Ask}
 use Rattle.dht_ids.specs.declared.judge.Judged.{Judged}
@@ -24,29 +25,31 @@ use Rattle.hash_signature_model.specs.declared.set.Set.{Set}
 use Rattle.hss_keys.specs.Signer.{Signer, leaf_used, leaves_used, left_of, lower_key, signed_lower}
 use Rattle.log_heads.specs.Signed.{hss_judged}
 use Rattle.agent_model.specs.Candidates.{AreCandidatesOf, Brings, MayTurn}
-use Rattle.agent_model.specs.Turning.{TurnEnd}
+use Rattle.agent_model.specs.Turning.{Answered, TurnEnd}
 use Rattle.agent_model.specs.Standing.{Refresh, Standing}
 use Rattle.session_model.specs.Brought.{brought_in, heads_at}
 use Rattle.session_model.specs.Refreshing.{Note}
 use Rattle.session_model.specs.Sessions.{Cache, Hears, TakesSome, Session, Refreshing, Over}
-use Rattle.session_model.specs.Courses.{HasRefreshed, IsRefusal, LacksMemory, Settles}
+use Rattle.session_model.specs.Courses.{Fails, HasRefreshed, IsRefusal, LacksMemory, Settles}
 use Rattle.session_model.specs.Replies.{said_no_memory}
+use Rattle.session_laws.specs.Going.{SnapshotsAreDecided}
 use Rattle.script_driver.specs.Run.{Outcome, Goes, Ran, Runs, WithLaw, HasPiece}
 use Rattle.script_driver.specs.Seen.{HasStory, SeenStep}
 use Rattle.script_model.specs.declared.command.Command.{Command}
 use Rattle.script_model.specs.declared.command.Command.TheVariants as command
+use Rattle.script_model.specs.declared.command.Piece.{Piece}
 use Rattle.script_model.specs.Lines.{command_of}
-use Rattle.world_model.specs.Agents.{Agent, IsKept, Kept, TakesTurn, kept_bytes, own}
+use Rattle.world_model.specs.Agents.{Agent, IsKept, IsTurnIn, Kept, TakesTurn, kept_bytes, own}
 use Rattle.world_model.specs.Keepers.{fails_next}
 use Rattle.world_model.specs.World.{World, NamedSession, Participant, empty_world, named_bytes, participant, with_participant}
 use Rattle.world_model.specs.Fates.{FateOf}
-use Rattle.world_model.specs.Story.{HadTurn, empty_story, known_of}
+use Rattle.world_model.specs.Story.{HadTurn, Story, beginning, empty_story, having_begun, known_of, receiving}
 use Rattle.world_model.specs.Logs.{Played, Publishes}
-use Rattle.world_model.specs.Calls.{reply_line}
+use Rattle.world_model.specs.Calls.{BeginsWith, Sending, reply_line}
 use Rattle.world_model.specs.Step.{Does, IvyStep}
-use Rattle.world_model.specs.Steps.{Scene, Steps, ask_told, heads_by, with_cache}
+use Rattle.world_model.specs.Steps.{Scene, Steps, after_turn, ask_told, heads_by, turn_told, with_cache, world_after}
 use Rattle.world_laws.specs.Causes.{IsOf}
-use Rattle.world_laws.specs.Keeps.{BeganFresh, HasNoSnapshot, IsInHand, IsSoundSession, Keeps, OnlyPublishes, sealed_with}
+use Rattle.world_laws.specs.Keeps.{BeganFresh, HasNoSnapshot, IsInHand, IsMetHead, IsSoundSession, Keeps, OnlyPublishes, sealed_with}
 use Rattle.world_laws.specs.Headline.{Headline, IsOnReplay, NewTurns, TurnHolds}
 
 -- ---- blocks met
@@ -118,6 +121,24 @@ LackingStepsKeep = (c : Scene) (r : ℕ) (p : Participant) (taken t : Session) (
     → TakesSome hss_judged r c.session p.cache taken cache → LacksMemory taken t
     → (let next : Scene = with_cache hss_judged r c p t cache in Keeps (next.world, next.story) × IsInHand next r)
 
+-- so does an ask of a get that is over with it, by which something is brought: the refresh goes on, or has failed
+abbrev pub GetsBringKeep : Type 0
+GetsBringKeep = (c : Scene) (r : ℕ) (p : Participant) (node : Peer) (question : Ask) (answer : Answer) (world : World) (heard t : Session) (cache : Cache) → Keeps (c.world, c.story) → IsInHand c r
+    → c.world.replicas ≡ Some r → participant c.world c.session.by ≡ Some p → c.session.stage ≡ Refreshing → heard.parts ≢ c.session.parts → IfSome c.session.standing.to_load (λ root. SnapshotsAreDecided)
+    → FateOf hss_judged c.world node question answer world → Hears hss_judged r c.session p.cache node question answer heard cache → Fails heard t
+    → (let next : Scene = record { world = with_participant world (record p { cache = cache }); story = ask_told c.story p.name c.session t; session = t; began = c.began } in
+    Keeps (next.world, next.story) × IsInHand next r × (next.story.turns ≡ c.story.turns))
+
+-- so does taking what is at hand, after which the refresh goes on
+abbrev pub TakingKeeps : Type 0
+TakingKeeps = (c : Scene) (r : ℕ) (p : Participant) (taken : Session) (cache : Cache) → Keeps (c.world, c.story) → IsInHand c r → participant c.world c.session.by ≡ Some p
+    → IfSome c.session.standing.to_load (λ root. SnapshotsAreDecided) → TakesSome hss_judged r c.session p.cache taken cache
+    → (let next : Scene = with_cache hss_judged r c p taken cache in Keeps (next.world, next.story) × IsInHand next r)
+
+-- so do more heads that a participant received, which were met
+abbrev pub ReceivingKeeps : Type 0
+ReceivingKeeps = (w : World) (st : Story) (name : List ℕ) (heads : List Entry) → Keeps (w, st) → AllByRecursion (IsMetHead w.met) heads → Keeps (w, receiving st name heads)
+
 -- so does an ask whose answer isn't heard, since memory is wanting
 abbrev pub VainAsksKeep : Type 0
 VainAsksKeep = (c : Scene) (r : ℕ) (p : Participant) (node : Peer) (question : Ask) (answer : Answer) (world : World) (heard t : Session) (cache : Cache) → Keeps (c.world, c.story) → IsInHand c r
@@ -131,6 +152,44 @@ LackingKeeps = (c : Scene) (r : ℕ) (t : Session) → IsInHand c r → LacksMem
 abbrev pub PublishingKeeps : Type 0
 PublishingKeeps = (c next : Scene) (r : ℕ) → Keeps (c.world, c.story) → OnlyPublishes c.world r c.session → c.world.replicas ≡ Some r → Steps hss_judged r c.session.by c next
     → Keeps (next.world, next.story) × OnlyPublishes next.world r next.session × (next.story.turns ≡ c.story.turns)
+
+-- ---- calls that begin
+
+-- a session that begins is in hand
+abbrev pub CallsBegin : Type 0
+CallsBegin = (w : Played) (r : ℕ) (s : Sending) (t : Session) → Keeps w → w.0.replicas ≡ Some r → participant w.0 s.by.name ≡ Some s.by → s.by.agent.view ≡ Some s.view → BeginsWith w.0 s t
+    → IsInHand (record { world = w.0; story = having_begun w.1; session = t; began = beginning w.1 s.by.name }) r
+
+-- so the line that opens a session leaves such a world
+abbrev pub OpenLineKeeps : Type 0
+OpenLineKeeps = (session log : List ℕ) (pieces : List Piece) (w next : Played) (output : List ℕ) → Keeps w → Does hss_judged w (command.Open session log pieces) (Goes next output) → Keeps next
+
+-- ---- what is left to be shown of steps
+
+-- such a world and such a session, and each turn in the step is on the replay
+abbrev pub StepLeaves : Scene → Scene → ℕ → Type 0
+StepLeaves c next r = Keeps (next.world, next.story) × IsInHand next r × (more : List HadTurn) × NewTurns c.story next.story more × ((h : HadTurn) → Contains more h → TurnHolds h)
+
+-- a turn that is answered
+abbrev pub AnsweredTurnsKeep : Type 0
+AnsweredTurnsKeep = (c : Scene) (r : ℕ) (p : Participant) (view : View) (reply : Reply) (applied : ℕ) (after : Agent) (saving : Option Kept) (t : Session) (turned : Turned) → Keeps (c.world, c.story) → IsInHand c r
+    → c.world.replicas ≡ Some r → participant c.world c.session.by ≡ Some p → p.agent.view ≡ Some view
+    → TakesTurn c.world.now p.agent view (fails_next p.keeper) c.session (Answered reply applied) after saving t → turned.reply ≡ reply
+    → (NamesTellApart (named_bytes c.world) → IsTurnIn (named_bytes c.world) c.world.now p.agent view (fails_next p.keeper) c.session c.began.knew (known_of c.story p.name) turned)
+    → StepLeaves c (record { world = world_after c.world (record (after_turn p after saving) { work = applied }); story = turn_told c p view after turned; session = t; began = c.began }) r
+
+-- a turn that is refused
+abbrev pub RefusedTurnsKeep : Type 0
+RefusedTurnsKeep = (c : Scene) (r : ℕ) (p : Participant) (view : View) (end : TurnEnd) (after : Agent) (saving : Option Kept) (t : Session) → Keeps (c.world, c.story) → IsInHand c r
+    → c.world.replicas ≡ Some r → participant c.world c.session.by ≡ Some p → p.agent.view ≡ Some view → IsRefusal end
+    → TakesTurn c.world.now p.agent view (fails_next p.keeper) c.session end after saving t
+    → StepLeaves c (record c { world = world_after c.world (after_turn p after saving); session = t; began = record c.began { knew = known_of c.story p.name } }) r
+
+-- Where turns leave such a world and such a session, and it can be told whether blocks are a snapshot, so does each step.
+abbrev pub StepsKeepByTurns : Type 0
+StepsKeepByTurns = SnapshotsAreDecided → AnsweredTurnsKeep → RefusedTurnsKeep → StepsKeep
+
+-- ---- replies
 
 -- in such a world the headline holds of each line; so it holds of each line of a run
 abbrev pub HeadlineHolds : Type 0

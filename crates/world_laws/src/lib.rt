@@ -12,12 +12,14 @@
 //! that holds all that it knows isn't behind, and one without a basis isn't below the tide), `proofs/SecondTurns.antt`,
 //! `proofs/DoneSteps.antt`, `proofs/SignedHeads.antt` (what holds of the one whose bytes a keeper holds), `proofs/Frames.antt`
 //! (changes of a world's nodes and of one participant), `proofs/Publishing.antt` (an ask by which only what was met is put),
-//! `proofs/OneTruth.antt` (linked records that end at one record). Nothing here runs, so there are no costs.
+//! `proofs/OneTruth.antt` (linked records that end at one record), `proofs/Receiving.antt` (what more heads leave as it was),
+//! `proofs/TakingOn.antt` and `proofs/GetsBring.antt` (a session that is brought something goes on), `proofs/Beginning.antt` (a
+//! session that begins). Nothing here runs, so there are no costs.
 #![tactic(auto)]
 
 ghost use Rattle.world_laws.specs.Frames.{DamageLinesKeep, HeadlineOfRuns, JoinLinesKeep, KeeperLinesKeep, LinesKeepByThese, MildChangesKeep, MoreBlocksKeep, RingLinesKeep, RoundLinesKeep, StillLinesKeep, StopLinesKeep, ViewLinesKeep};
 ghost use Rattle.world_laws.specs.Kinds.{LineHasOneKind};
-ghost use Rattle.world_laws.specs.Laws.{AlikeTurnsAnswerAlike, ClashIsDecided, EmptyKeeps, FewerStayApart, FreshTurnsAreAnswered, GetsGoOnKeep, HeadsAreSavedFirst, KeptOnce, KnownIsOne, LackingKeeps, LackingStepsKeep, LeafSignsOnce, MetGrows, OneTruth, OtherLogsDontCount, PublishingKeeps, PutsKeep, RefreshBrings, RefreshEndsInTurn, RefreshMayTurn, SecondTurnIsAnswered, SettlingKeeps, StillLinesChangeNothing, UpperLeavesSignOnce, VainAsksKeep, WholePublishingKeeps};
+ghost use Rattle.world_laws.specs.Laws.{AlikeTurnsAnswerAlike, CallsBegin, ClashIsDecided, EmptyKeeps, FewerStayApart, FreshTurnsAreAnswered, GetsBringKeep, GetsGoOnKeep, HeadsAreSavedFirst, KeptOnce, KnownIsOne, LackingKeeps, LackingStepsKeep, LeafSignsOnce, MetGrows, OneTruth, OpenLineKeeps, OtherLogsDontCount, PublishingKeeps, PutsKeep, ReceivingKeeps, RefreshBrings, RefreshEndsInTurn, RefreshMayTurn, SecondTurnIsAnswered, SettlingKeeps, StepsKeepByTurns, StillLinesChangeNothing, TakingKeeps, UpperLeavesSignOnce, VainAsksKeep, WholePublishingKeeps};
 
 /// A law and no code: of any blocks, names tell them apart, or two of them clash.
 pub fn clashes_are_decided()
@@ -132,8 +134,9 @@ pub fn lines_without_sessions_keep()
     ensures view { ViewLinesKeep }
 {}
 
-/// Laws and no code: an ask of a put, one of a get by which nothing is brought yet, one that isn't heard, settling, and the end
-/// for want of memory of a session in hand leave such a world and such a session.
+/// Laws and no code: an ask of a put or of a get, whatever it brings, one that isn't heard, settling, what is at hand taken, and the
+/// end for want of memory of a session in hand leave such a world and such a session; and so do more heads received. Where there is
+/// a snapshot to load, that asks that of any blocks it can be told whether they are one.
 pub fn some_steps_keep()
     ensures puts { PutsKeep }
     ensures gets_go_on { GetsGoOnKeep }
@@ -141,6 +144,9 @@ pub fn some_steps_keep()
     ensures lacking { LackingKeeps }
     ensures vain { VainAsksKeep }
     ensures lacking_step { LackingStepsKeep }
+    ensures gets_bring { GetsBringKeep }
+    ensures taking { TakingKeeps }
+    ensures receiving { ReceivingKeeps }
 {}
 
 /// A law and no code: where names tell the blocks apart, a floor names one set of records among them.
@@ -152,6 +158,19 @@ pub fn floors_name_one_set()
 /// agent knows of a log is the beginning of the one chain that the log's keeper names.
 pub fn there_is_one_truth()
     ensures { OneTruth }
+{}
+
+/// Laws and no code: a session that begins in such a world is one that keeps what it should, so the line that opens a session
+/// leaves such a world.
+pub fn calls_begin()
+    ensures begin { CallsBegin }
+    ensures open { OpenLineKeeps }
+{}
+
+/// A law and no code: what is left to be shown of steps. Where turns, answered or refused, leave such a world and such a session,
+/// so does each step, if of any blocks it can be told whether they are a snapshot.
+pub fn steps_left()
+    ensures { StepsKeepByTurns }
 {}
 
 /// Laws and no code: what is left to be shown of lines. Where the commands that log, use, restart and snap, those of sessions,
