@@ -28,6 +28,10 @@ pub mod WholePublishing
 pub mod InHand
 pub mod OneKnown
 pub mod OneTruth
+pub mod Placed
+pub mod Afresh
+pub mod SignedAmong
+pub mod RestartLines
 pub mod AllLines
 pub mod Taking
 pub mod LackingSteps

@@ -133,6 +133,12 @@ RoundLinesKeep = LineKeeps command.Round
 abbrev pub ViewLinesKeep : Type 0
 ViewLinesKeep = (view : List ℕ) (members former : List (List ℕ)) → members ≢ [] → LineKeeps (command.View view members former)
 
+-- ---- lines of participants
+
+-- an agent starts again from what its keeper's bytes say
+abbrev pub RestartLinesKeep : Type 0
+RestartLinesKeep = (log : List ℕ) → LineKeeps (command.Restart log)
+
 -- ---- all lines
 
 -- the commands of which it is still to be shown
