@@ -15,6 +15,7 @@ use Rattle.world_laws.specs.Frames.{HeadlineOfRuns, IsLeft, LinesKeepByThese}
 use Rattle.world_laws.proofs.Lines.{damage_lines_keep, keeper_lines_keep, still_lines_keep, stop_lines_keep}
 use Rattle.world_laws.proofs.RingLines.{join_lines_keep, ring_lines_keep, round_lines_keep}
 use Rattle.world_laws.proofs.ViewLines.{view_lines_keep}
+use Rattle.world_laws.proofs.RestartLines.{restart_lines_keep}
 
 pub headline_of_runs : HeadlineOfRuns
 headline_of_runs lines headline w number script ran keeps runs =
@@ -89,7 +90,7 @@ command_keeps w next output command.Round left keeps does = round_lines_keep w n
 command_keeps w next output (command.Lose count) left keeps does = still_lines_keep (command.Lose count) tt w next output keeps does
 command_keeps w next output (command.Damage node key offset byte) left keeps does = damage_lines_keep node key offset byte w next output keeps does
 command_keeps w next output (command.Snap log) left keeps does = left tt
-command_keeps w next output (command.Restart log) left keeps does = left tt
+command_keeps w next output (command.Restart log) left keeps does = restart_lines_keep log w next output keeps does
 command_keeps w next output (command.Keep log count new) left keeps does = keeper_lines_keep log count new w next output keeps does
 command_keeps w next output (command.Holds node) left keeps does = still_lines_keep (command.Holds node) tt w next output keeps does
 command_keeps w next output (command.Order log) left keeps does = still_lines_keep (command.Order log) tt w next output keeps does

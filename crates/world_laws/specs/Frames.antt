@@ -151,7 +151,6 @@ IsLeft (command.Open session log pieces) = Unit {0}
 IsLeft (command.Step session count) = Unit {0}
 IsLeft (command.Finish session) = Unit {0}
 IsLeft (command.Snap log) = Unit {0}
-IsLeft (command.Restart log) = Unit {0}
 IsLeft _ = ⊥
 
 -- Where these commands, as lines say them, leave such a world, so does each line.
