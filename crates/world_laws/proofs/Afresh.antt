@@ -24,11 +24,11 @@ use Rattle.world_model.specs.Story.{Began, Knowing, Story, began_nothing, began_
 use Rattle.world_model.specs.Logs.{Played, afresh_told, names_of_sessions}
 use Rattle.world_laws.specs.Causes.{HasCause, said_at}
 use Rattle.world_laws.specs.Causes.HasCause.{alone, missed, turned, no_memory}
-use Rattle.world_laws.specs.Keeps.{AreApart, AreNumbered, AreSound, BlocksAreMet, GoesOn, HasRing, HasSaid, IsKeptSo, IsMetHead, IsMetPost, IsSavedWell, IsSoundIn, IsSoundKeptIn, IsSoundSession, Keeps, KeepsUp, PeersAreMade, SignsOnce}
+use Rattle.world_laws.specs.Keeps.{AreApart, AreNumbered, AreSound, BlocksAreMet, GoesOn, HasRing, HasSaid, IsKeptSo, IsMetHead, IsMetPost, IsSavedWell, AreParticipants, EntersOwned, IsSoundIn, IsSoundKeptIn, IsSoundSession, Keeps, KeepsUp, PeersAreMade, SignsOnce}
 use Rattle.world_laws.specs.Frames.{unchanged}
 use Rattle.world_laws.proofs.Bringing.{found_named}
-use Rattle.world_laws.proofs.Frames.{all_mapped, goes_on_still, held_more, into_map, one_named, same_keys, same_map, sound_still}
-use Rattle.world_laws.proofs.MoreMet.{grows_before, more_heads, more_kept_in, more_posts, more_snapshots, more_sound, more_to_load}
+use Rattle.world_laws.proofs.Frames.{all_mapped, goes_on_still, held_more, into_map, one_named, same_keys, same_map, sound_still, still_participants}
+use Rattle.world_laws.proofs.MoreMet.{grows_before, more_heads, more_kept_in, more_posts, more_snapshots, more_sound, more_to_load, some_weaker}
 use Rattle.world_laws.proofs.Placed.{apart_left, differ, find_left, find_other, find_own, found_among, found_some, is_name, names_left, names_placed, other_name, placed, same_left, same_name}
 use Rattle.world_laws.proofs.SignedHeads.{from_map}
 
@@ -93,6 +93,7 @@ pub record IsFit (w : Played) (p q : Participant) (met : List (List ℕ)) (set :
   pub cached : IsCache q.cache × AllByRecursion (λ e. Contains met e.1) q.cache
   pub signs : IsKeptSo SignsOnce q
   pub saved : IsKeptSo IsSavedWell q
+  pub entered : EntersOwned w.0 q
   pub agent : NamesTellApart (named_bytes (afresh_world w.0 p q met)) → IsSoundIn met q (knowing_afresh w p set) q.agent.view
   pub keeper : NamesTellApart (named_bytes (afresh_world w.0 p q met)) → IsKeptSo (λ o k. IsSoundKeptIn met o (knowing_afresh w p set) k k.view) q
   pub to_load : NamesTellApart (named_bytes (afresh_world w.0 p q met)) → IfSome q.agent.view (λ view. IfSome q.agent.to_load (λ root. (q.agent.holding ≡ nothing_held) × IsSnapshotOf met view set root))
@@ -230,6 +231,26 @@ module _ (w : Played) (keeps : Keeps w) (p : Participant) (is_p : participant w.
       by k k_in true = subst (λ (l : Knowing). AllByRecursion (IsMetHead met) l.received) (sym knowing_is) (before told.0 (found_among told_name w.1.participants p.name told.0 told.1).0)
       by k k_in false = before k k_in
 
+  -- ---- views
+
+  owners : map (λ (o : Participant). own o.agent) v.participants ≡ map (λ (o : Participant). own o.agent) w.0.participants
+  owners = same_map (λ (o : Participant). own o.agent) put w.0.participants (λ o o_in. by o o_in (bytes_eq o.name q.name) refl)
+    where
+      by : (o : Participant) → Contains w.0.participants o → (b : Bool) → bytes_eq o.name q.name ≡ b → own (cond b q o).agent ≡ own o.agent
+      by o o_in true is =
+          let one : p ≡ o = one_named by_name w.0.participants p o keeps.apart among o_in (sym (same_name o.name q.name is ∙ named)) in
+          owned ∙ ap (λ (x : Participant). own x.agent) one
+      by o o_in false is = refl
+
+  owned_then : (view : View) → AreParticipants w.0 view → AreParticipants v view
+  owned_then view h = still_participants w.0 v owners view h
+
+  entered_then : (o : Participant) → EntersOwned w.0 o → EntersOwned v o
+  entered_then o h = record {
+    agent = some_weaker _ _ o.agent.view owned_then h.agent;
+    keeper = (h.keeper.0, h.keeper.1, h.keeper.2, some_weaker _ _ h.keeper.0.view owned_then h.keeper.3);
+  }
+
   -- ---- where names tell apart
 
   keys : map (λ (o : Participant). (own o.agent).0) v.participants ≡ map (λ (o : Participant). (own o.agent).0) w.0.participants
@@ -286,11 +307,12 @@ module _ (w : Played) (keeps : Keeps w) (p : Participant) (is_p : participant w.
       cached = all_put (λ o. IsCache o.cache × AllByRecursion (λ e. Contains met e.1) o.cache) fit.cached (λ o o_in other.
           let old : IsCache o.cache × AllByRecursion (λ e. Contains w.0.met e.1) o.cache = each (λ (x : Participant). IsCache x.cache × AllByRecursion (λ e. Contains w.0.met e.1) x.cache) w.0.participants o keeps.met.cached o_in in
           (old.0, all_weaker _ _ o.cache (λ e h. grows e.1 h) old.1));
-      views = keeps.met.views;
+      views = all_weaker _ _ w.0.views (λ x h. (h.0, h.1, owned_then x.view h.2)) keeps.met.views;
     };
     peers = record { named = keeps.peers.named; apart = keeps.peers.apart; few = keeps.peers.few; known = keeps.peers.known };
     signs = all_put (IsKeptSo SignsOnce) fit.signs (λ o o_in other. each (IsKeptSo SignsOnce) w.0.participants o keeps.signs o_in);
     saved = all_put (IsKeptSo IsSavedWell) fit.saved (λ o o_in other. each (IsKeptSo IsSavedWell) w.0.participants o keeps.saved o_in);
+    entered = all_put (EntersOwned v) (entered_then q fit.entered) (λ o o_in other. entered_then o (each (EntersOwned w.0) w.0.participants o keeps.entered o_in));
     apart = subst AreApart (sym names) keeps.apart;
     named_once = apart_left session_name stays w.0.sessions keeps.named_once;
     moment = keeps.moment;

@@ -31,6 +31,8 @@ pub mod OneTruth
 pub mod Placed
 pub mod Afresh
 pub mod SignedAmong
+pub mod EnteredViews
+pub mod KnownHeads
 pub mod RestartLines
 pub mod AllLines
 pub mod Taking

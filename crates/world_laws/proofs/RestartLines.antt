@@ -30,7 +30,7 @@ use Rattle.world_model.specs.Story.{Knowing, knowing_of, known_of}
 use Rattle.world_model.specs.Steps.{having_made, heads_by, met_by}
 use Rattle.world_model.specs.Logs.{IsKnownAgain, Played, RestartLine, afresh_told, restarted}
 use Rattle.world_model.specs.Logs.RestartLine.{nobody as restart_nobody, outside as restart_outside, starts as restart_starts}
-use Rattle.world_laws.specs.Keeps.{AreSignedOnce, AreSound, IsKeptSo, IsMetPost, IsSavedWell, IsSoundIn, IsSoundKept, IsSoundKeptIn, Keeps, NamesOneOf, SignsOnce}
+use Rattle.world_laws.specs.Keeps.{AreSignedOnce, AreSound, IsKeptSo, IsMetPost, IsSavedWell, AreParticipants, EntersOwned, IsSoundIn, IsSoundKept, IsSoundKeptIn, Keeps, NamesOneOf, SignsOnce}
 use Rattle.world_laws.specs.Frames.{RestartLinesKeep, unchanged}
 use Rattle.world_laws.proofs.Afresh.{IsFit, afresh_world, apart_before, keeps_afresh, knowing_afresh}
 use Rattle.world_laws.proofs.Bringing.{found_named}
@@ -107,6 +107,9 @@ module _ (w : Played) (keeps : Keeps w) (p : Participant) (is_p : participant w.
 
   saved : IsSavedWell p k
   saved = so_of IsSavedWell p k (each (IsKeptSo IsSavedWell) w.0.participants p keeps.saved among) whole held
+
+  kept_view_owned : IfSome k.view (AreParticipants w.0)
+  kept_view_owned = so_of (λ o l. IfSome l.view (AreParticipants w.0)) p k (each (EntersOwned w.0) w.0.participants p keeps.entered among).keeper whole held
 
   module _ (apart : NamesTellApart (named_bytes (restarted w.0 p k))) where
     old : AreSound w.0 w.1
@@ -185,6 +188,7 @@ module _ (w : Played) (keeps : Keeps w) (p : Participant) (is_p : participant w.
     cached = (empty_valid, tt);
     signs = (k, whole, held, signs_then);
     saved = (k, whole, held, record { agent = whole; entered = λ h. h });
+    entered = record { agent = kept_view_owned; keeper = (k, whole, held, kept_view_owned) };
     agent = agent;
     keeper = λ apart. (k, whole, held, keeper apart);
     to_load = λ apart. some_weaker _ _ k.view (λ v h. some_weaker _ _ k.snapshot (λ root s. (refl, s)) h) (snapshots apart);

@@ -25,7 +25,7 @@ use Rattle.world_model.specs.World.{World, NamedView, Participant, peer_of}
 use Rattle.world_model.specs.Story.{Story}
 use Rattle.world_model.specs.Logs.{Played}
 use Rattle.world_model.specs.Step.{Does}
-use Rattle.world_laws.specs.Keeps.{Keeps, PeersAreMade}
+use Rattle.world_laws.specs.Keeps.{AreParticipants, Keeps, PeersAreMade}
 use Rattle.world_laws.specs.Laws.{EachReplyIsOnReplay, HeadlineHolds, IsStill, LinesKeep}
 
 -- ---- participants
@@ -85,7 +85,7 @@ pub record IsMild (w : World) (c : Changes) : Type 0 where
   pub made : PeersAreMade (record w { nodes = c.nodes })
   pub ring : AreOfRing w.replicas c.nodes
   pub held : AllByRecursion (λ n. IsStore n.blocks × AllByRecursion (λ e. Contains c.met e.1.bytes) n.blocks) c.nodes
-  pub views : AllByRecursion (λ v. IsView v.view × HasKeys v.view) c.views
+  pub views : AllByRecursion (λ v. IsView v.view × HasKeys v.view × AreParticipants w v.view) c.views
   pub moment : IsMoment c.now
   pub grows : (b : List ℕ) → Contains w.met b → Contains c.met b
   pub each : (p : Participant) → Contains w.participants p → IsMildChange c.met p (c.change p)
