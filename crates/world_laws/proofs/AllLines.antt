@@ -16,6 +16,7 @@ use Rattle.world_laws.proofs.Lines.{damage_lines_keep, keeper_lines_keep, still_
 use Rattle.world_laws.proofs.RingLines.{join_lines_keep, ring_lines_keep, round_lines_keep}
 use Rattle.world_laws.proofs.ViewLines.{view_lines_keep}
 use Rattle.world_laws.proofs.RestartLines.{restart_lines_keep}
+use Rattle.world_laws.proofs.UseLines.{use_lines_keep}
 
 pub headline_of_runs : HeadlineOfRuns
 headline_of_runs lines headline w number script ran keeps runs =
@@ -78,7 +79,7 @@ command_keeps w next output (command.Ring nodes replicas) left keeps does = ring
 command_keeps w next output (command.Log log id seed sets) left keeps does = left tt
 command_keeps w next output (command.View view [] former) left keeps does = left tt
 command_keeps w next output (command.View view (m ∷ ms) former) left keeps does = view_lines_keep view (m ∷ ms) former (some_first m ms) w next output keeps does
-command_keeps w next output (command.Use log view) left keeps does = left tt
+command_keeps w next output (command.Use log view) left keeps does = use_lines_keep log view w next output keeps does
 command_keeps w next output (command.At sec nsec) left keeps does = still_lines_keep (command.At sec nsec) tt w next output keeps does
 command_keeps w next output (command.As log pieces) left keeps does = left tt
 command_keeps w next output (command.Open session log pieces) left keeps does = left tt

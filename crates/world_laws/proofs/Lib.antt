@@ -33,6 +33,8 @@ pub mod Afresh
 pub mod SignedAmong
 pub mod EnteredViews
 pub mod KnownHeads
+pub mod OtherBytes
+pub mod UseLines
 pub mod RestartLines
 pub mod AllLines
 pub mod Taking

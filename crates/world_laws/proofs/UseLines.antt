@@ -13,11 +13,13 @@ use Rattle.ivy_io.specs.Keepers as memory
 use Rattle.block_cache.proofs.Pairs.{empty_valid}
 use Rattle.tree_model.proofs.Keys.{same_key_itself}
 use Rattle.round_laws.proofs.Nodes.{ties}
-use Rattle.log_model.proofs.Lists.{each, each_append, each_from, here, in_cons, in_nothing, who_passes}
+use Rattle.log_model.proofs.Later.{good_of}
+use Rattle.log_model.proofs.Lists.{each, each_from, each_left, from_filter, here, in_cons, in_nothing, who_passes}
+use Rattle.log_model.proofs.Owners.{owner_itself}
 use Rattle.log_model.proofs.Opening.{same_owner}
 use Rattle.log_model.proofs.Part.{found_stamp}
 use Rattle.log_model.specs.Chain.{IsChain}
-use Rattle.log_model.specs.Closed.{IsClosed, log_of}
+use Rattle.log_model.specs.Closed.{IsCause, IsClosed, log_of}
 use Rattle.log_model.specs.Rank.{front, own_entry}
 use Rattle.log_model.specs.Record.{Record}
 use Rattle.log_model.specs.Spelling.{record_block}
@@ -29,26 +31,29 @@ use Rattle.turn_laws.proofs.Heads.{member_is, one_member}
 use Rattle.turn_model.specs.Basis.{Holding, Knows, nothing_held}
 use Rattle.turn_model.specs.Known.{EndsAt, IsKnown, IsVerified}
 use Rattle.view_blocks.specs.Faults.{HasKeys}
+use Rattle.dht_ids.specs.declared.post.Post.{Post}
 use Rattle.agent_model.specs.Agent.{entered, failed, kept_of, own_key}
 use Rattle.agent_model.specs.Views.{Entered, NotMember, NotNamed, KeeperFailed, entering_with, is_own_member, is_refused_in, not_named, was_former}
 use Rattle.session_model.specs.Sessions.{Cache}
 use Rattle.script_driver.specs.Run.{Outcome, Goes, Ends, Refuses, Exceeds}
-use Rattle.world_model.specs.Agents.{Agent, IsKept, Kept, hss, kept_bytes, own, own_reach, sealed}
+use Rattle.world_model.specs.Agents.{Agent, Entering, IsKept, Kept, hss, kept_bytes, own, own_reach, sealed}
 use Rattle.world_model.specs.Keepers.{Keeper, asked_to_save, fails_next}
 use Rattle.world_model.specs.World.{NamedView, World, Participant, named_bytes, participant, view_named, with_participant}
 use Rattle.world_model.specs.Story.{Knowing, knowing_of, known_of}
 use Rattle.world_model.specs.Steps.{heads_by}
-use Rattle.world_model.specs.Logs.{Played, after_entering, of_members, use_by, use_line}
+use Rattle.world_model.specs.Logs.{Played, afresh_told, after_entering, of_members, use_by, use_line}
 use Rattle.world_laws.specs.Keeps.{AreParticipants, AreSignedOnce, AreSound, EntersOwned, IsKeptSo, IsMetPost, IsSavedWell, IsSoundIn, IsSoundKeptIn, Keeps, NamesOneOf, SignsOnce, sealed_with}
 use Rattle.world_laws.specs.Frames.{Change, UseLinesKeep, unchanged}
 use Rattle.world_laws.proofs.Afresh.{IsFit, afresh_world, apart_before, keeps_afresh, knowing_afresh}
 use Rattle.world_laws.proofs.Bringing.{found_named}
-use Rattle.world_laws.proofs.EnteredViews.{TakesIn, closed_in, covered_in, knows_in, own_log, stands_in, verified_in}
-use Rattle.world_laws.proofs.Frames.{participant_keeps, placed_itself}
+use Rattle.world_laws.proofs.EnteredViews.{TakesIn, covered_in, knows_in, own_log, stands_in, verified_in}
+use Rattle.world_laws.proofs.Frames.{into_map, participant_keeps, placed_itself}
 use Rattle.world_laws.proofs.KnownHeads.{heads_low}
 use Rattle.world_laws.proofs.Lines.{ToSuch}
 use Rattle.world_laws.proofs.MoreMet.{more_verified, more_stand}
+use Rattle.world_laws.proofs.OtherBytes.{other_bytes_keep}
 use Rattle.world_laws.proofs.Placed.{found_among}
+use Rattle.world_laws.proofs.PublicKeys.{owner_is_key}
 use Rattle.world_laws.proofs.SignedAmong.{fewer_signed_once}
 use Rattle.world_laws.proofs.SignedHeads.{from_map, so_of}
 
@@ -350,24 +355,100 @@ module _ (w : Played) (keeps : Keeps w) (p : Participant) (is_p : participant w.
 
   -- ---- it is entered
 
-  fit : (y : Keeper) → y.kept ≡ Some (kept_bytes l) → IsFit w p (q (Some view) nothing_held None None false y []) w.0.met left
-  fit y held = record {
-    named = refl;
-    owned = refl;
-    pending = each _ w.0.participants p keeps.met.pending among;
-    cached = (empty_valid, tt);
-    signs = (l, whole, held, signs_then (Some view) nothing_held None None false y []);
-    saved = (l, whole, held, record { agent = whole; entered = λ h. h });
-    entered = record { agent = ours; keeper = (l, whole, held, ours) };
-    agent = λ apart. let then_so = knows_then (before apart) in record { knows = then_so.knows; stand = then_so.stand; verified = then_so.verified; covers = then_so.covers };
-    keeper = λ apart. (l, whole, held, keeps_bytes (before apart) (Some view) nothing_held None None false y [] (knowing_afresh w p left) refl refl);
-    to_load = λ apart. tt;
-    snapshots = λ apart. tt;
-  }
-    where
-      before : NamesTellApart (named_bytes (afresh_world w.0 p (q (Some view) nothing_held None None false y []) w.0.met)) → NamesTellApart (named_bytes w.0)
-      before apart = apart_before w keeps p is_p (q (Some view) nothing_held None None false y []) refl refl w.0.met (λ b h. h) left apart
+  -- the agent in the view, and its keeper
+  abbrev entering_it : Keeper → Participant
+  entering_it y = q (Some view) nothing_held None None a.has_failed y []
 
-  pub entered_keeps : (y : Keeper) → a.has_failed ≡ false → y.kept ≡ Some (kept_bytes l)
-      → Keeps (afresh_world w.0 p (q (Some view) nothing_held None None false y []) w.0.met, afresh_told w p.name left)
-  entered_keeps y unfailed held = keeps_afresh w keeps p is_p (q (Some view) nothing_held None None false y []) refl refl w.0.met (λ b h. h) left (fit y held)
+  module _ (y : Keeper) (held : y.kept ≡ Some (kept_bytes l)) where
+    before : NamesTellApart (named_bytes (afresh_world w.0 p (entering_it y) w.0.met)) → NamesTellApart (named_bytes w.0)
+    before apart = apart_before w keeps p is_p (entering_it y) refl refl w.0.met (λ b h. h) left apart
+
+    fit : IsFit w p (entering_it y) w.0.met left
+    fit = record {
+      named = refl;
+      owned = refl;
+      pending = each _ w.0.participants p keeps.met.pending among;
+      cached = (empty_valid, tt);
+      signs = (l, whole, held, signs_then (Some view) nothing_held None None a.has_failed y []);
+      saved = (l, whole, held, record { agent = whole; entered = λ h. h });
+      entered = record { agent = ours; keeper = (l, whole, held, ours) };
+      agent = λ apart. let then_so = knows_then (before apart) in record { knows = then_so.knows; stand = then_so.stand; verified = then_so.verified; covers = then_so.covers };
+      keeper = λ apart. (l, whole, held, keeps_bytes (before apart) (Some view) nothing_held None None a.has_failed y [] (knowing_afresh w p left) refl refl);
+      to_load = λ apart. tt;
+      snapshots = λ apart. tt;
+    }
+
+    entered_keeps : Keeps (afresh_world w.0 p (entering_it y) w.0.met, afresh_told w p.name left)
+    entered_keeps = keeps_afresh w keeps p is_p (entering_it y) refl refl w.0.met (λ b h. h) left fit
+
+  -- ---- its save fails
+
+  -- the agent as it was, which saves no more
+  abbrev failing_it : Keeper → Participant
+  failing_it y = q a.view a.holding a.to_load a.snapshot true y p.cache
+
+  -- and the old bytes are kept
+  old_bytes_keep : (y : Keeper) → y.kept ≡ p.keeper.kept → Keeps (with_participant w.0 (failing_it y), w.1)
+  old_bytes_keep y held = participant_keeps w p.name p (record (unchanged p) { has_failed = true; keeper = y }) keeps is_p (record {
+    kept = held;
+    pending = λ post c. c;
+    fewer = omega arith;
+    cached = each _ w.0.participants p keeps.met.cached among;
+  })
+
+  -- or the new bytes are
+  new_bytes_keep : (y : Keeper) → y.kept ≡ Some (kept_bytes l) → Keeps (with_participant w.0 (failing_it y), w.1)
+  new_bytes_keep y held = other_bytes_keep w keeps p is_p (record (unchanged p) { has_failed = true; keeper = y }) refl (record {
+    cached = each _ w.0.participants p keeps.met.cached among;
+    signs = (l, whole, held, signs_then a.view a.holding a.to_load a.snapshot true y p.cache);
+    saved = (l, whole, held, record { agent = saved.agent; entered = λ h. refl });
+    entered = (l, whole, held, ours);
+    sound = λ apart. (l, whole, held, keeps_bytes apart a.view a.holding a.to_load a.snapshot true y p.cache (knowing_of w.1 p.name) refl (sym (same_log apart)));
+  })
+
+  -- ---- what comes of it
+
+  saved_now : (o : Option Bool) → memory.planned_next p.keeper ≡ o → (asked_to_save p.keeper (Some l)).kept ≡ (memory.after_planned o p.keeper (kept_bytes l)).kept
+  saved_now o planned = ap (λ x. (memory.after_planned x p.keeper (kept_bytes l)).kept) planned
+
+  by_plan : (o : Option Bool) → memory.planned_next p.keeper ≡ o
+      → ToSuch Keeps (after_entering w p view (cond (is_some o) (KeeperFailed (failed a)) (Entered (entered a view))) (Some l))
+  by_plan None planned = entered_keeps (asked_to_save p.keeper (Some l)) (saved_now None planned)
+  by_plan (Some true) planned = new_bytes_keep (asked_to_save p.keeper (Some l)) (saved_now (Some true) planned)
+  by_plan (Some false) planned = old_bytes_keep (asked_to_save p.keeper (Some l)) (saved_now (Some false) planned)
+
+  by_failure : (b : Bool) → ToSuch Keeps (let came = cond {A = Entering × Option Kept} b (KeeperFailed a, None) (cond (fails_next p.keeper) (KeeperFailed (failed a)) (Entered (entered a view)), Some l) in after_entering w p view came.0 came.1)
+  by_failure true = subst (λ (v : World). Keeps (v, w.1)) (sym (placed_itself w.0 keeps.apart p.name p is_p)) keeps
+  by_failure false = by_plan (memory.planned_next p.keeper) refl
+
+-- ---- the line
+
+view_in : (vs : List NamedView) (name : List ℕ) (view : View) → option_map (λ (v : NamedView). v.view) (find (λ (v : NamedView). bytes_eq v.name name) vs) ≡ Some view → (v : NamedView) × Contains vs v × (v.view ≡ view)
+view_in vs name view is = by (find (λ (v : NamedView). bytes_eq v.name name) vs) refl is
+  where
+    same : (x y : View) → Some x ≡ Some y → x ≡ y
+    same x y e = cc e
+
+    by : (o : Option NamedView) → find (λ (v : NamedView). bytes_eq v.name name) vs ≡ o → option_map (λ (v : NamedView). v.view) o ≡ Some view → (v : NamedView) × Contains vs v × (v.view ≡ view)
+    by None found e = cc e
+    by (Some v) found e = (v, (found_among (λ (x : NamedView). x.name) vs name v found).0, same v.view view e)
+
+use_so : (w : Played) → Keeps w → (p : Participant) → participant w.0 p.name ≡ Some p → (view : View) → IsView view × HasKeys view × AreParticipants w.0 view → ToSuch Keeps (use_by w (Some p) (Some view))
+use_so w keeps p is_p view fits = by (is_own_member hss p.agent view) refl (not_named p.agent view) refl
+  where
+    by : (m : Bool) → is_own_member hss p.agent view ≡ m → (n : Option Key) → not_named p.agent view ≡ n
+        → ToSuch Keeps (let came = cond {A = Entering × Option Kept} m (entering_with p.agent view (fails_next p.keeper) n) (NotMember, None) in after_entering w p view came.0 came.1)
+    by false stranger n names = tt
+    by true member (Some log) names = tt
+    by true member None names = by_failure w keeps p is_p view fits.0 fits.1 fits.2 member names p.agent.has_failed
+
+use_keeps : (w : Played) → Keeps w → (log name : List ℕ) (o : Option Participant) → participant w.0 log ≡ o → (v : Option View) → view_named w.0 name ≡ v → ToSuch Keeps (use_by w o v)
+use_keeps w keeps log name None is v named = tt
+use_keeps w keeps log name (Some p) is None named = tt
+use_keeps w keeps log name (Some p) is (Some view) named =
+    use_so w keeps p (ap (participant w.0) (found_named w.0.participants log p is).1 ∙ is) view
+    (let found = view_in w.0.views name view named in
+    subst (λ x. IsView x × HasKeys x × AreParticipants w.0 x) found.2 (each (λ (x : NamedView). IsView x.view × HasKeys x.view × AreParticipants w.0 x.view) w.0.views found.0 keeps.met.views found.1))
+
+pub use_lines_keep : UseLinesKeep
+use_lines_keep log name w next output keeps does = subst (λ (o : Outcome Played). ToSuch Keeps o) (sym does) (use_keeps w keeps log name (participant w.0 log) refl (view_named w.0 name) refl)

@@ -135,6 +135,10 @@ ViewLinesKeep = (view : List ℕ) (members former : List (List ℕ)) → members
 
 -- ---- lines of participants
 
+-- a participant enters a view, or is refused, or its save fails
+abbrev pub UseLinesKeep : Type 0
+UseLinesKeep = (log view : List ℕ) → LineKeeps (command.Use log view)
+
 -- an agent starts again from what its keeper's bytes say
 abbrev pub RestartLinesKeep : Type 0
 RestartLinesKeep = (log : List ℕ) → LineKeeps (command.Restart log)
@@ -145,7 +149,6 @@ RestartLinesKeep = (log : List ℕ) → LineKeeps (command.Restart log)
 abbrev pub IsLeft : Command → Type 0
 IsLeft (command.Log log id seed sets) = Unit {0}
 IsLeft (command.View view [] former) = Unit {0}
-IsLeft (command.Use log view) = Unit {0}
 IsLeft (command.As log pieces) = Unit {0}
 IsLeft (command.Open session log pieces) = Unit {0}
 IsLeft (command.Step session count) = Unit {0}

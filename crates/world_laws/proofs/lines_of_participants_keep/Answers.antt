@@ -1,5 +1,9 @@
 use Rattle.world_laws.proofs.RestartLines.{restart_lines_keep}
+use Rattle.world_laws.proofs.UseLines.{use_lines_keep}
 use Rattle.world_laws.proofs.lines_of_participants_keep.Goals as goal
 
-pub returns : goal.returns
-returns c = record { restart = restart_lines_keep }
+pub returns-clause-enters : goal.returns-clause-enters
+returns-clause-enters c = use_lines_keep
+
+pub returns-clause-restarts : goal.returns-clause-restarts
+returns-clause-restarts c = restart_lines_keep
