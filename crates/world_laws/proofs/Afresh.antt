@@ -35,7 +35,7 @@ use Rattle.world_laws.proofs.SignedHeads.{from_map}
 -- ---- sessions under another story
 
 -- the story tells the same of the session's participant
-session_told : (v : World) (st other : Story) (s : Session) (b : Began) → knowing_of other s.by ≡ knowing_of st s.by → IsSoundSession v st s b → IsSoundSession v other s b
+pub session_told : (v : World) (st other : Story) (s : Session) (b : Began) → knowing_of other s.by ≡ knowing_of st s.by → IsSoundSession v st s b → IsSoundSession v other s b
 session_told v st other s b same h = record {
   by = h.by;
   is_by = h.is_by;
@@ -59,7 +59,7 @@ cause_told st ks bs n s _ (missed xid asked given miss asks refreshed is) = miss
 cause_told st ks bs n s _ (turned h xid asked given among of asks refreshed) = turned h xid asked given among of asks refreshed
 cause_told st ks bs n s _ (no_memory xid asked asks) = no_memory xid asked asks
 
-said_told : (st : Story) (ks : List Knowing) (bs : List (List ℕ × Began)) (n : ℕ) (s : Session) (o : Option Said) → HasSaid st n s o → HasSaid (record st { participants = ks; sessions = bs }) n s o
+pub said_told : (st : Story) (ks : List Knowing) (bs : List (List ℕ × Began)) (n : ℕ) (s : Session) (o : Option Said) → HasSaid st n s o → HasSaid (record st { participants = ks; sessions = bs }) n s o
 said_told st ks bs n s None h = tt
 said_told st ks bs n s (Some said) h = cause_told st ks bs n s said h
 

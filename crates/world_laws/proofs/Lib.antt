@@ -35,6 +35,8 @@ pub mod EnteredViews
 pub mod KnownHeads
 pub mod OtherBytes
 pub mod UseLines
+pub mod SignatureBytes
+pub mod Newcomer
 pub mod RestartLines
 pub mod AllLines
 pub mod Taking

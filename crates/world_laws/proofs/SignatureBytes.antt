@@ -1,6 +1,6 @@
 -- Signatures, and the first blocks of a log, are bytes, and few enough to stand in an array.
 use Rattle.std.proofs.Common.{◌≡◌, ℕ, zero, suc, ◌+◌, ◌*◌, ◌<◌, ◌≤◌, ◌^◌, Bool, true, false, List, [], ◌∷◌, ◌++◌, length, length-append, refl, ◌∙◌, arith}
-use Rattle.std.specs.Prelude.{take}
+use Rattle.std.specs.Prelude.{◌-◌, ◌%◌, replicate, take}
 use Rattle.std.specs.List.{list_all}
 use Rattle.std.proofs.lemmas.List.Folds.{list_all-append}
 use Rattle.ivy_base.proofs.NameLemmas.{bytes-name, length-name}
@@ -8,10 +8,11 @@ use Rattle.ivy_base.specs.declared.key.Key.{Key}
 use Rattle.ivy_base.specs.declared.key.PubKey.{PubKey}
 use Rattle.ivy_base.specs.declared.operation.Moment.{Moment}
 use Rattle.tree_model.proofs.Sound.{both_true}
-use Rattle.wire_model.specs.Xdr.{opaque, padding}
+use Rattle.ivy_base.specs.Naming.{head_key_of}
+use Rattle.wire_model.specs.Xdr.{moment, opaque, padding}
 use Rattle.log_model.proofs.Lists.{both}
 use Rattle.log_model.specs.Chain.{opening}
-use Rattle.log_model.specs.Spelling.{IsKey, record_block}
+use Rattle.log_model.specs.Spelling.{IsBlock, IsKey, head_message, no_name, record_block}
 use Rattle.log_model.specs.Vector.{Stamp}
 use Rattle.hash_signature_model.specs.declared.keys.PrivateKey.{PrivateKey}
 use Rattle.hash_signature_model.specs.declared.set.Height.{Height}
@@ -139,8 +140,12 @@ signature_short id seed (set ∷ lower) made message few =
 
 -- ---- heads and opening records
 
+zeros_short : (n : ℕ) → IsShort n (replicate n 0)
+zeros_short zero = no_bytes
+zeros_short (suc n) = within (1 + n) (suc n) (0 ∷ replicate n 0) (omega arith) (after 1 n (0 ∷ []) (replicate n 0) (record { few = omega arith; each = refl }) (zeros_short n))
+
 padding_short : (n : ℕ) → IsShort 3 (padding n)
-padding_short n = padded n
+padding_short n = within ((4 - n % 4) % 4) 3 (padding n) (omega arith) (zeros_short ((4 - n % 4) % 4))
 
 opaque_short : (most : ℕ) (bytes : List ℕ) → IsShort most bytes → IsShort (4 + (most + 3)) (opaque bytes)
 opaque_short most bytes h = after 4 (most + 3) (word (length bytes)) (bytes ++ padding (length bytes)) (a_word (length bytes)) (after most 3 bytes (padding (length bytes)) h (padding_short (length bytes)))
@@ -172,10 +177,23 @@ sealed_opaque s whole t named =
 pub opening_opaque : (own : PubKey) (now : Moment) → AreOpaque (record_block (opening own now))
 opening_opaque own now =
     to_opaque 64 (record_block (opening own now)) (omega arith)
-    (after 28 36 (73 ∷ 86 ∷ 82 ∷ 49 ∷ word 9 ++ head_key) (no_name.0 ++ word 1 ++ moment now ++ word 0)
-    (after 8 20 (73 ∷ 86 ∷ 82 ∷ 49 ∷ word 9) head_key (record { few = omega arith; each = refl }) (record { few = omega (arith, length-name own.0); each = bytes-name own.0 }))
-    (after 24 12 (no_name.0 ++ word 1) (moment now ++ word 0) (record { few = omega arith; each = refl })
-    (after 8 4 (moment now) (word 0) (after 4 4 (word now.sec) (word now.nsec) (a_word now.sec) (a_word now.nsec)) (a_word 0))))
+    (after 64 0 (kept ++ word 0) [] (after 60 4 kept (word 0) (after 52 8 numbered (moment now) (after 48 4 named (word 1) (after 28 20 tagged no_name.0 (after 8 20 (73 ∷ 86 ∷ 82 ∷ 49 ∷ word 9) head_key (record { few = omega arith; each = refl }) key)
+    (record { few = omega arith; each = refl })) (a_word 1)) (after 4 4 (word now.sec) (word now.nsec) (a_word now.sec) (a_word now.nsec))) (a_word 0)) no_bytes)
   where
     head_key : List ℕ
     head_key = (head_key_of own).0
+
+    key : IsShort 20 head_key
+    key = record { few = omega (arith, length-name own.0); each = bytes-name own.0 }
+
+    tagged : List ℕ
+    tagged = (73 ∷ 86 ∷ 82 ∷ 49 ∷ word 9) ++ head_key
+
+    named : List ℕ
+    named = tagged ++ no_name.0
+
+    numbered : List ℕ
+    numbered = named ++ word 1
+
+    kept : List ℕ
+    kept = numbered ++ moment now
