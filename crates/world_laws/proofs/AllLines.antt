@@ -1,5 +1,5 @@
 -- Which lines are still to be shown to leave a world that keeps what it should, and what follows from them.
-use Rattle.std.proofs.Common.{◌≡◌, ℕ, Bool, true, false, List, [], ◌∷◌, Option, Some, None, refl, nat_lt}
+use Rattle.std.proofs.Common.{◌≡◌, ⊎_elim, ℕ, Bool, true, false, List, [], ◌∷◌, Option, Some, None, refl, nat_lt}
 use Rattle.std.specs.Prelude.{MatchBool, length, sum_by}
 use Rattle.log_heads.specs.Signed.{hss_judged}
 use Rattle.script_driver.specs.Run.{Goes, Ends, Refuses, Exceeds}
@@ -17,6 +17,7 @@ use Rattle.world_laws.proofs.RingLines.{join_lines_keep, ring_lines_keep, round_
 use Rattle.world_laws.proofs.ViewLines.{view_lines_keep}
 use Rattle.world_laws.proofs.RestartLines.{restart_lines_keep}
 use Rattle.world_laws.proofs.UseLines.{use_lines_keep}
+use Rattle.world_laws.proofs.LogLines.{decide_signer, log_lines_keep}
 
 pub headline_of_runs : HeadlineOfRuns
 headline_of_runs lines headline w number script ran keeps runs =
@@ -76,7 +77,7 @@ some_first m ms e = cc e
 
 command_keeps : (w next : Played) (output : List ℕ) (c : Command) → (IsLeft c → Keeps next) → Keeps w → Does hss_judged w c (Goes next output) → Keeps next
 command_keeps w next output (command.Ring nodes replicas) left keeps does = ring_lines_keep nodes replicas w next output keeps does
-command_keeps w next output (command.Log log id seed sets) left keeps does = left tt
+command_keeps w next output (command.Log log id seed sets) left keeps does = ⊎_elim (λ whole. log_lines_keep log id seed sets whole w next output keeps does) left (decide_signer id seed sets)
 command_keeps w next output (command.View view [] former) left keeps does = left tt
 command_keeps w next output (command.View view (m ∷ ms) former) left keeps does = view_lines_keep view (m ∷ ms) former (some_first m ms) w next output keeps does
 command_keeps w next output (command.Use log view) left keeps does = use_lines_keep log view w next output keeps does

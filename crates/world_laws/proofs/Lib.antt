@@ -37,6 +37,7 @@ pub mod OtherBytes
 pub mod UseLines
 pub mod SignatureBytes
 pub mod Newcomer
+pub mod LogLines
 pub mod RestartLines
 pub mod AllLines
 pub mod Taking

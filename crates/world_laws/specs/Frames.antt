@@ -9,6 +9,8 @@ use Rattle.log_model.specs.View.{IsView}
 use Rattle.view_blocks.specs.Faults.{HasKeys}
 use Rattle.dht_ids.specs.declared.peer.Peer.{Peer}
 use Rattle.dht_ids.specs.declared.post.Post.{Post}
+use Rattle.hash_signature_model.specs.declared.set.Set.{Set}
+use Rattle.hss_keys.specs.Saved.{IsSigner}
 use Rattle.node_store.specs.Stores.{IsStore}
 use Rattle.block_cache.specs.Blocks.{IsCache}
 use Rattle.session_model.specs.Sessions.{Cache}
@@ -23,7 +25,7 @@ use Rattle.world_model.specs.Keepers.{Keeper}
 use Rattle.world_model.specs.Nodes.{Node}
 use Rattle.world_model.specs.World.{World, NamedView, Participant, peer_of}
 use Rattle.world_model.specs.Story.{Story}
-use Rattle.world_model.specs.Logs.{Played}
+use Rattle.world_model.specs.Logs.{Played, fresh_signer}
 use Rattle.world_model.specs.Step.{Does}
 use Rattle.world_laws.specs.Keeps.{AreParticipants, Keeps, PeersAreMade}
 use Rattle.world_laws.specs.Laws.{EachReplyIsOnReplay, HeadlineHolds, IsStill, LinesKeep}
@@ -135,6 +137,10 @@ ViewLinesKeep = (view : List ℕ) (members former : List (List ℕ)) → members
 
 -- ---- lines of participants
 
+-- a log begins, whose key can be saved
+abbrev pub LogLinesKeep : Type 0
+LogLinesKeep = (log id seed : List ℕ) (sets : List Set) → IsSigner (fresh_signer id seed sets) → LineKeeps (command.Log log id seed sets)
+
 -- a participant enters a view, or is refused, or its save fails
 abbrev pub UseLinesKeep : Type 0
 UseLinesKeep = (log view : List ℕ) → LineKeeps (command.Use log view)
@@ -147,7 +153,7 @@ RestartLinesKeep = (log : List ℕ) → LineKeeps (command.Restart log)
 
 -- the commands of which it is still to be shown
 abbrev pub IsLeft : Command → Type 0
-IsLeft (command.Log log id seed sets) = Unit {0}
+IsLeft (command.Log log id seed sets) = IsSigner (fresh_signer id seed sets) → ⊥
 IsLeft (command.View view [] former) = Unit {0}
 IsLeft (command.As log pieces) = Unit {0}
 IsLeft (command.Open session log pieces) = Unit {0}

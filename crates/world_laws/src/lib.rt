@@ -15,7 +15,7 @@
 //! `proofs/OneTruth.antt` (linked records that end at one record). Nothing here runs, so there are no costs.
 #![tactic(auto)]
 
-ghost use Rattle.world_laws.specs.Frames.{DamageLinesKeep, HeadlineOfRuns, JoinLinesKeep, KeeperLinesKeep, LinesKeepByThese, MildChangesKeep, MoreBlocksKeep, RestartLinesKeep, RingLinesKeep, RoundLinesKeep, StillLinesKeep, StopLinesKeep, UseLinesKeep, ViewLinesKeep};
+ghost use Rattle.world_laws.specs.Frames.{DamageLinesKeep, HeadlineOfRuns, JoinLinesKeep, KeeperLinesKeep, LinesKeepByThese, LogLinesKeep, MildChangesKeep, MoreBlocksKeep, RestartLinesKeep, RingLinesKeep, RoundLinesKeep, StillLinesKeep, StopLinesKeep, UseLinesKeep, ViewLinesKeep};
 ghost use Rattle.world_laws.specs.Kinds.{LineHasOneKind};
 ghost use Rattle.world_laws.specs.Laws.{AlikeTurnsAnswerAlike, ClashIsDecided, EmptyKeeps, FewerStayApart, FreshTurnsAreAnswered, GetsGoOnKeep, HeadsAreSavedFirst, KeptOnce, KnownIsOne, LackingKeeps, LackingStepsKeep, LeafSignsOnce, MetGrows, OneTruth, OtherLogsDontCount, PublishingKeeps, PutsKeep, RefreshBrings, RefreshEndsInTurn, RefreshMayTurn, SecondTurnIsAnswered, SettlingKeeps, StillLinesChangeNothing, UpperLeavesSignOnce, VainAsksKeep, WholePublishingKeeps};
 
@@ -132,9 +132,10 @@ pub fn lines_without_sessions_keep()
     ensures view { ViewLinesKeep }
 {}
 
-/// Laws and no code: lines of participants leave a world that keeps what it should: one that enters a view, or whose save for
-/// it fails; and one that starts again from what was saved.
+/// Laws and no code: lines of participants leave a world that keeps what it should: one whose log begins; one that enters a
+/// view, or whose save for it fails; and one that starts again from what was saved.
 pub fn lines_of_participants_keep()
+    ensures begins { LogLinesKeep }
     ensures enters { UseLinesKeep }
     ensures restarts { RestartLinesKeep }
 {}
@@ -161,9 +162,9 @@ pub fn there_is_one_truth()
     ensures { OneTruth }
 {}
 
-/// Laws and no code: what is left to be shown of lines. Where the commands that log and snap, those of sessions, and a
-/// view of no members leave such a world, so does each line; and where each line does, and the headline holds of each, it holds
-/// of each line of a run.
+/// Laws and no code: what is left to be shown of lines. Where the command that snaps, those of sessions, a log
+/// whose key can't be saved and a view of no members leave such a world, so does each line; and where each line does, and the
+/// headline holds of each, it holds of each line of a run.
 pub fn lines_left()
     ensures lines { LinesKeepByThese }
     ensures runs { HeadlineOfRuns }
