@@ -38,6 +38,7 @@ pub mod UseLines
 pub mod SignatureBytes
 pub mod Newcomer
 pub mod LogLines
+pub mod LineFits
 pub mod RestartLines
 pub mod AllLines
 pub mod Taking

@@ -154,7 +154,6 @@ RestartLinesKeep = (log : List ℕ) → LineKeeps (command.Restart log)
 -- the commands of which it is still to be shown
 abbrev pub IsLeft : Command → Type 0
 IsLeft (command.Log log id seed sets) = IsSigner (fresh_signer id seed sets) → ⊥
-IsLeft (command.View view [] former) = Unit {0}
 IsLeft (command.As log pieces) = Unit {0}
 IsLeft (command.Open session log pieces) = Unit {0}
 IsLeft (command.Step session count) = Unit {0}

@@ -162,9 +162,9 @@ pub fn there_is_one_truth()
     ensures { OneTruth }
 {}
 
-/// Laws and no code: what is left to be shown of lines. Where the command that snaps, those of sessions, a log
-/// whose key can't be saved and a view of no members leave such a world, so does each line; and where each line does, and the
-/// headline holds of each, it holds of each line of a run.
+/// Laws and no code: what is left to be shown of lines. Where the command that snaps, those of sessions, and a
+/// log whose key can't be saved leave such a world, so does each line; and where each line does, and the headline holds of
+/// each, it holds of each line of a run.
 pub fn lines_left()
     ensures lines { LinesKeepByThese }
     ensures runs { HeadlineOfRuns }
