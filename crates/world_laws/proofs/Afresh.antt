@@ -1,30 +1,27 @@
 -- A participant begins afresh: it changes, its open sessions are gone, and it knows another set.
-use Rattle.std.proofs.Common.{◌≡◌, ◌≢◌, inl, inr, ⊎_elim, ℕ, ◌<◌, Bool, true, false, cond, List, [], ◌∷◌, ◌++◌, length, map, filter, Option, Some, None, refl, sym, ap, ◌∙◌, subst, Contains, not}
+use Rattle.std.proofs.Common.{◌≡◌, ℕ, ◌<◌, Bool, true, false, cond, List, ◌++◌, map, filter, Option, Some, None, refl, sym, ap, ◌∙◌, subst, Contains, not}
 use Rattle.std.specs.Prelude.{IfSome}
 use Rattle.std.specs.List.{AllByRecursion, find, list_any}
 use Rattle.std.specs.Option.{option_map_or}
 use Rattle.std.specs.Str.{bytes_eq}
 use Rattle.ring_model.proofs.Lists.{all_weaker}
-use Rattle.ivy_base.specs.declared.key.PubKey.{PubKey}
 use Rattle.ivy_base.specs.Naming.{NamesTellApart}
-use Rattle.log_model.proofs.Lists.{each, each_from, from_filter, here, in_filter, in_nothing, some_passes, who_passes}
+use Rattle.log_model.proofs.Lists.{each, each_from, from_filter, in_filter, some_passes, who_passes}
 use Rattle.log_model.specs.Record.{Record}
 use Rattle.log_model.specs.Vector.{Entry}
 use Rattle.log_model.specs.View.{View}
-use Rattle.turn_model.specs.Basis.{Holding, nothing_held}
-use Rattle.dht_ids.specs.declared.peer.Peer.{Peer}
+use Rattle.turn_model.specs.Basis.{nothing_held}
 use Rattle.block_cache.specs.Blocks.{IsCache}
 use Rattle.session_laws.specs.Loading.{IsSnapshotOf}
 use Rattle.session_model.specs.Brought.{all_heads, brought_in}
 use Rattle.session_model.specs.Sessions.{Said, Session}
-use Rattle.agent_model.specs.Agent.{Agent}
 use Rattle.world_model.specs.Agents.{own}
-use Rattle.world_model.specs.World.{World, NamedSession, Participant, named_bytes, participant, peer_of, with_participant, without_sessions_of}
+use Rattle.world_model.specs.World.{World, NamedSession, Participant, named_bytes, participant, with_participant, without_sessions_of}
 use Rattle.world_model.specs.Story.{Began, Knowing, Story, began_nothing, began_of, knowing_nothing, knowing_of, known_of}
 use Rattle.world_model.specs.Logs.{Played, afresh_told, names_of_sessions}
 use Rattle.world_laws.specs.Causes.{HasCause, said_at}
 use Rattle.world_laws.specs.Causes.HasCause.{alone, missed, turned, no_memory}
-use Rattle.world_laws.specs.Keeps.{AreApart, AreNumbered, AreSound, BlocksAreMet, GoesOn, HasRing, HasSaid, IsKeptSo, IsMetHead, IsMetPost, IsSavedWell, AreParticipants, EntersOwned, IsSoundIn, IsSoundKeptIn, IsSoundSession, Keeps, KeepsUp, PeersAreMade, SignsOnce}
+use Rattle.world_laws.specs.Keeps.{AreApart, AreNumbered, AreSound, GoesOn, HasRing, HasSaid, IsKeptSo, IsMetHead, IsMetPost, IsSavedWell, AreParticipants, EntersOwned, IsSoundIn, IsSoundKeptIn, IsSoundSession, Keeps, KeepsUp, SignsOnce}
 use Rattle.world_laws.specs.Frames.{unchanged}
 use Rattle.world_laws.proofs.Bringing.{found_named}
 use Rattle.world_laws.proofs.Frames.{all_mapped, goes_on_still, held_more, into_map, one_named, same_keys, same_map, sound_still, still_participants}

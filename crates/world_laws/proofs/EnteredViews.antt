@@ -1,9 +1,8 @@
 -- What an agent knows of another view's members is closed under that view, where it names each log of the floor, and none as a member's that was a number only.
-use Rattle.std.proofs.Common.{◌≡◌, ◌≢◌, ⊎_elim, inl, inr, ℕ, ◌≤◌, Bool, true, false, cond, List, [], ◌∷◌, ◌++◌, filter, Option, Some, None, refl, sym, ap, ◌∙◌, subst, arith, Contains}
+use Rattle.std.proofs.Common.{◌≡◌, ⊎_elim, inl, ℕ, ◌≤◌, Bool, true, false, cond, List, [], ◌∷◌, filter, Option, Some, None, refl, sym, ap, ◌∙◌, subst, arith, Contains}
 use Rattle.std.specs.Prelude.{IsTrue}
 use Rattle.std.specs.List.{AllByRecursion, list_any}
 use Rattle.std.specs.Ordering.{eq_by_cmp}
-use Rattle.std.proofs.lemmas.List.Elements.{Contains-append_right}
 use Rattle.ivy_base.specs.declared.key.Key.{Key}
 use Rattle.ivy_base.specs.declared.key.PubKey.{PubKey}
 use Rattle.ivy_base.specs.Naming.{head_key_of, owner_cmp}
@@ -11,13 +10,13 @@ use Rattle.tree_model.specs.Tree.{same_key}
 use Rattle.tree_model.proofs.Keys.{same_key_is}
 use Rattle.log_model.specs.Chain.{GoesOn, IsChain, IsGood}
 use Rattle.log_model.specs.Closed.{HasCauses, IsAscending, IsCause, IsClosed, log_of}
-use Rattle.log_model.specs.Rank.{front, full_vector, own_entry, record_cmp}
+use Rattle.log_model.specs.Rank.{front, full_vector, own_entry}
 use Rattle.log_model.specs.Record.{Record}
 use Rattle.log_model.specs.Standing.{Stand, StandsAmong}
 use Rattle.log_model.specs.Vector.{Dominates, Entry, Stamp, Vector, reach, seq_of, stamp_at}
 use Rattle.log_model.specs.View.{View, is_member, is_named}
 use Rattle.log_model.proofs.Later.{good_of}
-use Rattle.log_model.proofs.Lists.{each, each_from, from_filter, here, in_filter, in_nothing, some_passes, there, who_passes}
+use Rattle.log_model.proofs.Lists.{each, each_from, from_filter, here, in_filter, in_nothing, some_passes, who_passes}
 use Rattle.log_model.proofs.Opening.{same_owner}
 use Rattle.log_model.proofs.Owners.{owner_itself}
 use Rattle.log_model.proofs.Part.{found_stamp}
@@ -29,7 +28,7 @@ use Rattle.turn_laws.proofs.Starts.{front_dominates}
 use Rattle.turn_model.specs.Basis.{Knows, nothing_held}
 use Rattle.turn_model.specs.Known.{EndsAt, IsBacked, IsKnown, IsVerified}
 use Rattle.world_model.specs.Logs.{of_members}
-use Rattle.world_laws.proofs.NotRefused.{HasEach, has_part, has_sorted}
+use Rattle.world_laws.proofs.NotRefused.{has_part, has_sorted}
 
 -- ---- lists
 

@@ -1,11 +1,11 @@
 -- The heads that left an agent are over records that it knows.
-use Rattle.std.proofs.Common.{◌≡◌, ⊎_elim, ℕ, ◌+◌, ◌<◌, ◌≤◌, ◌^◌, List, [], ◌∷◌, ◌++◌, length, map, Option, Some, None, refl, sym, ap, ◌∙◌, subst, arith, Contains, append_assoc}
+use Rattle.std.proofs.Common.{◌≡◌, ⊎_elim, ℕ, ◌+◌, ◌<◌, ◌≤◌, ◌^◌, List, [], ◌∷◌, ◌++◌, length, Option, Some, None, refl, sym, ap, ◌∙◌, subst, arith, Contains, append_assoc}
 use Rattle.std.specs.List.{AllByRecursion}
 use Rattle.std.proofs.lemmas.List.Elements.{Contains-append_right}
 use Rattle.ivy_base.specs.declared.key.PubKey.{PubKey}
 use Rattle.wire_model.specs.Xdr.{opaque, word}
 use Rattle.wire_model.proofs.OneReading.{◌▷◌, always, one_raw, one_word}
-use Rattle.log_model.proofs.Lists.{each, each_from, here, in_cons, in_nothing, there}
+use Rattle.log_model.proofs.Lists.{each, each_from, here, in_cons, there}
 use Rattle.log_model.proofs.Part.{Numbered, numbered, numbers_below, numbers_from}
 use Rattle.log_model.specs.Chain.{IsChain}
 use Rattle.log_model.specs.Rank.{own_entry}
@@ -15,7 +15,7 @@ use Rattle.log_model.specs.Vector.{Stamp, reach}
 use Rattle.log_model.specs.View.{View}
 use Rattle.hss_keys.specs.Signer.{Signer}
 use Rattle.turn_model.specs.Known.{EndsAt}
-use Rattle.world_model.specs.Agents.{hss, sealed}
+use Rattle.world_model.specs.Agents.{hss}
 use Rattle.world_laws.specs.Keeps.{AreSignedOnce, NamesOneOf, sealed_with}
 use Rattle.world_laws.proofs.SignedHeads.{from_map}
 use Rattle.agent_model.specs.Agent.{own_key}

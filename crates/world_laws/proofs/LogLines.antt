@@ -1,10 +1,8 @@
 -- A participant that opens its log leaves a world that keeps what it should.
-use Rattle.std.proofs.Common.{◌≡◌, ◌⊎◌, inl, inr, ⊎_elim, ℕ, zero, suc, nat_lt, ◌+◌, ◌*◌, ◌<◌, ◌≤◌, ◌^◌, Bool, true, false, cond, List, [], ◌∷◌, ◌++◌, length, map, Option, Some, None, refl, sym, ap, ◌∙◌, subst, arith, Contains}
-use Rattle.std.specs.Prelude.{IfSome, IsTrue, is_some}
+use Rattle.std.proofs.Common.{◌≡◌, ◌⊎◌, inl, inr, ⊎_elim, ℕ, zero, suc, nat_lt, ◌*◌, ◌≤◌, Bool, true, false, cond, List, [], ◌∷◌, ◌++◌, length, map, Some, None, refl, sym, ap, ◌∙◌, subst, arith, Contains}
 use Rattle.std.specs.List.{AllByRecursion, list_all}
 use Rattle.std.proofs.lemmas.List.Elements.{Contains-append_cases}
 use Rattle.ivy_base.proofs.NameLemmas.{bytes-name, length-name}
-use Rattle.ivy_base.specs.declared.key.PubKey.{PubKey}
 use Rattle.ivy_base.specs.declared.operation.Moment.{Moment}
 use Rattle.ivy_base.specs.Naming.{head_key_of}
 use Rattle.block_cache.proofs.Pairs.{empty_valid}
@@ -22,21 +20,20 @@ use Rattle.log_model.specs.Chain.{IsChain, opening}
 use Rattle.log_model.specs.Rank.{own_entry}
 use Rattle.log_model.specs.Record.{Record}
 use Rattle.log_model.specs.Spelling.{IsKey, IsMoment, record_block}
-use Rattle.log_model.specs.Vector.{Stamp, reach, seq_of}
-use Rattle.log_model.specs.View.{View}
+use Rattle.log_model.specs.Vector.{Stamp, reach}
 use Rattle.log_heads.specs.Signed.{hss_judged}
-use Rattle.snapshot_model.specs.Blocks.{IsStamped, IsVectorSpelled}
+use Rattle.snapshot_model.specs.Blocks.{IsStamped}
 use Rattle.dht_ids.specs.declared.post.Post.{Post}
 use Rattle.agent_model.specs.Agent.{head_post, kept_of, own_key, record_post}
 use Rattle.agent_model.specs.SavedBytes.{ArePostsSpelled}
 use Rattle.script_driver.specs.Run.{Outcome, Goes}
-use Rattle.world_model.specs.Agents.{Agent, IsKept, Kept, hss, kept_bytes, opened, own, own_reach, sealed}
-use Rattle.world_model.specs.World.{World, Participant, participant}
+use Rattle.world_model.specs.Agents.{Agent, IsKept, Kept, hss, opened, own, own_reach, sealed}
+use Rattle.world_model.specs.World.{Participant}
 use Rattle.world_model.specs.Story.{Knowing}
 use Rattle.world_model.specs.Steps.{heads_by, met_by}
 use Rattle.world_model.specs.Logs.{LogLine, Played, Publishes, fresh_signer, newcomer, with_newcomer}
 use Rattle.world_model.specs.Logs.LogLine.{before_ring as log_before_ring, known as log_known, begins as log_begins}
-use Rattle.world_laws.specs.Keeps.{AreSignedOnce, IsKeptSo, IsMetPost, IsSavedWell, IsSoundIn, IsSoundKeptIn, Keeps, NamesOneOf, SignsOnce}
+use Rattle.world_laws.specs.Keeps.{AreSignedOnce, Keeps, NamesOneOf, SignsOnce}
 use Rattle.world_laws.specs.Frames.{LogLinesKeep}
 use Rattle.world_laws.proofs.Frames.{into_map}
 use Rattle.world_laws.proofs.Lines.{ToSuch}

@@ -1,5 +1,5 @@
 -- A participant more, whose log opens: the others, and the open sessions, stay as they are.
-use Rattle.std.proofs.Common.{◌≡◌, ◌≢◌, ⊎_elim, ℕ, ◌<◌, Bool, true, false, cond, List, [], ◌∷◌, ◌++◌, map, Option, Some, None, refl, sym, ap, ◌∙◌, subst, Contains}
+use Rattle.std.proofs.Common.{◌≡◌, ⊎_elim, ℕ, Bool, true, false, cond, List, [], ◌∷◌, ◌++◌, map, Option, Some, None, refl, sym, ap, ◌∙◌, subst, Contains}
 use Rattle.std.specs.Prelude.{IfSome, is_some}
 use Rattle.std.specs.List.{AllByRecursion, find}
 use Rattle.std.specs.Option.{option_map_or}
@@ -8,7 +8,6 @@ use Rattle.std.proofs.lemmas.List.{map-append}
 use Rattle.std.proofs.lemmas.List.Elements.{Contains-append_left, Contains-append_right, Contains-append_cases}
 use Rattle.std.proofs.lemmas.Slice.Eq.{bytes_eq-Decides}
 use Rattle.ring_model.proofs.Lists.{all_weaker}
-use Rattle.ivy_base.specs.declared.key.PubKey.{PubKey}
 use Rattle.ivy_base.specs.Naming.{NamesTellApart}
 use Rattle.log_model.proofs.Lists.{each, each_append, each_from, here, in_cons, in_nothing, there}
 use Rattle.log_model.specs.View.{View}
@@ -16,7 +15,7 @@ use Rattle.block_cache.specs.Blocks.{IsCache}
 use Rattle.session_laws.specs.Loading.{IsSnapshotOf}
 use Rattle.turn_model.specs.Basis.{nothing_held}
 use Rattle.world_model.specs.Agents.{own}
-use Rattle.world_model.specs.World.{World, NamedSession, Participant, named_bytes, participant, peer_of}
+use Rattle.world_model.specs.World.{World, NamedSession, Participant, named_bytes, participant}
 use Rattle.world_model.specs.Story.{Knowing, Story, began_of, knowing_nothing, knowing_of, known_of}
 use Rattle.world_model.specs.Logs.{Played}
 use Rattle.world_laws.specs.Causes.{said_at}

@@ -1,5 +1,5 @@
 -- A participant whose keeper holds other bytes, and whose agent signs, knows and holds what it did.
-use Rattle.std.proofs.Common.{◌≡◌, ◌≢◌, ℕ, Bool, true, false, cond, List, ◌++◌, map, Option, Some, None, refl, sym, ap, ◌∙◌, subst, Contains}
+use Rattle.std.proofs.Common.{◌≡◌, ℕ, Bool, true, false, cond, List, ◌++◌, map, Option, Some, None, refl, sym, ap, ◌∙◌, subst, Contains}
 use Rattle.std.specs.Prelude.{IfSome}
 use Rattle.std.specs.List.{AllByRecursion}
 use Rattle.std.specs.Str.{bytes_eq}
@@ -11,14 +11,13 @@ use Rattle.block_cache.specs.Blocks.{IsCache}
 use Rattle.session_laws.specs.Loading.{IsSnapshotOf}
 use Rattle.turn_model.specs.Basis.{nothing_held}
 use Rattle.world_model.specs.Agents.{own}
-use Rattle.world_model.specs.World.{World, NamedSession, Participant, named_bytes, participant, peer_of, with_participant}
-use Rattle.world_model.specs.Story.{Story, began_of, knowing_of, known_of}
+use Rattle.world_model.specs.World.{World, NamedSession, Participant, named_bytes, participant, with_participant}
+use Rattle.world_model.specs.Story.{began_of, knowing_of, known_of}
 use Rattle.world_model.specs.Logs.{Played}
-use Rattle.world_laws.specs.Causes.{said_at}
-use Rattle.world_laws.specs.Keeps.{AreApart, AreParticipants, AreSound, EntersOwned, GoesOn, HasRing, HasSaid, IsKeptSo, IsMetPost, IsSavedWell, IsSoundIn, IsSoundKeptIn, IsSoundSession, Keeps, SignsOnce}
+use Rattle.world_laws.specs.Keeps.{AreApart, AreParticipants, AreSound, EntersOwned, GoesOn, HasRing, IsKeptSo, IsMetPost, IsSavedWell, IsSoundIn, IsSoundKeptIn, Keeps, SignsOnce}
 use Rattle.world_laws.specs.Frames.{Change, changed, unchanged}
 use Rattle.world_laws.proofs.Bringing.{found_named}
-use Rattle.world_laws.proofs.Frames.{all_mapped, found_mapped, goes_on_still, held_more, one_named, same_keys, same_map, sound_still, still_participants}
+use Rattle.world_laws.proofs.Frames.{all_mapped, found_mapped, goes_on_still, one_named, same_keys, same_map, sound_still, still_participants}
 use Rattle.world_laws.proofs.MoreMet.{more_sound, some_weaker}
 use Rattle.world_laws.proofs.Placed.{names_placed, placed, same_name}
 

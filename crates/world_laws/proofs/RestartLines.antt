@@ -1,15 +1,12 @@
 -- An agent that starts again from what its keeper's bytes say leaves a world that keeps what it should.
-use Rattle.std.proofs.Common.{◌≡◌, inl, inr, ⊎_elim, ℕ, ◌≤◌, List, [], ◌∷◌, ◌++◌, map, filter, Option, Some, None, refl, sym, ap, ◌∙◌, subst, arith, Contains}
-use Rattle.std.specs.Prelude.{IfSome, IsTrue, is_some, fold}
+use Rattle.std.proofs.Common.{◌≡◌, inl, ⊎_elim, ℕ, List, [], ◌++◌, map, Option, Some, None, refl, sym, ap, ◌∙◌, subst, arith, Contains}
+use Rattle.std.specs.Prelude.{IfSome, IsTrue, is_some}
 use Rattle.std.specs.List.{AllByRecursion}
 use Rattle.std.proofs.lemmas.List.{append-nil}
 use Rattle.std.proofs.lemmas.List.Elements.{Contains-append_left, Contains-append_right, Contains-append_cases}
-use Rattle.ivy_base.specs.declared.key.Key.{Key}
-use Rattle.ivy_base.specs.declared.key.PubKey.{PubKey}
 use Rattle.ivy_base.specs.Naming.{NamesTellApart, head_key_of}
 use Rattle.block_cache.proofs.Pairs.{empty_valid}
-use Rattle.log_heads.specs.Signed.{hss_judged}
-use Rattle.log_model.proofs.Lists.{each, each_append, each_from, in_filter, from_filter}
+use Rattle.log_model.proofs.Lists.{each, each_from}
 use Rattle.log_model.specs.Closed.{IsClosed, log_of}
 use Rattle.log_model.specs.Rank.{front}
 use Rattle.log_model.specs.Record.{Record}
@@ -17,21 +14,19 @@ use Rattle.log_model.specs.Standing.{Stand}
 use Rattle.log_model.specs.Vector.{Dominates, seq_of}
 use Rattle.log_model.specs.View.{View}
 use Rattle.hss_keys.specs.Signer.{hss_key_of}
-use Rattle.turn_model.specs.Basis.{nothing_held}
 use Rattle.turn_model.specs.Known.{IsKnown, IsVerified}
 use Rattle.dht_ids.specs.declared.post.Post.{Post}
-use Rattle.agent_model.specs.Agent.{is_head, restored}
-use Rattle.agent_model.specs.SavedBytes.{HasItsName, AreOpaque}
+use Rattle.agent_model.specs.Agent.{restored}
 use Rattle.session_laws.specs.Loading.{IsSnapshotOf}
 use Rattle.script_driver.specs.Run.{Outcome, Goes}
-use Rattle.world_model.specs.Agents.{Agent, IsKept, Kept, kept_bytes, own, own_reach}
-use Rattle.world_model.specs.World.{World, Participant, meets, named_bytes, participant}
-use Rattle.world_model.specs.Story.{Knowing, knowing_of, known_of}
+use Rattle.world_model.specs.Agents.{IsKept, Kept, kept_bytes, own}
+use Rattle.world_model.specs.World.{Participant, named_bytes, participant}
+use Rattle.world_model.specs.Story.{knowing_of}
 use Rattle.world_model.specs.Steps.{having_made, heads_by, met_by}
 use Rattle.world_model.specs.Logs.{IsKnownAgain, Played, RestartLine, afresh_told, restarted}
 use Rattle.world_model.specs.Logs.RestartLine.{nobody as restart_nobody, outside as restart_outside, starts as restart_starts}
 use Rattle.world_laws.specs.Keeps.{AreSignedOnce, AreSound, IsKeptSo, IsMetPost, IsSavedWell, AreParticipants, EntersOwned, IsSoundIn, IsSoundKept, IsSoundKeptIn, Keeps, NamesOneOf, SignsOnce}
-use Rattle.world_laws.specs.Frames.{RestartLinesKeep, unchanged}
+use Rattle.world_laws.specs.Frames.{RestartLinesKeep}
 use Rattle.world_laws.proofs.Afresh.{IsFit, afresh_world, apart_before, keeps_afresh, knowing_afresh}
 use Rattle.world_laws.proofs.Bringing.{found_named}
 use Rattle.world_laws.proofs.Frames.{into_map}

@@ -1,5 +1,5 @@
 -- Signatures, and the first blocks of a log, are bytes, and few enough to stand in an array.
-use Rattle.std.proofs.Common.{◌≡◌, ℕ, zero, suc, ◌+◌, ◌*◌, ◌<◌, ◌≤◌, ◌^◌, Bool, true, false, List, [], ◌∷◌, ◌++◌, length, length-append, refl, ◌∙◌, arith}
+use Rattle.std.proofs.Common.{◌≡◌, ℕ, zero, suc, ◌+◌, ◌*◌, ◌<◌, ◌≤◌, ◌^◌, true, List, [], ◌∷◌, ◌++◌, length, length-append, refl, ◌∙◌, arith}
 use Rattle.std.specs.Prelude.{◌-◌, ◌%◌, replicate, take}
 use Rattle.std.specs.List.{list_all}
 use Rattle.std.proofs.lemmas.List.Folds.{list_all-append}
@@ -21,9 +21,9 @@ use Rattle.hash_signature_model.specs.declared.set.Set.{Set}
 use Rattle.hash_signature_model.specs.declared.set.Width.{Width}
 use Rattle.hash_signature_model.specs.declared.set.Width.TheVariants.{W4, W8}
 use Rattle.hash_signature_model.specs.Nodes.{above, beside, node}
-use Rattle.hash_signature_model.specs.OneTime.{chain, coefficient, derived, joined, lower_id_of, randomizer_of, signed_value, word}
+use Rattle.hash_signature_model.specs.OneTime.{chain, coefficient, derived, joined, randomizer_of, signed_value, word}
 use Rattle.hash_signature_model.specs.Parameters.{chains, leaves, levels, lms_type, ots_type}
-use Rattle.hash_signature_model.specs.Signatures.{code_of, path_of, signature_of}
+use Rattle.hash_signature_model.specs.Signatures.{code_of, path_of}
 use Rattle.hss_keys.specs.Saved.{AreOctets, IsSigner}
 use Rattle.hss_keys.specs.Signer.{Signer, hss_signature_of, leaf_signature, leaf_used, lower_key, next_signature, signed_by, signed_lower, tree_public}
 use Rattle.agent_model.specs.Agent.{own_key}

@@ -1,49 +1,45 @@
 -- A participant that enters a view, or tries to, leaves a world that keeps what it should.
-use Rattle.std.proofs.Common.{◌≡◌, inl, inr, ⊎_elim, ℕ, ◌<◌, ◌≤◌, ◌^◌, Bool, true, false, cond, ◌&&◌, ◌||◌, not, List, [], ◌∷◌, ◌++◌, length, map, Option, Some, None, refl, sym, ap, ◌∙◌, subst, arith, Contains}
+use Rattle.std.proofs.Common.{◌≡◌, inl, ⊎_elim, ℕ, ◌<◌, ◌≤◌, ◌^◌, Bool, true, false, cond, ◌&&◌, ◌||◌, not, List, [], ◌∷◌, ◌++◌, length, map, Option, Some, None, refl, sym, ap, ◌∙◌, subst, arith, Contains}
 use Rattle.std.specs.Prelude.{IfSome, IsTrue, is_some, option_map}
-use Rattle.std.specs.List.{AllByRecursion, find, list_any}
+use Rattle.std.specs.List.{AllByRecursion, find}
 use Rattle.std.specs.Ordering.{eq_by_cmp}
 use Rattle.std.specs.Str.{bytes_eq}
 use Rattle.std.proofs.lemmas.List.{append-nil}
 use Rattle.std.proofs.lemmas.List.Elements.{Contains-append_left, Contains-append_right, Contains-append_cases}
 use Rattle.ivy_base.specs.declared.key.Key.{Key}
 use Rattle.ivy_base.specs.declared.key.PubKey.{PubKey}
-use Rattle.ivy_base.specs.Naming.{NamesTellApart, head_key_of, key_cmp, owner_cmp}
+use Rattle.ivy_base.specs.Naming.{NamesTellApart, head_key_of, owner_cmp}
 use Rattle.ivy_io.specs.Keepers as memory
 use Rattle.block_cache.proofs.Pairs.{empty_valid}
-use Rattle.tree_model.proofs.Keys.{same_key_itself}
 use Rattle.round_laws.proofs.Nodes.{ties}
 use Rattle.log_model.proofs.Later.{good_of}
 use Rattle.log_model.proofs.Lists.{each, each_from, each_left, from_filter, here, in_cons, in_nothing, who_passes}
 use Rattle.log_model.proofs.Owners.{owner_itself}
 use Rattle.log_model.proofs.Opening.{same_owner}
-use Rattle.log_model.proofs.Part.{found_stamp}
 use Rattle.log_model.specs.Chain.{IsChain}
 use Rattle.log_model.specs.Closed.{IsCause, IsClosed, log_of}
 use Rattle.log_model.specs.Rank.{front, own_entry}
 use Rattle.log_model.specs.Record.{Record}
-use Rattle.log_model.specs.Spelling.{record_block}
 use Rattle.log_model.specs.Standing.{Stand}
 use Rattle.log_model.specs.Vector.{Dominates, Entry, Stamp, Vector, join, reach, seq_of, stamp_at, with_entry}
 use Rattle.log_model.specs.View.{View, IsView, is_former, is_member, is_named}
-use Rattle.hss_keys.specs.Signer.{hss_key_of}
 use Rattle.turn_laws.proofs.Heads.{member_is, one_member}
 use Rattle.turn_model.specs.Basis.{Holding, Knows, nothing_held}
 use Rattle.turn_model.specs.Known.{EndsAt, IsKnown, IsVerified}
 use Rattle.view_blocks.specs.Faults.{HasKeys}
 use Rattle.dht_ids.specs.declared.post.Post.{Post}
 use Rattle.agent_model.specs.Agent.{entered, failed, kept_of, own_key}
-use Rattle.agent_model.specs.Views.{Entered, NotMember, NotNamed, KeeperFailed, entering_with, is_own_member, is_refused_in, not_named, was_former}
+use Rattle.agent_model.specs.Views.{Entered, NotMember, KeeperFailed, entering_with, is_own_member, is_refused_in, not_named, was_former}
 use Rattle.session_model.specs.Sessions.{Cache}
-use Rattle.script_driver.specs.Run.{Outcome, Goes, Ends, Refuses, Exceeds}
+use Rattle.script_driver.specs.Run.{Outcome}
 use Rattle.world_model.specs.Agents.{Agent, Entering, IsKept, Kept, hss, kept_bytes, own, own_reach, sealed}
 use Rattle.world_model.specs.Keepers.{Keeper, asked_to_save, fails_next}
 use Rattle.world_model.specs.World.{NamedView, World, Participant, named_bytes, participant, view_named, with_participant}
 use Rattle.world_model.specs.Story.{Knowing, knowing_of, known_of}
 use Rattle.world_model.specs.Steps.{heads_by}
-use Rattle.world_model.specs.Logs.{Played, afresh_told, after_entering, of_members, use_by, use_line}
-use Rattle.world_laws.specs.Keeps.{AreParticipants, AreSignedOnce, AreSound, EntersOwned, IsKeptSo, IsMetPost, IsSavedWell, IsSoundIn, IsSoundKeptIn, Keeps, NamesOneOf, SignsOnce, sealed_with}
-use Rattle.world_laws.specs.Frames.{Change, UseLinesKeep, unchanged}
+use Rattle.world_model.specs.Logs.{Played, afresh_told, after_entering, of_members, use_by}
+use Rattle.world_laws.specs.Keeps.{AreParticipants, AreSignedOnce, AreSound, EntersOwned, IsKeptSo, IsSavedWell, IsSoundIn, IsSoundKeptIn, Keeps, NamesOneOf, SignsOnce}
+use Rattle.world_laws.specs.Frames.{UseLinesKeep, unchanged}
 use Rattle.world_laws.proofs.Afresh.{IsFit, afresh_world, apart_before, keeps_afresh, knowing_afresh}
 use Rattle.world_laws.proofs.Bringing.{found_named}
 use Rattle.world_laws.proofs.EnteredViews.{TakesIn, covered_in, knows_in, own_log, stands_in, verified_in}
