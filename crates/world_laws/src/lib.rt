@@ -12,7 +12,10 @@
 //! that holds all that it knows isn't behind, and one without a basis isn't below the tide), `proofs/SecondTurns.antt`,
 //! `proofs/DoneSteps.antt`, `proofs/SignedHeads.antt` (what holds of the one whose bytes a keeper holds), `proofs/Frames.antt`
 //! (changes of a world's nodes and of one participant), `proofs/Publishing.antt` (an ask by which only what was met is put),
-//! `proofs/OneTruth.antt` (linked records that end at one record). Nothing here runs, so there are no costs.
+//! `proofs/OneTruth.antt` (linked records that end at one record), `proofs/Afresh.antt` (a participant that changes, whose open
+//! sessions are gone), `proofs/OtherBytes.antt` (one whose keeper holds other bytes), `proofs/Newcomer.antt` (one more),
+//! `proofs/EnteredViews.antt` (what is known of another view's members is closed), `proofs/KnownHeads.antt` (the heads that left
+//! are over what is known), `proofs/SignatureBytes.antt` (signatures are bytes, and few). Nothing here runs, so there are no costs.
 #![tactic(auto)]
 
 ghost use Rattle.world_laws.specs.Frames.{DamageLinesKeep, HeadlineOfRuns, JoinLinesKeep, KeeperLinesKeep, LinesKeepByThese, LogLinesKeep, MildChangesKeep, MoreBlocksKeep, RestartLinesKeep, RingLinesKeep, RoundLinesKeep, StillLinesKeep, StopLinesKeep, UseLinesKeep, ViewLinesKeep};
