@@ -1,5 +1,5 @@
 -- Which lines are still to be shown to leave a world that keeps what it should, and what follows from them.
-use Rattle.std.proofs.Common.{◌≡◌, ℕ, Bool, true, false, List, [], ◌∷◌, Option, Some, None, refl, nat_lt}
+use Rattle.std.proofs.Common.{◌≡◌, ◌⊎◌, inl, inr, ⊎_elim, ℕ, Bool, true, false, List, [], ◌∷◌, Option, Some, None, refl, nat_lt}
 use Rattle.std.specs.Prelude.{MatchBool, length, sum_by}
 use Rattle.log_heads.specs.Signed.{hss_judged}
 use Rattle.script_driver.specs.Run.{Goes, Ends, Refuses, Exceeds}
@@ -15,6 +15,11 @@ use Rattle.world_laws.specs.Frames.{HeadlineOfRuns, IsLeft, LinesKeepByThese}
 use Rattle.world_laws.proofs.Lines.{damage_lines_keep, keeper_lines_keep, still_lines_keep, stop_lines_keep}
 use Rattle.world_laws.proofs.RingLines.{join_lines_keep, ring_lines_keep, round_lines_keep}
 use Rattle.world_laws.proofs.ViewLines.{view_lines_keep}
+use Rattle.world_laws.proofs.RestartLines.{restart_lines_keep}
+use Rattle.world_laws.proofs.UseLines.{use_lines_keep}
+use Rattle.world_laws.proofs.LineFits.{Fits, command_fits}
+use Rattle.world_laws.proofs.Opening.{open_line_keeps}
+use Rattle.world_laws.proofs.LogLines.{decide_signer, log_lines_keep}
 
 pub headline_of_runs : HeadlineOfRuns
 headline_of_runs lines headline w number script ran keeps runs =
@@ -72,24 +77,24 @@ does_line w next output (Some command.End) h = absurd (goes_or_ends next output 
 some_first : (m : List ℕ) (ms : List (List ℕ)) → m ∷ ms ≡ [] → ⊥
 some_first m ms e = cc e
 
-command_keeps : (w next : Played) (output : List ℕ) (c : Command) → (IsLeft c → Keeps next) → Keeps w → Does hss_judged w c (Goes next output) → Keeps next
+command_keeps : (w next : Played) (output : List ℕ) (c : Command) → (IsLeft c ⊎ (Fits c → ⊥) → Keeps next) → Keeps w → Does hss_judged w c (Goes next output) → Keeps next
 command_keeps w next output (command.Ring nodes replicas) left keeps does = ring_lines_keep nodes replicas w next output keeps does
-command_keeps w next output (command.Log log id seed sets) left keeps does = left tt
-command_keeps w next output (command.View view [] former) left keeps does = left tt
+command_keeps w next output (command.Log log id seed sets) left keeps does = ⊎_elim (λ whole. log_lines_keep log id seed sets whole w next output keeps does) (λ none. left (inl none)) (decide_signer id seed sets)
+command_keeps w next output (command.View view [] former) left keeps does = left (inr (λ some. some refl))
 command_keeps w next output (command.View view (m ∷ ms) former) left keeps does = view_lines_keep view (m ∷ ms) former (some_first m ms) w next output keeps does
-command_keeps w next output (command.Use log view) left keeps does = left tt
+command_keeps w next output (command.Use log view) left keeps does = use_lines_keep log view w next output keeps does
 command_keeps w next output (command.At sec nsec) left keeps does = still_lines_keep (command.At sec nsec) tt w next output keeps does
-command_keeps w next output (command.As log pieces) left keeps does = left tt
-command_keeps w next output (command.Open session log pieces) left keeps does = left tt
-command_keeps w next output (command.Step session count) left keeps does = left tt
-command_keeps w next output (command.Finish session) left keeps does = left tt
+command_keeps w next output (command.As log pieces) left keeps does = left (inl tt)
+command_keeps w next output (command.Open session log pieces) left keeps does = open_line_keeps session log pieces w next output keeps does
+command_keeps w next output (command.Step session count) left keeps does = left (inl tt)
+command_keeps w next output (command.Finish session) left keeps does = left (inl tt)
 command_keeps w next output (command.Join number) left keeps does = join_lines_keep number w next output keeps does
 command_keeps w next output (command.Stop node) left keeps does = stop_lines_keep node w next output keeps does
 command_keeps w next output command.Round left keeps does = round_lines_keep w next output keeps does
 command_keeps w next output (command.Lose count) left keeps does = still_lines_keep (command.Lose count) tt w next output keeps does
 command_keeps w next output (command.Damage node key offset byte) left keeps does = damage_lines_keep node key offset byte w next output keeps does
-command_keeps w next output (command.Snap log) left keeps does = left tt
-command_keeps w next output (command.Restart log) left keeps does = left tt
+command_keeps w next output (command.Snap log) left keeps does = left (inl tt)
+command_keeps w next output (command.Restart log) left keeps does = restart_lines_keep log w next output keeps does
 command_keeps w next output (command.Keep log count new) left keeps does = keeper_lines_keep log count new w next output keeps does
 command_keeps w next output (command.Holds node) left keeps does = still_lines_keep (command.Holds node) tt w next output keeps does
 command_keeps w next output (command.Order log) left keeps does = still_lines_keep (command.Order log) tt w next output keeps does
@@ -100,4 +105,4 @@ command_keeps w next output command.End left keeps does = absurd (goes_or_ends n
 pub lines_keep_by_these : LinesKeepByThese
 lines_keep_by_these these w next line output keeps step =
     let done = does_line w next output (command_of line) step in
-    command_keeps w next output done.0 (λ left. these done.0 w next line output left done.1 keeps done.2) keeps done.2
+    command_keeps w next output done.0 (λ left. ⊎_elim (λ it. these done.0 w next line output it done.1 keeps done.2) (λ never. absurd (never (command_fits line done.0 done.1))) left) keeps done.2

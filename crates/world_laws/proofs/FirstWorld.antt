@@ -11,6 +11,7 @@ empty_keeps = record {
   peers = record { named = tt; apart = tt; few = omega arith; known = tt };
   signs = tt;
   saved = tt;
+  entered = tt;
   apart = tt;
   named_once = tt;
   moment = record { sec = omega arith; nsec = omega arith };

@@ -9,6 +9,7 @@ use Rattle.ivy_base.specs.declared.key.PubKey.{PubKey}
 use Rattle.ivy_base.specs.Naming.{NamesTellApart}
 use Rattle.log_model.proofs.Lists.{each, each_from, from_filter, here, in_cons, in_filter, in_nothing, there}
 use Rattle.log_model.specs.Record.{Record}
+use Rattle.log_model.specs.View.{View}
 use Rattle.turn_model.specs.Basis.{Holding}
 use Rattle.dht_ids.specs.declared.ask.Answer.{Answer}
 use Rattle.dht_ids.specs.declared.ask.Answer.TheVariants as answer
@@ -29,7 +30,7 @@ use Rattle.world_model.specs.Logs.{Played}
 use Rattle.world_model.specs.Steps.{heads_by}
 use Rattle.world_laws.specs.Causes.{HasCause, said_at}
 use Rattle.world_laws.specs.Causes.HasCause.{alone, missed, turned, no_memory}
-use Rattle.world_laws.specs.Keeps.{AreApart, AreSound, BlocksAreMet, GoesOn, HasRing, HasSaid, IsAnswerIn, IsAtStage, IsKeptSo, IsMetPost, IsSavedWell, IsSoundKeptIn, IsSoundSession, Keeps, KeepsUp, PeersAreMade, SignsOnce}
+use Rattle.world_laws.specs.Keeps.{AreApart, AreSound, BlocksAreMet, GoesOn, HasRing, HasSaid, IsAnswerIn, IsAtStage, IsKeptSo, IsMetPost, IsSavedWell, AreParticipants, EntersOwned, IsSoundKeptIn, IsSoundSession, Keeps, KeepsUp, PeersAreMade, SignsOnce}
 use Rattle.world_laws.specs.Keeps.KeepsUp.{still, grown, dropped}
 use Rattle.world_laws.specs.Frames.{AreOfRing, Change, Changes, IsMild, IsMildChange, MildChangesKeep, MoreBlocksKeep, changed, changed_by, unchanged}
 use Rattle.world_laws.proofs.MoreMet.{grows_before, more_heads, more_kept_in, more_posts, more_snapshot, more_snapshots, more_sound, more_to_load, some_weaker}
@@ -153,6 +154,12 @@ pub said_still : (st : Story) (acked : List Post) (n : ℕ) (s : Session) (o : O
 said_still st acked n s None h = tt
 said_still st acked n s (Some said) h = cause_still st acked n s said h
 
+-- ---- views
+
+-- whose members were participants has members that are, where the keys are the same
+pub still_participants : (w v : World) → map (λ (p : Participant). own p.agent) v.participants ≡ map (λ (p : Participant). own p.agent) w.participants → (view : View) → AreParticipants w view → AreParticipants v view
+still_participants w v same view h = all_weaker _ _ view.members (λ k c. subst (λ ks. Contains ks k) (sym same) c) h
+
 -- ---- the whole
 
 module _ (w : Played) (c : Changes) (keeps : Keeps w) (mild : IsMild w.0 c) where
@@ -178,6 +185,18 @@ module _ (w : Played) (c : Changes) (keeps : Keeps w) (mild : IsMild w.0 c) wher
         (λ s g. goes_on_still w.0 v mild.grows mild.peers r s.session g (c.change g.by) (found s.session.by g.by g.is_by)) h.3,
   )
 
+  owners : map (λ (p : Participant). own p.agent) v.participants ≡ map (λ (p : Participant). own p.agent) w.0.participants
+  owners = same_map (λ (p : Participant). own p.agent) now w.0.participants (λ p among. refl)
+
+  owned_then : (view : View) → AreParticipants w.0 view → AreParticipants v view
+  owned_then view h = still_participants w.0 v owners view h
+
+  entered : (p : Participant) → Contains w.0.participants p → EntersOwned w.0 p → EntersOwned v (now p)
+  entered p among h = record {
+    agent = some_weaker _ _ p.agent.view owned_then h.agent;
+    keeper = (h.keeper.0, h.keeper.1, (mild.each p among).kept ∙ h.keeper.2, some_weaker _ _ h.keeper.0.view owned_then h.keeper.3);
+  }
+
   blocks : BlocksAreMet v
   blocks = record {
     held = mild.held;
@@ -185,7 +204,7 @@ module _ (w : Played) (c : Changes) (keeps : Keeps w) (mild : IsMild w.0 c) wher
         let old = each (IsMetPost w.0.met) p.agent.pending post (each _ w.0.participants p keeps.met.pending among) ((mild.each p among).pending post is) in
         (mild.grows post.bytes old.0, old.1)));
     cached = all_mapped _ now w.0.participants (λ p among. (mild.each p among).cached);
-    views = mild.views;
+    views = all_weaker _ _ c.views (λ v h. (h.0, h.1, owned_then v.view h.2)) mild.views;
   }
 
   peers : PeersAreMade v
@@ -249,6 +268,7 @@ module _ (w : Played) (c : Changes) (keeps : Keeps w) (mild : IsMild w.0 c) wher
     peers = peers;
     signs = all_mapped _ now w.0.participants (λ p among. signs p among (each _ w.0.participants p keeps.signs among));
     saved = all_mapped _ now w.0.participants (λ p among. saved p among (each _ w.0.participants p keeps.saved among));
+    entered = all_mapped _ now w.0.participants (λ p among. entered p among (each _ w.0.participants p keeps.entered among));
     apart = subst AreApart (sym names) keeps.apart;
     named_once = keeps.named_once;
     moment = mild.moment;

@@ -261,7 +261,7 @@ of_restart {w = w} (restart_starts p v k set h whole kept known) = λ b c. of_po
 of_snap : {judged : Key → List ℕ → Option Judged} {w : Played} {p : Option Participant} {o : Outcome Played} → SnapLine judged w p o → Keeps w o
 of_snap snap_nobody = tt
 of_snap (snap_outside p h) = tt
-of_snap (snap_fails p v h tried) = λ b c. c
+of_snap (snap_fails p v h tried spelled) = λ b c. c
 of_snap {w = w} (snap_makes p q v r next h tried ringed is spelled published) =
     subst (λ (v : Played). Grows w.0 v.0) (sym published.2) (λ b c. runs_grow published.1 b (of_posts q.agent.pending w.0.met b c))
 

@@ -141,7 +141,7 @@ of_restart (restart_starts p v k set h whole kept known) = sym (if_true (is_some
 of_snap : {judged : Key → List ℕ → Option Judged} {w : Played} {p : Option Participant} {o : Outcome Played} → SnapLine judged w p o → kind o ≡ in_view_kind p
 of_snap snap_nobody = refl
 of_snap (snap_outside p h) = sym (if_false (is_some p.agent.view) Going Refused (ap is_some h))
-of_snap (snap_fails p v h tried) = sym (if_true (is_some p.agent.view) Going Refused (is_there p.agent.view v h))
+of_snap (snap_fails p v h tried spelled) = sym (if_true (is_some p.agent.view) Going Refused (is_there p.agent.view v h))
 of_snap (snap_makes p q v r next h tried ringed is spelled published) = sym (if_true (is_some p.agent.view) Going Refused (is_there p.agent.view v h))
 
 -- ---- the whole

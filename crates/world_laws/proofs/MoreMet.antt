@@ -114,5 +114,5 @@ module _ (met more : List (List ℕ)) (grows : (b : List ℕ) → Contains met b
       both = grows_before met more grows posts
 
   pub more_kept_in : (p : Participant) (d : Change) (now : Knowing) (k : Kept) (o : Option View) → IsSoundKeptIn met p now k o → IsSoundKeptIn more (changed p d) now k o
-  more_kept_in p d now k None h = (h.0, h.1, grows (record_block h.0) h.2, h.3, h.4)
+  more_kept_in p d now k None h = (h.0, h.1, grows (record_block h.0) h.2, h.3, h.4, h.5)
   more_kept_in p d now k (Some view) h = more_kept p d now k view h

@@ -16,13 +16,13 @@ use Rattle.hash_signature_model.specs.Parameters.{levels, lms_type, ots_type}
 use Rattle.hss_keys.specs.Saved.{AreOctets, IsSigner}
 use Rattle.hss_keys.specs.Signer.{Signer, hss_key_of, owner_of, tree_public}
 
-abbrev is_byte : ℕ → Bool
+abbrev pub is_byte : ℕ → Bool
 is_byte b = nat_lt b 256
 
 last_byte : (n : ℕ) → is_byte (n % 256) ≡ true
 last_byte n = lt-ltb (n % 256) 256 (omega arith)
 
-word_bytes : (n : ℕ) → list_all is_byte (word n) ≡ true
+pub word_bytes : (n : ℕ) → list_all is_byte (word n) ≡ true
 word_bytes n = both _ _ (last_byte (n / 16777216)) (both _ _ (last_byte (n / 65536)) (both _ _ (last_byte (n / 256)) (both _ _ (last_byte n) refl)))
 
 -- ---- digests
@@ -36,23 +36,23 @@ digest_each : (m : List ℕ) → list_all is_byte (sha256 m) ≡ true
 unfolding sha256
 digest_each m = words_of_digest _ 8
 
-digest_octets : (m : List ℕ) → AreOctets 32 (sha256 m)
+pub digest_octets : (m : List ℕ) → AreOctets 32 (sha256 m)
 digest_octets m = record { size = length-sha256 m; each = digest_each m }
 
-node_octets : (set : Set) (id seed : List ℕ) (n r : ℕ) → AreOctets 32 (node set id seed n r)
+pub node_octets : (set : Set) (id seed : List ℕ) (n r : ℕ) → AreOctets 32 (node set id seed n r)
 unfolding node
 node_octets set id seed zero r = digest_octets _
 node_octets set id seed (suc n) r = digest_octets _
 
 -- ---- keys
 
-one_after : (m n : ℕ) (a b : List ℕ) → AreOctets m a → AreOctets n b → AreOctets (m + n) (a ++ b)
+pub one_after : (m n : ℕ) (a b : List ℕ) → AreOctets m a → AreOctets n b → AreOctets (m + n) (a ++ b)
 one_after m n a b f g = record { size = omega (arith, length-append a b, f.size, g.size); each = list_all-append is_byte a b ∙ both _ _ f.each g.each }
 
-word_octets : (n : ℕ) → AreOctets 4 (word n)
+pub word_octets : (n : ℕ) → AreOctets 4 (word n)
 word_octets n = record { size = refl; each = word_bytes n }
 
-tree_octets : (set : Set) (id seed : List ℕ) → AreOctets 16 id → AreOctets 56 (tree_public (record { set = set; id = id; seed = seed }))
+pub tree_octets : (set : Set) (id seed : List ℕ) → AreOctets 16 id → AreOctets 56 (tree_public (record { set = set; id = id; seed = seed }))
 tree_octets set id seed h =
     one_after 4 52 (word (lms_type set.h)) (word (ots_type set.w) ++ (id ++ node set id seed (levels set.h) 1)) (word_octets (lms_type set.h))
     (one_after 4 48 (word (ots_type set.w)) (id ++ node set id seed (levels set.h) 1) (word_octets (ots_type set.w))

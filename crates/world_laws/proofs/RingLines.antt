@@ -280,6 +280,7 @@ ring_line_keeps w keeps count r _ (ring_makes nodes allowed few settled) = recor
   peers = record { named = after.4; apart = after.0.apart; few = after.2; known = after.0.known };
   signs = keeps.signs;
   saved = keeps.saved;
+  entered = all_weaker _ _ w.0.participants (λ p h. record { agent = h.agent; keeper = h.keeper }) keeps.entered;
   apart = keeps.apart;
   named_once = keeps.named_once;
   moment = keeps.moment;

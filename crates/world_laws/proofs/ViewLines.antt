@@ -1,5 +1,5 @@
 -- Lines that make views leave a world that keeps what it should.
-use Rattle.std.proofs.Common.{◌≡◌, ◌≢◌, ℕ, suc, ◌≤◌, Bool, true, false, ◌||◌, List, [], ◌∷◌, ◌++◌, length, Option, Some, None, refl, sym, ap, ◌∙◌, subst, arith, Contains, nat_lt}
+use Rattle.std.proofs.Common.{map, ◌≡◌, ◌≢◌, ℕ, suc, ◌≤◌, Bool, true, false, ◌||◌, List, [], ◌∷◌, ◌++◌, length, Option, Some, None, refl, sym, ap, ◌∙◌, subst, arith, Contains, nat_lt}
 use Rattle.std.specs.List.{AllByRecursion}
 use Rattle.std.proofs.lemmas.Bool.{ltb-false}
 use Rattle.ivy_base.specs.declared.key.PubKey.{PubKey}
@@ -23,10 +23,10 @@ use Rattle.world_model.specs.Fates.{Fates, asking}
 use Rattle.world_model.specs.Fates.Fates.{none as fates_none, more as fates_more}
 use Rattle.world_model.specs.Logs.{Played, ViewLine, acked_view, in_key_order, is_too_large, keys_of, with_view}
 use Rattle.world_model.specs.Logs.ViewLine.{known as view_known, no_members as view_no_members, no_former as view_no_former, one_head_key as view_one_head_key, exceeds as view_exceeds, makes as view_makes}
-use Rattle.world_laws.specs.Keeps.{IsKeptSo, IsSavedWell, Keeps}
+use Rattle.world_laws.specs.Keeps.{AreParticipants, IsKeptSo, IsSavedWell, Keeps}
 use Rattle.world_laws.specs.Frames.{ViewLinesKeep}
 use Rattle.world_laws.proofs.Bringing.{found_named}
-use Rattle.world_laws.proofs.Frames.{held_more, no_changes, of_ring, unchanged_mild, world_changes}
+use Rattle.world_laws.proofs.Frames.{held_more, into_map, no_changes, of_ring, unchanged_mild, world_changes}
 use Rattle.world_laws.proofs.Lines.{ToSuch, meets_it, meets_more}
 use Rattle.world_laws.proofs.MadeViews.{each_in_order, made_view_is_view}
 use Rattle.world_laws.proofs.NodeFates.{PutsMet}
@@ -66,12 +66,13 @@ acked_keep w st acked keeps = world_changes (w, st) (record (no_changes (w, st))
 pub own_is_key : (w : Played) → Keeps w → (p : Participant) → Contains w.0.participants p → IsPubKey (own p.agent)
 own_is_key w keeps p among = owner_is_key p.agent.signer (each (IsKeptSo IsSavedWell) w.0.participants p keeps.saved among).3.agent.signer
 
-record AreOwn (names : List (List ℕ)) (keys : List PubKey) : Type 0 where
+record AreOwn (w : World) (names : List (List ℕ)) (keys : List PubKey) : Type 0 where
   each_is_key : AllByRecursion IsPubKey keys
   as_many : length keys ≡ length names
+  owned : AllByRecursion (Contains (map (λ (p : Participant). own p.agent) w.participants)) keys
 
-own_keys : (w : Played) → Keeps w → (names : List (List ℕ)) (keys : List PubKey) → keys_of w.0 names ≡ Some keys → AreOwn names keys
-own_keys w keeps [] keys is = subst (AreOwn []) (same [] keys is) (record { each_is_key = tt; as_many = refl })
+own_keys : (w : Played) → Keeps w → (names : List (List ℕ)) (keys : List PubKey) → keys_of w.0 names ≡ Some keys → AreOwn w.0 names keys
+own_keys w keeps [] keys is = subst (AreOwn w.0 []) (same [] keys is) (record { each_is_key = tt; as_many = refl; owned = tt })
   where
     same : (a b : List PubKey) → Some a ≡ Some b → a ≡ b
     same a b e = cc e
@@ -80,13 +81,13 @@ own_keys w keeps (name ∷ names) keys is = by (participant w.0 name) refl is (o
     same : (a b : List PubKey) → Some a ≡ Some b → a ≡ b
     same a b e = cc e
 
-    with_rest : (p : Participant) → Contains w.0.participants p → (o : Option (List PubKey)) → keys_of w.0 names ≡ o → (o >>= λ rest. Some (own p.agent ∷ rest)) ≡ Some keys → ((rest : List PubKey) → keys_of w.0 names ≡ Some rest → AreOwn names rest) → AreOwn (name ∷ names) keys
+    with_rest : (p : Participant) → Contains w.0.participants p → (o : Option (List PubKey)) → keys_of w.0 names ≡ o → (o >>= λ rest. Some (own p.agent ∷ rest)) ≡ Some keys → ((rest : List PubKey) → keys_of w.0 names ≡ Some rest → AreOwn w.0 names rest) → AreOwn w.0 (name ∷ names) keys
     with_rest p among None e h again = cc h
     with_rest p among (Some rest) e h again =
         let more = again rest e in
-        subst (AreOwn (name ∷ names)) (same (own p.agent ∷ rest) keys h) (record { each_is_key = (own_is_key w keeps p among, more.each_is_key); as_many = ap suc more.as_many })
+        subst (AreOwn w.0 (name ∷ names)) (same (own p.agent ∷ rest) keys h) (record { each_is_key = (own_is_key w keeps p among, more.each_is_key); as_many = ap suc more.as_many; owned = (into_map (λ (o : Participant). own o.agent) w.0.participants p among, more.owned) })
 
-    by : (o : Option Participant) → participant w.0 name ≡ o → (o >>= λ p. keys_of w.0 names >>= λ rest. Some (own p.agent ∷ rest)) ≡ Some keys → ((rest : List PubKey) → keys_of w.0 names ≡ Some rest → AreOwn names rest) → AreOwn (name ∷ names) keys
+    by : (o : Option Participant) → participant w.0 name ≡ o → (o >>= λ p. keys_of w.0 names >>= λ rest. Some (own p.agent ∷ rest)) ≡ Some keys → ((rest : List PubKey) → keys_of w.0 names ≡ Some rest → AreOwn w.0 names rest) → AreOwn w.0 (name ∷ names) keys
     by None e h again = cc h
     by (Some p) e h again = with_rest p (found_named w.0.participants name p e).0 (keys_of w.0 names) refl h again
 
@@ -100,13 +101,13 @@ few_enough members former h = let p = neither (nat_lt most_members (length membe
     neither false b e = (refl, e)
 
 -- a view more, whose block is met
-with_view_keeps : (w : Played) (name : List ℕ) (view : View) → Keeps w → IsView view → HasKeys view → Keeps (with_view w.0 name view, w.1)
-with_view_keeps w name view keeps legal keys = world_changes w (record (no_changes w) { views = w.0.views ++ record { name = name; view = view } ∷ []; met = meets w.0.met (view_block view) }) keeps (record {
+with_view_keeps : (w : Played) (name : List ℕ) (view : View) → Keeps w → IsView view → HasKeys view → AreParticipants w.0 view → Keeps (with_view w.0 name view, w.1)
+with_view_keeps w name view keeps legal keys owned = world_changes w (record (no_changes w) { views = w.0.views ++ record { name = name; view = view } ∷ []; met = meets w.0.met (view_block view) }) keeps (record {
   peers = λ p h. h;
   made = keeps.peers;
   ring = of_ring w.0 w.0.replicas keeps.ring;
   held = held_more w keeps (meets w.0.met (view_block view)) (meets_more w.0.met (view_block view));
-  views = each_append (λ (v : NamedView). IsView v.view × HasKeys v.view) w.0.views (record { name = name; view = view } ∷ []) keeps.met.views ((legal, keys), tt);
+  views = each_append (λ (v : NamedView). IsView v.view × HasKeys v.view × AreParticipants w.0 v.view) w.0.views (record { name = name; view = view } ∷ []) keeps.met.views ((legal, keys, owned), tt);
   moment = keeps.moment;
   grows = meets_more w.0.met (view_block view);
   each = unchanged_mild w keeps (meets w.0.met (view_block view)) (meets_more w.0.met (view_block view));
@@ -124,18 +125,21 @@ view_keeps w keeps name names others some _ _ is_m is_f _ (view_one_head_key mem
 view_keeps w keeps name names others some _ _ is_m is_f _ (view_exceeds members former new own_heads many) = tt
 view_keeps w keeps name names others some _ _ is_m is_f _ (view_makes members former r view next new own_heads few ringed is put) =
     acked_keep next w.1 (w.1.acked ++ acked_view view put.came)
-    (fates_keep (with_view w.0 name view).met r w.1 put.fates (with_view_keeps w name view keeps (subst IsView (sym is) legal) (subst HasKeys (sym is) keys)) ringed refl
+    (fates_keep (with_view w.0 name view).met r w.1 put.fates (with_view_keeps w name view keeps (subst IsView (sym is) legal) (subst HasKeys (sym is) keys) (subst (AreParticipants w.0) (sym is) owned)) ringed refl
     (each_append _ (asking (ask.Route (view_name view)) put.looks) (asking (ask.PutBlock (view_name view) (view_block view)) put.asks) (asked_fit _ (ask.Route (view_name view)) (tt, tt) put.looks)
     (asked_fit _ (ask.PutBlock (view_name view) (view_block view)) (tt, meets_it w.0.met (view_block view)) put.asks)))
   where
-    of_members : AreOwn names members
+    of_members : AreOwn w.0 names members
     of_members = own_keys w keeps names members is_m
 
-    of_former : AreOwn others former
+    of_former : AreOwn w.0 others former
     of_former = own_keys w keeps others former is_f
 
     legal : IsView (record { members = in_key_order members; former = in_key_order former })
     legal = let sizes = few_enough members former few in made_view_is_view members former (omega (arith, some_of names some, of_members.as_many)) sizes.0 sizes.1 own_heads
+
+    owned : AreParticipants w.0 (record { members = in_key_order members; former = in_key_order former })
+    owned = each_in_order (Contains (map (λ (p : Participant). own p.agent) w.0.participants)) members of_members.owned
 
     keys : HasKeys (record { members = in_key_order members; former = in_key_order former })
     keys = record { members = each_in_order IsPubKey members of_members.each_is_key; former = each_in_order IsPubKey former of_former.each_is_key }

@@ -9,6 +9,8 @@ use Rattle.log_model.specs.View.{IsView}
 use Rattle.view_blocks.specs.Faults.{HasKeys}
 use Rattle.dht_ids.specs.declared.peer.Peer.{Peer}
 use Rattle.dht_ids.specs.declared.post.Post.{Post}
+use Rattle.hash_signature_model.specs.declared.set.Set.{Set}
+use Rattle.hss_keys.specs.Saved.{IsSigner}
 use Rattle.node_store.specs.Stores.{IsStore}
 use Rattle.block_cache.specs.Blocks.{IsCache}
 use Rattle.session_model.specs.Sessions.{Cache}
@@ -23,9 +25,9 @@ use Rattle.world_model.specs.Keepers.{Keeper}
 use Rattle.world_model.specs.Nodes.{Node}
 use Rattle.world_model.specs.World.{World, NamedView, Participant, peer_of}
 use Rattle.world_model.specs.Story.{Story}
-use Rattle.world_model.specs.Logs.{Played}
+use Rattle.world_model.specs.Logs.{Played, fresh_signer}
 use Rattle.world_model.specs.Step.{Does}
-use Rattle.world_laws.specs.Keeps.{Keeps, PeersAreMade}
+use Rattle.world_laws.specs.Keeps.{AreParticipants, Keeps, PeersAreMade}
 use Rattle.world_laws.specs.Laws.{EachReplyIsOnReplay, HeadlineHolds, IsStill, LinesKeep}
 
 -- ---- participants
@@ -85,7 +87,7 @@ pub record IsMild (w : World) (c : Changes) : Type 0 where
   pub made : PeersAreMade (record w { nodes = c.nodes })
   pub ring : AreOfRing w.replicas c.nodes
   pub held : AllByRecursion (λ n. IsStore n.blocks × AllByRecursion (λ e. Contains c.met e.1.bytes) n.blocks) c.nodes
-  pub views : AllByRecursion (λ v. IsView v.view × HasKeys v.view) c.views
+  pub views : AllByRecursion (λ v. IsView v.view × HasKeys v.view × AreParticipants w v.view) c.views
   pub moment : IsMoment c.now
   pub grows : (b : List ℕ) → Contains w.met b → Contains c.met b
   pub each : (p : Participant) → Contains w.participants p → IsMildChange c.met p (c.change p)
@@ -133,19 +135,29 @@ RoundLinesKeep = LineKeeps command.Round
 abbrev pub ViewLinesKeep : Type 0
 ViewLinesKeep = (view : List ℕ) (members former : List (List ℕ)) → members ≢ [] → LineKeeps (command.View view members former)
 
+-- ---- lines of participants
+
+-- a log begins, whose key can be saved
+abbrev pub LogLinesKeep : Type 0
+LogLinesKeep = (log id seed : List ℕ) (sets : List Set) → IsSigner (fresh_signer id seed sets) → LineKeeps (command.Log log id seed sets)
+
+-- a participant enters a view, or is refused, or its save fails
+abbrev pub UseLinesKeep : Type 0
+UseLinesKeep = (log view : List ℕ) → LineKeeps (command.Use log view)
+
+-- an agent starts again from what its keeper's bytes say
+abbrev pub RestartLinesKeep : Type 0
+RestartLinesKeep = (log : List ℕ) → LineKeeps (command.Restart log)
+
 -- ---- all lines
 
 -- the commands of which it is still to be shown
 abbrev pub IsLeft : Command → Type 0
-IsLeft (command.Log log id seed sets) = Unit {0}
-IsLeft (command.View view [] former) = Unit {0}
-IsLeft (command.Use log view) = Unit {0}
+IsLeft (command.Log log id seed sets) = IsSigner (fresh_signer id seed sets) → ⊥
 IsLeft (command.As log pieces) = Unit {0}
-IsLeft (command.Open session log pieces) = Unit {0}
 IsLeft (command.Step session count) = Unit {0}
 IsLeft (command.Finish session) = Unit {0}
 IsLeft (command.Snap log) = Unit {0}
-IsLeft (command.Restart log) = Unit {0}
 IsLeft _ = ⊥
 
 -- Where these commands, as lines say them, leave such a world, so does each line.

@@ -47,12 +47,16 @@ use Rattle.world_laws.specs.Causes.{HasCause, said_at}
 abbrev pub IsMetPost : List (List ℕ) → Post → Type 0
 IsMetPost met p = Contains met p.bytes × HasItsName p
 
--- the blocks of nodes and caches, and what agents have to publish, are met; and views have a block that is theirs alone
+-- each member of the view is a participant
+abbrev pub AreParticipants : World → View → Type 0
+AreParticipants w view = AllByRecursion (Contains (map (λ p. own p.agent) w.participants)) view.members
+
+-- The blocks of nodes and caches, and what agents have to publish, are met; and views are those of participants, and have a block that is theirs alone.
 pub record BlocksAreMet (w : World) : Type 0 where
   pub held : AllByRecursion (λ n. IsStore n.blocks × AllByRecursion (λ e. Contains w.met e.1.bytes) n.blocks) w.nodes
   pub pending : AllByRecursion (λ p. AllByRecursion (IsMetPost w.met) p.agent.pending) w.participants
   pub cached : AllByRecursion (λ p. IsCache p.cache × AllByRecursion (λ e. Contains w.met e.1) p.cache) w.participants
-  pub views : AllByRecursion (λ v. IsView v.view × HasKeys v.view) w.views
+  pub views : AllByRecursion (λ v. IsView v.view × HasKeys v.view × AreParticipants w v.view) w.views
 
 -- each node has the identifier of its number, no two stand at one place, and each peer that a node knows is a node that was made
 pub record PeersAreMade (w : World) : Type 0 where
@@ -130,10 +134,10 @@ pub record IsSoundKept (met : List (List ℕ)) (p : Participant) (now : Knowing)
   pub goes_on : (rest : List Record) × (log_of (own p.agent) known ≡ log_of (own p.agent) now.known ++ rest)
   pub heads : AllByRecursion (NamesOneOf k.signer (log_of (own p.agent) known)) (p.left ++ heads_by k.pending)
 
--- before its first view a keeper names its log's opening
+-- before its first view a keeper names its log's opening, which is what is known
 abbrev pub IsSoundKeptIn : List (List ℕ) → Participant → Knowing → Kept → Option View → Type 0
 IsSoundKeptIn met p now k None = (r : Record) × (k.floor ≡ own_entry r ∷ []) × Contains met (record_block r) × IsChain (record { members = own p.agent ∷ []; former = [] }) (own p.agent) (r ∷ [])
-    × AllByRecursion (NamesOneOf k.signer (r ∷ [])) (p.left ++ heads_by k.pending)
+    × AllByRecursion (NamesOneOf k.signer (r ∷ [])) (p.left ++ heads_by k.pending) × (now.known ≡ r ∷ [])
 IsSoundKeptIn met p now k (Some view) = IsSoundKept met p now k view
 
 -- where no snapshot was to be loaded when the session (last) began, and what was held then had a fresh basis
@@ -237,6 +241,11 @@ abbrev pub HasRing : World → Option ℕ → Type 0
 HasRing w None = (w.nodes ≡ []) × (w.participants ≡ []) × (w.sessions ≡ [])
 HasRing w (Some r) = (1 ≤ r) × (w.nodes ≢ []) × AllByRecursion (λ n. n.ring.replicas ≡ r) w.nodes × AllByRecursion (λ s. GoesOn w r s.session) w.sessions
 
+-- the views that the participant's agent entered, and that its keeper holds, are of participants
+pub record EntersOwned (w : World) (p : Participant) : Type 0 where
+  pub agent : IfSome p.agent.view (AreParticipants w)
+  pub keeper : IsKeptSo (λ q k. IfSome k.view (AreParticipants w)) p
+
 pub record Keeps (w : Played) : Type 0 where
   pub fits : StoryFits w.0 w.1
   pub ring : HasRing w.0 w.0.replicas
@@ -244,6 +253,7 @@ pub record Keeps (w : Played) : Type 0 where
   pub peers : PeersAreMade w.0
   pub signs : AllByRecursion (IsKeptSo SignsOnce) w.0.participants
   pub saved : AllByRecursion (IsKeptSo IsSavedWell) w.0.participants
+  pub entered : AllByRecursion (EntersOwned w.0) w.0.participants
   pub apart : AreApart (map (λ p. p.name) w.0.participants)
   pub named_once : AreApart (map (λ s. s.name) w.0.sessions)
   pub moment : IsMoment w.0.now

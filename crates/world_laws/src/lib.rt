@@ -14,10 +14,13 @@
 //! (changes of a world's nodes and of one participant), `proofs/Publishing.antt` (an ask by which only what was met is put),
 //! `proofs/OneTruth.antt` (linked records that end at one record), `proofs/Receiving.antt` (what more heads leave as it was),
 //! `proofs/TakingOn.antt` and `proofs/GetsBring.antt` (a session that is brought something goes on), `proofs/Beginning.antt` (a
-//! session that begins). Nothing here runs, so there are no costs.
+//! session that begins), `proofs/Afresh.antt` (a participant that changes, whose open sessions are gone), `proofs/OtherBytes.antt`
+//! (one whose keeper holds other bytes), `proofs/Newcomer.antt` (one more), `proofs/EnteredViews.antt` (what is known of another
+//! view's members is closed), `proofs/KnownHeads.antt` (the heads that left are over what is known), `proofs/SignatureBytes.antt`
+//! (signatures are bytes, and few). Nothing here runs, so there are no costs.
 #![tactic(auto)]
 
-ghost use Rattle.world_laws.specs.Frames.{DamageLinesKeep, HeadlineOfRuns, JoinLinesKeep, KeeperLinesKeep, LinesKeepByThese, MildChangesKeep, MoreBlocksKeep, RingLinesKeep, RoundLinesKeep, StillLinesKeep, StopLinesKeep, ViewLinesKeep};
+ghost use Rattle.world_laws.specs.Frames.{DamageLinesKeep, HeadlineOfRuns, JoinLinesKeep, KeeperLinesKeep, LinesKeepByThese, LogLinesKeep, MildChangesKeep, MoreBlocksKeep, RestartLinesKeep, RingLinesKeep, RoundLinesKeep, StillLinesKeep, StopLinesKeep, UseLinesKeep, ViewLinesKeep};
 ghost use Rattle.world_laws.specs.Kinds.{LineHasOneKind};
 ghost use Rattle.world_laws.specs.Laws.{AlikeTurnsAnswerAlike, CallsBegin, ClashIsDecided, EmptyKeeps, FewerStayApart, FreshTurnsAreAnswered, GetsBringKeep, GetsGoOnKeep, HeadsAreSavedFirst, KeptOnce, KnownIsOne, LackingKeeps, LackingStepsKeep, LeafSignsOnce, MetGrows, OneTruth, OpenLineKeeps, OtherLogsDontCount, PublishingKeeps, PutsKeep, ReceivingKeeps, RefreshBrings, RefreshEndsInTurn, RefreshMayTurn, SecondTurnIsAnswered, SettlingKeeps, StepsKeepByTurns, StillLinesChangeNothing, TakingKeeps, UpperLeavesSignOnce, VainAsksKeep, WholePublishingKeeps};
 
@@ -134,6 +137,14 @@ pub fn lines_without_sessions_keep()
     ensures view { ViewLinesKeep }
 {}
 
+/// Laws and no code: lines of participants leave a world that keeps what it should: one whose log begins; one that enters a
+/// view, or whose save for it fails; and one that starts again from what was saved.
+pub fn lines_of_participants_keep()
+    ensures begins { LogLinesKeep }
+    ensures enters { UseLinesKeep }
+    ensures restarts { RestartLinesKeep }
+{}
+
 /// Laws and no code: an ask of a put or of a get, whatever it brings, one that isn't heard, settling, what is at hand taken, and the
 /// end for want of memory of a session in hand leave such a world and such a session; and so do more heads received. Where there is
 /// a snapshot to load, that asks that of any blocks it can be told whether they are one.
@@ -173,9 +184,9 @@ pub fn steps_left()
     ensures { StepsKeepByTurns }
 {}
 
-/// Laws and no code: what is left to be shown of lines. Where the commands that log, use, restart and snap, those of sessions,
-/// and a view of no members leave such a world, so does each line; and where each line does, and the headline holds of each, it holds
-/// of each line of a run.
+/// Laws and no code: what is left to be shown of lines. Where the command that snaps, those by which sessions go on, and a
+/// log whose key can't be saved leave such a world, so does each line; and where each line does, and the headline holds of
+/// each, it holds of each line of a run.
 pub fn lines_left()
     ensures lines { LinesKeepByThese }
     ensures runs { HeadlineOfRuns }

@@ -1,5 +1,5 @@
 -- Lines of participants: a log begins, a view is made, a participant enters one, starts again, or makes a snapshot.
-use Rattle.std.specs.Prelude.{◌≡◌, ℕ, ◌+◌, nat_lt, Bool, true, false, ◌&&◌, ◌||◌, not, List, [], ◌∷◌, ◌++◌, codes, fold, filter, map, length, Option, Some, None, is_some, if◌then◌else◌, Result, Ok}
+use Rattle.std.specs.Prelude.{◌≡◌, ℕ, ◌+◌, nat_lt, Bool, true, false, ◌&&◌, ◌||◌, not, List, [], ◌∷◌, ◌++◌, codes, fold, filter, map, length, IfSome, Option, Some, None, is_some, if◌then◌else◌, Result, Ok}
 use Rattle.std.specs.List.{list_any}
 use Rattle.std.specs.FinMap.Entries.{by_order}
 use Rattle.std.specs.Ordering.{eq_by_cmp}
@@ -217,7 +217,7 @@ having_snapped p view = record (having_tried p view) { printed = Some (root_name
 pub data SnapLine (judged : Key → List ℕ → Option Judged) (w : Played) : Option Participant → Outcome Played → Type 0 where
   nobody : SnapLine judged w None Refuses
   outside : (p : Participant) → p.agent.view ≡ None → SnapLine judged w (Some p) Refuses
-  fails : (p : Participant) (view : View) → p.agent.view ≡ Some view → (snapping_in p view).0.1 ≡ false
+  fails : (p : Participant) (view : View) → p.agent.view ≡ Some view → (snapping_in p view).0.1 ≡ false → IfSome (snapping_in p view).1 (λ k. ArePostsSpelled k.pending)
       → SnapLine judged w (Some p) (Goes (with_participant w.0 (having_tried p view), w.1) (failed_text (codes "snap") p.name))
   makes : (p q : Participant) (view : View) (r : ℕ) (next : Played) → p.agent.view ≡ Some view → (snapping_in p view).0.1 ≡ true → w.0.replicas ≡ Some r → q ≡ having_snapped p view
       → ArePostsSpelled q.agent.pending → Publishes judged r (record (with_participant w.0 q) { met = met_by w.0.met q.agent.pending }, w.1) q next
