@@ -23,7 +23,7 @@ use Rattle.world_model.specs.Logs.{Played}
 use Rattle.world_laws.specs.Causes.{HasCause, said_at}
 use Rattle.world_laws.specs.Causes.HasCause.{alone, missed, turned, no_memory}
 use Rattle.world_laws.specs.Frames.{unchanged}
-use Rattle.world_laws.specs.Keeps.{AreApart, AreSound, GoesOn, HasRing, HasSaid, IsInHand, IsSoundSession, Keeps}
+use Rattle.world_laws.specs.Keeps.{AreApart, AreSound, EntersOwned, GoesOn, HasRing, HasSaid, IsInHand, IsSoundSession, Keeps}
 use Rattle.world_laws.specs.Laws.{OpenLineKeeps}
 use Rattle.world_laws.proofs.Beginning.{calls_begin}
 use Rattle.world_laws.proofs.Bringing.{found_named}
@@ -221,6 +221,7 @@ module _ (w : Played) (name : List ℕ) (s : Sending) (t : Session) (keeps : Kee
       apart = keeps.apart;
       named_once = subst AreApart (sym (map_one (λ (x : NamedSession). x.name) w.0.sessions new)) (apart_one (map (λ (x : NamedSession). x.name) w.0.sessions) name keeps.named_once not_named);
       moment = keeps.moment;
+      entered = each_from (EntersOwned opened) w.0.participants (λ p among. let its = each (EntersOwned w.0) w.0.participants p keeps.entered among in record { agent = its.agent; keeper = its.keeper });
       received = keeps.received;
       numbers = record {
         apart = λ x y a b e. by_number x y (Contains-append_cases w.0.sessions (new ∷ []) x a) (Contains-append_cases w.0.sessions (new ∷ []) y b) e;

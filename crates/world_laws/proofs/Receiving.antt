@@ -201,6 +201,7 @@ module _ (st : Story) (name : List ℕ) (heads : List Entry) where
       apart = keeps.apart;
       named_once = keeps.named_once;
       moment = keeps.moment;
+      entered = keeps.entered;
       received = all_mapped (λ (k : Knowing). AllByRecursion (IsMetHead w.met) k.received) then_it st.participants one_received;
       numbers = record { apart = keeps.numbers.apart; sessions = keeps.numbers.sessions; turns = keeps.numbers.turns };
       said = all_weaker _ _ w.sessions (λ s g. said_then (began_of st s.name).number s.session (said_at s.session.stage) g) keeps.said;
