@@ -126,7 +126,7 @@ module _ {K S : Type 0} (signs : Signing S) (IsWhole : S → Type 0) (saves : K 
         → HasSaved saves keeper (kept_bytes signs (saved_of (kept_in view k))) result left → (agent_of now engine to_load true ≡ failed before.agent) × IsSavedIn signs IsWhole saves view before true left
     stayed_out now left result now_is result_is whole told = (
       subst (λ h. agent_of now engine to_load true ≡ failed h.agent) is (ap (λ (x : Kept S). agent_of x engine to_load true) now_is),
-      saved_there true left (subst (λ r. IsWholeAfter (IsWhole k.signer) r) result_is whole) (subst (λ r. HasSaved saves keeper (kept_bytes signs (saved_of (kept_in view k))) r left) result_is told),
+      saved_there true left (subst (λ (r : Result Unit SaveFault). IsWholeAfter (IsWhole k.signer) r) result_is whole) (subst (λ (r : Result Unit SaveFault). HasSaved saves keeper (kept_bytes signs (saved_of (kept_in view k))) r left) result_is told),
     )
 
   -- ---- how it ends

@@ -88,15 +88,15 @@ module _ {S : Type 0} (signs : Signing S) where
       pub save_failed : result ≡ Err fault.Keeper → IsFirstSave signs IsWhole saves keeper before now true left
       save_failed failed = record {
         left = some;
-        kept = first_kept IsWhole (subst (λ r. IsWholeAfter (IsWhole o.kept.signer) r) failed whole);
-        saved = subst (λ (b : List ℕ). saves keeper b true left) bytes_are (subst (λ r. HasSaved saves keeper (kept_bytes signs (saved_of o.kept)) r left) failed told);
+        kept = first_kept IsWhole (subst (λ (r : Result Unit SaveFault). IsWholeAfter (IsWhole o.kept.signer) r) failed whole);
+        saved = subst (λ (b : List ℕ). saves keeper b true left) bytes_are (subst (λ (r : Result Unit SaveFault). HasSaved saves keeper (kept_bytes signs (saved_of o.kept)) r left) failed told);
       }
 
       was_saved : (done : Unit {0}) → result ≡ Ok done → IsFirstSave signs IsWhole saves keeper before now false left
       was_saved done is_done = record {
         left = some;
-        kept = first_kept IsWhole (subst (λ r. IsWholeAfter (IsWhole o.kept.signer) r) is_done whole);
-        saved = subst (λ (b : List ℕ). saves keeper b false left) bytes_are (subst (λ r. HasSaved saves keeper (kept_bytes signs (saved_of o.kept)) r left) is_done told);
+        kept = first_kept IsWhole (subst (λ (r : Result Unit SaveFault). IsWholeAfter (IsWhole o.kept.signer) r) is_done whole);
+        saved = subst (λ (b : List ℕ). saves keeper b false left) bytes_are (subst (λ (r : Result Unit SaveFault). HasSaved saves keeper (kept_bytes signs (saved_of o.kept)) r left) is_done told);
       }
 
       pub made : (done : Unit {0}) → result ≡ Ok done → (h : Holder K S) → h ≡ record { agent = agent_of o.kept o.engine None false; keeper = left } → (h.agent ≡ opened signs before now) × IsFirstSave signs IsWhole saves keeper before now false h.keeper

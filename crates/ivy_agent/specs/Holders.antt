@@ -1,17 +1,17 @@
 -- An agent with its keeper, as callers see both, and what holds of it.
-use Rattle.std.specs.Prelude.{◌≡◌, ◌≤◌, ℕ, Bool, IsTrue, List, Option, Some, None}
-use Rattle.std.specs.List.{AllByRecursion}
+use Rattle.std.specs.Prelude.{◌≡◌, ℕ, Bool, List, Option, Some, None}
 use Rattle.ivy_base.specs.declared.key.Key.{Key}
-use Rattle.ivy_base.specs.declared.key.PubKey.{PubKey}
 use Rattle.ivy_base.specs.Naming.{head_key_of}
 use Rattle.wire_model.specs.Xdr.{IsAny}
-use Rattle.log_model.specs.View.{View, is_named}
-use Rattle.log_model.specs.Vector.{Vector, seq_of}
+use Rattle.log_model.specs.View.{View}
+use Rattle.log_model.specs.Vector.{Vector}
 use Rattle.causal_order.specs.Over.{IsClosed}
 use Rattle.turn_model.specs.Basis.{nothing_held}
+use Rattle.turn_taking.specs.Taking.{IsWithin}
 use Rattle.replay_engine.specs.Engines.{Engine, holding}
 use Rattle.agent_model.specs.Agent.{Agent, Signing, joined, kept_of, own}
 use Rattle.agent_model.specs.SavedBytes.{IsKept}
+use Rattle.ivy_agent.specs.Bounds.{HasBounds}
 use Rattle.ivy_agent.specs.declared.saving.Kept.{Kept}
 
 -- an agent, and what keeps it
@@ -36,14 +36,10 @@ agent_of k engine to_load has_failed = record {
   has_failed = has_failed;
 }
 
--- the vector names logs of the view alone, and of the own log it goes no further than the floor
-pub record IsWithin (view : View) (own_key : PubKey) (floor v : Vector) : Type 0 where
-  pub named : AllByRecursion (λ e. IsTrue (is_named view e.0)) v
-  pub own_log : seq_of v (head_key_of own_key) ≤ seq_of floor (head_key_of own_key)
-
--- In a view the held records are closed over the basis, and what is covered and held is within the floor.
+-- In a view the held records are closed over the basis, whose tree has its bounds, and what is covered and held is within the floor.
 pub record StandsIn {S : Type 0} (signs : Signing S) (a : Agent S) (view : View) : Type 0 where
   pub closed : IsClosed view a.holding.basis.front a.holding.held
+  pub bounds : HasBounds a.holding.basis.tree
   pub base : IsWithin view (own signs a) a.floor a.holding.basis.front
   pub front : IsWithin view (own signs a) a.floor (joined a.holding)
 

@@ -1,5 +1,13 @@
+pub mod Bounds
 pub mod Holders
 pub mod Saves
 pub mod Making
 pub mod Entering
 pub mod Edges
+pub mod Grounds
+pub mod Drafts
+pub mod Outcomes
+pub mod Writing
+pub mod Answering
+pub mod Taking
+pub mod Turns

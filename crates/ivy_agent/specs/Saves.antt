@@ -21,13 +21,13 @@ Saves saves before None fails after = after ≡ before
 Saves saves before (Some bytes) fails after = saves before bytes fails after
 
 -- the keeper after a save of these bytes, by how it ended
-abbrev pub HasSaved : {K : Type 0} → (K → List ℕ → Bool → K → Type 0) → K → List ℕ → Result Unit SaveFault → K → Type 0
+abbrev pub HasSaved : {K A : Type 0} → (K → List ℕ → Bool → K → Type 0) → K → List ℕ → Result A SaveFault → K → Type 0
 HasSaved saves before bytes (Ok done) after = saves before bytes false after
 HasSaved saves before bytes (Err fault.Keeper) after = saves before bytes true after
 HasSaved saves before bytes (Err fault.Memory) after = after ≡ before
 
 -- where the keeper was asked, the key is one that can be
-abbrev pub IsWholeAfter : Type 0 → Result Unit SaveFault → Type 0
+abbrev pub IsWholeAfter : {A : Type 0} → Type 0 → Result A SaveFault → Type 0
 IsWholeAfter whole (Ok done) = whole
 IsWholeAfter whole (Err fault.Keeper) = whole
 IsWholeAfter whole (Err fault.Memory) = Unit {0}

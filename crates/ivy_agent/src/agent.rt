@@ -1,33 +1,42 @@
 //! Agents.
 
-ghost use Rattle.std.specs.Prelude.{◌≡◌, None, false, IfOk, IfSome, IsSomeAnd};
+ghost use Rattle.std.specs.Prelude.{◌≡◌, ◌≤◌, ◌+◌, length, Option, None, false, IfOk, OnOk, OnErr, IfSome, IsSomeAnd};
 ghost use Rattle.log_records.specs.Records.{records_of};
-ghost use Rattle.turn_model.specs.Basis.{kept_tree};
+ghost use Rattle.turn_model.specs.Basis.{Basis, kept_tree};
 ghost use Rattle.agent_model.specs.Others.{settled};
-ghost use Rattle.agent_model.specs.Standing.{standing_in};
-ghost use Rattle.log_fetch.specs.Standings.{standing_of};
+ghost use Rattle.agent_model.specs.Agent.{joined, own};
+ghost use Rattle.agent_model.specs.Standing.{anew_in, going_on, standing_in};
+ghost use Rattle.log_fetch.specs.Standings.{asked_of, refresh_of, standing_of};
+ghost use Rattle.replay_engine.specs.Engines.{holding};
 ghost use Rattle.ivy_agent.specs.Holders.{IsSound, agent_of, signing};
 ghost use Rattle.ivy_agent.specs.Making.{Makes};
 ghost use Rattle.ivy_agent.specs.Entering.{Enters, GoesIn, IsTakenIn, MayEnter};
+ghost use Rattle.ivy_agent.specs.Answering.{IsCall};
+ghost use Rattle.ivy_agent.specs.Bounds.{HasBounds};
+ghost use Rattle.ivy_agent.specs.Taking.{MayTakeFrom};
+ghost use Rattle.ivy_agent.specs.Turns.{ComesFrom, ComesTo, IsFetchedIn, Refuses, TakesTurn, dropping};
 
 use crate::entering::{not_named, save_in};
 use crate::fault::{EnterFault, MakeFault};
+use crate::grounds::{Ground, ground_of};
 use crate::keys::is_among;
 use crate::opening::{Opened, hold_nothing, open};
 use crate::saving::{Kept, SaveFault, save};
 use crate::settling::keep_unsettled;
-use crate::standing::newest_edges;
+use crate::standing::{newest_edges, without_held};
+use crate::taking::{Refusal, turn_on};
 use dht_ids::{Acks, Posts};
 use fs_tree::Tree;
 use hss_keys::Signs;
-use ivy_base::{Key, Memory, Moment};
+use ivy_base::{Key, Memory, Moment, Steps};
 use ivy_io::Keeper;
-use log_fetch::Standing;
-use log_records::Record;
+use log_fetch::{Asked, Refresh, Standing, TurnFault, Turned};
+use log_records::{Batch, Record};
 use replay_engine::Engine;
 use std::alloc::Global;
 use std::marker::Model;
 use std::mem::replace;
+use std::sync::ledger::Ledger;
 use version_vectors::Vector;
 use view_blocks::View;
 
@@ -144,6 +153,7 @@ impl<K: Keeper, S: Signs> Agent<K, S> {
     }
 
     /// Enters a view that takes in what the agent knows. The error is `Keeper` or `Memory`.
+    #[tactic(auto, using(crate::proofs::Trees::bounds_at_first))]
     fn go_in(&mut self, alloc: Global, view: View) -> Result<(), EnterFault>
         requires { IsTakenIn (signing S.key S.remaining S.signature S.next S.saved) view self.old.agent }
         ensures { GoesIn (signing S.key S.remaining S.signature S.next S.saved) S.is_whole K.saves view self.old result self.new }
@@ -185,6 +195,53 @@ impl<K: Keeper, S: Signs> Agent<K, S> {
         })
     }
 
+    /// What a refusal is told as. Where memory runs out nothing has changed.
+    fn refuse(&mut self, alloc: Global, refusal: Refusal) -> TurnFault
+        requires { IsSomeAnd self.old.agent.view (λ view. Unit {0}) }
+        ensures { IfSome self.old.agent.view (λ view. Refuses (signing S.key S.remaining S.signature S.next S.saved) view self.old refusal result self.new) }
+    {
+        match refusal {
+            Refusal::Behind => match self.anew(alloc) {
+                Ok(standing) => TurnFault::Behind(standing),
+                Err(Memory) => TurnFault::Memory,
+            },
+            Refusal::BelowTide => match self.drop_held(alloc) {
+                Ok(standing) => TurnFault::BelowTide(standing),
+                Err(Memory) => TurnFault::Memory,
+            },
+            Refusal::Memory => TurnFault::Memory,
+        }
+    }
+
+    /// What a session is given that begins anew, without a snapshot. The error is want of memory.
+    fn anew(&self, alloc: Global) -> Result<Standing, Memory>
+        requires { IsSomeAnd self.now.agent.view (λ view. Unit {0}) }
+        ensures { IfOk result (λ s. IfSome self.now.agent.view (λ view. standing_of s ≡ anew_in (signing S.key S.remaining S.signature S.next S.saved) self.now.agent view)) }
+    {
+        let mut standing = self.standing(alloc)?;
+        standing.basis = None;
+        Ok(standing)
+    }
+
+    /// Drops what is held, and gives what a session is given that begins anew then. The error is want of memory, and then
+    /// nothing has changed.
+    fn drop_held(&mut self, alloc: Global) -> Result<Standing, Memory>
+        requires { IsSomeAnd self.old.agent.view (λ view. Unit {0}) }
+        ensures ok { OnOk result (self.new ≡ record self.old { agent = dropping self.old.agent }) }
+        ensures standing { IfOk result (λ s. IfSome self.old.agent.view (λ view. standing_of s ≡ anew_in (signing S.key S.remaining S.signature S.next S.saved) (dropping self.old.agent) view)) }
+        ensures err { OnErr result (self.new ≡ self.old) }
+    {
+        let before = self.anew(alloc)?;
+        let Ok(nothing) = hold_nothing(alloc) else {
+            return Err(Memory);
+        };
+        let standing = without_held(alloc, before);
+        self.engine = nothing;
+        self.front = Vector::empty(alloc);
+        self.to_load = None;
+        Ok(standing)
+    }
+
     /// Drops the posts that are acknowledged. It takes no memory.
     pub fn settle(&mut self, acks: &Acks)
         ensures { self.new ≡ record self.old { agent = settled self.old.agent acks.now } }
@@ -214,5 +271,133 @@ impl<K: Keeper, S: Signs> Agent<K, S> {
         ensures { result.now ≡ kept_tree self.now.agent.holding }
     {
         self.engine.tree()
+    }
+}
+
+impl<K: Keeper, S: Signs + Drop> Agent<K, S> {
+    /// A turn: takes what the refresh brought, and answers the call on what is held then. What the call plans is written: its
+    /// records are held, and the agent is saved with them and a head over them; where that fails nothing is written, the reply
+    /// says so, and the agent saves no more. There is a step for each record that is applied. A reply has 32,772 bytes at most.
+    ///
+    /// # Errors
+    ///
+    /// `Behind` where the refresh began with more than is held, or else the record of a member's log that the floor names is
+    /// missing; nothing has changed. `BelowTide` where else a new record isn't above the basis; nothing is held then. `Memory`
+    /// where memory runs out, and then nothing has changed but the steps; it also comes where names clash so that the own log
+    /// doesn't go on from the floor, and where a block or a list is so long that no word counts it.
+    pub fn turn<L: Ledger>(
+        &mut self,
+        alloc: Global,
+        refresh: Refresh,
+        asked: &Asked,
+        now: Moment,
+        steps: &mut Steps<L>,
+    ) -> Result<Turned, TurnFault>
+        requires batch { IsSomeAnd self.old.agent.view (λ view. IsFetchedIn view refresh.batch) }
+        requires bounds { IfSome refresh.basis (λ basis. HasBounds basis.tree) }
+        requires call { IsCall (asked_of asked.now) now }
+        ensures turn { IfSome self.old.agent.view (λ view. TakesTurn (signing S.key S.remaining S.signature S.next S.saved) S.is_whole K.saves view (refresh_of refresh) (asked_of asked.now) now self.old result self.new) }
+        ensures steps { IfOk result (λ turned. steps.new ≡ steps.old + turned.applied) }
+        ensures short { IfOk result (λ turned. length turned.reply ≤ 32772) }
+    {
+        match self.take_turn(alloc, refresh, asked, now, steps) {
+            Ok(turned) => Ok(turned),
+            Err(refusal) => Err(self.refuse(alloc, refusal)),
+        }
+    }
+
+    /// Takes what the refresh brought, where the turn isn't refused, and answers. After an error nothing has changed but the
+    /// steps.
+    fn take_turn<L: Ledger>(
+        &mut self,
+        alloc: Global,
+        refresh: Refresh,
+        asked: &Asked,
+        now: Moment,
+        steps: &mut Steps<L>,
+    ) -> Result<Turned, Refusal>
+        requires batch { IsSomeAnd self.old.agent.view (λ view. IsFetchedIn view refresh.batch) }
+        requires bounds { IfSome refresh.basis (λ basis. HasBounds basis.tree) }
+        requires call { IsCall (asked_of asked.now) now }
+        ensures turn { IfSome self.old.agent.view (λ view. ComesTo (signing S.key S.remaining S.signature S.next S.saved) S.is_whole K.saves view (refresh_of refresh) (asked_of asked.now) now self.old result self.new) }
+        ensures steps { IfOk result (λ turned. steps.new ≡ steps.old + turned.applied) }
+        ensures short { IfOk result (λ turned. length turned.reply ≤ 32772) }
+    {
+        let Refresh { batch, basis } = refresh;
+        match ground_of(alloc, self.to_load, &self.kept.floor, basis) {
+            Ok(None) => self.turn_here(alloc, batch, asked, now, steps),
+            Ok(Some(ground)) => self.turn_over(alloc, ground, batch, asked, now, steps),
+            Err(Memory) => Err(Refusal::Memory),
+        }
+    }
+
+    /// A turn that goes on from what is held. After an error nothing has changed but the steps.
+    fn turn_here<L: Ledger>(
+        &mut self,
+        alloc: Global,
+        batch: Batch,
+        asked: &Asked,
+        now: Moment,
+        steps: &mut Steps<L>,
+    ) -> Result<Turned, Refusal>
+        requires batch { IsSomeAnd self.old.agent.view (λ view. IsFetchedIn view batch) }
+        requires call { IsCall (asked_of asked.now) now }
+        ensures turn { IfSome self.old.agent.view (λ view. ComesFrom (signing S.key S.remaining S.signature S.next S.saved) S.is_whole K.saves view batch (asked_of asked.now) now self.old self.old.agent.holding result self.new) }
+        ensures steps { IfOk result (λ turned. steps.new ≡ steps.old + turned.applied) }
+        ensures short { IfOk result (λ turned. length turned.reply ≤ 32772) }
+    {
+        let done = turn_on(
+            alloc,
+            &mut self.keeper,
+            &mut self.kept,
+            &mut self.engine,
+            &self.front,
+            self.has_failed,
+            batch,
+            asked,
+            now,
+            steps,
+        )?;
+        self.front = done.front;
+        self.to_load = None;
+        self.has_failed = done.has_failed;
+        Ok(done.turned)
+    }
+
+    /// A turn that goes on from a basis. After an error nothing has changed but the steps.
+    fn turn_over<L: Ledger>(
+        &mut self,
+        alloc: Global,
+        mut ground: Ground,
+        batch: Batch,
+        asked: &Asked,
+        now: Moment,
+        steps: &mut Steps<L>,
+    ) -> Result<Turned, Refusal>
+        requires from { IsSomeAnd self.old.agent.view (λ view. MayTakeFrom view (own (signing S.key S.remaining S.signature S.next S.saved) self.old.agent) self.old.agent.floor (holding ground.engine) batch) }
+        requires front { ground.front ≡ joined (holding ground.engine) }
+        requires going { (basis : Option Basis) × (going_on self.old.agent basis ≡ holding ground.engine) }
+        requires call { IsCall (asked_of asked.now) now }
+        ensures turn { IfSome self.old.agent.view (λ view. ComesFrom (signing S.key S.remaining S.signature S.next S.saved) S.is_whole K.saves view batch (asked_of asked.now) now self.old (holding ground.engine) result self.new) }
+        ensures steps { IfOk result (λ turned. steps.new ≡ steps.old + turned.applied) }
+        ensures short { IfOk result (λ turned. length turned.reply ≤ 32772) }
+    {
+        let done = turn_on(
+            alloc,
+            &mut self.keeper,
+            &mut self.kept,
+            &mut ground.engine,
+            &ground.front,
+            self.has_failed,
+            batch,
+            asked,
+            now,
+            steps,
+        )?;
+        self.engine = ground.engine;
+        self.front = done.front;
+        self.to_load = None;
+        self.has_failed = done.has_failed;
+        Ok(done.turned)
     }
 }

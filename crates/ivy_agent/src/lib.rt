@@ -1,27 +1,36 @@
 //! A participant's agent, over a keeper that saves it and a key that signs its log: it opens its log, enters a view, stands
-//! for a session, and settles what was published.
+//! for a session, takes turns, and settles what was published.
 //!
 //! Layer: over `agent_model`, whose definitions the contracts cite, `ivy_io`, whose [`ivy_io::Keeper`] saves, `hss_keys`,
-//! whose [`hss_keys::Signs`] signs, `replay_engine`, which holds records and their tree, and `log_fetch`, whose standings
-//! sessions begin with; below turns and below whatever drives agents.
+//! whose [`hss_keys::Signs`] signs, `replay_engine`, which holds records and their tree, `log_fetch`, whose standings
+//! sessions begin with and whose refreshes turns take, `turn_taking`, which tells what is new, and `turn_answers`, which
+//! answers and writes; below whatever drives agents.
 //! For the layers above: contracts see an [`Agent`] as the agent of the definitions and its keeper (`specs/Holders.antt`).
 //! [`Agent::create`] signs one head, and gives the agent that opens its log only once it is saved; [`Agent::enter`] is
 //! `entering` of the definitions, for some answer to whether the save fails, with what is saved (`specs/Making.antt`,
 //! `specs/Entering.antt`). Both say of the keeper that it is what a save of exactly those bytes leaves, or, where nothing is
 //! saved, what it was; and that what is saved may be (`IsKept`), so that no other agent has those bytes. After a save that
 //! failed an agent saves no more. [`Agent::standing`] is `standing_in`,
-//! [`Agent::settle`] is `settled`. Want of memory, which is tied to no cause, leaves the agent and the keeper as they were; it
-//! also comes where the saved key, a block or a list has 2^32 parts or more, which no word counts.
+//! [`Agent::settle`] is `settled`. [`Agent::turn`] is a `Turns` of the definitions, for some answer to whether the save fails
+//! (`TakesTurn` in `specs/Turns.antt`): `Behind`, `BelowTide`, or a reply with how many records were applied, the agent then,
+//! and what was saved; so where names tell the blocks apart, and for every set that the agent may know, the reply is the
+//! definition's. It also says that the reply has 32,772 bytes at most, and that there was a step for each record that was
+//! applied. Want of memory, which is tied to no cause, leaves the agent and the keeper as they were; it also comes where the
+//! saved key, a block or a list has 2^32 parts or more, which no word counts, and in a turn where the front of what it took
+//! doesn't end in the own log where the floor does, which takes names that clash.
 //!
 //! Always, whatever the names of blocks, holds `IsSound` (`specs/Holders.antt`): the front of what is held is kept; before a
-//! view nothing is held; in a view the held records are closed over the basis's front, and that and the front of all that is
-//! held name logs of the view alone and go no further in the own log than the floor; and what would be saved may be saved,
+//! view nothing is held; in a view the held records are closed over the basis's front, the basis's tree has the bounds that
+//! records keep to (`specs/Bounds.antt`), and that front and the front of all that is held name logs of the view alone and go
+//! no further in the own log than the floor; and what would be saved may be saved,
 //! as far as the key tells so itself, so that no other agent has these bytes.
 //!
 //! Inside, `opening` makes the parts of an agent that opens its log, `saving` the bytes and the save, `entering` tests a view
 //! and saves in it, `standing` finds the newest records' edges, `settling` tells which posts are acknowledged, and `keys`
-//! compares keys. Definitions beside those: `specs/Saves.antt` (how a save ends), `specs/Edges.antt` (edges from the newest
-//! record on).
+//! compares keys. For a turn `grounds` tells what it goes on from, `taking` takes what is new and has it answered, `outcome`
+//! replies or has records written, `drafts` makes and signs these, `posting` what is published of them, `writing` holds and
+//! saves them, and `answering` makes what is given. Definitions beside those: `specs/Saves.antt` (how a save ends),
+//! `specs/Edges.antt` (edges from the newest record on), and a file for each step of a turn.
 //!
 //! Costs: a save is one allocation beside those of the saved key and of the view's block, and copies each pending block once.
 //! Entering a view makes an empty tree. A standing copies the view, the vectors and the pending posts, looks at the owner of
@@ -30,13 +39,20 @@
 #![tactic(auto)]
 
 pub mod agent;
+mod answering;
+mod drafts;
 mod entering;
 pub mod fault;
+mod grounds;
 mod keys;
 mod opening;
+mod outcome;
+mod posting;
 mod saving;
 mod settling;
 mod standing;
+mod taking;
+pub mod writing;
 
 pub use agent::Agent;
 pub use fault::{EnterFault, MakeFault};

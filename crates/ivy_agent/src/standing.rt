@@ -1,6 +1,6 @@
 //! What is known of the newest held records.
 
-ghost use Rattle.std.specs.Prelude.{◌≡◌, ◌≤◌, length, IfOk, OnOk};
+ghost use Rattle.std.specs.Prelude.{◌≡◌, ◌≤◌, [], length, IfOk, OnOk};
 ghost use Rattle.std.specs.List.{AllByRecursion, list_any, position_or_len};
 ghost use Rattle.std.specs.Ordering.{is_lt};
 ghost use Rattle.ivy_base.specs.Naming.{key_cmp, head_key_of};
@@ -8,13 +8,15 @@ ghost use Rattle.tree_model.specs.Tree.{same_key};
 ghost use Rattle.log_records.specs.Batches.{as_edge};
 ghost use Rattle.log_records.specs.Records.{record_of, records_of};
 ghost use Rattle.log_fetch.specs.Edges.{edges_of};
+ghost use Rattle.log_fetch.specs.Standings.{standing_of};
 ghost use Rattle.ivy_agent.specs.Edges.{newest_edges, put_under, KnowsOthers};
 
 use crate::keys::{is_among, is_same};
 use ivy_base::{Key, Memory, PubKey, head_key};
-use log_fetch::{Edge, Edges};
+use log_fetch::{Edge, Edges, Standing};
 use log_records::Record;
 use std::alloc::Global;
+use version_vectors::Vector;
 
 /// What is known of the newest record of each log, ascending by log, where the records ascend. A log is hashed once. The error
 /// is want of memory.
@@ -79,4 +81,13 @@ fn is_past(log: &Key, edge: &Edge) -> bool
     ensures { result ≡ is_lt (key_cmp log.now edge.now.log) }
 {
     log.cmp(&edge.log).is_lt()
+}
+
+/// The standing of one that holds nothing, and else the same.
+pub fn without_held(alloc: Global, mut standing: Standing) -> Standing
+    ensures { standing_of result ≡ record (standing_of standing) { held = []; edges = [] } }
+{
+    standing.held = Vector::empty(alloc);
+    standing.edges = Edges::of(Vec::new(alloc));
+    standing
 }

@@ -1,22 +1,22 @@
 -- The fetch with its gets: how it goes on, and what it gives.
-use Rattle.std.proofs.Common.{◌≡◌, ℕ, List, [], ◌∷◌, ◌++◌, map, Contains, Option, Some, None, Result, Ok, Err, IfOk, refl, sym, ap, ◌∙◌, subst}
-use Rattle.std.proofs.lemmas.List.{append-nil, append_assoc, map-append}
+use Rattle.std.proofs.Common.{◌≡◌, inl, inr, false, ℕ, ◌+◌, ◌-◌, ◌*◌, ◌<◌, ◌≤◌, List, [], ◌∷◌, ◌++◌, map, Option, Some, None, Result, Ok, Err, IfOk, refl, sym, ap, ◌∙◌, subst, arith}
+use Rattle.std.proofs.lemmas.List.{map-append}
 use Rattle.ivy_base.specs.declared.key.Key.{Key}
 use Rattle.ivy_base.specs.declared.key.PubKey.{PubKey}
 use Rattle.ivy_base.specs.declared.memory.Memory.{Memory}
 use Rattle.ivy_base.specs.Naming.{head_key_of}
 use Rattle.log_model.specs.Vector.{Vector}
+use Rattle.ring_model.proofs.Lists.{none_some}
 use Rattle.dht_ids.specs.Asked.{told}
 use Rattle.dht_ids.specs.declared.ask.Answer.{Answer}
-use Rattle.dht_ids.specs.declared.ask.Ask.{Ask}
 use Rattle.dht_ids.specs.declared.ask.Heard.{Heard}
-use Rattle.dht_ids.specs.declared.ask.Want.{Want as Next}
 use Rattle.dht_ids.specs.declared.ask.Want.TheVariants as next
 use Rattle.dht_ids.specs.declared.peer.Peer.{Peer}
+use Rattle.dhash_client.specs.declared.miss.Miss.{Miss}
 use Rattle.dhash_client.specs.GetBlock.{block_begun}
 use Rattle.dhash_client.specs.GetHead.{Judges, head_begun}
 use Rattle.agent_model.specs.Standing as agent
-use Rattle.session_model.specs.Brought.{Brought, HeadsOf, BlockOf, Part, Want, Heads, Content, brought_in, asks_in}
+use Rattle.session_model.specs.Brought.{Brought, HeadsOf, BlockOf, Part, Want, Heads, Content, brought_in}
 use Rattle.session_model.specs.Refreshing as session
 use Rattle.session_model.specs.Refreshing.{RefreshEnd, Needs, FailsBy, Done, Fetches, FetchesAll}
 use Rattle.session_model.specs.Refreshing.Fetches.{wants_heads, no_heads, of_heads, of_own as own_log}
@@ -26,21 +26,34 @@ use Rattle.session_model.specs.Walks.{LogEnd}
 use Rattle.log_fetch.specs.declared.fetch.Fetched.{Fetched}
 use Rattle.log_fetch.specs.declared.fetch.State.{State}
 use Rattle.log_fetch.specs.declared.fetch.State.TheVariants as state
-use Rattle.log_fetch.specs.declared.fetch.Step.TheVariants as step
 use Rattle.log_fetch.specs.declared.gather.Known.{Known}
 use Rattle.log_fetch.specs.declared.gather.Stage.{Stage}
 use Rattle.log_fetch.specs.declared.get.Came.{Came}
 use Rattle.log_fetch.specs.declared.get.Came.TheVariants as came
 use Rattle.log_fetch.specs.declared.get.Get.{Get}
 use Rattle.log_fetch.specs.declared.get.Get.TheVariants as get
-use Rattle.log_fetch.specs.Fetching.{Fetching, FetchIsAfter, FetchIsWanted, FetchHasHeard, FetchWasGiven, AreParts, IsNeeded, IsSeen, IsFor, IsGiven, IsSameFetch, GoesOnTo, Leads, Ends, aim}
+use Rattle.log_fetch.specs.declared.get.Progress.{Progress}
+use Rattle.log_fetch.specs.declared.get.Progress.TheVariants as progress
+use Rattle.log_fetch.specs.declared.get.Waiting.{Waiting}
+use Rattle.log_fetch.specs.Fetching.{Fetching, FetchIsAfter, FetchIsWanted, FetchHasHeard, FetchWasGiven, GetIsOver, HasFailed, FetchStands, AreParts, IsNeeded, IsSeen, IsSound, IsFor, IsGiven, Ends, EndsAs, aim, aim_in, failed_in, left_in, most_asks}
 use Rattle.log_fetch.specs.Fetching.AreParts.{no_parts, was_got, was_given}
-use Rattle.log_fetch.specs.Gathering.{Gathering, Gathers, BlockGathered, heads_wanted, block_wanted, seen}
-use Rattle.log_fetch.specs.Gets.{GetIsAfter, GetIsWanted, GetHasHeard, HasCame, IsOfKind, IsSameGet}
-use Rattle.log_fetch.specs.Stepping.{Takes, CameAs, Finishes, IsWantedKind}
+use Rattle.log_fetch.specs.Gathering.{Gathering, Gathers, BlockGathered, heads_wanted, block_wanted, gets_in, seen}
+use Rattle.log_fetch.specs.Gets.{GetIsAfter, GoesTo, HearsTo, HasCame, IsKept, IsOfKind, IsSameGet, gets_left}
+use Rattle.log_fetch.specs.Stepping.{BeginsFor, CameAs, FailsWith, Finishes, GetsFor, HearsNext, IsMiss, IsWantedKind, LeavesNoMore, StandsBehind, WantsNext}
+use Rattle.log_fetch.proofs.Falling.{first_asks, begins as get_begins, goes_on as get_goes_on, is_over as get_is_over}
 use Rattle.log_fetch.proofs.Getting.{heads_begin, block_begin}
-use Rattle.log_fetch.proofs.Nothing.{brings_nothing}
-use Rattle.log_fetch.proofs.Stepping.{heads_needed, block_needed}
+use Rattle.log_fetch.proofs.Lefts.{heads_left, block_left}
+use Rattle.log_fetch.proofs.Nothing.{asks_nobody, brings_nothing}
+use Rattle.log_fetch.proofs.Stepping.{fails_by, free_goes_on, heads_needed, block_needed}
+
+no_more : (n : ℕ) → n ≤ n
+no_more n = omega arith
+
+at_least : (n : ℕ) → 0 ≤ n
+at_least n = omega arith
+
+below : (a b c : ℕ) → a ≤ b → b < c → a < c
+below a b c h k = omega (arith, h, k)
 
 -- ---- what is known of a standing is enough
 
@@ -71,6 +84,9 @@ module _ (s : agent.Standing) (start : Vector) where
     pub given_as : (given : Fetched) (notes : List session.Note) (chains : List agent.Chain) (end : RefreshEnd) → IsGiven (seen k) start given notes chains end → IsGiven s start given notes chains end
     given_as given notes chains end h = given_widens given notes chains end (subst (λ (x : agent.Standing). IsGiven x start given notes chains end) is h)
 
+    pub ends_as : (brought : List Brought) (given : Fetched) (end : RefreshEnd) → EndsAs (seen k) start brought given end → EndsAs s start brought given end
+    ends_as brought given end e = (e.0, e.1, fetches_as e.2, given_as given e.0 e.1 end e.3)
+
 -- ---- parts
 
 brought_more : (parts : List Part) (p : Part) → brought_in (parts ++ p ∷ []) ≡ brought_in parts ++ p.brought ∷ []
@@ -89,37 +105,47 @@ module _ {J : Type 0} (judges : Judges J) (judge : J) (replicas : ℕ) (entries 
     is_needed (get.Heads owner t) fits = (h.passed.noted ++ [], map agent.chain_of g.passed.batch.chains ++ [], fetches_as s start g.known is (heads_needed start (brought_in parts) g h owner fits.0))
     is_needed (get.Block t) fits = key_needed t.course.look.key fits.0
 
-  pub still_for : (g : Gathering) (x y : Get J) → IsSameGet x y → IsFor judge replicas g.stage x → IsFor judge replicas g.stage y
-  still_for g (get.Heads owner t) (get.Heads other u) same fits = (fits.0 ∙ ap (λ (o : PubKey). Some o) (sym same.0), same.1.1 ∙ fits.1, same.1.0.1 ∙ fits.2)
-  still_for g (get.Heads owner t) (get.Block u) same fits = absurd same
-  still_for g (get.Block t) (get.Heads other u) same fits = absurd same
-  still_for g (get.Block t) (get.Block u) same fits = (fits.0 ∙ ap (λ (key : Key). Some key) (sym same.0), same.1 ∙ fits.1)
+  pub for_same : (at : Stage) (x y : Get J) → IsSameGet x y → IsFor judge replicas at x → IsFor judge replicas at y
+  for_same at (get.Heads owner t) (get.Heads other u) same fits = (fits.0 ∙ ap (λ (o : PubKey). Some o) (sym same.0), same.1.1 ∙ fits.1, same.1.0.1 ∙ fits.2)
+  for_same at (get.Heads owner t) (get.Block u) same fits = absurd same
+  for_same at (get.Block t) (get.Heads other u) same fits = absurd same
+  for_same at (get.Block t) (get.Block u) same fits = (fits.0 ∙ ap (λ (key : Key). Some key) (sym same.0), same.1 ∙ fits.1)
 
-  -- ---- the get goes on
+  aim_same : (x y : Get J) → IsSameGet x y → aim y ≡ aim x
+  aim_same (get.Heads owner t) (get.Heads other u) same = ap (λ (o : PubKey). Heads o) same.0
+  aim_same (get.Heads owner t) (get.Block u) same = absurd same
+  aim_same (get.Block t) (get.Heads other u) same = absurd same
+  aim_same (get.Block t) (get.Block u) same = ap (λ (key : Key). Content key) same.0
 
-  pub asks_on : (g : Gathering) (x y : Get J) → IsFor judge replicas g.stage x → (node : Peer) (question : Ask) → GetIsWanted judges x y (next.Ask node question)
-      → FetchIsWanted judges (At (state.Asking g x)) (At (state.Asking g y)) (next.Ask node question)
-  asks_on g x y fits node question w = (
+  -- ---- it wants something
+
+  -- the ask that is to be heard, again
+  pub asks_again : (g : Gathering) (x : Waiting J) → IsFor judge replicas g.stage x.get → IsKept x → FetchIsWanted judges (At (state.Asking g x)) (At (state.Asking g x)) (next.Ask x.node x.question)
+  asks_again g x fits kept = ((refl, refl, refl), kept, λ s start parts current h. (h, aim x.get, refl, is_needed s start parts g h.asking.0 h.asking.1 x.get fits))
+
+  -- the first ask of a get
+  pub asks_first : (g : Gathering) (x : Waiting J) → BeginsFor judges judge replicas entries g.stage (Some (progress.Waits x)) → FetchIsWanted judges (At (state.Free g)) (At (state.Asking g x)) (next.Ask x.node x.question)
+  asks_first g x begins = (
     (refl, refl, refl),
-    w.1,
+    begins.2,
     λ s start parts current h. (
-      parts,
-      current,
-      ([], sym (append-nil parts), refl),
-      record { whole = h.whole; asking = (h.asking.0, h.asking.1, w.2 entries current h.asking.2) },
-      aim y,
+      record { whole = h.whole; asking = (h.asking.0, h.asking.1, subst (λ (l : List Heard). GetIsAfter judges entries l x.get) (sym h.asking.2) begins.1); sound = (begins.0, begins.2) },
+      aim x.get,
       refl,
-      is_needed s start parts g h.asking.0 h.asking.1 y (still_for g x y w.0 fits),
+      is_needed s start parts g h.asking.0 h.asking.1 x.get begins.0,
     ),
   )
 
-  pub hears : (g : Gathering) (x y : Get J) (answer : Answer) → GetHasHeard judges x y answer → FetchHasHeard judges (At (state.Asking g x)) (At (state.Asking g y)) answer
-  hears g x y answer w = (
-    (refl, refl, refl),
-    λ s start parts current node question e h. record { whole = h.whole; asking = (h.asking.0, h.asking.1, w.1 entries current node question e h.asking.2) },
-  )
+  -- its end, which waited to be told
+  pub tells : (fetched : Fetched) → Ends judges (At (state.Ended fetched)) fetched
+  tells fetched = λ s start parts current h. (h.asking.0, parts, inl refl, h.whole, FailsBy h.asking.1, h.asking.2)
 
-  -- ---- the get is over
+  -- its end, where all members are through
+  pub through : (g : Gathering) (fetched : Fetched) → Finishes g fetched → Ends judges (At (state.Free g)) fetched
+  through g fetched finishes = λ s start parts current h.
+      (h.asking.2, parts, inl refl, h.whole, Done, ends_as s start g.known h.asking.0 (brought_in parts) fetched Done (finishes start (brought_in parts) h.asking.1))
+
+  -- ---- a get brought something
 
   record Comes (g : Gathering) (x : Get J) (given : Came) (asks : List Heard) : Type 0 where
     pub what : Brought
@@ -140,102 +166,100 @@ module _ {J : Type 0} (judges : Judges J) (judge : J) (replicas : ℕ) (entries 
     gets = subst (λ (n : ℕ). Gets (judges judge) n entries (Content t.course.look.key) asks (BlockOf t.course.look.key block)) fits.1 (h (judges judge));
   }
 
-  module _ (g : Gathering) (x : Get J) (fits : IsFor judge replicas g.stage x) (given : Came) (over : (trail : List Heard) → GetIsAfter judges entries trail x → HasCame judges entries trail x given) where
-    module _ (s : agent.Standing) (start : Vector) (parts : List Part) (current : List Heard) (h : FetchIsAfter judges s start parts current (At (state.Asking g x))) where
-      c : Comes g x given current
-      c = comes g x given current fits (over current h.asking.2)
+  module _ (g : Gathering) (x : Get J) (fits : IsFor judge replicas g.stage x) (given : Came) where
+    -- by no ask: it couldn't be had, since nobody may be asked
+    pub fails_first : HasCame judges entries [] x given → (miss : Miss) → IsMiss given miss → (fetched : Fetched) → FailsWith g miss fetched → Ends judges (At (state.Free g)) fetched
+    fails_first come miss none fetched fails = λ s start parts current h.
+        let c : Comes g x given [] = comes g x given [] fits come in
+        let p : Part = record { brought = c.what; asks = [] } in
+        let needed = is_needed s start parts g h.asking.0 h.asking.1 x fits in (
+          h.asking.2,
+          parts ++ p ∷ [],
+          inr (asks_nobody judges entries x given come, aim x, needed, c.what, c.gets, refl),
+          was_got parts (aim x) [] c.what h.whole needed c.gets,
+          FailsBy miss,
+          subst (λ (b : List Brought). EndsAs s start b fetched (FailsBy miss)) (sym (brought_more parts p))
+              (ends_as s start g.known h.asking.0 (brought_in parts ++ c.what ∷ []) fetched (FailsBy miss) (fails_by g miss fetched fails given none start (brought_in parts) c.what c.came_as h.asking.1)),
+        )
 
+    -- by these asks
+    module _ (s : agent.Standing) (start : Vector) (parts : List Part) (is : IsSeen s g.known) (h : Gathers start (brought_in parts) g) (whole : AreParts (judges judge) replicas entries s start parts) (asks : List Heard) (c : Comes g x given asks) where
       abbrev part : Part
-      part = record { brought = c.what; asks = current }
+      part = record { brought = c.what; asks = asks }
 
       parts_now : AreParts (judges judge) replicas entries s start (parts ++ part ∷ [])
-      parts_now = was_got parts (aim x) current c.what h.whole (is_needed s start parts g h.asking.0 h.asking.1 x fits) c.gets
+      parts_now = was_got parts (aim x) asks c.what whole (is_needed s start parts g is h x fits) c.gets
 
-      -- the asks are the part's
-      moved : (more : List Part) (left : List Heard) → [] ≡ asks_in more ++ left → current ≡ asks_in (part ∷ more) ++ left
-      moved more left e = sym (append-nil current) ∙ ap (λ (l : List Heard). current ++ l) e ∙ sym (append_assoc current (asks_in more) left)
+      is_over : (st : State J) (back : Option (Key × List ℕ)) → StandsBehind g given (st, back) → GetIsOver judges s start parts asks (aim x) (At st) (At st) back
+      is_over (state.Free after) back stands =
+          let w = stands.1 start (brought_in parts) c.what c.came_as h in (
+            c.what,
+            c.gets,
+            refl,
+            record { whole = parts_now; asking = (subst (IsSeen s) (sym stands.0) is, subst (λ (b : List Brought). Gathers start b after) (sym (brought_more parts part)) w.0, refl); sound = tt },
+            w.1,
+          )
+      is_over (state.Asking after y) back stands = absurd stands
+      is_over (state.Ended fetched) back stands =
+          let w = stands start (brought_in parts) c.what c.came_as h in (
+            c.what,
+            c.gets,
+            refl,
+            record {
+              whole = parts_now;
+              asking = (
+                refl,
+                w.0,
+                subst (λ (b : List Brought). EndsAs s start b fetched (FailsBy w.0)) (sym (brought_more parts part)) (ends_as s start g.known is (brought_in parts ++ c.what ∷ []) fetched (FailsBy w.0) w.1),
+              );
+              sound = tt;
+            },
+            w.2,
+          )
+      is_over state.Over back stands = absurd stands
 
-      -- with it the fetch goes on
-      taken : (after : Gathering) → Takes g given (step.Goes after) → FetchIsAfter judges s start (parts ++ part ∷ []) [] (At (state.Free after))
-      taken after takes = record {
-        whole = parts_now;
-        asking = (
-          subst (IsSeen s) (sym takes.0) h.asking.0,
-          subst (λ (b : List Brought). Gathers start b after) (sym (brought_more parts part)) (takes.2 start (brought_in parts) c.what c.came_as h.asking.1),
+  -- ---- it hears
+
+  -- the get goes on
+  pub hears_on : (g : Gathering) (x y : Waiting J) (answer : Answer) → IsFor judge replicas g.stage x.get → HearsTo judges x.get answer (progress.Waits y) → FetchHasHeard judges (At (state.Asking g x)) (At (state.Asking g y)) answer None
+  hears_on g x y answer fits hears = (
+    (refl, refl, refl),
+    λ s start parts current node question e h. (
+      aim x.get,
+      refl,
+      is_needed s start parts g h.asking.0 h.asking.1 x.get fits,
+      inl (
+        ap (λ (w : Want). Some w) (aim_same x.get y.get hears.0.0),
+        λ none. cc (sym none ∙ hears.1),
+        record { whole = h.whole; asking = (h.asking.0, h.asking.1, hears.0.1 entries current node question e h.asking.2); sound = (for_same g.stage x.get y.get hears.0.0 fits, hears.1) },
+        refl,
+      ),
+    ),
+  )
+
+  -- it is over
+  pub hears_over : (g : Gathering) (x : Waiting J) (answer : Answer) (given : Came) (st : State J) (back : Option (Key × List ℕ)) → IsFor judge replicas g.stage x.get → HearsTo judges x.get answer (progress.Comes given) → StandsBehind g given (st, back)
+      → FetchHasHeard judges (At (state.Asking g x)) (At st) answer back
+  hears_over g x answer given st back fits hears stands = (
+    (refl, refl, refl),
+    λ s start parts current node question e h.
+        let asks : List Heard = current ++ told node question answer in (
+          aim x.get,
           refl,
-        );
-      }
+          is_needed s start parts g h.asking.0 h.asking.1 x.get fits,
+          inr (is_over g x.get fits given s start parts h.asking.0 h.asking.1 h.whole asks (comes g x.get given asks fits (hears.2 entries current node question e h.asking.2)) st back stands),
+        ),
+  )
 
-    -- and becomes what it becomes from there
-    pub goes_by : (after : Gathering) → Takes g given (step.Goes after) → (new : Fetching J) (want : Next Fetched) → FetchIsWanted judges (At (state.Free after)) new want → FetchIsWanted judges (At (state.Asking g x)) new want
-    goes_by after takes new (next.Ask node question) w = (
-      w.0,
-      w.1,
-      λ s start parts current h.
-          let p : Part = part s start parts current h in
-          let n = w.2 s start (parts ++ p ∷ []) [] (taken s start parts current h after takes) in (
-            n.0,
-            n.1,
-            (p ∷ n.2.0, n.2.1 ∙ append_assoc parts (p ∷ []) n.2.0, moved s start parts current h n.2.0 n.1 n.2.2),
-            n.3,
-            n.4,
-            n.5,
-            n.6,
-          ),
-    )
-    goes_by after takes new (next.Done fetched) w = λ s start parts current h.
-        let p : Part = part s start parts current h in
-        let n = w s start (parts ++ p ∷ []) [] (taken s start parts current h after takes) in (
-          n.0,
-          (p ∷ n.1.0, n.1.1 ∙ append_assoc parts (p ∷ []) n.1.0, moved s start parts current h n.1.0 [] n.1.2),
-          n.2,
-          n.3,
-          n.4,
-          n.5,
-          n.6,
-          n.7,
-        )
+  -- what always holds still does
+  pub sound_on : (g : Gathering) (x y : Waiting J) (answer : Answer) → IsFor judge replicas g.stage x.get → HearsTo judges x.get answer (progress.Waits y) → IsSound judge replicas (state.Asking g y)
+  sound_on g x y answer fits hears = (for_same g.stage x.get y.get hears.0.0 fits, hears.1)
 
-    -- or it is over
-    pub ends_by : (fetched : Fetched) → Takes g given (step.Ends fetched) → Ends judges (At (state.Asking g x)) fetched
-    ends_by fetched takes = λ s start parts current h.
-        let p : Part = part s start parts current h in
-        let k = c s start parts current h in
-        let e = takes start (brought_in parts) k.what k.came_as h.asking.1 in (
-          parts ++ p ∷ [],
-          (p ∷ [], refl, sym (append-nil current) ∙ sym (append_assoc current [] [])),
-          parts_now s start parts current h,
-          e.0,
-          e.1,
-          e.2,
-          subst (λ (b : List Brought). FetchesAll s start s.view.members b e.0 e.1 e.2) (sym (brought_more parts p)) (fetches_as s start g.known h.asking.0 e.3),
-          given_as s start g.known h.asking.0 fetched e.0 e.1 e.2 e.4,
-        )
-
-  -- ---- a get begins
-
-  pub starts : (g : Gathering) (x : Get J) → GetIsAfter judges entries [] x → (new : Fetching J) (want : Next Fetched) → FetchIsWanted judges (At (state.Asking g x)) new want → FetchIsWanted judges (At (state.Free g)) new want
-  starts g x first new want w = by want w
-    where
-      asking : (s : agent.Standing) (start : Vector) (parts : List Part) (current : List Heard) → FetchIsAfter judges s start parts current (At (state.Free g)) → FetchIsAfter judges s start parts current (At (state.Asking g x))
-      asking s start parts current h = record { whole = h.whole; asking = (h.asking.0, h.asking.1, subst (λ (l : List Heard). GetIsAfter judges entries l x) (sym h.asking.2) first) }
-
-      by : (want : Next Fetched) → FetchIsWanted judges (At (state.Asking g x)) new want → FetchIsWanted judges (At (state.Free g)) new want
-      by (next.Ask node question) w = (w.0, w.1, λ s start parts current h. w.2 s start parts current (asking s start parts current h))
-      by (next.Done fetched) w = λ s start parts current h. w s start parts current (asking s start parts current h)
-
-  pub through : (g : Gathering) (fetched : Fetched) → Finishes g fetched → Ends judges (At (state.Free g)) fetched
-  through g fetched finishes = λ s start parts current h.
-      let e = finishes start (brought_in parts) h.asking.1 in (
-        parts,
-        ([], sym (append-nil parts), h.asking.2),
-        h.whole,
-        e.0,
-        e.1,
-        e.2,
-        fetches_as s start g.known h.asking.0 e.3,
-        given_as s start g.known h.asking.0 fetched e.0 e.1 e.2 e.4,
-      )
+  pub sound_over : (g : Gathering) (given : Came) (st : State J) (back : Option (Key × List ℕ)) → StandsBehind g given (st, back) → IsSound judge replicas st
+  sound_over g given (state.Free after) back stands = tt
+  sound_over g given (state.Asking after y) back stands = absurd stands
+  sound_over g given (state.Ended fetched) back stands = tt
+  sound_over g given state.Over back stands = tt
 
   -- ---- a block was at hand
 
@@ -250,6 +274,7 @@ module _ {J : Type 0} (judges : Judges J) (judge : J) (replicas : ℕ) (entries 
           record {
             whole = was_given parts key bytes h.whole needed;
             asking = (subst (IsSeen s) (sym known) h.asking.0, subst (λ (b : List Brought). Gathers start b after) (sym (brought_more parts p)) (gathered start (brought_in parts) key want h.asking.1), refl);
+            sound = tt;
           },
         ),
   )
@@ -257,29 +282,87 @@ module _ {J : Type 0} (judges : Judges J) (judge : J) (replicas : ℕ) (entries 
   -- ---- it starts
 
   pub first_state : (s : agent.Standing) (start : Vector) (g : Gathering) → IsSeen s g.known → Gathers start [] g → FetchIsAfter judges s start [] [] (At (state.Free g))
-  first_state s start g is h = record { whole = no_parts; asking = (is, h, refl) }
+  first_state s start g is h = record { whole = no_parts; asking = (is, h, refl); sound = tt }
 
   -- ---- the get of what is wanted
 
-  pub for_heads : (at : Stage) (owner : PubKey) (x : Get J) → heads_wanted at ≡ Some owner → x ≡ get.Heads owner (head_begun judge (head_key_of owner) replicas entries) → IsFor judge replicas at x × GetIsAfter judges entries [] x
-  for_heads at owner x want is = subst (λ (y : Get J). IsFor judge replicas at y × GetIsAfter judges entries [] y) (sym is) ((want, refl, refl), heads_begin judges owner judge replicas entries)
+  pub for_heads : (at : Stage) (owner : PubKey) (x : Get J) → heads_wanted at ≡ Some owner → x ≡ get.Heads owner (head_begun judge (head_key_of owner) replicas entries) → GetsFor judges judge replicas entries at (Some x)
+  for_heads at owner x want is = subst (λ (y : Get J). GetsFor judges judge replicas entries at (Some y)) (sym is) ((want, refl, refl), heads_begin judges owner judge replicas entries, first_asks)
 
-  pub for_block : (at : Stage) (key : Key) (x : Get J) → block_wanted at ≡ Some key → x ≡ get.Block (block_begun key replicas entries) → IsFor judge replicas at x × GetIsAfter judges entries [] x
-  for_block at key x want is = subst (λ (y : Get J). IsFor judge replicas at y × GetIsAfter judges entries [] y) (sym is) ((want, refl), block_begin judges key replicas entries)
+  pub for_block : (at : Stage) (key : Key) (x : Get J) → block_wanted at ≡ Some key → x ≡ get.Block (block_begun key replicas entries) → GetsFor judges judge replicas entries at (Some x)
+  for_block at key x want is = subst (λ (y : Get J). GetsFor judges judge replicas entries at (Some y)) (sym is) ((want, refl), block_begin judges key replicas entries, first_asks)
 
-  -- ---- in results
+  -- its first ask
+  module _ (at : Stage) (x : Get J) (gets : GetsFor judges judge replicas entries at (Some x)) where
+    pub begins : (p : Progress J) → GoesTo judges x p → BeginsFor judges judge replicas entries at (Some p)
+    begins (progress.Waits y) to = (for_same at x y.get to.0 gets.0, to.3 entries [] gets.1, to.1, below (gets_left y.get) (gets_left x) most_asks to.2 gets.2)
+    begins (progress.Comes given) to = (brings_nothing judges entries x given (to.1 entries [] gets.1), x, gets.0, to.1 entries [] gets.1)
 
-  pub goes_ok : (g : Gathering) (x : Get J) → IsFor judge replicas g.stage x → (given : Came) → ((trail : List Heard) → GetIsAfter judges entries trail x → HasCame judges entries trail x given) → (after : Gathering) → Takes g given (step.Goes after)
-      → (new : Fetching J) (r : Result (Next Fetched) Memory) → IfOk r (FetchIsWanted judges (At (state.Free after)) new) → IfOk r (FetchIsWanted judges (At (state.Asking g x)) new)
-  goes_ok g x fits given over after takes new (Ok want) w = goes_by g x fits given over after takes new want w
-  goes_ok g x fits given over after takes new (Err e) w = tt
+  -- something may still be wanted
+  pub some_left : (g : Gathering) (x : Get J) → IsFor judge replicas g.stage x → 0 < gets_in g
+  some_left g (get.Heads owner t) fits = heads_left g (λ none. cc (sym none ∙ fits.0))
+  some_left g (get.Block t) fits = block_left g (λ none. cc (sym none ∙ fits.0))
 
-  -- a get that asked nothing can't go on so
-  pub not_at_once : (g after : Gathering) (x : Get J) (given : Came) → GetIsAfter judges entries [] x → ((trail : List Heard) → GetIsAfter judges entries trail x → HasCame judges entries trail x given) → Takes g given (step.Goes after) → ⊥
-  not_at_once g after x given first over takes = takes.1 (brings_nothing judges entries x given (over [] first))
+  -- ---- without a get on its way
 
+  pub has_failed : (st : State J) → IsSound judge replicas st → HasFailed judges (At st) (failed_in st)
+  has_failed (state.Free g) sound = λ s start parts current h none.
+      let w = free_goes_on start (brought_in parts) g h.asking.1 in
+      (h.asking.2, w.notes, w.chains, w.end, fetches_as s start g.known h.asking.0 w.fetches, w.no_miss)
+  has_failed (state.Asking g x) sound = λ s start parts current h none. absurd (none_some (x.node, x.question) (sym none ∙ sound.1))
+  has_failed (state.Ended fetched) sound = λ s start parts current h none. (h.asking.0, h.asking.2.0, h.asking.2.1, FailsBy h.asking.1, h.asking.2.2, refl)
+  has_failed state.Over sound = λ s start parts current h none. absurd h.asking
+
+  pub not_failed : (st : State J) → ((given : Fetched) → st ≡ state.Ended given → ⊥) → failed_in st ≡ false
+  not_failed (state.Free g) other = refl
+  not_failed (state.Asking g x) other = refl
+  not_failed (state.Ended fetched) other = absurd (other fetched refl)
+  not_failed state.Over other = refl
+
+  -- ---- from one state to the next
+
+  pub wants_again : (g : Gathering) (x : Waiting J) → IsSound judge replicas (state.Asking g x) → WantsNext judges (At state.Over) (state.Asking g x) (state.Asking g x, next.Ask x.node x.question)
+  wants_again g x sound = (asks_again g x sound.0 sound.1, sound, no_more (gets_left x.get + most_asks * (gets_in g - 1)))
+
+  pub wants_first : (g : Gathering) (x : Waiting J) → BeginsFor judges judge replicas entries g.stage (Some (progress.Waits x)) → WantsNext judges (At state.Over) (state.Free g) (state.Asking g x, next.Ask x.node x.question)
+  wants_first g x begins = (asks_first g x begins, (begins.0, begins.2), get_begins most_asks (gets_in g) (gets_left x.get) (some_left g x.get begins.0) begins.3)
+
+  pub wants_nothing : (g : Gathering) (given : Came) (miss : Miss) (fetched : Fetched) → BeginsFor judges judge replicas entries g.stage (Some (progress.Comes given)) → IsMiss given miss → FailsWith g miss fetched
+      → WantsNext judges (At state.Over) (state.Free g) (state.Over, next.Done fetched)
+  wants_nothing g given miss fetched begins none fails = (fails_first g begins.1 begins.2 given begins.3 miss none fetched fails, tt, at_least (most_asks * gets_in g))
+
+  pub wants_end : (g : Gathering) (fetched : Fetched) → Finishes g fetched → WantsNext judges (At state.Over) (state.Free g) (state.Over, next.Done fetched)
+  wants_end g fetched finishes = (through g fetched finishes, tt, at_least (most_asks * gets_in g))
+
+  pub wants_told : (fetched : Fetched) → WantsNext judges (At state.Over) (state.Ended fetched) (state.Over, next.Done fetched)
+  wants_told fetched = (tells fetched, tt, no_more 0)
+
+  pub hears_waits : (g : Gathering) (x y : Waiting J) (answer : Answer) → IsSound judge replicas (state.Asking g x) → HearsTo judges x.get answer (progress.Waits y) → HearsNext judges (At state.Over) (state.Asking g x) answer (state.Asking g y, None)
+  hears_waits g x y answer sound to = (hears_on g x y answer sound.0 to, sound_on g x y answer sound.0 to, get_goes_on most_asks (gets_in g - 1) (gets_left y.get) (gets_left x.get) to.2)
+
+  pub hears_comes : (g : Gathering) (x : Waiting J) (answer : Answer) (given : Came) → IsSound judge replicas (state.Asking g x) → HearsTo judges x.get answer (progress.Comes given) → (r : Result (State J × Option (Key × List ℕ)) Memory)
+      → IfOk r (StandsBehind g given) → IfOk r (λ (w : State J × Option (Key × List ℕ)). LeavesNoMore g w.0) → IfOk r (HearsNext judges (At state.Over) (state.Asking g x) answer)
+  hears_comes g x answer given sound to (Ok (st, back)) stands left =
+      (hears_over g x answer given st back sound.0 to stands, sound_over g given st back stands, get_is_over most_asks (gets_in g - 1) (left_in st) (gets_left x.get) left to.1)
+  hears_comes g x answer given sound to (Err e) stands left = tt
+
+  -- ---- what was brought comes to some end
+
+  pub stands_at : (st : State J) (s : agent.Standing) (start : Vector) (parts : List Part) (current : List Heard) → FetchIsAfter judges s start parts current (At st)
+      → (notes : List session.Note) × (chains : List agent.Chain) × (end : RefreshEnd) × FetchesAll s start s.view.members (brought_in parts) notes chains end × ((want : Want) → aim_in st ≡ Some want → end ≡ Needs want)
+  stands_at (state.Free g) s start parts current h =
+      let w = free_goes_on start (brought_in parts) g h.asking.1 in (w.notes, w.chains, w.end, fetches_as s start g.known h.asking.0 w.fetches, λ want e. cc e)
+  stands_at (state.Asking g x) s start parts current h =
+      let n = is_needed s start parts g h.asking.0 h.asking.1 x.get h.sound.0 in (n.0, n.1, Needs (aim x.get), n.2, λ want e. cc e)
+  stands_at (state.Ended fetched) s start parts current h = (h.asking.2.0, h.asking.2.1, FailsBy h.asking.1, h.asking.2.2, λ want e. cc e)
+  stands_at state.Over s start parts current h = absurd h.asking
+
+-- what comes is of the kind that is wanted
 pub kind_wanted : {J : Type 0} (judge : J) (replicas : ℕ) (at : Stage) (x : Get J) (given : Came) → IsFor judge replicas at x → IsOfKind x (next.Done given) → IsWantedKind at given
 kind_wanted judge replicas at (get.Heads owner t) (came.Heads heads) fits kind = λ none. cc (sym none ∙ fits.0)
 kind_wanted judge replicas at (get.Heads owner t) (came.Block block) fits kind = absurd kind
 kind_wanted judge replicas at (get.Block t) (came.Heads heads) fits kind = absurd kind
 kind_wanted judge replicas at (get.Block t) (came.Block block) fits kind = λ none. cc (sym none ∙ fits.0)
+
+pub fetch_stands : {J : Type 0} (judges : Judges J) → FetchStands judges
+fetch_stands judges f s start parts current h = stands_at judges f.judge f.replicas f.entries f.state s start parts current h

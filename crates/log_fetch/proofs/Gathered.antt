@@ -1,7 +1,6 @@
 -- What the members' fetch wants by how far it has come, and how it goes on.
-use Rattle.std.proofs.Common.{◌≡◌, ◌⊎◌, ⊎_elim, ℕ, suc, ◌+◌, List, [], ◌∷◌, ◌++◌, map, drop, Contains, Option, Some, None, Ok, Err, refl, sym, ap, ◌∙◌, subst}
-use Rattle.std.specs.Prelude.{◌≢◌}
-use Rattle.std.proofs.lemmas.List.{append-nil, append_assoc}
+use Rattle.std.proofs.Common.{◌≡◌, ℕ, List, [], ◌∷◌, ◌++◌, map, Some, None, Err, refl, sym, ap, ◌∙◌, subst}
+use Rattle.std.proofs.lemmas.List.{append_assoc}
 use Rattle.ivy_base.specs.declared.key.Key.{Key}
 use Rattle.ivy_base.specs.declared.key.PubKey.{PubKey}
 use Rattle.ivy_base.specs.Naming.{head_key_of}
@@ -12,13 +11,12 @@ use Rattle.log_records.specs.declared.chain_fault.ChainFault.TheVariants as faul
 use Rattle.dhash_client.specs.declared.miss.Miss.{Miss}
 use Rattle.agent_model.specs.Standing.{Standing, Chain, edge_at}
 use Rattle.session_model.specs.Brought.{Brought, HeadsOf, BlockOf, Heads, Content}
-use Rattle.session_model.specs.Walks.{Tries, AreTried, LogEnd, Lacks, Stops, Gives, GivesNone}
+use Rattle.session_model.specs.Walks.{Tries, AreTried, LogEnd, Lacks, Stops}
 use Rattle.session_model.specs.Refreshing.{Note, note_of, floors_own, RefreshEnd, Needs, FailsBy, Done, end_of_log, chains_of, Fetches, FetchesAll}
 use Rattle.session_model.specs.Refreshing.Fetches.{wants_heads, no_heads, of_heads, of_own as own_log}
 use Rattle.session_model.specs.Refreshing.FetchesAll.{all as all_done, stays, goes_on as one_more}
 use Rattle.log_walks.specs.Walking.{wanted_of}
-use Rattle.log_walks.specs.Order.{AreToTry}
-use Rattle.log_walks.specs.Trying.{Trying, HasTried, first_of}
+use Rattle.log_walks.specs.Trying.{Trying, first_of}
 use Rattle.log_walks.proofs.Driven.{log_wants, log_stops}
 use Rattle.log_fetch.specs.declared.gather.Stage.TheVariants as stage
 use Rattle.log_fetch.specs.Gathering.{HeadsCame, StandsSo, noted_for}

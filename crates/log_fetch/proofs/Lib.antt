@@ -3,10 +3,12 @@ pub mod Steps
 pub mod Getting
 pub mod Gathered
 pub mod Members
+pub mod Lefts
 pub mod Given
 pub mod Passing
 pub mod Advancing
 pub mod Taking
 pub mod Stepping
 pub mod Nothing
+pub mod Falling
 pub mod Fetching

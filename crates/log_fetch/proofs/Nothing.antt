@@ -1,20 +1,23 @@
--- A get that made no ask brought nothing.
-use Rattle.std.proofs.Common.{◌≡◌, ℕ, List, [], ◌∷◌, ◌++◌, Option, Some, None, Result, Ok, Err, refl, sym, ap, ◌∙◌, subst}
-use Rattle.std.specs.Prelude.{◌≢◌}
+-- A get that made no ask brought nothing, and nobody could be asked.
+use Rattle.std.proofs.Common.{◌≡◌, ℕ, List, [], ◌∷◌, ◌++◌, length, Option, None, Result, Err, refl, sym, ap, ◌∙◌, subst, arith}
 use Rattle.ivy_base.specs.declared.key.Key.{Key}
-use Rattle.ivy_base.specs.declared.key.PubKey.{PubKey}
 use Rattle.ivy_base.specs.Naming.{head_key_of}
-use Rattle.dht_ids.specs.Asked.{told}
-use Rattle.dht_ids.specs.declared.ask.Answer.{Answer}
+use Rattle.std.proofs.lemmas.List.{append-nil}
+use Rattle.dht_ids.specs.Asked.{routes}
+use Rattle.dht_ids.specs.declared.ask.Ask.{Ask}
 use Rattle.dht_ids.specs.declared.ask.Ask.TheVariants as ask
 use Rattle.dht_ids.specs.declared.ask.Heard.{Heard}
 use Rattle.dht_ids.specs.declared.judge.Judged.{Judged}
 use Rattle.dht_ids.specs.declared.peer.Peer.{Peer}
 use Rattle.dhash_client.specs.Course.{Told, IsCourse, told_all, result_of}
 use Rattle.dhash_client.specs.Course.IsCourse.{no_route, of_owners}
+use Rattle.dhash_client.specs.Machine.{Trail}
 use Rattle.dhash_client.specs.GetBlock.{EndsGet, IsGetOfBlock, block_in}
 use Rattle.dhash_client.specs.GetHead.{EndsHeadGet, IsGetOfHead, Judges}
 use Rattle.dhash_client.specs.declared.miss.Miss.{Miss}
+use Rattle.ring_model.specs.Lookup.{IsLookup}
+use Rattle.ring_model.specs.Lookup.IsLookup.{over, spent, known, silent, answered}
+use Rattle.ring_model.specs.Members.{IsAmong}
 use Rattle.ring_model.specs.Gets.{Got, Right, Damaged, Missing, EndsBlock, EndsHeads}
 use Rattle.session_model.specs.Brought.{Brought, HeadsOf, BlockOf, Want, Heads, Content}
 use Rattle.session_model.specs.Sessions.{Gets}
@@ -72,3 +75,31 @@ brings_nothing judges entries (get.Heads owner t) (came.Heads heads) h = gets_no
 brings_nothing judges entries (get.Heads owner t) (came.Block block) h = absurd h
 brings_nothing judges entries (get.Block t) (came.Heads heads) h = absurd h
 brings_nothing judges entries (get.Block t) (came.Block block) h = gets_nothing (λ key bytes. None) t.course.replicas entries (Content t.course.look.key) [] refl (BlockOf t.course.look.key block) (h (λ key bytes. None))
+
+-- ---- nobody could be asked
+
+-- a look-up from a node on asks it
+nobody : {asked : List Peer} {last : Option (List Peer)} {ps : List Peer} {trail : Trail} {found : Option (List Peer)} → IsLookup asked last ps trail found → asked ≡ [] → [] ≡ trail → ps ≡ []
+nobody over none empty = refl
+nobody (spent many) none empty = let size = ap (λ (l : List Peer). length l) none in absurd (omega (arith, many, size))
+nobody (known {p = p} among more) none empty = absurd (subst (IsAmong p) none among)
+nobody (silent few not_yet more) none empty = absurd (something [] _ _ empty)
+nobody (answered few not_yet more) none empty = absurd (something [] _ _ empty)
+
+no_looks : (key : Key) (looks : Told) (rest : List Heard) → [] ≡ told_all (ask.Route key) looks ++ rest → [] ≡ routes looks
+no_looks key [] rest e = refl
+no_looks key (l ∷ looks) rest e = absurd (something [] _ _ e)
+
+no_course : {T : Type 0} (key : Key) (question : Ask) (entries : List Peer) (Ends : List Peer → Told → Result T Miss → Type 0) (trail : List Heard) (result : Result T Miss) → [] ≡ trail → IsCourse key question entries Ends trail result → entries ≡ []
+no_course key question entries Ends trail result none (no_route looks found told_is looked out is) = nobody looked refl (no_looks key looks [] (none ∙ told_is ∙ sym (append-nil (told_all (ask.Route key) looks))))
+no_course key question entries Ends trail result none (of_owners looks asks found owners told_is looked out ends) = nobody looked refl (no_looks key looks (told_all question asks) (none ∙ told_is))
+
+no_get : (judged : Key → List ℕ → Option Judged) (r : ℕ) (entries : List Peer) (want : Want) (trail : List Heard) → [] ≡ trail → (brought : Brought) → Gets judged r entries want trail brought → entries ≡ []
+no_get judged r entries want trail none brought (of_heads {owner} given is) = no_course (head_key_of owner) (ask.Get (head_key_of owner)) entries (EndsHeadGet (judged (head_key_of owner)) (head_key_of owner) r) trail given none is
+no_get judged r entries want trail none brought (of_content {key} given is) = no_course key (ask.Get key) entries (EndsGet key r) trail given none is
+
+pub asks_nobody : {J : Type 0} (judges : Judges J) (entries : List Peer) (x : Get J) (given : Came) → HasCame judges entries [] x given → entries ≡ []
+asks_nobody judges entries (get.Heads owner t) (came.Heads heads) h = no_get (judges t.judge) t.course.replicas entries (Heads owner) [] refl (HeadsOf owner heads) h
+asks_nobody judges entries (get.Heads owner t) (came.Block block) h = absurd h
+asks_nobody judges entries (get.Block t) (came.Heads heads) h = absurd h
+asks_nobody judges entries (get.Block t) (came.Block block) h = no_get (λ key bytes. None) t.course.replicas entries (Content t.course.look.key) [] refl (BlockOf t.course.look.key block) (h (λ key bytes. None))

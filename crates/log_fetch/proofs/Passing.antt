@@ -1,8 +1,7 @@
 -- A member's log is begun with, goes on, and is through.
-use Rattle.std.proofs.Common.{◌≡◌, ⊎_elim, ℕ, ◌+◌, List, [], ◌∷◌, ◌++◌, map, take, drop, Contains, Option, Some, None, Result, Ok, Err, IfOk, refl, sym, ap, ◌∙◌, subst}
+use Rattle.std.proofs.Common.{◌≡◌, ⊎_elim, ℕ, ◌+◌, List, [], ◌∷◌, ◌++◌, map, take, drop, Contains, Option, None, Result, Ok, Err, IfOk, refl, sym, ap, ◌∙◌, subst}
 use Rattle.std.proofs.lemmas.List.{append-nil, append_assoc, map-append}
 use Rattle.std.proofs.lemmas.List.Elements.{Contains-append_left, Contains-append_right, Contains-append_cases}
-use Rattle.ivy_base.specs.declared.key.Key.{Key}
 use Rattle.ivy_base.specs.declared.key.PubKey.{PubKey}
 use Rattle.ivy_base.specs.declared.memory.Memory.{Memory}
 use Rattle.ivy_base.specs.Naming.{head_key_of}
@@ -22,14 +21,12 @@ use Rattle.session_model.specs.Walks.{Tries, LogEnd, Lacks, Stops, Gives, GivesN
 use Rattle.log_walks.specs.declared.trial.Settled.{Settled}
 use Rattle.log_walks.specs.declared.trial.Settled.TheVariants as settled
 use Rattle.log_walks.specs.Order.{AreToTry}
-use Rattle.log_walks.specs.Trying.{Trying, HasTried, GivesTo, first_of}
+use Rattle.log_walks.specs.Trying.{Trying, HasTried, GivesTo}
 use Rattle.log_fetch.specs.declared.gather.Known.{Known}
 use Rattle.log_fetch.specs.declared.gather.Passed.{Passed}
-use Rattle.log_fetch.specs.declared.gather.Stage.{Stage}
-use Rattle.log_fetch.specs.declared.gather.Stage.TheVariants as stage
 use Rattle.log_fetch.specs.declared.note.Note.{Note}
 use Rattle.log_fetch.specs.Edges.{edge_in}
-use Rattle.log_fetch.specs.Gathering.{Gathering, HeadsCame, StandsSo, HasPassed, Gathers, IsPassing, IsNext, PassesAs, StandsWith, BeginsLog, GoesOnLog, noted_for, one_more, seen}
+use Rattle.log_fetch.specs.Gathering.{HeadsCame, HasPassed, IsPassing, IsNext, PassesAs, StandsWith, BeginsLog, GoesOnLog, at_behind, noted_for, one_more, seen}
 use Rattle.log_fetch.specs.Logs.{StandsAt, Opens, GoesOn}
 use Rattle.log_fetch.specs.Standings.{note_of}
 use Rattle.log_fetch.proofs.Gathered.{one_through, same_notes}
@@ -189,3 +186,19 @@ module _ (k : Known) (old new : Passed) (owner : PubKey) (next : IsNext k old ow
       by (Stops miss) tries gives = absurd gives
       by (Gives records) tries gives = let own = gives_own k.view owner old.batch.held k.floor (edge_in k.edges (head_key_of owner)) tries in taken gives.0 records own.0 own.1 gives.1
       by GivesNone tries gives = same gives
+
+-- only the batch tells, and how many are through
+pub same_passing : (k : Known) (old new : Passed) → new.batch ≡ old.batch → new.at ≡ old.at → IsPassing k old → IsPassing k new
+same_passing k old new batch at passing = record {
+  floor_is = ap (λ (b : Batch). b.floor) batch ∙ passing.floor_is;
+  of_passed = λ o c. subst (λ (n : ℕ). Contains (take n k.view.members) o) (sym at) (passing.of_passed o (subst (λ (b : Batch). Contains (owners_in b.chains) o) batch c));
+  under = subst (AreUnder k.view (edge_in k.edges)) (sym batch) passing.under;
+}
+
+-- so the batch is as it is to be also where memory was wanted for the notes
+pub settled_passing : (k : Known) (old new : Passed) (batch : Batch) (owner : PubKey) → IsPassing k old → IsNext k old owner → (all : List Stamp) (brought : List Brought) (s : Settled)
+    → StandsAt k.view owner (edge_in k.edges (head_key_of owner)) all brought old.batch batch s → new.batch ≡ batch → new.at ≡ at_behind old.at s → IsPassing k new
+settled_passing k old new batch owner passing next all brought (settled.Waits t) stands batch_is at_is = same_passing k old new (batch_is ∙ stands.0) at_is passing
+settled_passing k old new batch owner passing next all brought (settled.Over first) stands batch_is at_is =
+    let through : Passed = one_more (record old { batch = batch }) batch (noted_for (head_key_of owner) first) in
+    same_passing k through new batch_is at_is (still_passing k old through owner next all brought (passes_on k old through batch owner passing.floor_is all brought (settled.Over first) None stands (refl, refl)) passing)

@@ -1,6 +1,6 @@
 -- The fetch of all members takes heads, or a block.
-use Rattle.std.proofs.Common.{◌≡◌, ℕ, zero, suc, ◌+◌, ◌<◌, length, List, [], ◌∷◌, ◌++◌, map, drop, Option, Some, None, Result, Ok, Err, IfOk, refl, sym, ap, ◌∙◌, subst}
-use Rattle.std.specs.Prelude.{◌≢◌}
+use Rattle.std.proofs.Common.{◌≡◌, ℕ, zero, suc, ◌+◌, ◌^◌, ◌<◌, length, List, [], ◌∷◌, ◌++◌, map, drop, Option, Some, None, Result, Ok, Err, IfOk, get_or, refl, sym, ap, ◌∙◌, subst, arith}
+use Rattle.std.specs.Prelude.{◌≢◌, OnOk}
 use Rattle.std.proofs.lemmas.List.{append-nil, append_assoc}
 use Rattle.ivy_base.specs.declared.key.Key.{Key}
 use Rattle.ivy_base.specs.declared.key.PubKey.{PubKey}
@@ -10,19 +10,25 @@ use Rattle.log_model.specs.View.{IsView}
 use Rattle.log_model.specs.Vector.{Stamp, Vector, stamp_at, seq_of}
 use Rattle.dht_ids.specs.declared.judge.Judged.{Judged}
 use Rattle.session_model.specs.Brought.{Brought, HeadsOf, BlockOf, stamp_of}
+use Rattle.log_records.specs.declared.chain_fault.ChainFault.{ChainFault}
+use Rattle.log_records.specs.Batches.{Batch}
+use Rattle.log_walks.specs.declared.trial.Settled.{Settled}
 use Rattle.log_walks.specs.Order.{AreToTry}
 use Rattle.log_walks.specs.Walking.{wanted_at}
-use Rattle.log_walks.specs.Trying.{Trying, HasTried}
+use Rattle.log_walks.specs.Trying.{Trying, HasTried, trial_left}
 use Rattle.log_fetch.specs.declared.gather.Known.{Known}
 use Rattle.log_fetch.specs.declared.gather.Passed.{Passed}
 use Rattle.log_fetch.specs.declared.gather.Stage.{Stage}
 use Rattle.log_fetch.specs.declared.gather.Stage.TheVariants as stage
+use Rattle.log_fetch.specs.declared.note.Note.{Note}
 use Rattle.log_fetch.specs.Edges.{edge_in}
-use Rattle.log_fetch.specs.Gathering.{Gathering, HeadsCame, StandsSo, HasPassed, Gathers, IsPassing, IsNext, IsGathering, StandsWith, BeginsLog, GoesOnLog, GathersFrom, HeadsGathered, BlockGathered, heads_wanted, block_wanted, seen}
+use Rattle.log_fetch.specs.Gathering.{Gathering, HeadsCame, StandsSo, HasPassed, Gathers, IsPassing, IsNext, IsGathering, BeginsLog, GoesOnLog, GathersFrom, Advances, HeadsTaken, BlockTaken, HeadsGathered, BlockGathered, gathering_of, at_behind, heads_wanted, block_wanted, gets_in, noted_for, noted_at, seen}
 use Rattle.log_fetch.specs.Gathering.HeadsCame.{of_other}
-use Rattle.log_fetch.proofs.Advancing.{UnderWay, under_way, awaits, log_gathering, log_gathers}
+use Rattle.log_fetch.specs.Logs.{GoesOn}
+use Rattle.log_fetch.proofs.Advancing.{UnderWay, under_way, awaits, log_gathering, log_gathers, at_next, next_at}
+use Rattle.log_fetch.proofs.Lefts.{one_fewer, went_behind}
 use Rattle.log_fetch.proofs.Members.{rest_is, within}
-use Rattle.log_fetch.proofs.Passing.{one_passed, still_passing}
+use Rattle.log_fetch.proofs.Passing.{one_passed, settled_passing}
 
 pub is_heads : (at : Stage) (owner : PubKey) → heads_wanted at ≡ Some owner → at ≡ stage.Heads owner
 is_heads (stage.Heads o) owner e = cc e
@@ -34,47 +40,45 @@ is_next k p owner rest is_view e = record { is_view = is_view; owner_is = e ∙ 
 
 -- ---- heads
 
-module _ (k : Known) (p : Passed) (at : Stage) (owner : PubKey) (want : heads_wanted at ≡ Some owner) (is : IsGathering (record { known = k; passed = p; stage = at })) where
-  abbrev g : Gathering
-  g = record { known = k; passed = p; stage = at }
-
-  waiting : (start : Vector) (now : List Brought) → StandsSo (seen k) start (drop p.at k.view.members) now at → StandsSo (seen k) start (drop p.at k.view.members) now (stage.Heads owner)
-  waiting start now stands = subst (StandsSo (seen k) start (drop p.at k.view.members) now) (is_heads at owner want) stands
+module _ (k : Known) (p : Passed) (owner : PubKey) (is : IsGathering (gathering_of k p (stage.Heads owner))) where
+  abbrev wanting : Gathering
+  wanting = gathering_of k p (stage.Heads owner)
 
   pub heads_next : IsNext k p owner
-  heads_next = let a = awaits (seen k) p.batch.held (drop p.at k.view.members) is.now owner (waiting p.batch.held is.now is.stands) in is_next k p owner a.rest is.is_view a.owners_are
+  heads_next = let a = awaits (seen k) p.batch.held (drop p.at k.view.members) is.now owner is.stands in is_next k p owner a.rest is.is_view a.owners_are
 
   module _ (heads : List Judged) (new : Passed) where
     brings : (all : List Stamp) → AreToTry (map stamp_of heads) (stamp_at k.floor (head_key_of owner)) (seq_of p.batch.held (head_key_of owner)) all → HeadsCame (seen k) p.batch.held owner (HeadsOf owner (Ok heads) ∷ []) all
-    brings all are = of_other heads all (awaits (seen k) p.batch.held (drop p.at k.view.members) is.now owner (waiting p.batch.held is.now is.stands)).other are
+    brings all are = of_other heads all (awaits (seen k) p.batch.held (drop p.at k.view.members) is.now owner is.stands).other are
 
     -- nothing was brought for it before
-    brought_before : (start : Vector) (brought : List Brought) (h : Gathers start brought g) → brought ≡ h.before
+    brought_before : (start : Vector) (brought : List Brought) (h : Gathers start brought wanting) → brought ≡ h.before
     brought_before start brought h =
-        h.brought_is ∙ ap (λ (l : List Brought). h.before ++ l) (awaits (seen k) start (drop p.at k.view.members) h.now owner (waiting start h.now h.stands)).now_is ∙ append-nil h.before
+        h.brought_is ∙ ap (λ (l : List Brought). h.before ++ l) (awaits (seen k) start (drop p.at k.view.members) h.now owner h.stands).now_is ∙ append-nil h.before
 
-    module _ (t : Trying) (b : BeginsLog k p new owner (map stamp_of heads) (Some t)) where
-      pub heads_wait : IsGathering (record { known = k; passed = new; stage = stage.Log t })
-      heads_wait = log_gathering k p new owner heads_next b.0 (HeadsOf owner (Ok heads) ∷ []) [] (brings b.0 b.1) t b.2 is.passing
-
-      pub heads_waiting : HeadsGathered g owner heads (record { known = k; passed = new; stage = stage.Log t })
-      heads_waiting = λ start brought h.
+    pub heads_waiting : (t : Trying) → trial_left t < 2 ^ 96 → BeginsLog k p new owner (map stamp_of heads) (Some t) → HeadsTaken k p new owner heads (stage.Log t)
+    heads_waiting t few b = record {
+      legal = log_gathering k p new owner heads_next b.0 (HeadsOf owner (Ok heads) ∷ []) [] (brings b.0 b.1) t b.2 is.passing;
+      gathered = λ start brought h.
           log_gathers k p new owner heads_next b.0 (HeadsOf owner (Ok heads) ∷ []) [] (brings b.0 b.1) t b.2 start h.before (brought ++ HeadsOf owner (Ok heads) ∷ [])
-          (ap (λ (l : List Brought). l ++ HeadsOf owner (Ok heads) ∷ []) (brought_before start brought h)) h.passed
+          (ap (λ (l : List Brought). l ++ HeadsOf owner (Ok heads) ∷ []) (brought_before start brought h)) h.passed;
+      left = one_fewer (length k.view.members) p.at new.at (1 + 2 ^ 96) (trial_left t) (ap (λ (q : Passed). q.at) b.2.0) (omega (arith, few));
+    }
 
     module _ (b : BeginsLog k p new owner (map stamp_of heads) None) where
-      pub heads_pass : IsPassing k new
-      heads_pass = still_passing k p new owner heads_next b.0 [] b.2 is.passing
-
-      passed_on : (after : Gathering) → GathersFrom k new after → HeadsGathered g owner heads after
+      passed_on : (after : Gathering) → GathersFrom k new after → HeadsGathered wanting owner heads after
       passed_on after from = λ start brought h. from start (brought ++ HeadsOf owner (Ok heads) ∷ [])
           (subst (λ (l : List Brought). HasPassed k start (l ++ HeadsOf owner (Ok heads) ∷ []) new) (sym (brought_before start brought h))
           (one_passed k p new owner heads_next b.0 [] b.2 start h.before h.passed (HeadsOf owner (Ok heads) ∷ [])
           (subst (λ (v : Vector). HeadsCame (seen k) v owner (HeadsOf owner (Ok heads) ∷ []) b.0) h.passed.started (brings b.0 b.1))))
 
-      pub heads_passed : (r : Result Gathering Memory) → IfOk r (GathersFrom k new) → IfOk r (HeadsGathered g owner heads)
-      heads_passed (Ok after) from = passed_on after from
-      heads_passed (Err e) from = tt
+      pub heads_passed : (last : Passed) (r : Result Stage Memory) → IfOk r (Advances k new last) → IfOk r (HeadsTaken k p last owner heads)
+      heads_passed last (Ok at) a = record {
+        legal = a.legal;
+        gathered = passed_on (gathering_of k last at) a.from;
+        left = went_behind (length k.view.members) p.at new.at (1 + 2 ^ 96) (gets_in (gathering_of k last at)) (at_next k p new owner heads_next b) (omega arith) a.left;
+      }
+      heads_passed last (Err e) a = tt
 
 -- ---- a block
 
@@ -98,14 +102,17 @@ is_through g is no_heads no_block = by g.stage is.stands no_heads no_block
     by (stage.Log t) stands e f = absurd (some_left t.walk.left t.walk.next (under_way (seen g.known) g.passed.batch.held (drop g.passed.at g.known.view.members) is.now t stands).left f)
     by stage.Through stands e f = refl
 
-pub block_within : (k : Known) (p : Passed) (t : Trying) → IsGathering (record { known = k; passed = p; stage = stage.Log t }) → p.at < length k.view.members
+pub block_wants : (k : Known) (p : Passed) (t : Trying) → IsGathering (gathering_of k p (stage.Log t)) → t.walk.left ≢ 0
+block_wants k p t is = (under_way (seen k) p.batch.held (drop p.at k.view.members) is.now t is.stands).left
+
+pub block_within : (k : Known) (p : Passed) (t : Trying) → IsGathering (gathering_of k p (stage.Log t)) → p.at < length k.view.members
 block_within k p t is =
     let u = under_way (seen k) p.batch.held (drop p.at k.view.members) is.now t is.stands in
     within k.view.members p.at u.owner u.rest u.owners_are
 
-module _ (k : Known) (p : Passed) (t : Trying) (owner : PubKey) (next : IsNext k p owner) (is : IsGathering (record { known = k; passed = p; stage = stage.Log t })) where
+module _ (k : Known) (p : Passed) (t : Trying) (owner : PubKey) (next : IsNext k p owner) (is : IsGathering (gathering_of k p (stage.Log t))) where
   abbrev before : Gathering
-  before = record { known = k; passed = p; stage = stage.Log t }
+  before = gathering_of k p (stage.Log t)
 
   -- the log under way is the next member's
   record Goes (now : List Brought) : Type 0 where
@@ -137,6 +144,9 @@ module _ (k : Known) (p : Passed) (t : Trying) (owner : PubKey) (next : IsNext k
   pub block_owner : t.walk.owner ≡ owner
   block_owner = (goes p.batch.held refl is.now is.stands).of_owner
 
+  some_left : 0 < trial_left t
+  some_left = let some = block_wants k p t is in omega (arith, some)
+
   module _ (bytes : List ℕ) (new : Passed) where
     -- the block behind what was brought before
     longer : (start : Vector) (brought : List Brought) (h : Gathers start brought before) (w : Goes h.now) (key : Key) → t.walk.next ≡ key
@@ -146,24 +156,19 @@ module _ (k : Known) (p : Passed) (t : Trying) (owner : PubKey) (next : IsNext k
         ∙ ap (λ (b : List Brought). h.before ++ b) (append_assoc w.came w.walked (BlockOf key (Ok bytes) ∷ []))
         ∙ ap (λ (x : Key). h.before ++ (w.came ++ (w.walked ++ BlockOf x (Ok bytes) ∷ []))) (sym key_is)
 
-    module _ (after : Trying) (b : GoesOnLog k p new owner t bytes (Some after)) where
-      pub block_waits : IsGathering (record { known = k; passed = new; stage = stage.Log after })
-      block_waits =
-          let w = goes p.batch.held refl is.now is.stands in
-          log_gathering k p new owner next w.all w.came (w.walked ++ BlockOf t.walk.next (Ok bytes) ∷ []) w.heads_came after (b w.all w.walked w.tried) is.passing
-
-      pub block_waiting : BlockGathered before bytes (record { known = k; passed = new; stage = stage.Log after })
-      block_waiting = λ start brought key want h.
-          let w = goes start h.passed.started h.now h.stands in
-          log_gathers k p new owner next w.all w.came (w.walked ++ BlockOf t.walk.next (Ok bytes) ∷ []) w.heads_came after (b w.all w.walked w.tried) start h.before (brought ++ BlockOf key (Ok bytes) ∷ [])
-          (longer start brought h w key (is_key t.walk.left t.walk.next key want)) h.passed
+    pub block_waiting : (after : Trying) → trial_left after < trial_left t → GoesOnLog k p new owner t bytes (Some after) → BlockTaken k p new t bytes (stage.Log after)
+    block_waiting after less b =
+        let w0 = goes p.batch.held refl is.now is.stands in
+        record {
+          legal = log_gathering k p new owner next w0.all w0.came (w0.walked ++ BlockOf t.walk.next (Ok bytes) ∷ []) w0.heads_came after (b w0.all w0.walked w0.tried) is.passing;
+          gathered = λ start brought key want h.
+              let w = goes start h.passed.started h.now h.stands in
+              log_gathers k p new owner next w.all w.came (w.walked ++ BlockOf t.walk.next (Ok bytes) ∷ []) w.heads_came after (b w.all w.walked w.tried) start h.before (brought ++ BlockOf key (Ok bytes) ∷ [])
+              (longer start brought h w key (is_key t.walk.left t.walk.next key want)) h.passed;
+          left = one_fewer (length k.view.members) p.at new.at (trial_left t) (trial_left after) (ap (λ (q : Passed). q.at) (b w0.all w0.walked w0.tried).0) less;
+        }
 
     module _ (b : GoesOnLog k p new owner t bytes None) where
-      pub block_passes : IsPassing k new
-      block_passes =
-          let w = goes p.batch.held refl is.now is.stands in
-          still_passing k p new owner next w.all (w.walked ++ BlockOf t.walk.next (Ok bytes) ∷ []) (b w.all w.walked w.tried) is.passing
-
       passes_on : (after : Gathering) → GathersFrom k new after → BlockGathered before bytes after
       passes_on after from = λ start brought key want h.
           let w = goes start h.passed.started h.now h.stands in
@@ -172,6 +177,39 @@ module _ (k : Known) (p : Passed) (t : Trying) (owner : PubKey) (next : IsNext k
           (one_passed k p new owner next w.all (w.walked ++ BlockOf t.walk.next (Ok bytes) ∷ []) (b w.all w.walked w.tried) start h.before h.passed w.came
           (subst (λ (v : Vector). HeadsCame (seen k) v owner w.came w.all) h.passed.started w.heads_came)))
 
-      pub block_passed : (r : Result Gathering Memory) → IfOk r (GathersFrom k new) → IfOk r (BlockGathered before bytes)
-      block_passed (Ok after) from = passes_on after from
-      block_passed (Err e) from = tt
+      pub block_passed : (last : Passed) (r : Result Stage Memory) → IfOk r (Advances k new last) → IfOk r (BlockTaken k p last t bytes)
+      block_passed last (Ok at) a =
+          let w = goes p.batch.held refl is.now is.stands in
+          record {
+            legal = a.legal;
+            gathered = passes_on (gathering_of k last at) a.from;
+            left = went_behind (length k.view.members) p.at new.at (trial_left t) (gets_in (gathering_of k last at)) (ap (λ (q : Passed). q.at) (b w.all w.walked w.tried).4) some_left a.left;
+          }
+      block_passed last (Err e) a = tt
+
+    -- the batch is as it is to be
+    pub block_passing : (batch : Batch) (s : Settled) → GoesOn k.view owner (edge_in k.edges (head_key_of owner)) t bytes p.batch batch s → new.batch ≡ batch → new.at ≡ at_behind p.at s → IsPassing k new
+    block_passing batch s on batch_is at_is =
+        let w = goes p.batch.held refl is.now is.stands in
+        let tried : HasTried k.view owner p.batch.held p.batch.floor (edge_in k.edges (head_key_of owner)) w.all w.walked t =
+        subst (λ (v : Vector). HasTried k.view owner p.batch.held v (edge_in k.edges (head_key_of owner)) w.all w.walked t) (sym is.passing.floor_is) w.tried in
+        settled_passing k p new batch owner is.passing next w.all (w.walked ++ BlockOf t.walk.next (Ok bytes) ∷ []) s (on w.all w.walked tried) batch_is at_is
+
+-- ---- what is noted of the log under way
+
+module _ (k : Known) (p : Passed) (at : Stage) (t : Trying) (at_is : at ≡ stage.Log t) (is : IsGathering (gathering_of k p at)) where
+  abbrev at_log : IsGathering (gathering_of k p (stage.Log t))
+  at_log = subst (λ (s : Stage). IsGathering (gathering_of k p s)) at_is is
+
+  pub stage_within : p.at < length k.view.members
+  stage_within = block_within k p t at_log
+
+  pub block_noted : (items : List PubKey) (d : PubKey) → items ≡ k.view.members → (fault : Option ChainFault) → fault ≡ t.fault → (notes : List Note)
+      → {E : Type 0} (r : Result Unit E) → OnOk r (notes ≡ p.notes ++ noted_for (head_key_of (get_or items p.at d)) fault) → OnOk r (record p { notes = notes } ≡ record p { notes = p.notes ++ noted_at at })
+  block_noted items d same fault fault_is notes (Err e) h = tt
+  block_noted items d same fault fault_is notes (Ok u) h =
+      let next = next_at k p items k.view.members d same refl is.is_view stage_within in
+      let noted : notes ≡ p.notes ++ noted_at at =
+      h ∙ ap (λ (f : Option ChainFault). p.notes ++ noted_for (head_key_of (get_or items p.at d)) f) fault_is
+      ∙ ap (λ (o : PubKey). p.notes ++ noted_for (head_key_of o) t.fault) (sym (block_owner k p t (get_or items p.at d) next at_log)) ∙ ap (λ (s : Stage). p.notes ++ noted_at s) (sym at_is) in
+      ap (λ (n : List Note). record p { notes = n }) noted

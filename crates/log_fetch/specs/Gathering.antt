@@ -1,5 +1,5 @@
 -- How far the fetch of all members has come.
-use Rattle.std.specs.Prelude.{◌≡◌, ◌≢◌, ℕ, ◌+◌, List, [], ◌∷◌, ◌++◌, map, take, drop, Contains, Option, Some, None, Ok}
+use Rattle.std.specs.Prelude.{◌≡◌, ◌≢◌, ℕ, ◌+◌, ◌-◌, ◌*◌, ◌^◌, ◌<◌, ◌≤◌, List, [], ◌∷◌, ◌++◌, length, map, take, drop, Contains, Option, Some, None, Ok}
 use Rattle.ivy_base.specs.declared.key.Key.{Key}
 use Rattle.ivy_base.specs.declared.key.PubKey.{PubKey}
 use Rattle.ivy_base.specs.Naming.{head_key_of}
@@ -19,7 +19,7 @@ use Rattle.log_walks.specs.declared.trial.Settled.{Settled}
 use Rattle.log_walks.specs.declared.trial.Settled.TheVariants as settled
 use Rattle.log_walks.specs.Order.{AreToTry}
 use Rattle.log_walks.specs.Walking.{wanted_of}
-use Rattle.log_walks.specs.Trying.{Trying, HasTried, GivesTo}
+use Rattle.log_walks.specs.Trying.{Trying, HasTried, GivesTo, trial_left}
 use Rattle.log_fetch.specs.declared.gather.Known.{Known}
 use Rattle.log_fetch.specs.declared.gather.Passed.{Passed}
 use Rattle.log_fetch.specs.declared.gather.Stage.{Stage}
@@ -45,6 +45,14 @@ pub record Gathering : Type 0 where
   pub passed : Passed
   pub stage : Stage
 
+-- of this, with so many members through, at that stage
+abbrev pub gathering_of : Known → Passed → Stage → Gathering
+gathering_of k p at = record { known = k; passed = p; stage = at }
+
+-- with no member through
+abbrev pub none_passed : Vector → Vector → Passed
+none_passed held floor = record { batch = record { held = held; floor = floor; chains = [] }; notes = []; at = 0 }
+
 -- whose heads are wanted
 abbrev pub heads_wanted : Stage → Option PubKey
 heads_wanted (stage.Heads owner) = Some owner
@@ -56,6 +64,23 @@ abbrev pub block_wanted : Stage → Option Key
 block_wanted (stage.Heads owner) = None
 block_wanted (stage.Log t) = wanted_of t.walk
 block_wanted stage.Through = None
+
+-- ---- how much may still be wanted
+
+-- of the member under way: its heads, and fewer than `2 ^ 96` blocks
+abbrev pub stage_left : Stage → ℕ
+stage_left (stage.Heads owner) = 1 + 2 ^ 96
+stage_left (stage.Log t) = trial_left t
+stage_left stage.Through = 0
+
+-- no more heads and blocks than these may still be wanted: of the member under way, and of those behind it
+abbrev pub gets_in : Gathering → ℕ
+gets_in g = stage_left g.stage + (2 + 2 ^ 96) * (length g.known.view.members - (g.passed.at + 1))
+
+-- of a log that waits for a block, or is through
+abbrev pub waits_left : Option Trying → ℕ
+waits_left None = 0
+waits_left (Some t) = trial_left t
 
 -- ---- behind what was brought
 
@@ -124,6 +149,11 @@ abbrev pub PassesAs : Passed → Passed → PubKey → Settled → Option Trying
 PassesAs old new owner (settled.Waits t) waits = (waits ≡ Some t) × (new ≡ old)
 PassesAs old new owner (settled.Over fault) waits = (waits ≡ None) × (new ≡ one_more old old.batch (noted_for (head_key_of owner) fault))
 
+-- how many members are then through
+abbrev pub at_behind : ℕ → Settled → ℕ
+at_behind at (settled.Waits t) = at
+at_behind at (settled.Over fault) = at + 1
+
 -- of these heads of the owner's log, after this was brought for them, a block is wanted, or the log is through
 abbrev pub StandsWith : Known → Passed → Passed → PubKey → List Stamp → List Brought → Option Trying → Type 0
 StandsWith k old new owner all brought (Some t) =
@@ -153,6 +183,24 @@ HeadsGathered old owner heads new = (start : Vector) (brought : List Brought) �
 abbrev pub BlockGathered : Gathering → List ℕ → Gathering → Type 0
 BlockGathered old bytes new =
     (start : Vector) (brought : List Brought) (key : Key) → block_wanted old.stage ≡ Some key → Gathers start brought old → Gathers start (brought ++ BlockOf key (Ok bytes) ∷ []) new
+
+-- it went on so from the members that are through
+pub record Advances (k : Known) (old new : Passed) (at : Stage) : Type 0 where
+  pub legal : IsGathering (gathering_of k new at)
+  pub from : GathersFrom k old (gathering_of k new at)
+  pub left : gets_in (gathering_of k new at) ≤ (2 + 2 ^ 96) * (length k.view.members - old.at)
+
+-- from a member whose heads were wanted
+pub record HeadsTaken (k : Known) (old new : Passed) (owner : PubKey) (heads : List Judged) (at : Stage) : Type 0 where
+  pub legal : IsGathering (gathering_of k new at)
+  pub gathered : HeadsGathered (gathering_of k old (stage.Heads owner)) owner heads (gathering_of k new at)
+  pub left : gets_in (gathering_of k new at) < gets_in (gathering_of k old (stage.Heads owner))
+
+-- from one of whose log a block was wanted
+pub record BlockTaken (k : Known) (old new : Passed) (t : Trying) (bytes : List ℕ) (at : Stage) : Type 0 where
+  pub legal : IsGathering (gathering_of k new at)
+  pub gathered : BlockGathered (gathering_of k old (stage.Log t)) bytes (gathering_of k new at)
+  pub left : gets_in (gathering_of k new at) < gets_in (gathering_of k old (stage.Log t))
 
 -- what is noted of the log under way
 abbrev pub noted_at : Stage → List Note

@@ -1,10 +1,11 @@
 -- One get of what a refresh wants, on its way.
-use Rattle.std.specs.Prelude.{◌≡◌, ℕ, List, ◌++◌, Option, Some}
+use Rattle.std.specs.Prelude.{◌≡◌, ℕ, ◌<◌, ◌≤◌, List, ◌++◌, Option, Some}
 use Rattle.ivy_base.specs.declared.key.Key.{Key}
 use Rattle.ivy_base.specs.Naming.{head_key_of}
 use Rattle.dht_ids.specs.Asked.{told}
 use Rattle.dht_ids.specs.declared.ask.Answer.{Answer}
 use Rattle.dht_ids.specs.declared.ask.Ask.{Ask}
+use Rattle.dht_ids.specs.declared.ask.Ask.TheVariants as ask
 use Rattle.dht_ids.specs.declared.ask.Heard.{Heard}
 use Rattle.dht_ids.specs.declared.ask.Want.{Want}
 use Rattle.dht_ids.specs.declared.ask.Want.TheVariants as want
@@ -19,6 +20,9 @@ use Rattle.log_fetch.specs.declared.get.Get.{Get}
 use Rattle.log_fetch.specs.declared.get.Get.TheVariants as get
 use Rattle.log_fetch.specs.declared.get.Came.{Came}
 use Rattle.log_fetch.specs.declared.get.Came.TheVariants as came
+use Rattle.log_fetch.specs.declared.get.Progress.{Progress}
+use Rattle.log_fetch.specs.declared.get.Progress.TheVariants as progress
+use Rattle.log_fetch.specs.declared.get.Waiting.{Waiting}
 
 -- how many asks it may still make
 abbrev pub gets_left : {J : Type 0} → Get J → ℕ
@@ -29,6 +33,15 @@ gets_left (get.Block s) = asks_left s.course
 abbrev pub get_awaited : {J : Type 0} → Get J → Option (Peer × Ask)
 get_awaited (get.Heads owner s) = head_awaited s
 get_awaited (get.Block s) = block_awaited s
+
+-- what gets ask
+abbrev pub IsOfGet : Ask → Type 0
+IsOfGet (ask.Route key) = Unit {0}
+IsOfGet ask.Near = ⊥
+IsOfGet (ask.Notify peer) = ⊥
+IsOfGet (ask.Get key) = Unit {0}
+IsOfGet (ask.PutBlock key bytes) = ⊥
+IsOfGet (ask.PutHead key bytes) = ⊥
 
 -- it may be in this state behind this trail
 abbrev pub GetIsAfter : {J : Type 0} → Judges J → List Peer → List Heard → Get J → Type 0
@@ -64,3 +77,21 @@ abbrev pub IsOfKind : {J : Type 0} → Get J → Want Came → Type 0
 IsOfKind (get.Heads owner s) (want.Done (came.Block block)) = ⊥
 IsOfKind (get.Block s) (want.Done (came.Heads heads)) = ⊥
 IsOfKind _ _ = Unit {0}
+
+-- ---- from one ask to the next
+
+-- the ask that is to be heard is kept
+abbrev pub IsKept : {J : Type 0} → Waiting J → Type 0
+IsKept x = get_awaited x.get ≡ Some (x.node, x.question)
+
+-- it waits for its next ask to be heard, or is over
+abbrev pub GoesTo : {J : Type 0} → Judges J → Get J → Progress J → Type 0
+GoesTo judges old (progress.Waits x) = IsSameGet old x.get × IsKept x × (gets_left x.get ≤ gets_left old) × ((entries : List Peer) (trail : List Heard) → GetIsAfter judges entries trail old → GetIsAfter judges entries trail x.get)
+GoesTo judges old (progress.Comes given) = IsOfKind old (want.Done given) × ((entries : List Peer) (trail : List Heard) → GetIsAfter judges entries trail old → HasCame judges entries trail old given)
+
+-- the ask was heard: it is the next of the trail
+abbrev pub HearsTo : {J : Type 0} → Judges J → Get J → Answer → Progress J → Type 0
+HearsTo judges old answer (progress.Waits x) = GetHasHeard judges old x.get answer × IsKept x × (gets_left x.get < gets_left old)
+HearsTo judges old answer (progress.Comes given) =
+    IsOfKind old (want.Done given) × (0 < gets_left old)
+    × ((entries : List Peer) (trail : List Heard) (node : Peer) (question : Ask) → get_awaited old ≡ Some (node, question) → GetIsAfter judges entries trail old → HasCame judges entries (trail ++ told node question answer) old given)

@@ -12,7 +12,7 @@ use Rattle.session_model.specs.Walks.{Tries, LogEnd}
 use Rattle.log_walks.specs.declared.trial.Settled.{Settled}
 use Rattle.log_walks.specs.declared.trial.Settled.TheVariants as settled
 use Rattle.log_walks.specs.Order.{AreToTry}
-use Rattle.log_walks.specs.Trying.{Trying, HasTried, first_of, GivesTo}
+use Rattle.log_walks.specs.Trying.{Trying, HasTried, first_of, GivesTo, trial_left}
 
 -- of these heads of the owner's log, after this was brought for them: a block is wanted, or the log is through
 abbrev pub StandsAt : View → PubKey → Option Edge → List Stamp → List Brought → Batch → Batch → Settled → Type 0
@@ -29,3 +29,8 @@ Opens view owner edge heads old new s =
 abbrev pub GoesOn : View → PubKey → Option Edge → Trying → List ℕ → Batch → Batch → Settled → Type 0
 GoesOn view owner edge t bytes old new s =
     (all : List Stamp) (brought : List Brought) → HasTried view owner old.held old.floor edge all brought t → StandsAt view owner edge all (brought ++ BlockOf t.walk.next (Ok bytes) ∷ []) old new s
+
+-- how many blocks of it may still be wanted
+abbrev pub settled_left : Settled → ℕ
+settled_left (settled.Waits t) = trial_left t
+settled_left (settled.Over fault) = 0

@@ -1,7 +1,5 @@
 -- What sessions and agents hand to each other, as it is kept and as the definitions have it.
 use Rattle.std.specs.Prelude.{List, [], ◌∷◌, ◌++◌, map, Option, Some, None, if◌then◌else◌, option_map}
-use Rattle.log_model.specs.Vector.{Stamp}
-use Rattle.log_model.specs.Record.{Record}
 use Rattle.rpc_wire.specs.Callers.{identity_of}
 use Rattle.turn_model.specs.Turn as turn
 use Rattle.fs_tree.specs.Bases.{basis_of}

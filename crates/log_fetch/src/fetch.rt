@@ -1,13 +1,14 @@
 //! The fetch of all logs of a view.
 
-ghost use Rattle.std.specs.Prelude.{◌≡◌, ◌≢◌, ◌<◌, [], None, IfOk};
-ghost use Rattle.log_fetch.specs.Fetching.{fetch_awaited, fetch_left, fetch_wanted, FetchIsAfter, FetchIsWanted, FetchHasHeard, FetchWasGiven, IsFor};
+ghost use Rattle.std.specs.Prelude.{◌≡◌, ◌≢◌, ◌<◌, ◌≤◌, [], Some, None, IfOk, false};
+ghost use Rattle.log_fetch.specs.Fetching.{awaited_in, fetch_awaited, fetch_left, fetch_wanted, is_failed, most_left, FetchIsAfter, FetchIsWanted, FetchHasHeard, FetchWasGiven, FetchStands, HasFailed, IsSound};
 ghost use Rattle.log_fetch.specs.Standings.{standing_of, note_of_miss};
 ghost use Rattle.log_fetch.specs.Gathering.{heads_wanted, block_wanted};
-ghost use Rattle.log_fetch.specs.Stepping.{GetsFor, Takes, FailsWith, Finishes, IsWantedKind};
+ghost use Rattle.log_fetch.specs.Gets.{IsKept};
+ghost use Rattle.log_fetch.specs.Stepping.{BeginsFor, BroughtNothing, GetsFor, HearsNext, IsMiss, WantsNext, Takes, FailsWith, Finishes, IsWantedKind, LeavesNoMore, StandsBehind};
 
 use crate::gather::{Gather, Stage};
-use crate::get::{Came, Get};
+use crate::get::{Came, Get, Progress, Waiting};
 use crate::note::{Note, Notes};
 use crate::standing::Standing;
 use dhash_client::Miss;
@@ -30,10 +31,12 @@ pub struct Fetched {
 /// How far a fetch is.
 #[derive(Drop)]
 pub(crate) enum State<J: Judge> {
-    /// Nothing was asked for what is wanted.
+    /// No get is on its way.
     Free(Gather),
-    /// A get of what is wanted is on its way.
-    Asking(Gather, Get<J>),
+    /// A get of what is wanted waits for its ask to be heard.
+    Asking(Gather, Waiting<J>),
+    /// Something couldn't be had, and the result waits to be told.
+    Ended(Fetched),
     /// It gave its result, or wanted memory.
     Over,
 }
@@ -59,13 +62,12 @@ impl<J: Judge> Model for Fetch<J> {
     ghost invariant = { λ f. IsSound f.judge f.replicas f.state };
 }
 
-/// How a fetch stands behind a get.
-#[derive(Drop)]
+/// What comes of what a get brought.
 pub(crate) enum Step {
-    /// It goes on.
-    Goes(Gather),
-    /// It is over.
-    Ends(Fetched),
+    /// It was gathered; a block is handed out, with its name.
+    Takes(Option<(Key, Bytes)>),
+    /// It couldn't be had.
+    Fails(Miss),
 }
 
 impl<J: Judge> Fetch<J> {
@@ -80,6 +82,7 @@ impl<J: Judge> Fetch<J> {
     ) -> Result<Fetch<J>, Memory>
         ensures by { IfOk result (λ fetch. (fetch.judge ≡ judge) × (fetch.replicas ≡ replicas) × (fetch.entries ≡ entries)) }
         ensures started { IfOk result (FetchIsAfter J.judges (standing_of standing.now) standing.now.held [] []) }
+        ensures left { IfOk result (λ fetch. fetch_left fetch < most_left) }
     {
         Ok(Fetch {
             alloc,
@@ -90,7 +93,7 @@ impl<J: Judge> Fetch<J> {
         })
     }
 
-    /// The name of the block that is to be got next, where a block is and nothing was asked for it yet.
+    /// The name of the block that is to be got next, where a block is and no get is on its way.
     pub fn wanted(&self) -> Option<Key>
         ensures { result ≡ fetch_wanted self.now }
     {
@@ -100,79 +103,124 @@ impl<J: Judge> Fetch<J> {
         }
     }
 
+    /// Whether something couldn't be had, and the result waits to be told. Without a node to be heard it is otherwise known
+    /// that something is wanted next, or that all was brought.
+    pub fn failed(&self) -> bool
+        ensures value { result ≡ is_failed self.now }
+        ensures ended { HasFailed J.judges self.now result }
+    {
+        matches!(self.state, State::Ended(_))
+    }
+
     /// Takes the block that is to be got next, which was at hand: its bytes are not tested here. The error is want of memory;
     /// then the fetch is over.
     pub fn give(&mut self, bytes: &[u8]) -> Result<(), Memory>
         requires { fetch_wanted self.old ≢ None }
-        ensures { IfOk result (λ _. FetchWasGiven J.judges self.old self.new bytes.now) }
+        ensures given { IfOk result (λ _. FetchWasGiven J.judges self.old self.new bytes.now) }
+        ensures free { IfOk result (λ _. (fetch_awaited self.new ≡ None) × (is_failed self.new ≡ false)) }
+        ensures left { IfOk result (λ _. fetch_left self.new < fetch_left self.old) }
     {
-        let State::Free(gather) = mem::replace(&mut self.state, State::Over) else {
+        let State::Free(mut gather) = mem::replace(&mut self.state, State::Over) else {
             unreachable!()
         };
-        self.state = State::Free(gather.take_block(self.alloc, bytes)?);
+        gather.take_block(self.alloc, bytes)?;
+        self.state = State::Free(gather);
         Ok(())
     }
 
     /// What the fetch wants next: an ask, or nothing more, since it has its result. An ask that wasn't yet heard is wanted
     /// again. The error is want of memory; after it and after the result the fetch is over, and gives that error.
     pub fn next(&mut self) -> Result<Want<Fetched>, Memory>
-        ensures { IfOk result (FetchIsWanted J.judges self.old self.new) }
+        ensures wanted { IfOk result (FetchIsWanted J.judges self.old self.new) }
+        ensures left { IfOk result (λ _. fetch_left self.new ≤ fetch_left self.old) }
     {
-        match mem::replace(&mut self.state, State::Over) {
+        let state = mem::replace(&mut self.state, State::Over);
+        let (state, want) = self.go_on(state)?;
+        self.state = state;
+        Ok(want)
+    }
+
+    /// Hears what the node answered that was asked last, and takes what the get brought, where it is over with that: a block
+    /// is handed out with its name. It is called once after each ask. The error is want of memory; then the fetch is over.
+    pub fn heard(&mut self, answer: Answer) -> Result<Option<(Key, Bytes)>, Memory>
+        requires { fetch_awaited self.old ≢ None }
+        ensures heard { IfOk result (FetchHasHeard J.judges self.old self.new answer) }
+        ensures left { IfOk result (λ _. fetch_left self.new < fetch_left self.old) }
+    {
+        let state = mem::replace(&mut self.state, State::Over);
+        let (state, block) = self.hear(state, answer)?;
+        self.state = state;
+        Ok(block)
+    }
+
+    /// Hears what was answered in that state: how the fetch then stands, and the block that a get brought. The error is want of
+    /// memory.
+    fn hear(
+        &self,
+        state: State<J>,
+        answer: Answer,
+    ) -> Result<(State<J>, Option<(Key, Bytes)>), Memory>
+        requires awaited { awaited_in state ≢ None }
+        requires sound { IsSound self.now.judge self.now.replicas state }
+        ensures { IfOk result (HearsNext J.judges self.now state answer) }
+    {
+        let State::Asking(gather, waiting) = state else {
+            unreachable!()
+        };
+        match waiting.hear(answer)? {
+            Progress::Waits(waiting) => Ok((State::Asking(gather, waiting), None)),
+            Progress::Comes(came) => stand(self.alloc, gather, came),
+        }
+    }
+
+    /// What is wanted in that state, and how the fetch then stands. The error is want of memory.
+    fn go_on(&self, state: State<J>) -> Result<(State<J>, Want<Fetched>), Memory>
+        requires { IsSound self.now.judge self.now.replicas state }
+        ensures { IfOk result (WantsNext J.judges self.now state) }
+    {
+        match state {
             State::Free(gather) => self.begin(gather),
-            State::Asking(gather, get) => self.go_on(gather, get),
+            State::Asking(gather, waiting) => Ok(ask(gather, waiting)),
+            State::Ended(fetched) => Ok((State::Over, Want::Done(fetched))),
             State::Over => Err(Memory),
         }
     }
 
-    /// Hears what the node answered that was asked last. It is called once after each ask, and leaves the get on its way
-    /// fewer asks. The error is want of memory; then the fetch is over.
-    pub fn heard(&mut self, answer: Answer) -> Result<(), Memory>
-        requires { fetch_awaited self.old ≢ None }
-        ensures heard { IfOk result (λ _. FetchHasHeard J.judges self.old self.new answer) }
-        ensures left { IfOk result (λ _. fetch_left self.new < fetch_left self.old) }
+    /// Begins a get of what is wanted, where something is. The error is want of memory.
+    fn begin(&self, gather: Gather) -> Result<(State<J>, Want<Fetched>), Memory>
+        ensures { IfOk result (WantsNext J.judges self.now (State.Free gather)) }
     {
-        let State::Asking(gather, mut get) = mem::replace(&mut self.state, State::Over) else {
-            unreachable!()
-        };
-        get.heard(answer)?;
-        self.state = State::Asking(gather, get);
-        Ok(())
-    }
-
-    /// Goes on with the get, and begins the next one where it is over. The error is want of memory.
-    fn go_on(&mut self, gather: Gather, mut get: Get<J>) -> Result<Want<Fetched>, Memory>
-        requires { IsFor self.old.judge self.old.replicas gather.stage get }
-        ensures { IfOk result (FetchIsWanted J.judges (record self.old { state = State.Asking gather get }) self.new) }
-    {
-        match get.next()? {
-            Want::Ask(node, question) => {
-                self.state = State::Asking(gather, get);
-                Ok(Want::Ask(node, question))
-            }
-            Want::Done(came) => match take(self.alloc, gather, came)? {
-                Step::Goes(gather) => self.begin(gather),
-                Step::Ends(fetched) => Ok(Want::Done(fetched)),
-            },
+        match self.first(&gather)? {
+            Some(progress) => self.begun(gather, progress),
+            None => Ok((State::Over, Want::Done(finish(gather)?))),
         }
     }
 
-    /// Begins a get of what is wanted, where something is. The error is want of memory.
-    fn begin(&mut self, gather: Gather) -> Result<Want<Fetched>, Memory>
-        ensures { IfOk result (FetchIsWanted J.judges (record self.old { state = State.Free gather }) self.new) }
+    /// Asks the first ask of a get, or ends the fetch where there is none. The error is want of memory.
+    fn begun(
+        &self,
+        gather: Gather,
+        progress: Progress<J>,
+    ) -> Result<(State<J>, Want<Fetched>), Memory>
+        requires { BeginsFor J.judges self.now.judge self.now.replicas self.now.entries gather.stage (Some progress) }
+        ensures { IfOk result (WantsNext J.judges self.now (State.Free gather)) }
     {
-        let Some(mut get) = self.get_for(&gather)? else {
-            return Ok(Want::Done(finish(gather)?));
-        };
-        match get.next()? {
-            Want::Ask(node, question) => {
-                self.state = State::Asking(gather, get);
-                Ok(Want::Ask(node, question))
+        match progress {
+            Progress::Waits(waiting) => Ok(ask(gather, waiting)),
+            Progress::Comes(came) => {
+                let fetched = fail(gather, miss_in(came))?;
+                Ok((State::Over, Want::Done(fetched)))
             }
-            Want::Done(came) => match take(self.alloc, gather, came)? {
-                Step::Goes(_) => unreachable!(),
-                Step::Ends(fetched) => Ok(Want::Done(fetched)),
-            },
+        }
+    }
+
+    /// The get of what is wanted with its first ask, where something is wanted. The error is want of memory.
+    fn first(&self, gather: &Gather) -> Result<Option<Progress<J>>, Memory>
+        ensures { IfOk result (BeginsFor J.judges self.now.judge self.now.replicas self.now.entries gather.now.stage) }
+    {
+        match self.get_for(gather)? {
+            Some(get) => Ok(Some(get.go_on()?)),
+            None => Ok(None),
         }
     }
 
@@ -191,10 +239,36 @@ impl<J: Judge> Fetch<J> {
     }
 }
 
-/// Takes what a get brought. The error is want of memory.
-fn take(alloc: Global, gather: Gather, came: Came) -> Result<Step, Memory>
+/// Has the node of that ask asked.
+fn ask<J: Judge>(gather: Gather, waiting: Waiting<J>) -> (State<J>, Want<Fetched>)
+    requires { IsKept waiting }
+    ensures { result ≡ (State.Asking gather waiting, Want.Ask waiting.node waiting.question) }
+{
+    let (node, question) = waiting.again();
+    (State::Asking(gather, waiting), Want::Ask(node, question))
+}
+
+/// Gathers what a get brought: then no get is on its way, or something couldn't be had. A block is handed out with its
+/// name. The error is want of memory.
+fn stand<J: Judge>(
+    alloc: Global,
+    mut gather: Gather,
+    came: Came,
+) -> Result<(State<J>, Option<(Key, Bytes)>), Memory>
     requires { IsWantedKind gather.stage came }
-    ensures { IfOk result (Takes gather came) }
+    ensures stands { IfOk result (StandsBehind gather came) }
+    ensures left { IfOk result (λ given. LeavesNoMore gather given.0) }
+{
+    match take(alloc, &mut gather, came)? {
+        Step::Takes(block) => Ok((State::Free(gather), block)),
+        Step::Fails(miss) => Ok((State::Ended(fail(gather, miss)?), None)),
+    }
+}
+
+/// Gathers what a get brought. The error is want of memory.
+fn take(alloc: Global, gather: &mut Gather, came: Came) -> Result<Step, Memory>
+    requires { IsWantedKind gather.old.stage came }
+    ensures { IfOk result (Takes gather.old came gather.new) }
 {
     match came {
         Came::Heads(heads) => take_heads(alloc, gather, heads),
@@ -202,44 +276,67 @@ fn take(alloc: Global, gather: Gather, came: Came) -> Result<Step, Memory>
     }
 }
 
-/// Takes the heads that a get brought. The error is want of memory.
-fn take_heads(alloc: Global, gather: Gather, heads: Result<Heads, Miss>) -> Result<Step, Memory>
-    requires { heads_wanted gather.stage ≢ None }
-    ensures { IfOk result (Takes gather (Came.Heads heads)) }
+/// Gathers the heads that a get brought. The error is want of memory.
+fn take_heads(
+    alloc: Global,
+    gather: &mut Gather,
+    heads: Result<Heads, Miss>,
+) -> Result<Step, Memory>
+    requires { heads_wanted gather.old.stage ≢ None }
+    ensures { IfOk result (Takes gather.old (Came.Heads heads) gather.new) }
 {
     match heads {
         Ok(heads) => {
-            let owner = gather.wanted_heads().unwrap();
-            Ok(Step::Goes(gather.take_heads(alloc, owner, &heads)?))
+            gather.take_heads(alloc, &heads)?;
+            Ok(Step::Takes(None))
         }
-        Err(miss) => fail(gather, miss),
+        Err(miss) => Ok(Step::Fails(miss)),
     }
 }
 
-/// Takes the block that a get brought. The error is want of memory.
-fn take_block(alloc: Global, gather: Gather, block: Result<Bytes, Miss>) -> Result<Step, Memory>
-    requires { block_wanted gather.stage ≢ None }
-    ensures { IfOk result (Takes gather (Came.Block block)) }
+/// Gathers the block that a get brought, and hands it out. The error is want of memory.
+fn take_block(
+    alloc: Global,
+    gather: &mut Gather,
+    block: Result<Bytes, Miss>,
+) -> Result<Step, Memory>
+    requires { block_wanted gather.old.stage ≢ None }
+    ensures { IfOk result (Takes gather.old (Came.Block block) gather.new) }
 {
+    let key = gather.wanted_block().unwrap();
     match block {
-        Ok(bytes) => Ok(Step::Goes(gather.take_block(alloc, bytes.as_slice())?)),
-        Err(miss) => fail(gather, miss),
+        Ok(bytes) => {
+            gather.take_block(alloc, bytes.as_slice())?;
+            Ok(Step::Takes(Some((key, bytes))))
+        }
+        Err(miss) => Ok(Step::Fails(miss)),
     }
 }
 
-/// Ends the fetch, since something needed couldn't be had. The error is want of memory.
-fn fail(gather: Gather, miss: Miss) -> Result<Step, Memory>
+/// Why a get brought nothing.
+fn miss_in(came: Came) -> Miss
+    requires { BroughtNothing came }
+    ensures { IsMiss came result }
+{
+    match came {
+        Came::Heads(Err(miss)) | Came::Block(Err(miss)) => miss,
+        _ => unreachable!(),
+    }
+}
+
+/// What a fetch gives that ends since something needed couldn't be had. The error is want of memory.
+fn fail(gather: Gather, miss: Miss) -> Result<Fetched, Memory>
     ensures { IfOk result (FailsWith gather miss) }
 {
     let (_, mut notes) = gather.into_parts()?;
     notes.push(note_of(&miss))?;
-    Ok(Step::Ends(Fetched {
+    Ok(Fetched {
         result: Err(miss),
         notes,
-    }))
+    })
 }
 
-/// Ends the fetch, where all members are through. The error is want of memory.
+/// What a fetch gives where all members are through. The error is want of memory.
 fn finish(gather: Gather) -> Result<Fetched, Memory>
     requires { gather.stage ≡ Stage.Through }
     ensures { IfOk result (Finishes gather) }
@@ -261,3 +358,8 @@ fn note_of(miss: &Miss) -> Note
         Miss::Damaged { key, .. } => Note::Damaged(*key),
     }
 }
+
+/// Whatever a fetch was brought is known to come to some end, and while a get is on its way to that what it is for is wanted.
+pub fn fetch_stands<J: Judge>()
+    ensures { FetchStands J.judges }
+{}

@@ -1,9 +1,12 @@
 //! The fetch of all members of a view, apart from how blocks come.
 
-ghost use Rattle.std.specs.Prelude.{◌≡◌, ◌≢◌, ◌<◌, ◌↔◌, IsTrue, [], ◌++◌, map, Some, None, IfOk, OnOk};
+ghost use Rattle.std.specs.Prelude.{◌≡◌, ◌≢◌, ◌*◌, ◌+◌, ◌^◌, ◌<◌, ◌↔◌, IsTrue, [], ◌++◌, map, Some, None, Ok, IfOk, OnOk, OnErr};
+ghost use Rattle.ivy_base.specs.declared.key.PubKey.{PubKey};
 ghost use Rattle.ivy_base.specs.Naming.{head_key_of};
 ghost use Rattle.session_model.specs.Brought.{stamp_of};
-ghost use Rattle.log_fetch.specs.Gathering.{known_of, IsNext, IsPassing, PassesAs, BeginsLog, GoesOnLog, GathersFrom, Gathers, HeadsGathered, BlockGathered, IsGathering, heads_wanted, block_wanted, GivesBack, noted_for};
+ghost use Rattle.log_walks.specs.Trying.{trial_left};
+ghost use Rattle.log_fetch.specs.Logs.{settled_left};
+ghost use Rattle.log_fetch.specs.Gathering.{known_of, none_passed, IsNext, IsPassing, PassesAs, BeginsLog, GoesOnLog, Advances, HeadsTaken, BlockTaken, Gathers, HeadsGathered, BlockGathered, IsGathering, gathering_of, heads_wanted, block_wanted, GivesBack, noted_for, noted_at, at_behind, waits_left, gets_in};
 
 use crate::edges::Edges;
 use crate::log;
@@ -15,6 +18,7 @@ use log_records::{Batch, ChainFault};
 use log_walks::{Settled, Trial};
 use std::alloc::Global;
 use std::marker::Model;
+use std::mem;
 use version_vectors::Vector;
 use view_blocks::View;
 
@@ -25,7 +29,7 @@ pub(crate) enum Stage {
     Heads(PubKey),
     /// A block of its log.
     Log(Trial),
-    /// Nothing: all members are through.
+    /// Nothing: all members are through, or memory was wanted.
     Through,
 }
 
@@ -69,19 +73,16 @@ impl Gather {
     pub(crate) fn start(alloc: Global, standing: &Standing) -> Result<Gather, Memory>
         ensures known { IfOk result (λ gather. gather.known ≡ known_of standing.now) }
         ensures started { IfOk result (Gathers standing.now.held []) }
+        ensures left { IfOk result (λ gather. gets_in gather < 17 * (2 + 2 ^ 96)) }
     {
-        let known = Known {
-            view: standing.view.copy(alloc)?,
-            own: standing.own,
-            floor: standing.floor.copy(alloc)?,
-            edges: standing.edges.copy(alloc)?,
-        };
-        let passed = Passed {
-            batch: Batch::over(alloc, &standing.held, &standing.floor)?,
-            notes: Notes::of(Vec::new(alloc)),
-            at: 0,
-        };
-        advance(alloc, known, passed)
+        let known = Known::of(alloc, standing)?;
+        let mut passed = Passed::none(alloc, standing)?;
+        let stage = advance(alloc, &known, &mut passed)?;
+        Ok(Gather {
+            known,
+            passed,
+            stage,
+        })
     }
 
     /// Whose heads are wanted, where heads are.
@@ -105,56 +106,38 @@ impl Gather {
         }
     }
 
-    /// Takes the heads that are wanted. The error is want of memory.
-    pub(crate) fn take_heads(
-        self,
-        alloc: Global,
-        owner: PubKey,
-        heads: &Heads,
-    ) -> Result<Gather, Memory>
-        requires { heads_wanted self.stage ≡ Some owner }
-        ensures known { IfOk result (λ gather. gather.known ≡ self.known) }
-        ensures taken { IfOk result (HeadsGathered self owner heads.now) }
+    /// Takes the heads that are wanted. The error is want of memory; nothing more is wanted after it.
+    pub(crate) fn take_heads(&mut self, alloc: Global, heads: &Heads) -> Result<(), Memory>
+        requires { heads_wanted self.old.stage ≢ None }
+        ensures known { OnOk result (self.new.known ≡ self.old.known) }
+        ensures taken { IfOk result (λ _. (owner : PubKey) → heads_wanted self.old.stage ≡ Some owner → HeadsGathered self.old owner heads.now self.new) }
+        ensures left { OnOk result (gets_in self.new < gets_in self.old) }
     {
-        let Gather {
-            known,
-            mut passed,
-            stage,
-        } = self;
-        drop(stage);
-        match begin_log(alloc, &known, &owner, heads.as_slice(), &mut passed)? {
-            Some(trial) => Ok(Gather {
-                known,
-                passed,
-                stage: Stage::Log(trial),
-            }),
-            None => advance(alloc, known, passed),
-        }
-    }
-
-    /// Takes the block that is wanted. The error is want of memory.
-    pub(crate) fn take_block(self, alloc: Global, bytes: &[u8]) -> Result<Gather, Memory>
-        requires { block_wanted self.stage ≢ None }
-        ensures known { IfOk result (λ gather. gather.known ≡ self.known) }
-        ensures taken { IfOk result (BlockGathered self bytes.now) }
-    {
-        let Gather {
-            known,
-            mut passed,
-            stage,
-        } = self;
-        let Stage::Log(trial) = stage else {
+        let Stage::Heads(owner) = &self.stage else {
             unreachable!()
         };
-        let owner = known.view.members()[passed.at];
-        match go_on_log(alloc, &known, &owner, trial, bytes, &mut passed)? {
-            Some(trial) => Ok(Gather {
-                known,
-                passed,
-                stage: Stage::Log(trial),
-            }),
-            None => advance(alloc, known, passed),
-        }
+        let stage = after_heads(
+            alloc,
+            &self.known,
+            owner,
+            heads.as_slice(),
+            &mut self.passed,
+        );
+        go_to(&self.known, &mut self.passed, &mut self.stage, stage)
+    }
+
+    /// Takes the block that is wanted. The error is want of memory; nothing more is wanted after it.
+    pub(crate) fn take_block(&mut self, alloc: Global, bytes: &[u8]) -> Result<(), Memory>
+        requires { block_wanted self.old.stage ≢ None }
+        ensures known { OnOk result (self.new.known ≡ self.old.known) }
+        ensures taken { IfOk result (λ _. BlockGathered self.old bytes.now self.new) }
+        ensures left { OnOk result (gets_in self.new < gets_in self.old) }
+    {
+        let Stage::Log(trial) = mem::replace(&mut self.stage, Stage::Through) else {
+            unreachable!()
+        };
+        let stage = after_block(alloc, &self.known, trial, bytes, &mut self.passed);
+        go_to(&self.known, &mut self.passed, &mut self.stage, stage)
     }
 
     /// What was brought, and what is noted of the logs, that of the one under way too. The error is want of memory.
@@ -167,43 +150,116 @@ impl Gather {
             mut passed,
             stage,
         } = self;
-        let Stage::Log(trial) = stage else {
-            return Ok((passed.batch, passed.notes));
-        };
-        let owner = known.view.members()[passed.at];
-        note(&mut passed.notes, &owner, trial.fault())?;
+        note_at(&known, &mut passed, &stage)?;
         Ok((passed.batch, passed.notes))
     }
 }
 
+impl Known {
+    /// What a fetch for that standing goes by. The error is want of memory.
+    fn of(alloc: Global, standing: &Standing) -> Result<Known, Memory>
+        ensures { IfOk result (λ known. known ≡ known_of standing.now) }
+    {
+        Ok(Known {
+            view: standing.view.copy(alloc)?,
+            own: standing.own,
+            floor: standing.floor.copy(alloc)?,
+            edges: standing.edges.copy(alloc)?,
+        })
+    }
+}
+
+impl Passed {
+    /// No member yet, over what the standing holds. The error is want of memory.
+    fn none(alloc: Global, standing: &Standing) -> Result<Passed, Memory>
+        ensures { IfOk result (λ passed. passed ≡ none_passed standing.now.held standing.now.floor) }
+    {
+        Ok(Passed {
+            batch: Batch::over(alloc, &standing.held, &standing.floor)?,
+            notes: Notes::of(Vec::new(alloc)),
+            at: 0,
+        })
+    }
+}
+
+/// Goes to that stage; for want of memory to the end.
+fn go_to(
+    known: &Known,
+    passed: &mut Passed,
+    stage: &mut Stage,
+    next: Result<Stage, Memory>,
+) -> Result<(), Memory>
+    requires { IsPassing known.now passed.old }
+    ensures goes { OnOk result (next ≡ Ok stage.new) }
+    ensures passed { OnOk result (passed.new ≡ passed.old) }
+    ensures ends { OnErr result (IsGathering (gathering_of known.now passed.new stage.new)) }
+{
+    match next {
+        Ok(at) => {
+            *stage = at;
+            Ok(())
+        }
+        Err(error) => {
+            passed.at = known.view.members().len();
+            *stage = Stage::Through;
+            Err(error)
+        }
+    }
+}
+
+/// Goes on from the heads of the owner's log, which were wanted. The error is want of memory.
+fn after_heads(
+    alloc: Global,
+    known: &Known,
+    owner: &PubKey,
+    heads: &[Judged],
+    passed: &mut Passed,
+) -> Result<Stage, Memory>
+    requires { IsGathering (gathering_of known.now passed.old (Stage.Heads owner.now)) }
+    ensures taken { IfOk result (HeadsTaken known.now passed.old passed.new owner.now heads.now) }
+    ensures passing { IsPassing known.now passed.new }
+{
+    match begin_log(alloc, known, owner, heads, passed)? {
+        Some(trial) => Ok(Stage::Log(trial)),
+        None => advance(alloc, known, passed),
+    }
+}
+
+/// Goes on from a block of the log under way, which was wanted. The error is want of memory.
+fn after_block(
+    alloc: Global,
+    known: &Known,
+    trial: Trial,
+    bytes: &[u8],
+    passed: &mut Passed,
+) -> Result<Stage, Memory>
+    requires { IsGathering (gathering_of known.now passed.old (Stage.Log trial)) }
+    ensures taken { IfOk result (BlockTaken known.now passed.old passed.new trial bytes.now) }
+    ensures passing { IsPassing known.now passed.new }
+{
+    let owner = known.view.members()[passed.at];
+    match go_on_log(alloc, known, &owner, trial, bytes, passed)? {
+        Some(trial) => Ok(Stage::Log(trial)),
+        None => advance(alloc, known, passed),
+    }
+}
+
 /// Goes to the next member of which something is wanted. The error is want of memory.
-fn advance(alloc: Global, known: Known, mut passed: Passed) -> Result<Gather, Memory>
-    requires { IsPassing known passed }
-    ensures known { IfOk result (λ gather. gather.known ≡ known) }
-    ensures gathers { IfOk result (GathersFrom known passed) }
+fn advance(alloc: Global, known: &Known, passed: &mut Passed) -> Result<Stage, Memory>
+    requires { IsPassing known.now passed.old }
+    ensures advances { IfOk result (Advances known.now passed.old passed.new) }
+    ensures passing { IsPassing known.now passed.new }
 {
     'members: while passed.at < known.view.members().len() {
         let owner = known.view.members()[passed.at];
         if !is_one(&owner, &known.own) {
-            return Ok(Gather {
-                known,
-                passed,
-                stage: Stage::Heads(owner),
-            });
+            return Ok(Stage::Heads(owner));
         }
-        if let Some(trial) = begin_log(alloc, &known, &owner, &[], &mut passed)? {
-            return Ok(Gather {
-                known,
-                passed,
-                stage: Stage::Log(trial),
-            });
+        if let Some(trial) = begin_log(alloc, known, &owner, &[], passed)? {
+            return Ok(Stage::Log(trial));
         }
     }
-    Ok(Gather {
-        known,
-        passed,
-        stage: Stage::Through,
-    })
+    Ok(Stage::Through)
 }
 
 /// Begins with the owner's log, whose heads these are: a block is wanted, or the log is through. The error is want of
@@ -217,7 +273,9 @@ fn begin_log(
 ) -> Result<Option<Trial>, Memory>
     requires passing { IsPassing known.now passed.old }
     requires next { IsNext known.now passed.old owner.now }
-    ensures { IfOk result (BeginsLog known.now passed.old passed.new owner.now (map stamp_of heads.now)) }
+    ensures begun { IfOk result (BeginsLog known.now passed.old passed.new owner.now (map stamp_of heads.now)) }
+    ensures left { IfOk result (λ waits. waits_left waits < 2 ^ 96) }
+    ensures passing { IsPassing known.now passed.new }
 {
     let settled = log::open(
         alloc,
@@ -240,11 +298,11 @@ fn go_on_log(
     bytes: &[u8],
     passed: &mut Passed,
 ) -> Result<Option<Trial>, Memory>
-    requires passing { IsPassing known.now passed.old }
+    requires legal { IsGathering (gathering_of known.now passed.old (Stage.Log trial)) }
     requires next { IsNext known.now passed.old owner.now }
-    requires wanted { trial.walk.left ≢ 0 }
-    requires owner { trial.walk.owner ≡ owner.now }
-    ensures { IfOk result (GoesOnLog known.now passed.old passed.new owner.now trial bytes.now) }
+    ensures gone { IfOk result (GoesOnLog known.now passed.old passed.new owner.now trial bytes.now) }
+    ensures left { IfOk result (λ waits. waits_left waits < trial_left trial) }
+    ensures passing { IsPassing known.now passed.new }
 {
     let settled = log::go_on(
         alloc,
@@ -261,15 +319,32 @@ fn go_on_log(
 /// Takes how the owner's log stands: a block is wanted of it, or it is through. The error is want of memory.
 fn pass(passed: &mut Passed, owner: &PubKey, settled: Settled) -> Result<Option<Trial>, Memory>
     requires { passed.old.at < 16 }
-    ensures { IfOk result (PassesAs passed.old passed.new owner.now settled) }
+    ensures passes { IfOk result (PassesAs passed.old passed.new owner.now settled) }
+    ensures batch { passed.new.batch ≡ passed.old.batch }
+    ensures at { passed.new.at ≡ at_behind passed.old.at settled }
+    ensures left { IfOk result (λ waits. waits_left waits ≡ settled_left settled) }
 {
     match settled {
         Settled::Waits(trial) => Ok(Some(trial)),
         Settled::Over(fault) => {
-            note(&mut passed.notes, owner, fault)?;
             passed.at += 1;
+            note(&mut passed.notes, owner, fault)?;
             Ok(None)
         }
+    }
+}
+
+/// Notes why the first head of the log under way was passed over, where one was. The error is want of memory.
+fn note_at(known: &Known, passed: &mut Passed, stage: &Stage) -> Result<(), Memory>
+    requires { IsGathering (gathering_of known.now passed.old stage.now) }
+    ensures { OnOk result (passed.new ≡ record passed.old { notes = passed.old.notes ++ noted_at stage.now }) }
+{
+    match stage {
+        Stage::Log(trial) => {
+            let owner = &known.view.members()[passed.at];
+            note(&mut passed.notes, owner, trial.fault())
+        }
+        _ => Ok(()),
     }
 }
 

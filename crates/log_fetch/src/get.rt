@@ -4,10 +4,10 @@ ghost use Rattle.std.specs.Prelude.{◌≡◌, ◌≢◌, ◌<◌, ◌≤◌, No
 ghost use Rattle.ivy_base.specs.Naming.{head_key_of};
 ghost use Rattle.dhash_client.specs.GetBlock.{block_begun};
 ghost use Rattle.dhash_client.specs.GetHead.{head_begun};
-ghost use Rattle.log_fetch.specs.Gets.{get_awaited, gets_left, GetIsWanted, GetHasHeard, IsOfKind};
+ghost use Rattle.log_fetch.specs.Gets.{get_awaited, gets_left, GetIsWanted, GetHasHeard, IsOfKind, IsOfGet, GoesTo, HearsTo};
 
 use dhash_client::{GetBlock, GetHead, Miss};
-use dht_ids::{Answer, Heads, Judge, Peers, Want};
+use dht_ids::{Answer, Ask, Heads, Judge, Peer, Peers, Want};
 use ivy_base::{Bytes, Key, Memory, PubKey, head_key};
 use std::alloc::Global;
 
@@ -27,6 +27,24 @@ pub enum Came {
     Heads(Result<Heads, Miss>),
     /// The block, or why there is none.
     Block(Result<Bytes, Miss>),
+}
+
+/// A get whose last ask is to be heard.
+#[derive(Drop)]
+pub(crate) struct Waiting<J: Judge> {
+    pub get: Get<J>,
+    /// The node that was asked.
+    pub node: Peer,
+    /// What it was asked.
+    pub question: Ask,
+}
+
+/// What becomes of a get.
+pub(crate) enum Progress<J: Judge> {
+    /// It waits for its next ask to be heard.
+    Waits(Waiting<J>),
+    /// It is over.
+    Comes(Came),
 }
 
 impl<J: Judge> Get<J> {
@@ -82,5 +100,52 @@ impl<J: Judge> Get<J> {
             Get::Heads(_, get) => get.heard(answer),
             Get::Block(get) => get.heard(answer),
         }
+    }
+
+    /// Goes on to the next ask, where there is one. The error is want of memory.
+    pub(crate) fn go_on(mut self) -> Result<Progress<J>, Memory>
+        ensures { IfOk result (GoesTo J.judges self) }
+    {
+        match self.next()? {
+            Want::Ask(node, question) => Ok(Progress::Waits(Waiting {
+                get: self,
+                node,
+                question,
+            })),
+            Want::Done(came) => Ok(Progress::Comes(came)),
+        }
+    }
+
+    /// Hears what the node answered that was asked last, and goes on to the next ask, where there is one. The error is want
+    /// of memory.
+    pub(crate) fn hear(mut self, answer: Answer) -> Result<Progress<J>, Memory>
+        requires { get_awaited self ≢ None }
+        ensures { IfOk result (HearsTo J.judges self answer) }
+    {
+        self.heard(answer)?;
+        self.go_on()
+    }
+}
+
+impl<J: Judge> Waiting<J> {
+    /// Hears what the node answered, and goes on to the next ask, where there is one. The error is want of memory.
+    pub(crate) fn hear(self, answer: Answer) -> Result<Progress<J>, Memory>
+        requires { get_awaited self.get ≢ None }
+        ensures { IfOk result (HearsTo J.judges self.get answer) }
+    {
+        self.get.hear(answer)
+    }
+
+    /// The node that was asked and what it was asked, again.
+    pub(crate) fn again(&self) -> (Peer, Ask)
+        requires { IsOfGet self.now.question }
+        ensures { result ≡ (self.now.node, self.now.question) }
+    {
+        let question = match &self.question {
+            Ask::Route(key) => Ask::Route(*key),
+            Ask::Get(key) => Ask::Get(*key),
+            _ => unreachable!(),
+        };
+        (self.node, question)
     }
 }

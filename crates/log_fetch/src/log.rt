@@ -1,11 +1,12 @@
 //! Fetching one log of a view.
 
-ghost use Rattle.std.specs.Prelude.{◌≡◌, ◌≢◌, Contains, map, IfOk};
+ghost use Rattle.std.specs.Prelude.{◌≡◌, ◌≢◌, ◌<◌, ◌^◌, Contains, map, IfOk, OnErr};
 ghost use Rattle.ivy_base.specs.Naming.{head_key_of};
 ghost use Rattle.log_records.specs.Batches.{owners_in};
 ghost use Rattle.session_model.specs.Brought.{stamp_of};
+ghost use Rattle.log_walks.specs.Trying.{trial_left};
 ghost use Rattle.log_fetch.specs.Edges.{edge_in};
-ghost use Rattle.log_fetch.specs.Logs.{Opens, GoesOn};
+ghost use Rattle.log_fetch.specs.Logs.{Opens, GoesOn, settled_left};
 
 use crate::edges::Edges;
 use dht_ids::Judged;
@@ -29,7 +30,9 @@ pub fn open(
 ) -> Result<Settled, Memory>
     requires new_log { Contains (owners_in batch.old.chains) owner.now → ⊥ }
     requires floor { batch.old.floor ≡ floor.now }
-    ensures { IfOk result (Opens view.now owner.now (edge_in edges.now (head_key_of owner.now)) (map stamp_of heads.now) batch.old batch.new) }
+    ensures opens { IfOk result (Opens view.now owner.now (edge_in edges.now (head_key_of owner.now)) (map stamp_of heads.now) batch.old batch.new) }
+    ensures left { IfOk result (λ settled. settled_left settled < 2 ^ 96) }
+    ensures unchanged { OnErr result (batch.new ≡ batch.old) }
 {
     let log = head_key(owner);
     let held = batch.started().seq_of(&log);
@@ -54,7 +57,9 @@ pub fn go_on(
     requires new_log { Contains (owners_in batch.old.chains) owner.now → ⊥ }
     requires wanted { trial.walk.left ≢ 0 }
     requires owner { trial.walk.owner ≡ owner.now }
-    ensures { IfOk result (GoesOn view.now owner.now (edge_in edges.now (head_key_of owner.now)) trial bytes.now batch.old batch.new) }
+    ensures goes_on { IfOk result (GoesOn view.now owner.now (edge_in edges.now (head_key_of owner.now)) trial bytes.now batch.old batch.new) }
+    ensures left { IfOk result (λ settled. settled_left settled < trial_left trial) }
+    ensures unchanged { OnErr result (batch.new ≡ batch.old) }
 {
     trial.give(alloc, bytes)?;
     let edge = edges.at(alloc, &head_key(owner))?;

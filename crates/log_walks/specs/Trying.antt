@@ -1,5 +1,5 @@
 -- The heads of one log on their way: which is tried now, which come after it, and how far its walk has come.
-use Rattle.std.specs.Prelude.{◌≡◌, ◌≢◌, ℕ, ◌-◌, List, [], ◌∷◌, ◌++◌, Option, Some, None, Ok}
+use Rattle.std.specs.Prelude.{◌≡◌, ◌≢◌, ℕ, ◌+◌, ◌-◌, ◌*◌, ◌^◌, List, [], ◌∷◌, ◌++◌, length, Option, Some, None, Ok}
 use Rattle.ivy_base.specs.declared.key.PubKey.{PubKey}
 use Rattle.ivy_base.specs.Naming.{head_key_of}
 use Rattle.log_model.specs.View.{View}
@@ -21,6 +21,10 @@ pub record Trying : Type 0 where
   pub rest : List Stamp
   pub held : ℕ
   pub fault : Option ChainFault
+
+-- no more blocks than these may still be wanted: the present walk's, and fewer than `2 ^ 32` for each head after it
+abbrev pub trial_left : Trying → ℕ
+trial_left t = t.walk.left + 2 ^ 32 * length t.rest
 
 -- the first of the heads that were passed over
 abbrev pub first_of : List ChainFault → Option ChainFault

@@ -10,7 +10,8 @@
 //! log is through. A [`Walk`] is the way back under one head. Whatever they were brought, how far they have come is the
 //! definitions' `Tries` and `Walks`: `specs/Walking.antt` and `specs/Trying.antt` say it of a state and what was brought
 //! so far, and `proofs/Driven.antt` has what a driver cites: how a log's fetch begins, which block it wants then, and that
-//! it stops where that can't be had. Each block given leaves fewer records to come, and each head passed over fewer heads.
+//! it stops where that can't be had. Each block given leaves fewer records to come, and each head passed over fewer heads:
+//! `trial_left` in `specs/Trying.antt` bounds the blocks that may still be wanted, and both make it less.
 //!
 //! Definitions: `specs/Walking.antt`, `specs/Trying.antt`, `specs/Concluding.antt`, `specs/Order.antt`; inside
 //! `specs/Reading.antt`.

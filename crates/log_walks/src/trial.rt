@@ -1,13 +1,13 @@
 //! The heads of one log, tried one after the other.
 
-ghost use Rattle.std.specs.Prelude.{◌≡◌, ◌≢◌, ◌<◌, [], Contains, None, map, IfOk, IfSome, IfNone, OnOk};
+ghost use Rattle.std.specs.Prelude.{◌≡◌, ◌≢◌, ◌<◌, ◌*◌, ◌^◌, [], length, Contains, None, map, IfOk, IfSome, IfNone, OnOk, OnErr};
 ghost use Rattle.ivy_base.specs.Naming.{head_key_of};
 ghost use Rattle.log_model.specs.Vector.{stamp_at};
 ghost use Rattle.log_records.specs.Batches.{owners_in};
 ghost use Rattle.session_model.specs.Brought.{stamp_of};
 ghost use Rattle.log_walks.specs.Walking.{AreOwned, wanted_of, kept_of};
-ghost use Rattle.log_walks.specs.Trying.{IsBegunAt, IsTakenAs, HasBeenTold, or_fault};
-ghost use Rattle.log_walks.specs.Concluding.{ConcludesAs, SettlesAs};
+ghost use Rattle.log_walks.specs.Trying.{IsBegunAt, IsTakenAs, HasBeenTold, or_fault, trial_left};
+ghost use Rattle.log_walks.specs.Concluding.{ConcludesAs, SettlesAs, LeavesFewer, LeavesNoMore};
 
 use crate::walk::Walk;
 use dht_ids::Judged;
@@ -52,6 +52,7 @@ impl Trial {
     pub fn first(alloc: Global, owner: PubKey, held: u32, heads: VecDeque<Judged>) -> Option<Trial>
         ensures some { IfSome result (IsBegunAt owner held (map stamp_of heads.items) None) }
         ensures none { IfNone result (heads.items ≡ []) }
+        ensures left { IfSome result (λ t. trial_left t < 2 ^ 32 * length heads.items) }
     {
         next(alloc, owner, held, heads, None)
     }
@@ -75,6 +76,7 @@ impl Trial {
         requires { self.old.walk.left ≢ 0 }
         ensures told { IfOk result (λ _. HasBeenTold self.old self.new bytes.now) }
         ensures left { OnOk result (self.new.walk.left < self.old.walk.left) }
+        ensures fewer { OnOk result (trial_left self.new < trial_left self.old) }
         ensures rest { OnOk result (self.new.rest ≡ self.old.rest) }
         ensures owner { OnOk result (self.new.walk.owner ≡ self.old.walk.owner) }
     {
@@ -93,7 +95,9 @@ impl Trial {
         requires over { self.walk.left ≡ 0 }
         requires new_log { Contains (owners_in batch.old.chains) self.walk.owner → ⊥ }
         requires edge { IfSome edge (λ e. stamp_at e.vector (head_key_of self.walk.owner) ≡ None) }
-        ensures { IfOk result (ConcludesAs view.now edge self batch.old batch.new) }
+        ensures concluded { IfOk result (ConcludesAs view.now edge self batch.old batch.new) }
+        ensures left { IfOk result (LeavesFewer self) }
+        ensures unchanged { OnErr result (batch.new ≡ batch.old) }
     {
         let owner = *self.walk.owner();
         match take(
@@ -127,7 +131,9 @@ impl Trial {
     ) -> Result<Settled, Memory>
         requires new_log { Contains (owners_in batch.old.chains) self.walk.owner → ⊥ }
         requires edge { IfSome edge.now (λ e. stamp_at e.vector (head_key_of self.walk.owner) ≡ None) }
-        ensures { IfOk result (SettlesAs view.now edge.now self batch.old batch.new) }
+        ensures settled { IfOk result (SettlesAs view.now edge.now self batch.old batch.new) }
+        ensures left { IfOk result (LeavesNoMore self) }
+        ensures unchanged { OnErr result (batch.new ≡ batch.old) }
     {
         let mut trial = self;
         'walks: while trial.wanted().is_none() {
@@ -178,6 +184,7 @@ fn next(
 ) -> Option<Trial>
     ensures some { IfSome result (IsBegunAt owner held (map stamp_of rest.items) fault) }
     ensures none { IfNone result (rest.items ≡ []) }
+    ensures left { IfSome result (λ t. trial_left t < 2 ^ 32 * length rest.items) }
 {
     let head = rest.pop_front()?;
     Some(Trial {
@@ -202,7 +209,8 @@ fn take(
     requires owned { AreOwned owner.now (kept_of chain) }
     requires new_log { Contains (owners_in batch.old.chains) owner.now → ⊥ }
     requires edge { IfSome edge (λ e. stamp_at e.vector (head_key_of owner.now) ≡ None) }
-    ensures { IfOk result (IsTakenAs view.now batch.old batch.new (stamp_of head) edge (kept_of chain)) }
+    ensures taken { IfOk result (IsTakenAs view.now batch.old batch.new (stamp_of head) edge (kept_of chain)) }
+    ensures unchanged { OnErr result (batch.new ≡ batch.old) }
 {
     let Some(chain) = chain else {
         return Ok(Some(ChainFault::Bad));

@@ -3,7 +3,7 @@ mod Sizes
 pub mod Plans
 mod Pages
 mod Listings
-mod Trees
+pub mod Trees
 mod PageSizes
 mod Lengths
 mod Fields

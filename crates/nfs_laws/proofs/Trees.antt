@@ -221,12 +221,12 @@ short_apply t now (op.Cancel seq) short fits = short
 short_apply t now (op.SetAttrs number change) short fits = short_if (is_some change.size && not (is_file (inode_at t number))) t _ (λ wrong. short) (λ free. short_attributes t now number change change.size refl short free)
 short_apply t now op.End short fits = short
 
-short_apply_all : (t : Tree) (ops : List (Moment × Op)) → LinksAreShort t → AllByRecursion (λ o. OperationFits o.1) ops → LinksAreShort (apply_all t ops)
+pub short_apply_all : (t : Tree) (ops : List (Moment × Op)) → LinksAreShort t → AllByRecursion (λ o. OperationFits o.1) ops → LinksAreShort (apply_all t ops)
 short_apply_all t [] short fit = short
 short_apply_all t (o ∷ ops) short fit = short_apply_all (apply t o.0 o.1) ops (short_apply t o.0 o.1 short fit.0) fit.1
 
 -- the root is no link
-short_at_first : LinksAreShort empty_tree
+pub short_at_first : LinksAreShort empty_tree
 short_at_first number i at = inodes_root IsShortLink _ i (same_key number root_number) (λ link. cc) at
 
 pub records_make_short_links : RecordsMakeShortLinks

@@ -75,6 +75,13 @@ impl Engine {
         })
     }
 
+    /// The front of the basis.
+    pub fn basis_front(&self) -> &Vector
+        ensures { result.now ≡ self.now.basis.front }
+    {
+        &self.front
+    }
+
     /// The tree that the records make of the basis's.
     pub fn tree(&self) -> &Tree
         ensures { result.now ≡ kept_tree (holding self.now) }

@@ -1,31 +1,26 @@
-use Rattle.std.proofs.Common.{sym, subst}
+use Rattle.std.proofs.Common.{IfOk, sym, subst}
 use Rattle.dht_ids.specs.declared.ask.Want.TheVariants as next
+use Rattle.log_fetch.specs.declared.fetch.State.{State}
 use Rattle.log_fetch.specs.declared.fetch.State.TheVariants as state
-use Rattle.log_fetch.specs.Fetching.{Fetching, FetchIsWanted, IsFor}
-use Rattle.log_fetch.specs.Gets.{GetIsWanted}
-use Rattle.log_fetch.specs.Stepping.{Takes}
-use Rattle.log_fetch.proofs.Fetching.{asks_on, goes_ok, ends_by}
+use Rattle.log_fetch.specs.Fetching.{IsSound}
+use Rattle.log_fetch.specs.Stepping.{WantsNext}
+use Rattle.log_fetch.proofs.Fetching.{wants_again, wants_told}
 use Rattle.log_fetch.proofs.fetch.Fetch.go_on.Goals as goal
 
-pub returns-in-Ask : goal.returns-in-Ask
-returns-in-Ask g c =
-    let i = c.self.inside in
-    let fits = subst (λ (f : Fetching g.row.J.Denot). IsFor f.judge f.replicas c.args.gather.stage c.args.get) (sym c.self.view_is) c.requires in
-    let wanted = subst (GetIsWanted g.J.Judge.judges c.args.get c.next.new.self) c.in-Ask.is c.in_ok-node.ensures.wanted in
-    subst (λ (f : Fetching g.row.J.Denot). FetchIsWanted g.J.Judge.judges (record { judge = f.judge; replicas = f.replicas; entries = f.entries; state = state.Asking c.args.gather c.args.get })
-    (record { judge = i.judge; replicas = i.replicas; entries = i.entries; state = state.Asking c.args.gather c.next.new.self }) (next.Ask c.in-Ask.node c.in-Ask.question)) c.self.view_is
-    (asks_on g.J.Judge.judges i.judge i.replicas i.entries c.args.gather c.args.get c.next.new.self fits c.in-Ask.node c.in-Ask.question wanted)
+pub ask-requires : goal.ask-requires
+ask-requires g c = let f = c.args.self.now in let sound = subst (IsSound f.judge f.replicas) c.in-Asking.is c.requires in sound.1
 
-pub returns-in-Goes : goal.returns-in-Goes
-returns-in-Goes g c =
-    let f = c.args.self.now in
-    let over = subst (GetIsWanted g.J.Judge.judges c.args.get c.next.new.self) c.in-Done.is c.in_ok-node.ensures.wanted in
-    goes_ok g.J.Judge.judges f.judge f.replicas f.entries c.args.gather c.args.get c.requires c.in-Done.came (λ trail. over f.entries trail) c.in-Goes.gather
-    (subst (Takes c.args.gather c.in-Done.came) c.in-Goes.is c.in_ok-gather-in-Done.ensures) c.begin.new.self c.begin.result c.begin.ensures
+pub returns-in-Free : goal.returns-in-Free
+returns-in-Free g c = subst (λ (st : State g.row.J.Denot). IfOk c.begin.result (WantsNext g.J.Judge.judges c.args.self.now st)) (sym c.in-Free.is) c.begin.ensures
 
-pub returns : goal.returns
-returns g c =
+pub returns-in-Asking : goal.returns-in-Asking
+returns-in-Asking g c =
     let f = c.args.self.now in
-    let over = subst (GetIsWanted g.J.Judge.judges c.args.get c.next.new.self) c.in-Done.is c.in_ok-node.ensures.wanted in
-    ends_by g.J.Judge.judges f.judge f.replicas f.entries c.args.gather c.args.get c.requires c.in-Done.came (λ trail. over f.entries trail) c.in-Ends.fetched
-    (subst (Takes c.args.gather c.in-Done.came) c.in-Ends.is c.in_ok-gather-in-Done.ensures)
+    let sound = subst (IsSound f.judge f.replicas) c.in-Asking.is c.requires in
+    subst (λ (st : State g.row.J.Denot). WantsNext g.J.Judge.judges f st c.ask.result) (sym c.in-Asking.is)
+    (subst (λ w. WantsNext g.J.Judge.judges f (state.Asking c.in-Asking.gather c.in-Asking.waiting) w) (sym c.ask.ensures) (wants_again g.J.Judge.judges f.judge f.replicas f.entries c.in-Asking.gather c.in-Asking.waiting sound))
+
+pub returns-in-Ended : goal.returns-in-Ended
+returns-in-Ended g c =
+    let f = c.args.self.now in
+    subst (λ (st : State g.row.J.Denot). WantsNext g.J.Judge.judges f st (state.Over, next.Done c.in-Ended.fetched)) (sym c.in-Ended.is) (wants_told g.J.Judge.judges f.judge f.replicas f.entries c.in-Ended.fetched)

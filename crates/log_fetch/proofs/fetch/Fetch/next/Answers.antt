@@ -1,16 +1,19 @@
-use Rattle.std.proofs.Common.{◌∙◌, sym, ap, subst, IfOk}
+use Rattle.std.proofs.Common.{◌≤◌, ◌∙◌, sym, ap, subst}
 use Rattle.log_fetch.specs.declared.fetch.State.{State}
-use Rattle.log_fetch.specs.Fetching.{Fetching, FetchIsWanted}
+use Rattle.log_fetch.specs.Fetching.{Fetching, FetchIsWanted, IsSound, fetch_left, left_in}
 use Rattle.log_fetch.proofs.fetch.Fetch.next.Goals as goal
 
-pub returns-in-Free : goal.returns-in-Free
-returns-in-Free g c =
-    let i = c.self.inside in
-    subst (λ (f : Fetching g.row.J.Denot). IfOk c.begin.result (FetchIsWanted g.J.Judge.judges f c.begin.new.self))
-    (ap (λ (st : State g.row.J.Denot). record { judge = i.judge; replicas = i.replicas; entries = i.entries; state = st }) (sym c.in-Free.is ∙ c.replace.ensures.value) ∙ c.self.view_is) c.begin.ensures
+pub go_on-requires : goal.go_on-requires
+go_on-requires g c = let i = c.self.inside in subst (IsSound i.judge i.replicas) (sym c.replace-state.ensures.value) c.self.invariant
 
-pub returns-in-Asking : goal.returns-in-Asking
-returns-in-Asking g c =
+pub returns-clause-wanted : goal.returns-clause-wanted
+returns-clause-wanted g c =
     let i = c.self.inside in
-    subst (λ (f : Fetching g.row.J.Denot). IfOk c.go_on.result (FetchIsWanted g.J.Judge.judges f c.go_on.new.self))
-    (ap (λ (st : State g.row.J.Denot). record { judge = i.judge; replicas = i.replicas; entries = i.entries; state = st }) (sym c.in-Asking.is ∙ c.replace.ensures.value) ∙ c.self.view_is) c.go_on.ensures
+    subst (λ (f : Fetching g.row.J.Denot). FetchIsWanted g.J.Judge.judges f (record { judge = i.judge; replicas = i.replicas; entries = i.entries; state = c.in_ok-state.state }) c.in_ok-state.want)
+    (ap (λ (st : State g.row.J.Denot). record { judge = i.judge; replicas = i.replicas; entries = i.entries; state = st }) c.replace-state.ensures.value ∙ c.self.view_is) c.in_ok-state.ensures.0
+
+pub returns-clause-left : goal.returns-clause-left
+returns-clause-left g c =
+    let i = c.self.inside in
+    subst (λ (f : Fetching g.row.J.Denot). left_in c.in_ok-state.state ≤ fetch_left f)
+    (ap (λ (st : State g.row.J.Denot). record { judge = i.judge; replicas = i.replicas; entries = i.entries; state = st }) c.replace-state.ensures.value ∙ c.self.view_is) c.in_ok-state.ensures.2

@@ -1,5 +1,5 @@
-use Rattle.std.proofs.Common.{◌≡◌, length}
-use Rattle.log_walks.specs.Trying.{GoesOnWith}
+use Rattle.std.proofs.Common.{◌≡◌, ◌⊎◌, ◌<◌, ◌≤◌, length}
+use Rattle.log_walks.specs.Trying.{GoesOnWith, trial_left}
 use Rattle.log_walks.proofs.trial.Trial.settle.Given as goal
 
 -- the heads went on as far as this one, and nothing was taken
@@ -8,6 +8,8 @@ invariant-walks l = record {
   batch : l.batch ≡ l.fn.batch;
   owner : l.trial.walk.owner ≡ l.fn.self.walk.owner;
   goes_on : GoesOnWith l.view l.edge l.fn.self l.fn.batch l.trial;
+  left : trial_left l.trial ≤ trial_left l.fn.self;
+  fewer : (l.trial ≡ l.fn.self) ⊎ (length l.trial.rest < length l.fn.self.rest);
 }
 
 abbrev pub decreases-walks : goal.decreases-walks

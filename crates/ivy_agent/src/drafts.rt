@@ -1,0 +1,161 @@
+//! What is to be saved once records are written.
+
+ghost use Rattle.std.specs.Prelude.{◌≡◌, ◌≢◌, ◌≤◌, ◌+◌, List, length, map, IfOk, OnOk, OnErr};
+ghost use Rattle.ivy_base.specs.Naming.{head_key_of};
+ghost use Rattle.log_model.specs.Record.{Record as Seen};
+ghost use Rattle.log_model.specs.Spelling.{most_records};
+ghost use Rattle.log_model.specs.Vector.{seq_of};
+ghost use Rattle.log_records.specs.Records.{records_of};
+ghost use Rattle.turn_answers.specs.Newest.{stamp_of};
+ghost use Rattle.agent_model.specs.Agent.{head_post, own_key, record_post};
+ghost use Rattle.ivy_agent.specs.Holders.{signing};
+ghost use Rattle.agent_model.specs.SavedBytes.{kept_bytes};
+ghost use Rattle.ivy_agent.specs.Saves.{HasSaved, IsWholeAfter, saved_of};
+ghost use Rattle.ivy_agent.specs.Drafts.{IsDraft, IsSigned, kept_with};
+
+use crate::posting::posts_with;
+use crate::saving::{Kept, SaveFault, save};
+use dht_ids::{Post, PostKind, Posts};
+use hss_keys::Signs;
+use ivy_base::{Key, Memory, Moment, Op};
+use ivy_io::Keeper;
+use log_heads::seal;
+use log_records::Record;
+use std::alloc::Global;
+use std::mem::replace;
+use turn_answers::{Before, front_with, newest_of, write_over};
+use version_vectors::Vector;
+
+/// What takes the place of what is kept.
+#[derive(Drop)]
+pub struct Next<S> {
+    /// The key, which has signed a head over the last record.
+    pub signer: S,
+    /// The floor, with all that is held then.
+    pub floor: Vector,
+    /// The blocks that are still to be published.
+    pub pending: Posts,
+}
+
+/// Records that are to be written, and what is kept and held with them.
+#[derive(Drop)]
+pub struct Draft<S> {
+    /// The records.
+    pub records: Vec<Record>,
+    /// What is kept with them.
+    pub next: Next<S>,
+    /// The front of all that is held with them.
+    pub front: Vector,
+}
+
+/// The records of the operations over the front, and what is kept and held with them. The error is want of memory; it also
+/// comes where there is no operation, or a block is too long to be counted.
+pub fn make_draft<S: Signs + Drop>(
+    alloc: Global,
+    kept: &Kept<S>,
+    front: &Vector,
+    now: Moment,
+    ops: Vec<Op>,
+) -> Result<Draft<S>, Memory>
+    requires log { kept.now.log ≡ head_key_of (own_key (signing S.key S.remaining S.signature S.next S.saved) kept.now.signer) }
+    requires few { seq_of front.now kept.now.log + length ops.items ≤ most_records }
+    requires is_left { S.remaining kept.now.signer ≢ 0 }
+    ensures { IfOk result (IsDraft (signing S.key S.remaining S.signature S.next S.saved) kept.now front.now now ops.items) }
+{
+    let own = kept.signer.owner();
+    let written = write_over(alloc, &own, front, now, ops)?;
+    let newest = newest_of(written.records.as_slice(), written.posts.as_slice());
+    let front = front_with(alloc, front, &own, newest)?;
+    let Some(newest) = newest else {
+        return Err(Memory);
+    };
+    let (signer, pending) = sign(alloc, kept, written.posts, newest)?;
+    Ok(Draft {
+        records: written.records,
+        next: Next {
+            signer,
+            floor: kept.floor.join(alloc, &front)?,
+            pending,
+        },
+        front,
+    })
+}
+
+/// The key that has signed a head over the newest record, and what is to be published then: these posts of the written records
+/// and the head with what was. The error is want of memory; it also comes where a block is too long to be counted.
+fn sign<S: Signs + Drop>(
+    alloc: Global,
+    kept: &Kept<S>,
+    posts: Vec<Post>,
+    newest: Before,
+) -> Result<(S, Posts), Memory>
+    requires log { kept.now.log ≡ head_key_of (own_key (signing S.key S.remaining S.signature S.next S.saved) kept.now.signer) }
+    requires is_left { S.remaining kept.now.signer ≢ 0 }
+    requires some { 1 ≤ newest.seq }
+    requires few { newest.seq ≤ most_records }
+    ensures { IfOk result (λ signed. (written : List Seen) → posts.items ≡ map record_post written → IsSigned (signing S.key S.remaining S.signature S.next S.saved) kept.now written (stamp_of newest) signed.0 signed.1) }
+{
+    let mut signer = kept.signer.copy(alloc)?;
+    let head = head_over(alloc, &mut signer, kept.log, newest)?;
+    let pending = posts_with(alloc, &kept.pending, posts, head)?;
+    Ok((signer, pending))
+}
+
+/// The post of the head of that log over its newest record, which the key signs. The error is want of memory.
+fn head_over<S: Signs>(
+    alloc: Global,
+    signer: &mut S,
+    log: Key,
+    newest: Before,
+) -> Result<Post, Memory>
+    requires log { log ≡ head_key_of (own_key (signing S.key S.remaining S.signature S.next S.saved) signer.old) }
+    requires is_left { S.remaining signer.old ≢ 0 }
+    requires some { 1 ≤ newest.seq }
+    requires few { newest.seq ≤ most_records }
+    ensures post { IfOk result (λ post. post ≡ head_post (signing S.key S.remaining S.signature S.next S.saved) signer.old (stamp_of newest)) }
+    ensures next { OnOk result (signer.new ≡ S.next signer.old) }
+    ensures key { S.key signer.new ≡ S.key signer.old }
+{
+    match seal(alloc, signer, newest.seq, newest.name) {
+        Ok(head) => Ok(Post {
+            key: log,
+            bytes: head.write(alloc)?,
+            kind: PostKind::Head,
+        }),
+        Err(_) => Err(Memory),
+    }
+}
+
+/// Has the keeper save what is kept with what is next. After an error what is kept is what it was.
+pub fn save_next<K: Keeper, S: Signs + Drop>(
+    alloc: Global,
+    keeper: &mut K,
+    kept: &mut Kept<S>,
+    next: Next<S>,
+) -> Result<(), SaveFault>
+    requires log { kept.old.log ≡ head_key_of (own_key (signing S.key S.remaining S.signature S.next S.saved) kept.old.signer) }
+    requires key { S.key next.signer ≡ S.key kept.old.signer }
+    ensures saved { HasSaved K.saves keeper.old (kept_bytes (signing S.key S.remaining S.signature S.next S.saved) (saved_of (kept_with kept.old next))) result keeper.new }
+    ensures whole { IsWholeAfter (S.is_whole next.signer) result }
+    ensures ok { OnOk result (kept.new ≡ kept_with kept.old next) }
+    ensures err { OnErr result (kept.new ≡ kept.old) }
+{
+    let before = put(kept, next);
+    let saved = save(alloc, keeper, kept);
+    if saved.is_err() {
+        let _ = put(kept, before);
+    }
+    saved
+}
+
+/// Puts what is next in place of what was, and gives that back.
+fn put<S>(kept: &mut Kept<S>, next: Next<S>) -> Next<S>
+    ensures kept { kept.new ≡ kept_with kept.old next }
+    ensures before { result ≡ record { signer = kept.old.signer; floor = kept.old.floor; pending = kept.old.pending } }
+{
+    Next {
+        signer: replace(&mut kept.signer, next.signer),
+        floor: replace(&mut kept.floor, next.floor),
+        pending: replace(&mut kept.pending, next.pending),
+    }
+}

@@ -1,0 +1,311 @@
+//! Writing what a call plans: the records are held and saved, or nothing is written.
+
+ghost use Rattle.std.specs.Prelude.{◌≡◌, ◌≢◌, ◌≤◌, ◌+◌, [], length, IfOk, OnOk, OnErr, IfSome, IsSomeAnd};
+ghost use Rattle.ivy_base.specs.Naming.{head_key_of};
+ghost use Rattle.log_fetch.specs.Standings.{asked_of};
+ghost use Rattle.log_model.specs.Spelling.{most_records};
+ghost use Rattle.log_model.specs.Vector.{join, seq_of};
+ghost use Rattle.log_records.specs.Records.{records_of};
+ghost use Rattle.nfs_model.specs.declared.replies.NfsStatus.TheVariants.{ServerFault};
+ghost use Rattle.nfs_model.specs.declared.replies.Reply.TheVariants.{Refused};
+ghost use Rattle.nfs_model.specs.Changing.{finish};
+ghost use Rattle.nfs_model.specs.Results.{result as bytes_of};
+ghost use Rattle.turn_model.specs.Basis.{kept_tree};
+ghost use Rattle.turn_model.specs.Turn.{bare_tail};
+ghost use Rattle.turn_answers.specs.Appended.{written_over};
+ghost use Rattle.replay_engine.specs.Engines.{holding, undone};
+ghost use Rattle.agent_model.specs.Agent.{joined, own_key};
+ghost use Rattle.agent_model.specs.SavedBytes.{kept_bytes};
+ghost use Rattle.ivy_agent.specs.Holders.{signing};
+ghost use Rattle.record_sets.specs.Rows.{IsRow};
+ghost use Rattle.replay_engine.specs.Places.{AreBehind};
+ghost use Rattle.ivy_agent.specs.Saves.{saved_of, HasSaved, IsWholeAfter};
+ghost use Rattle.ivy_agent.specs.Drafts.{IsDraft, kept_with};
+ghost use Rattle.ivy_agent.specs.Outcomes.{Gives, kept_to};
+ghost use Rattle.ivy_agent.specs.Writing.{HasWritten, StandsAs, WritesDraft, lost_reply};
+
+use crate::answering::give;
+use crate::drafts::{Draft, Next, make_draft, save_next};
+use crate::saving::{Kept, SaveFault};
+use dht_ids::Posts;
+use hss_keys::Signs;
+use ivy_base::{Memory, Moment, Op, Steps};
+use ivy_io::Keeper;
+use log_fetch::{Asked, Turned};
+use nfs_model::{Args, NfsStatus, Reply};
+use nfs3_writes::{Ops, finish};
+use replay_engine::Engine;
+use std::alloc::Global;
+use std::sync::ledger::Ledger;
+use turn_answers::bare_tail;
+use version_vectors::Vector;
+
+/// What a turn comes to.
+#[derive(Drop)]
+pub struct Done {
+    /// What it gives.
+    pub turned: Turned,
+    /// The front of all that is held.
+    pub front: Vector,
+    /// Whether the keeper has failed.
+    pub has_failed: bool,
+}
+
+/// What stands where the save fails.
+#[derive(Drop)]
+pub struct Lost {
+    /// What is given.
+    pub turned: Turned,
+    /// The floor.
+    pub floor: Vector,
+}
+
+/// What stands where the save fails: the call is answered with `ServerFault`, and what is held goes into the floor. The error
+/// is want of memory.
+fn lose<S: Signs>(
+    alloc: Global,
+    kept: &Kept<S>,
+    front: &Vector,
+    args: &Args,
+    applied: u64,
+) -> Result<Lost, Memory>
+    ensures bytes { IfOk result (λ lost. lost.turned.reply ≡ bytes_of (Refused ServerFault (bare_tail args.now))) }
+    ensures posts { IfOk result (λ lost. lost.turned.posts ≡ kept.now.pending) }
+    ensures front { IfOk result (λ lost. lost.turned.front ≡ front.now) }
+    ensures count { IfOk result (λ lost. lost.turned.applied ≡ applied) }
+    ensures floor { IfOk result (λ lost. lost.floor ≡ join kept.now.floor front.now) }
+{
+    let reply = Reply::Refused {
+        status: NfsStatus::ServerFault,
+        tail: bare_tail(args),
+    };
+    Ok(Lost {
+        turned: give(alloc, &reply, &kept.pending, front, applied)?,
+        floor: kept.floor.join(alloc, front)?,
+    })
+}
+
+/// What is given where the last call of the engine took in the records of these operations. The error is want of memory.
+fn show<S: Signs>(
+    alloc: Global,
+    kept: &Kept<S>,
+    engine: &Engine,
+    asked: &Asked,
+    ops: &Ops,
+    posts: &Posts,
+    front: &Vector,
+    applied: u64,
+) -> Result<Turned, Memory>
+    requires view { IsSomeAnd kept.now.view (λ view. Unit {0}) }
+    requires some { engine.now.before ≢ [] }
+    ensures bytes { IfOk result (λ t. IfSome kept.now.view (λ view. t.reply ≡ bytes_of (finish (kept_tree (holding (undone engine.now))) (kept_tree (holding engine.now)) view (asked_of asked.now).caller asked.now.args ops.now))) }
+    ensures posts { IfOk result (λ t. t.posts ≡ posts.now) }
+    ensures front { IfOk result (λ t. t.front ≡ front.now) }
+    ensures count { IfOk result (λ t. t.applied ≡ applied) }
+{
+    let Some(view) = &kept.view else {
+        unreachable!();
+    };
+    let reply = finish(
+        alloc,
+        engine.tree_before(),
+        engine.tree(),
+        view,
+        &asked.caller,
+        &asked.args,
+        ops.as_slice(),
+    )?;
+    give(alloc, &reply, posts, front, applied)
+}
+
+/// Has the keeper save what is next, where the last call of the engine took in the records of these operations, and gives what
+/// a turn gives then. After an error what is kept is what it was.
+fn conclude<K: Keeper, S: Signs + Drop>(
+    alloc: Global,
+    keeper: &mut K,
+    kept: &mut Kept<S>,
+    engine: &Engine,
+    asked: &Asked,
+    ops: &Ops,
+    next: Next<S>,
+    front: &Vector,
+    applied: u64,
+) -> Result<Turned, SaveFault>
+    requires log { kept.old.log ≡ head_key_of (own_key (signing S.key S.remaining S.signature S.next S.saved) kept.old.signer) }
+    requires key { S.key next.signer ≡ S.key kept.old.signer }
+    requires view { IsSomeAnd kept.old.view (λ view. Unit {0}) }
+    requires some { engine.now.before ≢ [] }
+    ensures saved { HasSaved K.saves keeper.old (kept_bytes (signing S.key S.remaining S.signature S.next S.saved) (saved_of (kept_with kept.old next))) result keeper.new }
+    ensures whole { IsWholeAfter (S.is_whole next.signer) result }
+    ensures count { IfOk result (λ t. t.applied ≡ applied) }
+    ensures ok { OnOk result (kept.new ≡ kept_with kept.old next) }
+    ensures err { OnErr result (kept.new ≡ kept.old) }
+    ensures given { IfOk result (λ t. IfSome kept.old.view (λ view. Gives (finish (kept_tree (holding (undone engine.now))) (kept_tree (holding engine.now)) view (asked_of asked.now).caller asked.now.args ops.now) (kept_with kept.old next) front.now applied t)) }
+{
+    let Ok(turned) = show(
+        alloc,
+        kept,
+        engine,
+        asked,
+        ops,
+        &next.pending,
+        front,
+        applied,
+    ) else {
+        return Err(SaveFault::Memory);
+    };
+    match save_next(alloc, keeper, kept, next) {
+        Ok(()) => Ok(turned),
+        Err(fault) => Err(fault),
+    }
+}
+
+/// Takes the draft's records into the engine, and has the keeper save what is kept with them; where that fails, the engine is
+/// taken back, and what stands then is put in place. The error is want of memory, and then the engine holds what it did, and
+/// all else is as it was.
+fn commit<K: Keeper, S: Signs + Drop, L: Ledger>(
+    alloc: Global,
+    keeper: &mut K,
+    kept: &mut Kept<S>,
+    engine: &mut Engine,
+    front: Vector,
+    asked: &Asked,
+    ops: &Ops,
+    draft: Draft<S>,
+    lost: Lost,
+    applied: u64,
+    steps: &mut Steps<L>,
+) -> Result<Done, Memory>
+    requires log { kept.old.log ≡ head_key_of (own_key (signing S.key S.remaining S.signature S.next S.saved) kept.old.signer) }
+    requires key { S.key draft.next.signer ≡ S.key kept.old.signer }
+    requires view { IsSomeAnd kept.old.view (λ view. Unit {0}) }
+    requires some { engine.old.before ≢ [] }
+    requires held { IsRow engine.old.held }
+    requires row { IsRow (records_of draft.records.items) }
+    requires behind { AreBehind engine.old.held (records_of draft.records.items) }
+    requires floor { lost.floor ≡ join kept.old.floor front }
+    requires given { Gives (lost_reply (asked_of asked.now)) (kept_to kept.old front) front applied lost.turned }
+    ensures done { IfOk result (λ done. IfSome kept.old.view (λ view. HasWritten (signing S.key S.remaining S.signature S.next S.saved) S.is_whole K.saves view (asked_of asked.now) ops.now kept.old (holding engine.old) front keeper.old applied draft kept.new (holding engine.new) keeper.new done)) }
+    ensures kept { OnErr result (kept.new ≡ kept.old) }
+    ensures keeper { OnErr result (keeper.new ≡ keeper.old) }
+    ensures engine { OnErr result (StandsAs engine.old engine.new) }
+    ensures count { IfOk result (λ done. done.turned.applied ≡ applied) }
+    ensures steps { OnOk result (steps.new ≡ steps.old + length draft.records.items) }
+{
+    engine.append(alloc, draft.records, steps)?;
+    match conclude(
+        alloc,
+        keeper,
+        kept,
+        engine,
+        asked,
+        ops,
+        draft.next,
+        &draft.front,
+        applied,
+    ) {
+        Ok(turned) => Ok(Done {
+            turned,
+            front: draft.front,
+            has_failed: false,
+        }),
+        Err(SaveFault::Keeper) => {
+            engine.undo();
+            kept.floor = lost.floor;
+            Ok(Done {
+                turned: lost.turned,
+                front,
+                has_failed: true,
+            })
+        }
+        Err(SaveFault::Memory) => {
+            engine.undo();
+            Err(Memory)
+        }
+    }
+}
+
+/// What is to be written for a call, and what stands where its save fails.
+#[derive(Drop)]
+struct Prepared<S> {
+    draft: Draft<S>,
+    lost: Lost,
+    /// How many records were applied, with those that are to be written.
+    applied: u64,
+}
+
+/// Drafts the records of the operations, and what stands where their save fails. The error is want of memory, or that of
+/// [`make_draft`].
+fn prepare<S: Signs + Drop>(
+    alloc: Global,
+    kept: &Kept<S>,
+    front: &Vector,
+    asked: &Asked,
+    now: Moment,
+    ops: &Ops,
+    applied: u64,
+) -> Result<Prepared<S>, Memory>
+    requires log { kept.now.log ≡ head_key_of (own_key (signing S.key S.remaining S.signature S.next S.saved) kept.now.signer) }
+    requires few { seq_of front.now kept.now.log + length ops.now ≤ most_records }
+    requires is_left { S.remaining kept.now.signer ≢ 0 }
+    ensures draft { IfOk result (λ p. IsDraft (signing S.key S.remaining S.signature S.next S.saved) kept.now front.now now ops.now p.draft) }
+    ensures floor { IfOk result (λ p. p.lost.floor ≡ join kept.now.floor front.now) }
+    ensures given { IfOk result (λ p. Gives (lost_reply (asked_of asked.now)) (kept_to kept.now front.now) front.now p.applied p.lost.turned) }
+    ensures count { IfOk result (λ p. p.applied ≡ applied + length p.draft.records.items) }
+{
+    let ops = ops.copy(alloc)?.into_vec();
+    let draft = make_draft(alloc, kept, front, now, ops)?;
+    let Some(applied) = applied.checked_add(draft.records.len() as u64) else {
+        return Err(Memory);
+    };
+    Ok(Prepared {
+        lost: lose(alloc, kept, front, &asked.args, applied)?,
+        draft,
+        applied,
+    })
+}
+
+/// Writes the operations over the front of what is held: their records are held, and what is kept with them is saved; or the
+/// save fails, and then nothing is written. The error is want of memory, or that of [`make_draft`], and then the engine holds
+/// what it did, and all else is as it was.
+pub fn write<K: Keeper, S: Signs + Drop, L: Ledger>(
+    alloc: Global,
+    keeper: &mut K,
+    kept: &mut Kept<S>,
+    engine: &mut Engine,
+    front: Vector,
+    asked: &Asked,
+    now: Moment,
+    ops: &Ops,
+    applied: u64,
+    steps: &mut Steps<L>,
+) -> Result<Done, Memory>
+    requires log { kept.old.log ≡ head_key_of (own_key (signing S.key S.remaining S.signature S.next S.saved) kept.old.signer) }
+    requires few { seq_of front kept.old.log + length ops.now ≤ most_records }
+    requires is_left { S.remaining kept.old.signer ≢ 0 }
+    requires view { IsSomeAnd kept.old.view (λ view. Unit {0}) }
+    requires some { engine.old.before ≢ [] }
+    requires held { IsRow engine.old.held }
+    requires row { IsRow (written_over (own_key (signing S.key S.remaining S.signature S.next S.saved) kept.old.signer) now front ops.now) }
+    requires behind { AreBehind engine.old.held (written_over (own_key (signing S.key S.remaining S.signature S.next S.saved) kept.old.signer) now front ops.now) }
+    ensures done { IfOk result (λ done. IfSome kept.old.view (λ view. WritesDraft (signing S.key S.remaining S.signature S.next S.saved) S.is_whole K.saves view (asked_of asked.now) now ops.now kept.old (holding engine.old) front keeper.old applied kept.new (holding engine.new) keeper.new done)) }
+    ensures kept { OnErr result (kept.new ≡ kept.old) }
+    ensures keeper { OnErr result (keeper.new ≡ keeper.old) }
+    ensures engine { OnErr result (StandsAs engine.old engine.new) }
+    ensures steps { IfOk result (λ done. steps.new + applied ≡ steps.old + done.turned.applied) }
+{
+    let prepared = prepare(alloc, kept, &front, asked, now, ops, applied)?;
+    commit(
+        alloc,
+        keeper,
+        kept,
+        engine,
+        front,
+        asked,
+        ops,
+        prepared.draft,
+        prepared.lost,
+        prepared.applied,
+        steps,
+    )
+}

@@ -1,0 +1,31 @@
+//! What comes of an agent's turn.
+
+use crate::standing::Standing;
+use dht_ids::Posts;
+use ivy_base::Bytes;
+use version_vectors::Vector;
+
+/// What a turn gives.
+#[derive(Drop)]
+pub struct Turned {
+    /// The result's bytes, from its status on.
+    pub reply: Bytes,
+    /// The blocks that are still to be published.
+    pub posts: Posts,
+    /// The front of all that is held.
+    pub front: Vector,
+    /// How many records were applied.
+    pub applied: u64,
+}
+
+/// Why a turn answered nothing. What begins anew has the agent's standing then, without a snapshot.
+#[derive(Drop)]
+pub enum TurnFault {
+    /// The refresh began with more than is held by now, or the record of a member's log that the floor names is neither held
+    /// nor new.
+    Behind(Standing),
+    /// A new record isn't above the basis. Nothing is held any more.
+    BelowTide(Standing),
+    /// Want of memory. No clause ties this to a cause.
+    Memory,
+}
