@@ -57,6 +57,14 @@ impl BlockCache {
         Some(block.as_slice())
     }
 
+    /// The bytes of the block of that name, where it is held. What was used most recently stays so.
+    pub fn peek(&self, key: &Key) -> Option<&[u8]>
+        ensures { option_copied result ≡ block_of key.now self.now }
+    {
+        let block = self.blocks.peek(&key.0)?;
+        Some(block.as_slice())
+    }
+
     /// Keeps a block under its name, as the most recently used. Where 256 others are held, the least recently used one
     /// goes. False is want of memory, and then nothing has changed.
     pub fn keep(&mut self, key: Key, bytes: Bytes) -> bool

@@ -21,7 +21,7 @@ use Rattle.session_model.specs.Refreshing.LoadsFor.{none as nothing_to_load, som
 use Rattle.session_model.specs.Refreshing.Refreshes.{loading, fetching}
 use Rattle.session_model.specs.Walks.{Gives, GivesNone, Lacks, LogEnd, Stops}
 use Rattle.session_laws.specs.Bringing.{AreMet}
-use Rattle.session_laws.specs.Once.{RefreshIsOne}
+use Rattle.session_laws.specs.Once.{FetchIsOne, RefreshIsOne}
 use Rattle.session_laws.proofs.OneCourse.{TriesHere, came_or_not, fetch_one, nothing_more, same_block, same_first, same_rest}
 
 -- ---- all members
@@ -64,6 +64,9 @@ module _ (s : Standing) (start : Vector) where
         ap (λ (x : LogEnd). chains_of owner x ++ cs) w.1 ∙ ap (λ (x : List Chain). chains_of owner stand ++ x) more.1,
         more.2,
       )
+
+pub fetch_is_one : FetchIsOne
+fetch_is_one s start owners brought notes others chains also end stand fetches again = all_one s start fetches again refl
 
 -- ---- the snapshot
 

@@ -23,7 +23,7 @@
 ghost use Rattle.session_laws.specs.Bringing.{FetchedIsBrought, FloorIsBrought, RefreshedIsBrought, FloorIsReached, DoneIsNotBehind};
 ghost use Rattle.session_laws.specs.Going.{FailsByTheLast, RefreshBegins, RefreshGoesOn};
 ghost use Rattle.session_laws.specs.Loading.{LoadedIsMade, BasisIsKnown};
-ghost use Rattle.session_laws.specs.Once.{RefreshIsOne};
+ghost use Rattle.session_laws.specs.Once.{FetchIsOne, RefreshIsOne};
 ghost use Rattle.session_laws.specs.Starting.{StartIsKnown, StartIsSorted};
 
 /// A law and no code.
@@ -66,9 +66,10 @@ pub fn loaded_is_made()
 /// A law and no code.
 ///
 /// Where names tell the blocks apart, what a refresh was brought tells what it notes, what it gives and how it stands; so one
-/// that is done wants nothing more.
+/// that is done wants nothing more. Where no snapshot is loaded that is so whatever names tell.
 pub fn refreshes_are_one()
-    ensures { RefreshIsOne }
+    ensures refresh { RefreshIsOne }
+    ensures fetch { FetchIsOne }
 {}
 
 /// A law and no code.
