@@ -77,18 +77,23 @@ tried_of floor (h ∷ heads) = by (tried_of floor heads) (cases_lt floor h.seq)
   where
     by : (tried : List Stamp) × AreTried floor heads tried → (floor < h.seq) ⊎ (h.seq ≤ floor) → (tried : List Stamp) × AreTried floor (h ∷ heads) tried
     by rest (inl far) =
-        let p : Placed h rest.0 = placed h rest.0 rest.1.order in
-        (p.tried, record {
-          each = λ t. (
-            λ c. ⊎_elim (λ is. (subst (Contains (h ∷ heads)) is (here h heads), subst (λ (x : Stamp). floor < x.seq) is far)) (λ old. let w = (rest.1.each t).0 old in (there h heads t w.0, w.1)) ((p.has t).0 c),
-            λ w. ⊎_elim (λ is. (p.has t).1 (inl is)) (λ old. (p.has t).1 (inr ((rest.1.each t).1 (old, w.1)))) (in_cons h heads t w.0),
-          );
-          order = p.order;
-        })
-    by rest (inr near) = (rest.0, record {
-      each = λ t. (
-        λ c. let w = (rest.1.each t).0 c in (there h heads t w.0, w.1),
-        λ w. ⊎_elim (λ is. absurd (let far = subst (λ (x : Stamp). floor < x.seq) (sym is) w.1 in omega (arith, near, far))) (λ old. (rest.1.each t).1 (old, w.1)) (in_cons h heads t w.0),
-      );
-      order = rest.1.order;
-    })
+        let p : Placed h rest.0 = placed h rest.0 rest.1.order in (
+          p.tried,
+          record {
+            each = λ t. (
+              λ c. ⊎_elim (λ is. (subst (Contains (h ∷ heads)) is (here h heads), subst (λ (x : Stamp). floor < x.seq) is far)) (λ old. let w = (rest.1.each t).0 old in (there h heads t w.0, w.1)) ((p.has t).0 c),
+              λ w. ⊎_elim (λ is. (p.has t).1 (inl is)) (λ old. (p.has t).1 (inr ((rest.1.each t).1 (old, w.1)))) (in_cons h heads t w.0),
+            );
+            order = p.order;
+          },
+        )
+    by rest (inr near) = (
+      rest.0,
+      record {
+        each = λ t. (
+          λ c. let w = (rest.1.each t).0 c in (there h heads t w.0, w.1),
+          λ w. ⊎_elim (λ is. absurd (let far = subst (λ (x : Stamp). floor < x.seq) (sym is) w.1 in omega (arith, near, far))) (λ old. (rest.1.each t).1 (old, w.1)) (in_cons h heads t w.0),
+        );
+        order = rest.1.order;
+      },
+    )

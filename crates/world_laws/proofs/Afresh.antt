@@ -271,18 +271,18 @@ module _ (w : Played) (keeps : Keeps w) (p : Participant) (is_p : participant w.
         (λ o o_in other. subst (λ k. IsSoundIn met o k o.agent.view) (sym (told_of o other)) (more_sound w.0.met met grows o (unchanged o) (knowing_of w.1 o.name) o.agent.view (each (λ (x : Participant). IsSoundIn w.0.met x (knowing_of w.1 x.name) x.agent.view) w.0.participants o old.agents o_in)));
     keepers = all_put (IsKeptSo (λ o k. IsSoundKeptIn met o (knowing_of su o.name) k k.view)) (let so = fit.keeper apart in (so.0, so.1, so.2, subst (λ l. IsSoundKeptIn met q l so.0 so.0.view) (sym told_of_q) so.3))
         (λ o o_in other.
-            let so : IsKeptSo (λ x k. IsSoundKeptIn w.0.met x (knowing_of w.1 x.name) k k.view) o = each (IsKeptSo (λ x k. IsSoundKeptIn w.0.met x (knowing_of w.1 x.name) k k.view)) w.0.participants o old.keepers o_in in
-            (so.0, so.1, so.2, subst (λ l. IsSoundKeptIn met o l so.0 so.0.view) (sym (told_of o other)) (more_kept_in w.0.met met grows o (unchanged o) (knowing_of w.1 o.name) so.0 so.0.view so.3)));
+        let so : IsKeptSo (λ x k. IsSoundKeptIn w.0.met x (knowing_of w.1 x.name) k k.view) o = each (IsKeptSo (λ x k. IsSoundKeptIn w.0.met x (knowing_of w.1 x.name) k k.view)) w.0.participants o old.keepers o_in in
+        (so.0, so.1, so.2, subst (λ l. IsSoundKeptIn met o l so.0 so.0.view) (sym (told_of o other)) (more_kept_in w.0.met met grows o (unchanged o) (knowing_of w.1 o.name) so.0 so.0.view so.3)));
     to_load = all_put (λ o. IfSome o.agent.view (λ view. IfSome o.agent.to_load (λ root. (o.agent.holding ≡ nothing_held) × IsSnapshotOf met view (known_of su o.name) root)))
         (subst (λ (k : Knowing). IfSome q.agent.view (λ view. IfSome q.agent.to_load (λ root. (q.agent.holding ≡ nothing_held) × IsSnapshotOf met view k.known root))) (sym told_of_q) (fit.to_load apart))
         (λ o o_in other. subst (λ (k : Knowing). IfSome o.agent.view (λ view. IfSome o.agent.to_load (λ root. (o.agent.holding ≡ nothing_held) × IsSnapshotOf met view k.known root))) (sym (told_of o other))
-            (more_to_load w.0.met met grows o (known_of w.1 o.name) o.agent.view
-            (each (λ (x : Participant). IfSome x.agent.view (λ view. IfSome x.agent.to_load (λ root. (x.agent.holding ≡ nothing_held) × IsSnapshotOf w.0.met view (known_of w.1 x.name) root))) w.0.participants o old.to_load o_in)));
+        (more_to_load w.0.met met grows o (known_of w.1 o.name) o.agent.view
+        (each (λ (x : Participant). IfSome x.agent.view (λ view. IfSome x.agent.to_load (λ root. (x.agent.holding ≡ nothing_held) × IsSnapshotOf w.0.met view (known_of w.1 x.name) root))) w.0.participants o old.to_load o_in)));
     snapshots = all_put (λ o. IfSome o.agent.view (λ view. IfSome o.agent.snapshot (IsSnapshotOf met view (known_of su o.name))))
         (subst (λ (k : Knowing). IfSome q.agent.view (λ view. IfSome q.agent.snapshot (IsSnapshotOf met view k.known))) (sym told_of_q) (fit.snapshots apart))
         (λ o o_in other. subst (λ (k : Knowing). IfSome o.agent.view (λ view. IfSome o.agent.snapshot (IsSnapshotOf met view k.known))) (sym (told_of o other))
-            (more_snapshots w.0.met met grows o (known_of w.1 o.name) o.agent.view
-            (each (λ (x : Participant). IfSome x.agent.view (λ view. IfSome x.agent.snapshot (IsSnapshotOf w.0.met view (known_of w.1 x.name)))) w.0.participants o old.snapshots o_in)));
+        (more_snapshots w.0.met met grows o (known_of w.1 o.name) o.agent.view
+        (each (λ (x : Participant). IfSome x.agent.view (λ view. IfSome x.agent.snapshot (IsSnapshotOf w.0.met view (known_of w.1 x.name)))) w.0.participants o old.snapshots o_in)));
     sessions = each_left (λ s. IsSoundSession v su s.session (began_of su s.name)) (λ s before s_in other.
         let g : IsSoundSession w.0 w.1 s.session (began_of w.1 s.name) = each (λ (t : NamedSession). IsSoundSession w.0 w.1 t.session (began_of w.1 t.name)) w.0.sessions s old.sessions before in
         subst (IsSoundSession v su s.session) (sym (began_then s s_in))

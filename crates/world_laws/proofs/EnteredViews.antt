@@ -125,7 +125,7 @@ module _ (old view : View) (floor : Vector) (known : List Record) (takes : Takes
   in_floor r c e e_in =
       let good : IsGood old r.owner r = good_of old known r closed c in
       let far : e.1.seq ≤ seq_of floor e.0 = each (λ (x : Entry). x.1.seq ≤ seq_of floor x.0) r.vector e
-          (has_sorted floor r.vector good.spelled.in_order (Dominates-trans floor (front known) r.vector covers (Dominates-trans (front known) (full_vector r) r.vector (front_dominates known r c) (Dominates-with_entry r.vector (own_entry r))))) e_in in
+      (has_sorted floor r.vector good.spelled.in_order (Dominates-trans floor (front known) r.vector covers (Dominates-trans (front known) (full_vector r) r.vector (front_dominates known r c) (Dominates-with_entry r.vector (own_entry r))))) e_in in
       let some = (each _ r.vector e good.spelled.entries e_in).1 in
       ⊎_elim
       (λ none. let zero : seq_of floor e.0 ≡ 0 = ap reach none in absurd (omega (arith, zero, far, some)))

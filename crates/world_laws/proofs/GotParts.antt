@@ -132,8 +132,9 @@ module _ (w : World) where
   -- the cache that keeps it
   pub keeping_met : (r : ℕ) (b : Brought) (cache : Cache) → ((key : Key) (bytes : List ℕ) → b ≡ BlockOf key (Ok bytes) → IsMetBlock w.met key bytes) → IsMetCache w.met cache → IsMetCache w.met (keeping hss_judged r b cache)
   keeping_met r (BlockOf key (Ok bytes)) cache blocks h =
-      let is_met = blocks key bytes refl in
-      (kept_valid key bytes cache (sym is_met.0) h.0,
-      each_taken (λ (e : Key × List ℕ). Contains w.met e.1) 256 ((key, bytes) ∷ others key cache) (is_met.1, filter_gives (λ e. not (same_cached key e.0)) (λ e. Contains w.met e.1) cache (all_weaker _ _ cache (λ e m pass. m) h.1)))
+      let is_met = blocks key bytes refl in (
+        kept_valid key bytes cache (sym is_met.0) h.0,
+        each_taken (λ (e : Key × List ℕ). Contains w.met e.1) 256 ((key, bytes) ∷ others key cache) (is_met.1, filter_gives (λ e. not (same_cached key e.0)) (λ e. Contains w.met e.1) cache (all_weaker _ _ cache (λ e m pass. m) h.1)),
+      )
   keeping_met r (BlockOf key (Err miss)) cache blocks h = h
   keeping_met r (HeadsOf owner came) cache blocks h = h

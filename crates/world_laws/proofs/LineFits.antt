@@ -187,14 +187,14 @@ call_fits word ws = choose_fits
 ring_command_fits : (word : List ℕ) (ws : List (List ℕ)) → SomeFits (ring_command word ws)
 ring_command_fits word ws = choose_fits
     ((bytes_eq word (codes "join"), join_of ws) ∷ (bytes_eq word (codes "stop"), stop_of ws) ∷ (bytes_eq word (codes "round"), round_of ws) ∷ (bytes_eq word (codes "lose"), lose_of ws) ∷ (bytes_eq word (codes "damage"), damage_of ws)
-        ∷ (bytes_eq word (codes "holds"), holds_of ws) ∷ [])
+    ∷ (bytes_eq word (codes "holds"), holds_of ws) ∷ [])
     (call_command word ws) (join_fits ws, (stop_fits ws, (round_fits ws, (lose_fits ws, (damage_fits ws, (holds_fits ws, tt)))))) (call_fits word ws)
 
 words_fit : (ws : List (List ℕ)) → SomeFits (command_of_words ws)
 words_fit [] = tt
 words_fit (word ∷ ws) = choose_fits
     ((bytes_eq word (codes "snap"), of_log (λ x. command.Snap x) ws) ∷ (bytes_eq word (codes "restart"), of_log (λ x. command.Restart x) ws) ∷ (bytes_eq word (codes "keep"), keep_of ws)
-        ∷ (bytes_eq word (codes "order"), of_log (λ x. command.Order x) ws) ∷ (bytes_eq word (codes "work"), of_log (λ x. command.Work x) ws) ∷ [])
+    ∷ (bytes_eq word (codes "order"), of_log (λ x. command.Order x) ws) ∷ (bytes_eq word (codes "work"), of_log (λ x. command.Work x) ws) ∷ [])
     (ring_command word ws)
     (of_log_fits (λ x. command.Snap x) (λ x. tt) ws, (of_log_fits (λ x. command.Restart x) (λ x. tt) ws, (keep_fits ws, (of_log_fits (λ x. command.Order x) (λ x. tt) ws, (of_log_fits (λ x. command.Work x) (λ x. tt) ws, tt)))))
     (ring_command_fits word ws)

@@ -163,7 +163,7 @@ module _ (w : Played) (keeps : Keeps w) (r : ℕ) (ringed : w.0.replicas ≡ Som
       more b h = ⊎_elim
           (λ c. Contains-append_left met (keys v.participants) b (grows b c))
           (λ c. Contains-append_right met (keys v.participants) b (subst (λ ks. Contains ks b) (sym (map-append (λ (o : Participant). (own o.agent).0) w.0.participants (p ∷ [])))
-              (Contains-append_left (keys w.0.participants) ((own p.agent).0 ∷ []) b c)))
+          (Contains-append_left (keys w.0.participants) ((own p.agent).0 ∷ []) b c)))
           (Contains-append_cases w.0.met (keys w.0.participants) b h)
 
   sound : AreSound w.0 w.1 → AreSound v su
@@ -173,22 +173,22 @@ module _ (w : Played) (keeps : Keeps w) (r : ℕ) (ringed : w.0.replicas ≡ Som
         (subst (λ k. IsSoundIn met p k p.agent.view) (sym knowing_new) fit.agent);
     keepers = all_then (IsKeptSo (λ o k. IsSoundKeptIn met o (knowing_of su o.name) k k.view))
         (λ o o_in.
-            let so : IsKeptSo (λ x k. IsSoundKeptIn w.0.met x (knowing_of w.1 x.name) k k.view) o = each (IsKeptSo (λ x k. IsSoundKeptIn w.0.met x (knowing_of w.1 x.name) k k.view)) w.0.participants o old.keepers o_in in
-            (so.0, so.1, so.2, subst (λ l. IsSoundKeptIn met o l so.0 so.0.view) (sym (knowing_old o o_in)) (more_kept_in w.0.met met grows o (unchanged o) (knowing_of w.1 o.name) so.0 so.0.view so.3)))
+        let so : IsKeptSo (λ x k. IsSoundKeptIn w.0.met x (knowing_of w.1 x.name) k k.view) o = each (IsKeptSo (λ x k. IsSoundKeptIn w.0.met x (knowing_of w.1 x.name) k k.view)) w.0.participants o old.keepers o_in in
+        (so.0, so.1, so.2, subst (λ l. IsSoundKeptIn met o l so.0 so.0.view) (sym (knowing_old o o_in)) (more_kept_in w.0.met met grows o (unchanged o) (knowing_of w.1 o.name) so.0 so.0.view so.3)))
         (let so = fit.keeper in (so.0, so.1, so.2, subst (λ l. IsSoundKeptIn met p l so.0 so.0.view) (sym knowing_new) so.3));
     to_load = all_then (λ o. IfSome o.agent.view (λ view. IfSome o.agent.to_load (λ root. (o.agent.holding ≡ nothing_held) × IsSnapshotOf met view (known_of su o.name) root)))
         (λ o o_in. subst (λ (k : Knowing). IfSome o.agent.view (λ view. IfSome o.agent.to_load (λ root. (o.agent.holding ≡ nothing_held) × IsSnapshotOf met view k.known root))) (sym (knowing_old o o_in))
-            (more_to_load w.0.met met grows o (known_of w.1 o.name) o.agent.view
-            (each (λ (x : Participant). IfSome x.agent.view (λ view. IfSome x.agent.to_load (λ root. (x.agent.holding ≡ nothing_held) × IsSnapshotOf w.0.met view (known_of w.1 x.name) root))) w.0.participants o old.to_load o_in)))
+        (more_to_load w.0.met met grows o (known_of w.1 o.name) o.agent.view
+        (each (λ (x : Participant). IfSome x.agent.view (λ view. IfSome x.agent.to_load (λ root. (x.agent.holding ≡ nothing_held) × IsSnapshotOf w.0.met view (known_of w.1 x.name) root))) w.0.participants o old.to_load o_in)))
         (subst (λ x. IfSome x (λ view. IfSome p.agent.to_load (λ root. (p.agent.holding ≡ nothing_held) × IsSnapshotOf met view (known_of su p.name) root))) (sym fit.outside) tt);
     snapshots = all_then (λ o. IfSome o.agent.view (λ view. IfSome o.agent.snapshot (IsSnapshotOf met view (known_of su o.name))))
         (λ o o_in. subst (λ (k : Knowing). IfSome o.agent.view (λ view. IfSome o.agent.snapshot (IsSnapshotOf met view k.known))) (sym (knowing_old o o_in))
-            (more_snapshots w.0.met met grows o (known_of w.1 o.name) o.agent.view
-            (each (λ (x : Participant). IfSome x.agent.view (λ view. IfSome x.agent.snapshot (IsSnapshotOf w.0.met view (known_of w.1 x.name)))) w.0.participants o old.snapshots o_in)))
+        (more_snapshots w.0.met met grows o (known_of w.1 o.name) o.agent.view
+        (each (λ (x : Participant). IfSome x.agent.view (λ view. IfSome x.agent.snapshot (IsSnapshotOf w.0.met view (known_of w.1 x.name)))) w.0.participants o old.snapshots o_in)))
         (subst (λ x. IfSome x (λ view. IfSome p.agent.snapshot (IsSnapshotOf met view (known_of su p.name)))) (sym fit.outside) tt);
     sessions = all_weaker (λ (s : NamedSession). IsSoundSession w.0 w.1 s.session (began_of w.1 s.name)) (λ (s : NamedSession). IsSoundSession v su s.session (began_of w.1 s.name)) w.0.sessions
         (λ s g. session_told v w.1 su s.session (began_of w.1 s.name) (knowing_by s.session.by g.by g.is_by)
-            (sound_still w.0 v w.1 grows s.session (began_of w.1 s.name) g (unchanged g.by) w.1.acked (found_old s.session.by g.by g.is_by))) old.sessions;
+        (sound_still w.0 v w.1 grows s.session (began_of w.1 s.name) g (unchanged g.by) w.1.acked (found_old s.session.by g.by g.is_by))) old.sessions;
   }
 
   pub comes : Keeps (v, su)

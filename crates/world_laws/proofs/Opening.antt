@@ -212,8 +212,12 @@ module _ (w : Played) (name : List ℕ) (s : Sending) (t : Session) (keeps : Kee
         participants = keeps.fits.participants;
         sessions = map_one (λ (b : Named). b.0) w.1.sessions (name, its) ∙ ap (λ (names : List (List ℕ)). names ++ name ∷ []) keeps.fits.sessions ∙ sym (map_one (λ (x : NamedSession). x.name) w.0.sessions new);
       };
-      ring = subst (HasRing opened) (sym ringed) (ring_now.0, ring_now.1, ring_now.2,
-          each_open (λ x. GoesOn opened r x.session) (λ x among. goes_with x.session (each (λ (y : NamedSession). GoesOn w.0 r y.session) w.0.sessions x ring_now.3 among)) (goes_with t hand.goes_on));
+      ring = subst (HasRing opened) (sym ringed) (
+        ring_now.0,
+        ring_now.1,
+        ring_now.2,
+        each_open (λ x. GoesOn opened r x.session) (λ x among. goes_with x.session (each (λ (y : NamedSession). GoesOn w.0 r y.session) w.0.sessions x ring_now.3 among)) (goes_with t hand.goes_on),
+      );
       met = record { held = keeps.met.held; pending = keeps.met.pending; cached = keeps.met.cached; views = keeps.met.views };
       peers = record { named = keeps.peers.named; apart = keeps.peers.apart; few = keeps.peers.few; known = keeps.peers.known };
       signs = keeps.signs;

@@ -103,16 +103,19 @@ module _ (st : Story) (name : List ℕ) (heads : List Entry) where
 
   backed_more : (blocks : List (List ℕ)) (owner : PubKey) (floor : Vector) (received : List Entry) (r : Record) → IsBacked blocks owner floor received r → IsBacked blocks owner floor (received ++ heads) r
   backed_more blocks owner floor received r (inl f) = inl f
-  backed_more blocks owner floor received r (inr f) = inr (f.0, record {
-    head = f.1.head;
-    received = Contains-append_left received heads f.1.head f.1.received;
-    log = f.1.log;
-    linked = f.1.linked;
-    stand = f.1.stand;
-    of_log = f.1.of_log;
-    ends = f.1.ends;
-    below = f.1.below;
-  })
+  backed_more blocks owner floor received r (inr f) = inr (
+    f.0,
+    record {
+      head = f.1.head;
+      received = Contains-append_left received heads f.1.head f.1.received;
+      log = f.1.log;
+      linked = f.1.linked;
+      stand = f.1.stand;
+      of_log = f.1.of_log;
+      ends = f.1.ends;
+      below = f.1.below;
+    },
+  )
 
   verified_more : (blocks : List (List ℕ)) (view : View) (owner : PubKey) (floor : Vector) (received : List Entry) (known : List Record) → IsVerified blocks view owner floor received known → IsVerified blocks view owner floor (received ++ heads) known
   verified_more blocks view owner floor received known h = record { chains = h.chains; backed = all_weaker _ _ known (λ r b. backed_more blocks owner floor received r b) h.backed }

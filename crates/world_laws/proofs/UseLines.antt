@@ -315,7 +315,7 @@ module _ (w : Played) (keeps : Keeps w) (p : Participant) (is_p : participant w.
     heads_of (Some v) h = heads_low k.signer a.signer.made (own_reach a) p.left v (own a) (stamp_at a.floor (head_key_of (own a))) (log_of (own a) known) h.goes_on.0 own_size (omega (arith, saved.agent.few)) so.3.left
         (subst (IsChain v (own a)) h.goes_on.1 (h.closed.chains (own a)))
         (subst (AllByRecursion (λ (r : Record). r.seq < 2 ^ 32)) h.goes_on.1 (each_from (λ (r : Record). r.seq < 2 ^ 32) (log_of (own a) h.known) (λ r c.
-            let few = (good_of v h.known r h.closed (from_filter (λ (x : Record). eq_by_cmp owner_cmp (own a) x.owner) h.known r c).0).spelled.few in omega (arith, few))))
+        let few = (good_of v h.known r h.closed (from_filter (λ (x : Record). eq_by_cmp owner_cmp (own a) x.owner) h.known r c).0).spelled.few in omega (arith, few))))
         (from.by_floor.ends (own a) from.own_before) (omega arith)
         (subst (λ s. AllByRecursion (NamesOneOf k.signer s) p.left) h.goes_on.1 (each_left (NamesOneOf k.signer (log_of (own a) h.known)) p.left (heads_by k.pending) h.heads))
 
