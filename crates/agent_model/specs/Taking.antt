@@ -1,5 +1,5 @@
 -- What a turn takes of what a refresh brought, by what is held alone: whatever the agent knows, and whether or not names tell the blocks apart.
-use Rattle.std.specs.Prelude.{◌≡◌, Bool, true, false, List, ◌++◌, filter, map, nat_le, Option, if◌then◌else◌}
+use Rattle.std.specs.Prelude.{◌≡◌, false, List, ◌++◌, filter, map, nat_le, Option, if◌then◌else◌}
 use Rattle.std.specs.Ordering.{eq_by_cmp}
 use Rattle.ivy_base.specs.declared.key.PubKey.{PubKey}
 use Rattle.ivy_base.specs.Naming.{head_key_of, owner_cmp}

@@ -20,7 +20,6 @@ use Rattle.turn_model.specs.Basis.{Basis, Holding, HoldsAll, Knows, nothing_held
 use Rattle.turn_model.specs.Turn.{Agent as Inputs, Asked, Candidate, Turned, IsAtHand, turn_on}
 use Rattle.turn_model.specs.Work.{applied_between}
 use Rattle.snapshot_model.specs.Blocks.{IsVectorSpelled}
-use Rattle.dht_ids.specs.declared.post.Post.{Post}
 use Rattle.agent_model.specs.Agent.{Agent, Kept, Signing, failed, head_post, joined, kept_of, own, own_reach, with_posts}
 use Rattle.agent_model.specs.SavedBytes.{ArePostsSpelled}
 use Rattle.agent_model.specs.Standing.{Standing, Refresh, dominates, going_on, new_records}

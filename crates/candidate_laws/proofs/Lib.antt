@@ -1,4 +1,5 @@
 pub mod RecordReading
+pub mod ChainRules
 mod SomeChain
 pub mod SomeCandidate
 pub mod SomePart

@@ -1,26 +1,23 @@
 -- Of each head it is known whether records among the blocks make the chain to it.
 use Rattle.std.proofs.Common.{◌≡◌, ◌⊎◌, inl, inr, ℕ, zero, suc, ◌+◌, List, [], ◌∷◌, ◌++◌, length, Option, Some, None, refl, sym, ap, ◌∙◌, subst, arith, Contains, length-append}
-use Rattle.std.specs.Prelude.{IsTrue}
 use Rattle.std.specs.List.{AllByRecursion}
 use Rattle.ivy_base.specs.declared.key.PubKey.{PubKey}
-use Rattle.ivy_base.specs.declared.operation.Op.{Op}
-use Rattle.ivy_base.specs.declared.operation.Op.TheVariants as op
-use Rattle.ivy_base.specs.Naming.{head_key_of, inode_number}
+use Rattle.ivy_base.specs.Naming.{head_key_of}
 use Rattle.wire_model.proofs.OneReading.{whole}
-use Rattle.log_model.specs.View.{View, is_named}
-use Rattle.log_model.specs.Vector.{Stamp, Vector, stamp_at, Dominates}
+use Rattle.log_model.specs.View.{View}
+use Rattle.log_model.specs.Vector.{Stamp, Vector, stamp_at}
 use Rattle.log_model.specs.Record.{Record}
-use Rattle.log_model.specs.Rank.{own_entry, full_vector}
-use Rattle.log_model.specs.Spelling.{record_block, no_name, IsRecordOf}
-use Rattle.log_model.specs.Chain.{HasMadeNumber, IsGood, IsFirst, Follows, GoesOn, IsChain}
-use Rattle.log_model.specs.Part.{goes_as_far}
+use Rattle.log_model.specs.Rank.{own_entry}
+use Rattle.log_model.specs.Spelling.{record_block, IsRecordOf}
+use Rattle.log_model.specs.Chain.{IsGood, GoesOn, IsChain}
 use Rattle.log_model.specs.Standing.{StandsAmong, Stand}
 use Rattle.log_model.proofs.Lists.{here, there, in_cons, in_nothing, each, each_from}
-use Rattle.log_model.proofs.Part.{far_dominates, dominates_far, chain_good, numbered, Numbered}
+use Rattle.log_model.proofs.Part.{chain_good, numbered, Numbered}
 use Rattle.log_records.proofs.OneRecord.{one_record}
 use Rattle.turn_model.specs.Known.{EndsAt}
 use Rattle.turn_model.specs.Candidates.{PassesThrough, MakeChain, IsPassedOver}
-use Rattle.candidate_laws.proofs.RecordReading.{Known, both_known, key_known, number_known, truth_known, record_or_not}
+use Rattle.candidate_laws.proofs.ChainRules.{made_known, named_known, first_known, follows_known, stamp_known}
+use Rattle.candidate_laws.proofs.RecordReading.{Known, both_known, record_or_not}
 
 -- ---- finite searches
 
@@ -62,21 +59,6 @@ some_list rs (suc n) P known = elim (some_in rs (λ x. SomeOf rs n (λ xs. P (x 
     without (x ∷ xs) e all p none = none (x, all.0, (xs, omega (arith, e), all.1, p))
 
 -- ---- the owner's good records among the blocks
-
-made_known : (owner : PubKey) (seq : ℕ) (o : Op) → Known (HasMadeNumber owner seq o)
-made_known owner seq (op.Inode number kind mode uid gid target) = key_known number (inode_number owner seq)
-made_known owner seq (op.Write number offset bytes) = inl tt
-made_known owner seq (op.Link dir name number) = inl tt
-made_known owner seq (op.Unlink dir name) = inl tt
-made_known owner seq (op.Rename dir name to_dir to_name) = inl tt
-made_known owner seq (op.Prepare dir name verifier) = inl tt
-made_known owner seq (op.Cancel number) = inl tt
-made_known owner seq (op.SetAttrs number change) = inl tt
-made_known owner seq op.End = inl tt
-
-named_known : (view : View) (v : Vector) → Known (AllByRecursion (λ e. IsTrue (is_named view e.0)) v)
-named_known view [] = inl tt
-named_known view (e ∷ v) = both_known (truth_known (is_named view e.0)) (named_known view v)
 
 module _ (view : View) (owner : PubKey) (blocks : List (List ℕ)) where
   abbrev IsOwn : Record → Type 0
@@ -132,39 +114,6 @@ module _ (view : View) (owner : PubKey) (blocks : List (List ℕ)) where
 
   -- ---- whether records are a chain
 
-  end_known : (o : Op) → Known (o ≡ op.End)
-  end_known (op.Inode number kind mode uid gid target) = inr (λ e. cc e)
-  end_known (op.Write number offset bytes) = inr (λ e. cc e)
-  end_known (op.Link dir name number) = inr (λ e. cc e)
-  end_known (op.Unlink dir name) = inr (λ e. cc e)
-  end_known (op.Rename dir name to_dir to_name) = inr (λ e. cc e)
-  end_known (op.Prepare dir name verifier) = inr (λ e. cc e)
-  end_known (op.Cancel number) = inr (λ e. cc e)
-  end_known (op.SetAttrs number change) = inr (λ e. cc e)
-  end_known op.End = inl refl
-
-  empty_known : (v : Vector) → Known (v ≡ [])
-  empty_known [] = inl refl
-  empty_known (e ∷ v) = inr (λ same. cc same)
-
-  first_known : (r : Record) → Known (IsFirst r)
-  first_known r = elim (both_known (both_known (number_known r.seq 1) (end_known r.op)) (both_known (key_known r.prev no_name) (empty_known r.vector))) [
-    | inl f ↦ inl (record { seq = f.0.0; ends = f.0.1; prev = f.1.0; vector = f.1.1 })
-    | inr none ↦ inr (λ f. none ((f.seq, f.ends), (f.prev, f.vector)))
-  ]
-
-  further_known : (v w : Vector) → Known (Dominates v w)
-  further_known v w = elim (truth_known (goes_as_far v w)) [
-    | inl far ↦ inl (far_dominates v w far)
-    | inr short ↦ inr (λ d. short (dominates_far v w d))
-  ]
-
-  follows_known : (p r : Record) → Known (Follows p r)
-  follows_known p r = elim (both_known (both_known (number_known r.seq (p.seq + 1)) (key_known r.prev p.name)) (further_known (full_vector r) (full_vector p))) [
-    | inl f ↦ inl (record { seq = f.0.0; prev = f.0.1; grows = f.1 })
-    | inr none ↦ inr (λ f. none ((f.seq, f.prev), f.grows))
-  ]
-
   goes_known : (p : Record) (rs : List Record) → AllByRecursion (IsGood view owner) rs → Known (GoesOn view owner p rs)
   goes_known p [] good = inl tt
   goes_known p (r ∷ rs) good = elim (both_known (follows_known p r) (goes_known r rs good.1)) [
@@ -180,12 +129,6 @@ module _ (view : View) (owner : PubKey) (blocks : List (List ℕ)) where
   ]
 
   -- ---- where they end, and what they pass
-
-  stamp_known : (s t : Stamp) → Known (s ≡ t)
-  stamp_known s t = elim (both_known (number_known s.seq t.seq) (key_known s.name t.name)) [
-    | inl e ↦ inl (λ i. record { seq = e.0 i; name = e.1 i })
-    | inr none ↦ inr (λ e. none (ap (λ (x : Stamp). x.seq) e, ap (λ (x : Stamp). x.name) e))
-  ]
 
   nothing_ends : (t : Stamp) → EndsAt (Some t) [] → ⊥
   nothing_ends t f = by f.0 f.1 f.2

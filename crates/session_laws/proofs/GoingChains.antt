@@ -1,81 +1,29 @@
 -- Of records that were read it is known whether they are sound and onward, or else why their head is passed over.
 use Rattle.std.proofs.Common.{◌≡◌, ◌≢◌, inl, inr, ⊎_elim, ℕ, suc, ◌+◌, List, [], ◌∷◌, ◌++◌, Option, Some, None, refl, ap, ◌∙◌}
-use Rattle.std.specs.Prelude.{IsTrue}
 use Rattle.std.specs.List.{AllByRecursion}
 use Rattle.ivy_base.specs.declared.key.PubKey.{PubKey}
-use Rattle.ivy_base.specs.declared.operation.Op.{Op}
-use Rattle.ivy_base.specs.declared.operation.Op.TheVariants as op
-use Rattle.ivy_base.specs.Naming.{head_key_of, inode_number}
-use Rattle.log_model.specs.View.{View, is_named}
-use Rattle.log_model.specs.Vector.{Stamp, Vector, reach, Dominates, with_entry}
+use Rattle.ivy_base.specs.Naming.{head_key_of}
+use Rattle.log_model.specs.View.{View}
+use Rattle.log_model.specs.Vector.{Stamp, Vector, reach, with_entry}
 use Rattle.log_model.specs.Record.{Record}
 use Rattle.log_model.specs.Rank.{own_entry, full_vector}
-use Rattle.log_model.specs.Spelling.{HasSpelling, no_name}
-use Rattle.log_model.specs.Chain.{HasMadeNumber, IsGood, IsFirst, Follows, GoesOn}
-use Rattle.log_model.specs.Part.{goes_as_far}
-use Rattle.log_model.proofs.Part.{far_dominates, dominates_far}
+use Rattle.log_model.specs.Spelling.{HasSpelling}
+use Rattle.log_model.specs.Chain.{IsGood, GoesOn}
 use Rattle.log_model.proofs.Lists.{here, there, in_cons, in_nothing}
 use Rattle.log_records.specs.declared.edge.Edge.{Edge}
 use Rattle.log_records.specs.declared.chain_fault.ChainFault.{ChainFault}
 use Rattle.log_records.specs.declared.chain_fault.ChainFault.TheVariants.{Bad, Fork, Memory}
 use Rattle.log_records.specs.Batches.{ChainFails, EndsAt, GoesOnFrom, HasRecord, IsOnward, IsSound, KnowsEdge, MayBeNext, OldestNames, PassesFloor, stamp_in}
-use Rattle.candidate_laws.proofs.RecordReading.{Known, both_known, if_known, key_known, number_known, truth_known, at_most_known}
+use Rattle.candidate_laws.proofs.ChainRules.{made_known, named_known, first_known, further_known, follows_known, stamp_known}
+use Rattle.candidate_laws.proofs.RecordReading.{Known, both_known, if_known, key_known, number_known, at_most_known}
 use Rattle.candidate_laws.proofs.SomeCandidate.{owner_known}
 
 -- ---- the rules of a log
-
-made_known : (owner : PubKey) (seq : ℕ) (o : Op) → Known (HasMadeNumber owner seq o)
-made_known owner seq (op.Inode number kind mode uid gid target) = key_known number (inode_number owner seq)
-made_known owner seq (op.Write number offset bytes) = inl tt
-made_known owner seq (op.Link dir name number) = inl tt
-made_known owner seq (op.Unlink dir name) = inl tt
-made_known owner seq (op.Rename dir name to_dir to_name) = inl tt
-made_known owner seq (op.Prepare dir name verifier) = inl tt
-made_known owner seq (op.Cancel number) = inl tt
-made_known owner seq (op.SetAttrs number change) = inl tt
-made_known owner seq op.End = inl tt
-
-named_known : (view : View) (v : Vector) → Known (AllByRecursion (λ e. IsTrue (is_named view e.0)) v)
-named_known view [] = inl tt
-named_known view (e ∷ v) = both_known (truth_known (is_named view e.0)) (named_known view v)
 
 good_known : (view : View) (owner : PubKey) (r : Record) → HasSpelling r → Known (IsGood view owner r)
 good_known view owner r spelled = elim (both_known (owner_known r.owner owner) (both_known (made_known owner r.seq r.op) (named_known view r.vector))) [
   | inl f ↦ inl (record { owned = f.0; spelled = spelled; number = f.1.0; named = f.1.1 })
   | inr none ↦ inr (λ g. none (g.owned, (g.number, g.named)))
-]
-
-end_known : (o : Op) → Known (o ≡ op.End)
-end_known (op.Inode number kind mode uid gid target) = inr (λ e. cc e)
-end_known (op.Write number offset bytes) = inr (λ e. cc e)
-end_known (op.Link dir name number) = inr (λ e. cc e)
-end_known (op.Unlink dir name) = inr (λ e. cc e)
-end_known (op.Rename dir name to_dir to_name) = inr (λ e. cc e)
-end_known (op.Prepare dir name verifier) = inr (λ e. cc e)
-end_known (op.Cancel number) = inr (λ e. cc e)
-end_known (op.SetAttrs number change) = inr (λ e. cc e)
-end_known op.End = inl refl
-
-empty_known : (v : Vector) → Known (v ≡ [])
-empty_known [] = inl refl
-empty_known (e ∷ v) = inr (λ same. cc same)
-
-first_known : (r : Record) → Known (IsFirst r)
-first_known r = elim (both_known (both_known (number_known r.seq 1) (end_known r.op)) (both_known (key_known r.prev no_name) (empty_known r.vector))) [
-  | inl f ↦ inl (record { seq = f.0.0; ends = f.0.1; prev = f.1.0; vector = f.1.1 })
-  | inr none ↦ inr (λ f. none ((f.seq, f.ends), (f.prev, f.vector)))
-]
-
-further_known : (v w : Vector) → Known (Dominates v w)
-further_known v w = elim (truth_known (goes_as_far v w)) [
-  | inl far ↦ inl (far_dominates v w far)
-  | inr short ↦ inr (λ d. short (dominates_far v w d))
-]
-
-follows_known : (p r : Record) → Known (Follows p r)
-follows_known p r = elim (both_known (both_known (number_known r.seq (p.seq + 1)) (key_known r.prev p.name)) (further_known (full_vector r) (full_vector p))) [
-  | inl f ↦ inl (record { seq = f.0.0; prev = f.0.1; grows = f.1 })
-  | inr none ↦ inr (λ f. none ((f.seq, f.prev), f.grows))
 ]
 
 goes_known : (view : View) (owner : PubKey) (p : Record) (rs : List Record) → AllByRecursion HasSpelling rs → Known (GoesOn view owner p rs)
@@ -103,12 +51,6 @@ goes_on_known view held edge (r ∷ rs) spelled =
       | inl f ↦ inl (f.0.0, f.0.1, f.1.0, f.1.1)
       | inr none ↦ inr (λ g. none ((g.0, g.1), (g.2, g.3)))
     ]
-
-stamp_known : (s t : Stamp) → Known (s ≡ t)
-stamp_known s t = elim (both_known (number_known s.seq t.seq) (key_known s.name t.name)) [
-  | inl e ↦ inl (λ i. record { seq = e.0 i; name = e.1 i })
-  | inr none ↦ inr (λ e. none (ap (λ (x : Stamp). x.seq) e, ap (λ (x : Stamp). x.name) e))
-]
 
 nothing_ends : (t : Stamp) → EndsAt t [] → ⊥
 nothing_ends t ([], last, is, same) = cc

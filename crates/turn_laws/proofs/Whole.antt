@@ -1,6 +1,6 @@
 -- Closed parts over a front, and of the whole.
-use Rattle.std.proofs.Common.{◌≡◌, ◌≢◌, ◌⊎◌, inl, inr, ⊎_elim, ℕ, ◌+◌, ◌<◌, ◌≤◌, Bool, true, false, cond, nat_lt, List, [], ◌∷◌, ◌++◌, Option, Some, None, refl, sym, ap, ◌∙◌, subst, arith, Contains, filter, ltb-true, lt-ltb}
-use Rattle.std.specs.Prelude.{IsTrue, not, ◌↔◌}
+use Rattle.std.proofs.Common.{◌≡◌, ◌⊎◌, inl, inr, ⊎_elim, ℕ, ◌+◌, ◌<◌, ◌≤◌, Bool, true, false, cond, nat_lt, List, [], ◌∷◌, ◌++◌, Option, Some, None, refl, sym, ap, ◌∙◌, subst, arith, Contains, filter, ltb-true, lt-ltb}
+use Rattle.std.specs.Prelude.{IsTrue, not}
 use Rattle.std.specs.List.{AllByRecursion}
 use Rattle.std.specs.Cmp.{eq_by_cmp_equiv, tied_itself}
 use Rattle.std.specs.declared.cmp.Ordering.{Ordering}
@@ -16,11 +16,11 @@ use Rattle.ivy_base.specs.Naming.{key_cmp, owner_cmp, head_key_of}
 use Rattle.tree_model.proofs.Keys.{keys_total, same_key_is, same_key_itself}
 use Rattle.tree_model.proofs.Sound.{both_true}
 use Rattle.log_model.specs.View.{View, IsView, is_member}
-use Rattle.log_model.specs.Vector.{Entry, Vector, Stamp, stamp_at, reach, seq_of, Dominates, with_entry, without_log, weight_of}
+use Rattle.log_model.specs.Vector.{Entry, Vector, Stamp, stamp_at, reach, seq_of, Dominates, without_log, weight_of}
 use Rattle.log_model.specs.Record.{Record}
 use Rattle.log_model.specs.Spelling.{HasSpelling}
 use Rattle.log_model.specs.Rank.{own_entry, full_vector, weight, front, record_cmp}
-use Rattle.log_model.specs.Chain.{IsGood, IsFirst, Follows, GoesOn, IsChain}
+use Rattle.log_model.specs.Chain.{IsGood, Follows, GoesOn, IsChain}
 use Rattle.log_model.specs.Closed.{log_of, IsAscending, IsCause}
 use Rattle.log_model.specs.Closed as plain
 use Rattle.log_model.proofs.Lists.{here, there, in_cons, in_nothing, each, each_from, each_append, in_filter, from_filter}
@@ -31,7 +31,7 @@ use Rattle.log_model.proofs.Sets.{IsBefore, lighter_is_before}
 use Rattle.log_model.proofs.Weights.{Sorted, weight_by_log, Dominates-trans, sorted_front, weight-mono, no_heavier_than_front, full_other}
 use Rattle.log_model.proofs.Later.{EndsWith, good_of, last_stands, seq_with}
 use Rattle.log_model.proofs.Opening.{same_owner}
-use Rattle.turn_model.specs.Basis.{Basis, StandsFor, IsAboveTide}
+use Rattle.turn_model.specs.Basis.{IsAboveTide}
 use Rattle.causal_order.specs.Over as over
 use Rattle.causal_order.specs.Over.{IsUnder, IsMet, ComesNext, GoesOnFrom, IsChainOver}
 use Rattle.turn_laws.proofs.Heads.{one_member, member_is}
