@@ -2,18 +2,16 @@
 
 ghost use Rattle.std.specs.Prelude.{◌≡◌, IfOk};
 ghost use Rattle.log_fetch.specs.Standings.{asked_of};
-ghost use Rattle.nfs_model.specs.Changing.{is_changing};
 ghost use Rattle.nfs_model.specs.Results.{result as bytes_of};
 ghost use Rattle.session_model.specs.Replies.{missed_reply, missed_status};
-ghost use Rattle.turn_model.specs.Turn.{bare_tail};
 ghost use Rattle.wire_model.specs.Rpc.{Success, reply as reply_bytes};
 
 use crate::heads::success;
 use dhash_client::Miss;
 use ivy_base::{Bytes, Memory};
 use log_fetch::Asked;
-use nfs_model::{Args, NfsStatus, Reply, Tail};
-use nfs3_objects::no_cache_data;
+use nfs_model::{NfsStatus, Reply};
+use nfs3_objects::bare_tail;
 use std::alloc::Global;
 
 /// The reply to the call `xid` after a refresh that failed by that miss: the procedure's refusal without attributes, with
@@ -36,36 +34,4 @@ fn missed_status(miss: &Miss) -> NfsStatus
         Miss::NoRoute(_) | Miss::Missing { .. } => NfsStatus::Jukebox,
         Miss::Damaged { .. } => NfsStatus::Io,
     }
-}
-
-/// What stands after a refusal of the procedure that gives no attributes.
-fn bare_tail(args: &Args) -> Tail
-    ensures { result ≡ bare_tail args.now }
-{
-    match args {
-        Args::GetAttr { .. } => Tail::Empty,
-        Args::Rename { .. } => Tail::TwoCaches(no_cache_data(), no_cache_data()),
-        Args::Link { .. } => Tail::AttributesAndCache(None, no_cache_data()),
-        Args::MkNod { .. } | Args::Commit { .. } => Tail::Cache(no_cache_data()),
-        _ if is_changing(args) => Tail::Cache(no_cache_data()),
-        _ => Tail::Attributes(None),
-    }
-}
-
-/// Whether it is one of the procedures that may write records.
-fn is_changing(args: &Args) -> bool
-    ensures { result ≡ is_changing args.now }
-{
-    matches!(
-        args,
-        Args::SetAttr { .. }
-            | Args::Write { .. }
-            | Args::Create { .. }
-            | Args::MkDir { .. }
-            | Args::SymLink { .. }
-            | Args::Remove { .. }
-            | Args::RmDir { .. }
-            | Args::Rename { .. }
-            | Args::Link { .. }
-    )
 }

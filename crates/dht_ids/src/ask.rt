@@ -25,6 +25,22 @@ pub enum Ask {
     PutHead(Key, Bytes),
 }
 
+impl Ask {
+    /// A copy of this question and of what it has. The error is want of memory.
+    pub fn copy(&self, alloc: Global) -> Result<Ask, Memory>
+        ensures { IfOk result (λ copy. copy ≡ self.now) }
+    {
+        Ok(match self {
+            Ask::Route(key) => Ask::Route(*key),
+            Ask::Near => Ask::Near,
+            Ask::Notify(peer) => Ask::Notify(*peer),
+            Ask::Get(key) => Ask::Get(*key),
+            Ask::PutBlock(key, bytes) => Ask::PutBlock(*key, bytes.copy(alloc)?),
+            Ask::PutHead(key, bytes) => Ask::PutHead(*key, bytes.copy(alloc)?),
+        })
+    }
+}
+
 /// What a node answers.
 #[derive(Drop)]
 pub enum Answer {

@@ -33,11 +33,11 @@ use ivy_base::{Memory, Moment, Op, Steps};
 use ivy_io::Keeper;
 use log_fetch::{Asked, Turned};
 use nfs_model::{Args, NfsStatus, Reply};
+use nfs3_objects::bare_tail;
 use nfs3_writes::{Ops, finish};
 use replay_engine::Engine;
 use std::alloc::Global;
 use std::sync::ledger::Ledger;
-use turn_answers::bare_tail;
 use version_vectors::Vector;
 
 /// What a turn comes to.

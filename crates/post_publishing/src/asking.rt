@@ -49,7 +49,7 @@ impl Asking {
     pub(crate) fn wanted(&self, alloc: Global) -> Result<(Peer, Ask), Memory>
         ensures { IfOk result (λ asked. put_awaited self.now.put ≡ Some asked) }
     {
-        Ok((self.node, copy_of(alloc, &self.question)?))
+        Ok((self.node, self.question.copy(alloc)?))
     }
 
     /// The put, which heard this answer. The error is want of memory.
@@ -61,18 +61,4 @@ impl Asking {
         put.heard(answer)?;
         Ok(put)
     }
-}
-
-/// A copy of what a node is asked. The error is want of memory.
-fn copy_of(alloc: Global, question: &Ask) -> Result<Ask, Memory>
-    ensures { IfOk result (λ copy. copy ≡ question.now) }
-{
-    Ok(match question {
-        Ask::Route(key) => Ask::Route(*key),
-        Ask::Near => Ask::Near,
-        Ask::Notify(peer) => Ask::Notify(*peer),
-        Ask::Get(key) => Ask::Get(*key),
-        Ask::PutBlock(key, bytes) => Ask::PutBlock(*key, bytes.copy(alloc)?),
-        Ask::PutHead(key, bytes) => Ask::PutHead(*key, bytes.copy(alloc)?),
-    })
 }

@@ -22,12 +22,10 @@
 //! into the next record and its post, and its block into the post.
 #![tactic(auto)]
 
-mod kinds;
 pub mod laws;
 pub mod serving;
 pub mod written;
 
-pub use kinds::bare_tail;
 pub use laws::{fronts_have_the_newest, turns_are_served, written_records_go_on};
 pub use serving::{On, Served, serve};
 pub use written::{Before, Written, front_with, newest_of, write_over, write_records};

@@ -9,11 +9,11 @@ ghost use Rattle.log_fetch.specs.Standings.{asked_of};
 ghost use Rattle.turn_answers.specs.Serving.{is_full, serve_on, serve_plan};
 ghost use Rattle.turn_answers.specs.Given.{inputs_of, served_of};
 
-use crate::kinds::{bare_tail, is_changing};
 use fs_tree::Tree;
 use ivy_base::{Memory, Moment, Op, PubKey};
 use log_fetch::Asked;
 use nfs_model::{Args, NfsStatus, Reply};
+use nfs3_objects::{bare_tail, is_changing};
 use nfs3_reads::answer;
 use nfs3_writes::{Ops, Plan, plan};
 use std::alloc::Global;

@@ -17,11 +17,11 @@ ghost use Rattle.turn_model.specs.Turn.{by_plan, own_name, own_seq};
 ghost use Rattle.wire_model.specs.Rpc.{IsIdentity};
 ghost use Rattle.turn_serving.specs.Serving.{agent_in, asked_of};
 
-use crate::kinds::bare_tail;
 use crate::serving::{Asked, Served, Taken, unwritten};
 use fs_tree::Tree;
 use ivy_base::{Memory, Moment, Op, head_key};
 use nfs_model::{NfsStatus, Reply};
+use nfs3_objects::bare_tail;
 use nfs3_writes::finish;
 use std::alloc::Global;
 use turn_records::{Before, write_records};

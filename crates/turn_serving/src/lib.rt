@@ -10,7 +10,6 @@
 #![tactic(auto)]
 
 mod appending;
-mod kinds;
 pub mod serving;
 
 pub use serving::{Asked, Served, Taken, serve};

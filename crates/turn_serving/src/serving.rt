@@ -13,10 +13,10 @@ ghost use Rattle.wire_model.specs.Rpc.{IsIdentity};
 ghost use Rattle.turn_serving.specs.Serving.{agent_in, asked_of};
 
 use crate::appending::append;
-use crate::kinds::is_changing;
 use ivy_base::{Memory, Moment, PubKey, head_key};
 use log_records::Record;
 use nfs_model::{Args, Reply};
+use nfs3_objects::is_changing;
 use nfs3_reads::answer;
 use nfs3_writes::{Plan, plan};
 use record_sets::replay;

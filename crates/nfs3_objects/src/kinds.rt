@@ -1,11 +1,11 @@
-//! Which calls may change the tree, and what is said where such a call can't be written.
+//! Which calls may change the tree, and what stands in a refusal that has no attributes.
 
 ghost use Rattle.std.specs.Prelude.{◌≡◌};
 ghost use Rattle.nfs_model.specs.Changing.{is_changing};
 ghost use Rattle.turn_model.specs.Turn.{bare_tail};
 
+use crate::fattr::no_cache_data;
 use nfs_model::{Args, Tail};
-use nfs3_objects::no_cache_data;
 
 /// Whether it is one of the procedures that may write records: SETATTR, WRITE, CREATE, MKDIR, SYMLINK, REMOVE, RMDIR, RENAME
 /// and LINK.
