@@ -36,7 +36,7 @@ hex_octets count word bytes is = by (nat_le 1 (length word) && nat_le (length wo
         let few : length word ≤ 2 * count = leb-true (length word) (2 * count) sizes.1 in
         let read = decode_of-ok padded bytes (is_value (decode_of padded) bytes e) in
         record {
-          size = omega (arith, few, read.2, length-append (replicate (2 * count - length word) 48) word, length-replicate (2 * count - length word) 48);
+          size = omega (arith, few, read.2, length-append (replicate (2 * count - length word) 48) word, length-replicate {A = ℕ} (2 * count - length word) 48);
           each = all_bytes bytes read.3;
         }
     by false fits e = cc e
