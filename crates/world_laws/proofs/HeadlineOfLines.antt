@@ -1,5 +1,5 @@
 -- The headline holds of each line: those by which sessions go on, and the others, in which no turn is had.
-use Rattle.std.proofs.Common.{◌≡◌, ◌⊎◌, inl, inr, ⊎_elim, ℕ, Bool, true, false, List, [], Option, Some, None, refl, sym, ap, ◌∙◌, subst, Contains}
+use Rattle.std.proofs.Common.{◌≡◌, ◌⊎◌, inl, inr, ⊎_elim, ℕ, List, [], Option, Some, None, refl, sym, ap, ◌∙◌, subst}
 use Rattle.std.proofs.lemmas.List.{append-nil}
 use Rattle.ivy_base.specs.declared.key.PubKey.{PubKey}
 use Rattle.hash_signature_model.specs.declared.set.Set.{Set}
@@ -16,14 +16,13 @@ use Rattle.world_model.specs.Calls.{OpenLine, Sending, sending_of}
 use Rattle.world_model.specs.Calls.OpenLine.{sends_nothing, is_open, opens}
 use Rattle.world_model.specs.Faults.{damage_line, holds_line, lose_line, node_named, order_line, work_line}
 use Rattle.world_model.specs.Keepers.{fails_next}
-use Rattle.world_model.specs.Logs.{LogLine, Played, RestartLine, SnapLine, ViewLine, after_entering, at_line, beside, keep_line, keys_of, use_by, use_line, with_newcomer}
+use Rattle.world_model.specs.Logs.{LogLine, Played, RestartLine, SnapLine, ViewLine, after_entering, at_line, beside, keep_line, keys_of, use_by, with_newcomer}
 use Rattle.world_model.specs.Logs.LogLine.{before_ring, known as log_known, begins}
 use Rattle.world_model.specs.Logs.RestartLine.{nobody as none_to_restart, outside as restarts_outside, starts}
 use Rattle.world_model.specs.Logs.SnapLine.{nobody as none_to_snap, outside as snaps_outside, fails as snap_fails, makes as snap_makes}
 use Rattle.world_model.specs.Logs.ViewLine.{known as view_known, no_members, no_former, one_head_key, exceeds, makes}
 use Rattle.world_model.specs.Ring.{stop_line}
 use Rattle.world_model.specs.Step.{Does, IvyStep, Untold}
-use Rattle.world_model.specs.Story.{HadTurn}
 use Rattle.world_model.specs.World.{World, Participant, participant, view_named}
 use Rattle.world_laws.specs.Headline.{HoldsOf, ShowsReply}
 use Rattle.world_laws.specs.Keeps.{Keeps}
@@ -31,7 +30,7 @@ use Rattle.world_laws.specs.Laws.{HeadlineBySteps, IsCall, LinesKeepBySteps, Oth
 use Rattle.world_laws.specs.Frames.{IsLeft}
 use Rattle.world_laws.proofs.AllLines.{command_keeps, does_line}
 use Rattle.world_laws.proofs.HeadlineOfPublishing.{publishing_has_no_turn}
-use Rattle.world_laws.proofs.LineFits.{Fits, command_fits}
+use Rattle.world_laws.proofs.LineFits.{command_fits}
 use Rattle.world_laws.proofs.Lines.{ToSuch}
 use Rattle.world_laws.proofs.SessionLines.{call_lines_keep}
 

@@ -1,22 +1,21 @@
 -- Open sessions: each is in hand, and where others that are stand in their place the world keeps what it should.
-use Rattle.std.proofs.Common.{◌≡◌, ◌⊎◌, ⊎_elim, ℕ, ◌+◌, ◌≤◌, ◌<◌, Bool, true, false, cond, List, [], ◌∷◌, ◌++◌, map, filter, Option, Some, None, refl, sym, ap, ◌∙◌, subst, arith, le_refl, Contains, not}
+use Rattle.std.proofs.Common.{◌≡◌, ℕ, ◌+◌, ◌≤◌, ◌<◌, Bool, true, false, cond, List, [], ◌∷◌, ◌++◌, map, filter, Option, Some, None, refl, sym, ap, ◌∙◌, subst, arith, le_refl, Contains, not}
 use Rattle.std.specs.Prelude.{is_some, option_map}
-use Rattle.std.specs.List.{AllByRecursion, find}
+use Rattle.std.specs.List.{find}
 use Rattle.std.specs.Option.{option_map_or}
 use Rattle.std.specs.Str.{bytes_eq}
-use Rattle.ivy_base.specs.Naming.{NamesTellApart}
 use Rattle.log_model.proofs.Lists.{each, each_from, from_filter}
 use Rattle.script_model.specs.Messages.{Given}
 use Rattle.session_model.specs.Sessions.{Said, Session}
 use Rattle.world_model.specs.Calls.{replied, scene_of}
-use Rattle.world_model.specs.World.{World, NamedSession, named_bytes, session_named, with_session, without_session}
+use Rattle.world_model.specs.World.{World, NamedSession, session_named, with_session, without_session}
 use Rattle.world_model.specs.Story.{Began, HadTurn, Story, began_nothing, began_of, having_begun, with_began, without_began}
 use Rattle.world_model.specs.Logs.{Played}
 use Rattle.world_model.specs.Steps.{Scene}
 use Rattle.world_laws.specs.Causes.{said_at}
 use Rattle.world_laws.specs.Frames.{unchanged}
-use Rattle.world_laws.specs.Keeps.{AreApart, AreSound, EntersOwned, GoesOn, HasRing, HasSaid, IsInHand, IsSoundSession, Keeps}
-use Rattle.world_laws.proofs.Frames.{all_mapped, goes_on_still, held_more, into_map, no_changes, of_ring, ring_of, unchanged_mild, world_changes}
+use Rattle.world_laws.specs.Keeps.{AreApart, EntersOwned, GoesOn, HasRing, HasSaid, IsInHand, IsSoundSession, Keeps}
+use Rattle.world_laws.proofs.Frames.{goes_on_still, into_map, no_changes, of_ring, ring_of, unchanged_mild, world_changes}
 use Rattle.world_laws.proofs.Opening.{said_told}
 use Rattle.world_laws.proofs.Placed.{apart_left, find_left, find_other, find_own, found_among, names_left, names_placed, other_name, placed, same_name}
 use Rattle.world_laws.proofs.SignedHeads.{from_map}
@@ -75,8 +74,7 @@ module _ (w : Played) (keeps : Keeps w) (r : ℕ) (ringed : w.0.replicas ≡ Som
       by None found e = cc e
       by (Some x) found e =
           let its = found_among session_name w.0.sessions name x found in
-          let same : x.session ≡ s = cc e in
-          (
+          let same : x.session ≡ s = cc e in (
             subst (λ (t : Session). IsInHand (scene_of w t (began_of w.1 name)) r) same
                 (subst (λ (n : List ℕ). IsInHand (scene_of w x.session (began_of w.1 n)) r) its.1 (open_hand w.1.begun (le_refl w.1.begun) x its.0)),
             subst (Contains (map session_name w.0.sessions)) its.1 (into_map session_name w.0.sessions x its.0),
@@ -105,7 +103,7 @@ module _ (w : Played) (keeps : Keeps w) (r : ℕ) (ringed : w.0.replicas ≡ Som
         (ring_of w keeps ringed).1,
         (ring_of w keeps ringed).2,
         each_from (λ (x : NamedSession). GoesOn v r x.session) sessions (λ x among.
-        let g : GoesOn w.0 r x.session = (open_so.each_hand x among).goes_on in goes_on_still w.0 v (λ b h. h) (λ q h. h) r x.session g (unchanged g.by) g.is_by),
+            let g : GoesOn w.0 r x.session = (open_so.each_hand x among).goes_on in goes_on_still w.0 v (λ b h. h) (λ q h. h) r x.session g (unchanged g.by) g.is_by),
       );
       met = record { held = keeps.met.held; pending = keeps.met.pending; cached = keeps.met.cached; views = keeps.met.views };
       peers = record { named = keeps.peers.named; apart = keeps.peers.apart; few = keeps.peers.few; known = keeps.peers.known };

@@ -1,5 +1,5 @@
 -- Many steps of a session, and all up to its end, leave what one does.
-use Rattle.std.proofs.Common.{◌≡◌, ◌⊎◌, ⊎_elim, ℕ, Bool, List, [], ◌∷◌, ◌++◌, Option, Some, None, refl, sym, ap, ◌∙◌, subst, append_assoc, Contains}
+use Rattle.std.proofs.Common.{◌≡◌, ⊎_elim, ℕ, Bool, List, [], ◌++◌, Option, Some, refl, sym, ap, ◌∙◌, subst, append_assoc}
 use Rattle.std.proofs.lemmas.List.{append-nil}
 use Rattle.std.proofs.lemmas.List.Elements.{Contains-append_cases}
 use Rattle.ivy_base.specs.declared.key.Key.{Key}
@@ -33,7 +33,6 @@ use Rattle.world_model.specs.Steps.Acts.{asks, asks_in_vain, turns, is_refused, 
 use Rattle.world_model.specs.Steps.Steps.{acts, lacks_memory}
 use Rattle.world_model.specs.Steps.RunsOut.{is_over as runs_over, more as runs_more}
 use Rattle.world_model.specs.Steps.StepsOn.{none as steps_none, is_over as steps_over, more as steps_more}
-use Rattle.world_laws.specs.Headline.{TurnHolds}
 use Rattle.world_laws.specs.Keeps.{IsInHand, Keeps}
 use Rattle.world_laws.specs.Laws.{AllStepsKeep, ManyStepsKeep, StepLeaves, StepsKeep}
 use Rattle.world_laws.proofs.Bringing.{some_same}
