@@ -52,7 +52,7 @@ pub mod Beginning
 mod Opening
 pub mod LineKeys
 pub mod SessionLinesSteps
-pub mod SessionLinesOpen
+pub mod OpenSessions
 pub mod SessionLines
 pub mod HeadlineOfPublishing
 pub mod HeadlineOfLines
