@@ -27,7 +27,7 @@ headline_of_runs lines headline w number script ran keeps runs =
 
 -- ---- what a line that goes on does
 
-abbrev Done : Played → Option Command → Played → List ℕ → Type 0
+abbrev pub Done : Played → Option Command → Played → List ℕ → Type 0
 Done w o next output = (c : Command) × (o ≡ Some c) × Does hss_judged w c (Goes next output)
 
 goes_or_refuses : (next : Played) (output : List ℕ) → Goes next output ≡ Refuses → ⊥
@@ -47,7 +47,7 @@ does_any : (w next : Played) (output : List ℕ) (o : Option Command) → Within
 does_any w next output None h = absurd (goes_or_refuses next output (within (nat_lt most_bytes (sum_by (λ b. length b) w.0.met)) next output (Goes next output ≡ Refuses) h))
 does_any w next output (Some c) h = (c, refl, within (nat_lt most_bytes (sum_by (λ b. length b) w.0.met)) next output (Does hss_judged w c (Goes next output)) h)
 
-does_line : (w next : Played) (output : List ℕ) (o : Option Command) → MayDoFirst w o (Goes next output) → Done w o next output
+pub does_line : (w next : Played) (output : List ℕ) (o : Option Command) → MayDoFirst w o (Goes next output) → Done w o next output
 does_line w next output None h = does_any w next output None h
 does_line w next output (Some (command.Ring nodes replicas)) h = does_any w next output (Some (command.Ring nodes replicas)) h
 does_line w next output (Some (command.Log log id seed sets)) h = does_any w next output (Some (command.Log log id seed sets)) h
@@ -77,9 +77,9 @@ does_line w next output (Some command.End) h = absurd (goes_or_ends next output 
 some_first : (m : List ℕ) (ms : List (List ℕ)) → m ∷ ms ≡ [] → ⊥
 some_first m ms e = cc e
 
-command_keeps : (w next : Played) (output : List ℕ) (c : Command) → (IsLeft c ⊎ (Fits c → ⊥) → Keeps next) → Keeps w → Does hss_judged w c (Goes next output) → Keeps next
+pub command_keeps : (w next : Played) (output : List ℕ) (c : Command) → (IsLeft c ⊎ (Fits c → ⊥) → Keeps next) → Keeps w → Does hss_judged w c (Goes next output) → Keeps next
 command_keeps w next output (command.Ring nodes replicas) left keeps does = ring_lines_keep nodes replicas w next output keeps does
-command_keeps w next output (command.Log log id seed sets) left keeps does = ⊎_elim (λ whole. log_lines_keep log id seed sets whole w next output keeps does) (λ none. left (inl none)) (decide_signer id seed sets)
+command_keeps w next output (command.Log log id seed sets) left keeps does = ⊎_elim (λ whole. log_lines_keep log id seed sets whole w next output keeps does) (λ none. left (inr none)) (decide_signer id seed sets)
 command_keeps w next output (command.View view [] former) left keeps does = left (inr (λ some. some refl))
 command_keeps w next output (command.View view (m ∷ ms) former) left keeps does = view_lines_keep view (m ∷ ms) former (some_first m ms) w next output keeps does
 command_keeps w next output (command.Use log view) left keeps does = use_lines_keep log view w next output keeps does

@@ -50,3 +50,10 @@ pub mod GetsBring
 mod StepsLeft
 pub mod Beginning
 mod Opening
+pub mod LineKeys
+pub mod SessionLinesSteps
+pub mod OpenSessions
+pub mod SessionLines
+pub mod HeadlineOfPublishing
+pub mod HeadlineOfLines
+pub mod HeadlineOfScripts
