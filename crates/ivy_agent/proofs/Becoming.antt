@@ -3,7 +3,6 @@ use Rattle.std.proofs.Common.{◌≡◌, ℕ, ◌+◌, ◌≤◌, ◌<◌, ◌^�
 use Rattle.std.specs.Prelude.{IfSome, IsTrue, option_map}
 use Rattle.std.specs.List.{AllByRecursion}
 use Rattle.std.specs.Ordering.{eq_by_cmp}
-use mathlib.Core.Option.{some-ne-none}
 use Rattle.std.specs.FinMap.Entries.{find-put}
 use Rattle.ivy_base.specs.declared.key.Key.{Key}
 use Rattle.ivy_base.specs.declared.key.PubKey.{PubKey}
@@ -384,7 +383,7 @@ module _ {K S : Type 0} (signs : Signing S) (IsWhole : S → Type 0) (saves : K 
               as_answered x written (Some (kept_of x)) false (written_reply view asked ops h written) (turning.saves drafted.start drafted.last may_write refl)
                   (subst (λ (l : List Record). IsByDefinition signs (refresh_with batch basis) a view false asked now h l (written_reply view asked ops h l)) drafted.written
                   (saved_by_definition signs a view batch basis from.under.0 new asked now well from.under.1 taken ops served_is))
-                  (λ none. absurd (some-ne-none (kept_of x) none)) (kept_with_them IsWhole whole_next) keeper keeper_after (subst (λ (b : Bool). saves keeper (kept_bytes signs (kept_of x)) b keeper_after) is asked_to)
+                  (λ none. absurd cc) (kept_with_them IsWhole whole_next) keeper keeper_after (subst (λ (b : Bool). saves keeper (kept_bytes signs (kept_of x)) b keeper_after) is asked_to)
                   y y_is done.turned count_is bytes (w.given.posts ∙ ap (λ (q : Kept S). q.pending) kept_is ∙ drafted.signed.posts) (w.given.its_front ∙ done_front),
               subst (λ (p : Agent S × Key × Vector). IsSound signs p.0 p.1 p.2) (λ i. (sym y_is i, (sym kept_is i).log, sym done_front i)) sound_with,
             )
@@ -409,7 +408,7 @@ module _ {K S : Type 0} (signs : Signing S) (IsWhole : S → Type 0) (saves : K 
               as_answered (failed (taking signs a h)) written (Some (kept_of x)) true (lost_reply asked) (loses drafted.start drafted.last may_write refl)
                   (subst (λ (l : List Record). IsByDefinition signs (refresh_with batch basis) a view true asked now h l (lost_reply asked)) drafted.written
                   (lost_by_definition signs a view batch basis from.under.0 new asked now well from.under.1 taken ops served_is))
-                  (λ none. absurd (some-ne-none (kept_of x) none)) (kept_with_them IsWhole whole_next) keeper keeper_after (subst (λ (b : Bool). saves keeper (kept_bytes signs (kept_of x)) b keeper_after) is asked_to)
+                  (λ none. absurd cc) (kept_with_them IsWhole whole_next) keeper keeper_after (subst (λ (b : Bool). saves keeper (kept_bytes signs (kept_of x)) b keeper_after) is asked_to)
                   y y_is done.turned count_is bytes (w.given.posts ∙ ap (λ (q : Kept S). q.pending) kept_is) (w.given.its_front ∙ done_front),
               subst (λ (p : Agent S × Key × Vector). IsSound signs p.0 p.1 p.2) (λ i. (sym y_is i, (sym kept_is i).log, sym done_front i)) (sound_taking true),
             )
