@@ -50,3 +50,10 @@ pub mod GetsBring
 mod StepsLeft
 pub mod Beginning
 mod Opening
+mod TurnsRefresh
+mod TurnsFloors
+mod TurnsTaken
+mod TurnsBlocks
+mod TurnsSets
+mod TurnsWorld
+mod TurnsSigning
