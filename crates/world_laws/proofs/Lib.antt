@@ -57,3 +57,4 @@ mod TurnsBlocks
 mod TurnsSets
 mod TurnsWorld
 mod TurnsSigning
+mod TurnsKnown

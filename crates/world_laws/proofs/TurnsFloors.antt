@@ -173,7 +173,7 @@ module _ (view : View) (well : IsView view) where
     records_spelled v (r ∷ rs) h good = records_spelled (join v (full_vector r)) rs (joined_spelled v (full_vector r) h (record_spelled r good.0)) good.1
 
     -- how far they go in their log
-    own_number : (r : Record) → IsGood view own r → seq_of (full_vector r) (head_key_of own) ≡ r.seq
+    pub own_number : (r : Record) → IsGood view own r → seq_of (full_vector r) (head_key_of own) ≡ r.seq
     own_number r good =
         subst (λ (o : PubKey). seq_of (full_vector r) (head_key_of o) ≡ r.seq) good.owned
         (seq_with r.vector r (head_key_of r.owner) good.spelled.of_others ∙ ap (λ (b : Bool). cond b r.seq (seq_of r.vector (head_key_of r.owner))) (same_key_itself (head_key_of r.owner)))
