@@ -58,3 +58,4 @@ mod TurnsSets
 mod TurnsWorld
 mod TurnsSigning
 mod TurnsKnown
+mod TurnsKept
