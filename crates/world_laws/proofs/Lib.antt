@@ -59,3 +59,6 @@ mod TurnsWorld
 mod TurnsSigning
 mod TurnsKnown
 mod TurnsKept
+mod TurnsScene
+mod AnsweredTurnsFit
+mod AnsweredTurns

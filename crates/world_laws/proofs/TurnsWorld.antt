@@ -59,7 +59,7 @@ module _ (w : Played) (keeps : Keeps w) (p : Participant) (is_p : participant w.
   knowing_is : knowing_of w.1 p.name ≡ told.0
   knowing_is = ap (λ o. option_map_or (λ (k : Knowing). k) o (knowing_nothing p.name)) told.1
 
-  told_named : (knowing_of w.1 p.name).name ≡ p.name
+  pub told_named : (knowing_of w.1 p.name).name ≡ p.name
   told_named = ap told_name knowing_is ∙ (found_among told_name w.1.participants p.name told.0 told.1).1
 
   module _ (set : List Record) (turns : List HadTurn) where
