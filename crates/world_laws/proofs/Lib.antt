@@ -62,3 +62,4 @@ mod TurnsKept
 mod TurnsScene
 mod AnsweredTurnsFit
 mod AnsweredTurns
+mod RefusedTurns

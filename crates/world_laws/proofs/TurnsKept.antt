@@ -172,7 +172,7 @@ module _ (p : Participant) (view : View) (now : Knowing) (met more : List (List 
 -- ---- open sessions
 
 -- without a snapshot to load a turn goes on from what is held
-goes_on_held : (a : Agent) (o : Option Basis) → a.to_load ≡ None → going_on a o ≡ a.holding
+pub goes_on_held : (a : Agent) (o : Option Basis) → a.to_load ≡ None → going_on a o ≡ a.holding
 goes_on_held a None none = refl
 goes_on_held a (Some b) none = by (is_some a.to_load) (ap is_some none)
   where

@@ -146,7 +146,7 @@ module _ (w : Played) (keeps : Keeps w) (p : Participant) (is_p : participant w.
   found_other : (name : List ℕ) (o : Participant) → bytes_eq name p.name ≡ false → participant w.0 name ≡ Some o → participant v name ≡ Some o
   found_other name o other is = find_other by_name q name (other_name p.name q.name name (sym fit.named) other) w.0.participants ∙ is
 
-  found_its : (name : List ℕ) → bytes_eq name p.name ≡ true → participant v name ≡ Some q
+  pub found_its : (name : List ℕ) → bytes_eq name p.name ≡ true → participant v name ≡ Some q
   found_its name is = subst (λ n. participant v n ≡ Some q) (fit.named ∙ sym (same_name name p.name is))
       (find_own by_name q w.0.participants (subst (Contains (map by_name w.0.participants)) (sym fit.named) (into_map by_name w.0.participants p among)))
 
