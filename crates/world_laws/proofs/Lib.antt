@@ -50,16 +50,16 @@ pub mod GetsBring
 mod StepsLeft
 pub mod Beginning
 mod Opening
-mod TurnsRefresh
-mod TurnsFloors
-mod TurnsTaken
+pub mod TurnsRefresh
+pub mod TurnsFloors
+pub mod TurnsTaken
 mod TurnsBlocks
-mod TurnsSets
-mod TurnsWorld
+pub mod TurnsSets
+pub mod TurnsWorld
 mod TurnsSigning
-mod TurnsKnown
+pub mod TurnsKnown
 mod TurnsKept
 mod TurnsScene
 mod AnsweredTurnsFit
-mod AnsweredTurns
-mod RefusedTurns
+pub mod AnsweredTurns
+pub mod RefusedTurns
