@@ -1,7 +1,6 @@
 -- A turn that was answered leaves a world that keeps what it should, and such a session; and it is on the replay.
-use Rattle.std.proofs.Common.{◌≡◌, ⊎_elim, inl, ℕ, ◌+◌, ◌<◌, Bool, true, false, List, [], ◌∷◌, ◌++◌, length, Option, Some, None, refl, sym, ap, ◌∙◌, subst, Contains}
+use Rattle.std.proofs.Common.{◌≡◌, ⊎_elim, inl, ℕ, ◌+◌, ◌<◌, Bool, true, false, List, [], ◌∷◌, ◌++◌, Option, Some, None, refl, sym, ap, ◌∙◌, subst, Contains}
 use Rattle.std.specs.Prelude.{is_some}
-use Rattle.std.specs.List.{AllByRecursion}
 use Rattle.std.proofs.lemmas.List.Elements.{Contains-append_left, Contains-append_right}
 use Rattle.ivy_base.specs.Naming.{NamesTellApart}
 use Rattle.ivy_io.specs.Keepers as memory
@@ -24,15 +23,14 @@ use Rattle.agent_model.specs.Turning.Turns.{answers as turn_answers}
 use Rattle.session_model.specs.Brought.{brought_in}
 use Rattle.session_model.specs.Courses.{HasRefreshed, answered}
 use Rattle.session_model.specs.Courses.TakesTurn.{answers, begins_anew, gives_up}
-use Rattle.session_model.specs.Refreshing.{Done, Note, RefreshEnd}
+use Rattle.session_model.specs.Refreshing.{Done, Note}
 use Rattle.session_model.specs.Replies.{Asks, said_of}
-use Rattle.session_model.specs.Sessions.{Refreshing, Session, Stage, in_publishing_order, publishing}
+use Rattle.session_model.specs.Sessions.{Session, in_publishing_order, publishing}
 use Rattle.world_model.specs.Agents.{Agent, IsTurnIn, Kept, TakesTurn, hss, kept_bytes, own}
 use Rattle.world_model.specs.Keepers.{Keeper, asked_to_save, fails_next}
 use Rattle.world_model.specs.World.{World, Participant, named_bytes, participant}
 use Rattle.world_model.specs.Story.{HadTurn, Story, knowing_of, known_of}
 use Rattle.world_model.specs.Steps.{Scene, after_turn, met_by, turn_told, world_after}
-use Rattle.world_model.specs.Logs.{Played}
 use Rattle.world_laws.specs.Causes.{HasCause}
 use Rattle.world_laws.specs.Causes.HasCause.{turned as by_turn}
 use Rattle.world_laws.specs.Headline.{IsOnReplay, TurnHolds}
@@ -42,6 +40,7 @@ use Rattle.world_laws.proofs.Bringing.{its_key, its_view}
 use Rattle.world_laws.proofs.LackingSteps.{sound_taken}
 use Rattle.world_laws.proofs.MoreMet.{more_verified}
 use Rattle.world_laws.proofs.Publishing.{begins}
+use Rattle.world_laws.proofs.SecondTurns.{one_view}
 use Rattle.world_laws.proofs.WholePublishing.{each_published}
 use Rattle.world_laws.proofs.AnsweredTurnsFit.{all_of, all_owned, lost_fits, more, posts, saved_fits, saved_knows, saving, still_fits, still_knows}
 use Rattle.world_laws.proofs.TurnsKept.{after_of}
@@ -234,11 +233,11 @@ module _ (c : Scene) (r : ℕ) (p : Participant) (keeps : Keeps (c.world, c.stor
 
       save_leaves : fails_next p.keeper ≡ false
           → StepLeaves c (record {
-          world = v (a.signer.made + 1) its_holding its_posts a.has_failed (asked_to_save p.keeper (Some saved_now)) applied;
-          story = su (a.signer.made + 1) its_holding its_posts a.has_failed (asked_to_save p.keeper (Some saved_now)) applied;
-          session = t (a.signer.made + 1) its_holding its_posts a.has_failed (asked_to_save p.keeper (Some saved_now)) applied;
-          began = c.began;
-        }) r
+            world = v (a.signer.made + 1) its_holding its_posts a.has_failed (asked_to_save p.keeper (Some saved_now)) applied;
+            story = su (a.signer.made + 1) its_holding its_posts a.has_failed (asked_to_save p.keeper (Some saved_now)) applied;
+            session = t (a.signer.made + 1) its_holding its_posts a.has_failed (asked_to_save p.keeper (Some saved_now)) applied;
+            began = c.began;
+          }) r
       save_leaves fine = leaves (a.signer.made + 1) its_holding its_posts a.has_failed (asked_to_save p.keeper (Some saved_now)) applied
           (saved_fits c r p keeps hand is_p notes given xid asked reply done asks applied h basis_is may turned is_turn before last may_write by_definition set_is (asked_to_save p.keeper (Some saved_now)) (saved_kept saved_now fine))
           (λ apart. replayed (a.signer.made + 1) its_holding its_posts a.has_failed (asked_to_save p.keeper (Some saved_now)) applied apart
@@ -295,9 +294,6 @@ module _ (c : Scene) (r : ℕ) (p : Participant) (keeps : Keeps (c.world, c.stor
 
 -- ---- the law
 
-same_view : (v u : View) → Some v ≡ Some u → v ≡ u
-same_view v u e = cc e
-
 module _ (c : Scene) (r : ℕ) (p : Participant) (keeps : Keeps (c.world, c.story)) (hand : IsInHand c r) (is_p : participant c.world c.session.by ≡ Some p) (reply : Reply) (turned : Turned) (replies : turned.reply ≡ reply) where
   abbrev Holds : View → ℕ → Agent → Option Kept → Session → Type 0
   Holds view applied after save t = StepLeaves c (record { world = world_after c.world (record (after_turn p after save) { work = applied }); story = turn_told c p view after turned; session = t; began = c.began }) r
@@ -320,4 +316,4 @@ module _ (c : Scene) (r : ℕ) (p : Participant) (keeps : Keeps (c.world, c.stor
 pub answered_turns_keep : AnsweredTurnsKeep
 answered_turns_keep c r p view reply applied after save t turned keeps hand ringed is_p in_view takes replies is_turn =
     subst (λ (u : View). TakesTurn c.world.now p.agent u (fails_next p.keeper) c.session (Answered reply applied) after save t → IsIts c r p keeps hand is_p reply turned replies u → Holds c r p keeps hand is_p reply turned replies u applied after save t)
-    (same_view c.session.standing.view view (sym (its_view c r hand p is_p) ∙ in_view)) (takes_so c r p keeps hand is_p reply turned replies applied after save t) takes is_turn
+    (one_view c.session.standing.view view (sym (its_view c r hand p is_p) ∙ in_view)) (takes_so c r p keeps hand is_p reply turned replies applied after save t) takes is_turn

@@ -1,6 +1,6 @@
 -- The participant after a turn that was answered: it keeps what it should, by what was written and what became of the save.
-use Rattle.std.proofs.Common.{◌≡◌, inr, ⊎_elim, ℕ, ◌+◌, ◌≤◌, ◌<◌, Bool, true, false, List, [], ◌∷◌, ◌++◌, length, map, fold, Option, Some, None, refl, sym, ap, ◌∙◌, subst, arith, Contains}
-use Rattle.std.specs.Prelude.{IfSome, IsTrue, is_some, ◌-◌}
+use Rattle.std.proofs.Common.{◌≡◌, inr, ℕ, ◌+◌, ◌≤◌, ◌<◌, Bool, true, List, [], ◌∷◌, ◌++◌, length, map, fold, Option, Some, None, refl, sym, ap, ◌∙◌, subst, arith, Contains}
+use Rattle.std.specs.Prelude.{IfSome, IsTrue, is_some}
 use Rattle.std.specs.List.{AllByRecursion}
 use Rattle.std.proofs.lemmas.List.{append-nil, map-append}
 use Rattle.std.proofs.lemmas.List.Sums.{fold-append}
@@ -8,24 +8,20 @@ use Rattle.std.proofs.lemmas.List.Elements.{Contains-append_left, Contains-appen
 use Rattle.ring_model.proofs.Lists.{all_weaker}
 use Rattle.ivy_base.specs.declared.key.Key.{Key}
 use Rattle.ivy_base.specs.Naming.{NamesTellApart, head_key_of}
-use Rattle.ivy_io.specs.Keepers as memory
 use Rattle.log_model.specs.Chain.{IsGood}
 use Rattle.log_model.specs.Closed.{log_of}
-use Rattle.log_model.specs.Rank.{front, full_vector, own_entry}
+use Rattle.log_model.specs.Rank.{full_vector, own_entry}
 use Rattle.log_model.specs.Record.{Record}
 use Rattle.log_model.specs.Spelling.{most_records, record_block}
-use Rattle.log_model.specs.Standing.{Stand, StandsAmong}
+use Rattle.log_model.specs.Standing.{StandsAmong}
 use Rattle.log_model.specs.Vector.{Vector, join, seq_of}
 use Rattle.log_model.specs.View.{View}
 use Rattle.log_model.proofs.Lists.{each, each_from, here}
-use Rattle.hss_keys.specs.Signer.{capacity}
 use Rattle.nfs_model.specs.declared.replies.Reply.{Reply}
-use Rattle.turn_model.specs.Basis.{Holding, nothing_held}
-use Rattle.turn_model.specs.Known.{IsVerified}
+use Rattle.turn_model.specs.Basis.{Holding}
 use Rattle.turn_model.specs.Turn.{Asked, Turned}
 use Rattle.dht_ids.specs.declared.post.Post.{Post}
 use Rattle.agent_model.specs.Agent.{head_post, joined, kept_of, record_post, with_posts}
-use Rattle.agent_model.specs.SavedBytes.{ArePostsSpelled}
 use Rattle.agent_model.specs.Standing.{Refresh, going_on}
 use Rattle.agent_model.specs.Turning.{IsByDefinition, MayTake, MayWrite, with_held}
 use Rattle.session_laws.specs.Loading.{IsSnapshotOf}
@@ -33,29 +29,23 @@ use Rattle.session_model.specs.Courses.{HasRefreshed}
 use Rattle.session_model.specs.Refreshing.{Note}
 use Rattle.session_model.specs.Replies.{Asks}
 use Rattle.world_model.specs.Agents.{Agent, IsKept, IsTurnIn, Kept, hss, kept_bytes, own, own_reach}
-use Rattle.world_model.specs.Keepers.{Keeper, asked_to_save, fails_next}
+use Rattle.world_model.specs.Keepers.{Keeper, fails_next}
 use Rattle.world_model.specs.World.{Participant, named_bytes, participant}
 use Rattle.world_model.specs.Story.{Knowing, knowing_of, known_of}
-use Rattle.world_model.specs.Steps.{Scene, heads_by, met_by}
-use Rattle.world_model.specs.Logs.{Played}
-use Rattle.world_laws.specs.Keeps.{AreParticipants, IsInHand, IsKeptSo, IsMetPost, IsSoundIn, IsSoundKept, IsSoundKeptIn, Keeps, SignsOnce, sealed_with}
+use Rattle.world_model.specs.Steps.{Scene, met_by}
+use Rattle.world_laws.specs.Keeps.{AreParticipants, IsInHand, IsKeptSo, IsMetPost, IsSoundIn, IsSoundKeptIn, Keeps, SignsOnce}
 use Rattle.world_laws.proofs.Frames.{into_map}
 use Rattle.world_laws.proofs.MoreMet.{more_posts, more_snapshot, some_weaker}
 use Rattle.world_laws.proofs.TurnsFloors.{IsSpelledIn, joined_first, joined_no_more, joined_second, records_no_more, records_reach, records_spelled}
 use Rattle.world_laws.proofs.TurnsKept.{after_of, log_with_own, new_kept_sound, stays_sound, still_kept_in}
-use Rattle.world_laws.proofs.TurnsKnown.{KnowsThen, asked_is, knows_more, same_own_log, taken, taken_known, turned_is, writes, written_known, written_verified}
-use Rattle.world_laws.proofs.TurnsScene.{agent_owned, heads_now, in_view, is_found, k, kept_sound, kept_viewed_now, keeper_owned, knowing, met_grows, of_view, pending_met, played, post_met, saved, snapshot_now, snapshots_now, so, view}
-use Rattle.world_laws.proofs.TurnsSets.{lost_set, read_set, saved_set}
+use Rattle.world_laws.proofs.TurnsKnown.{KnowsThen, knows_more, same_own_log, taken, taken_known, written_known}
+use Rattle.world_laws.proofs.TurnsScene.{agent_owned, anyway, heads_now, in_view, is_found, kept_sound, kept_viewed_now, keeper_owned, met_grows, of_view, pending_met, post_met, saved, snapshot_now, snapshots_now, so}
 use Rattle.world_laws.proofs.TurnsSigning.{kept_still, kept_then, left_before, lost_kept, lost_signs, new_kept, next_each, next_last, still_signs, turned_to, wrote_signs}
 use Rattle.world_laws.proofs.TurnsWorld.{FitsTurn, knowing_then}
 
 -- what is held goes as far as it did, with the records that it has more
 joined_more : (h : Holding) (written : List Record) → joined (with_held h written) ≡ fold join (joined h) (map full_vector written)
 joined_more h written = ap (fold join h.basis.front) (map-append full_vector h.held written) ∙ fold-append join h.basis.front (map full_vector h.held) (map full_vector written)
-
-anyway : (o : Option View) → IfSome o (λ v. Unit {0})
-anyway None = tt
-anyway (Some v) = tt
 
 module _ (c : Scene) (r : ℕ) (p : Participant) (keeps : Keeps (c.world, c.story)) (hand : IsInHand c r) (is_p : participant c.world c.session.by ≡ Some p) where
   abbrev a : Agent

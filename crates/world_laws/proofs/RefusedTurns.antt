@@ -1,7 +1,6 @@
 -- A turn that was refused leaves a world that keeps what it should, and such a session: it begins anew, or is over.
-use Rattle.std.proofs.Common.{◌≡◌, ⊎_elim, inl, ℕ, zero, suc, ◌+◌, ◌≤◌, ◌<◌, Bool, true, false, cond, ◌&&◌, List, [], ◌∷◌, ◌++◌, Option, Some, None, refl, sym, ap, ◌∙◌, subst, arith, le_refl, Contains}
+use Rattle.std.proofs.Common.{◌≡◌, inl, ℕ, zero, suc, ◌≤◌, ◌<◌, Bool, true, false, cond, ◌&&◌, List, [], ◌∷◌, ◌++◌, Option, Some, None, refl, sym, ap, ◌∙◌, subst, arith, le_refl, Contains}
 use Rattle.std.specs.Prelude.{IfSome, is_some, Ok}
-use Rattle.std.specs.List.{AllByRecursion}
 use Rattle.std.proofs.lemmas.List.{append-nil}
 use Rattle.std.proofs.lemmas.Slice.Eq.{bytes_eq-Decides}
 use Rattle.ivy_base.specs.declared.key.Key.{Key}
@@ -27,30 +26,29 @@ use Rattle.session_model.specs.Brought.{Brought, BlockOf, brought_in}
 use Rattle.session_model.specs.Courses.{HasRefreshed, IsRefusal, anew, ended}
 use Rattle.session_model.specs.Courses.TakesTurn.{answers, begins_anew, gives_up}
 use Rattle.session_model.specs.Refreshing.{FailsBy, Loaded, LoadsFor, Note, RefreshEnd, Refreshes, counting, start_of}
-use Rattle.session_model.specs.Refreshing.LoadsFor.{none as nothing_to_load, some as snapshot_to_load}
+use Rattle.session_model.specs.Refreshing.LoadsFor.{some as snapshot_to_load}
 use Rattle.session_model.specs.Refreshing.Refreshes.{loading, fetching}
 use Rattle.session_model.specs.Replies.{Asks, said_no_memory}
-use Rattle.session_model.specs.Sessions.{Refreshing, Session, Stage}
+use Rattle.session_model.specs.Sessions.{Session, Stage}
 use Rattle.world_model.specs.Agents.{Agent, Kept, TakesTurn, hss, own}
 use Rattle.world_model.specs.Keepers.{fails_next}
 use Rattle.world_model.specs.World.{World, Participant, named_bytes, participant}
-use Rattle.world_model.specs.Story.{Began, HadTurn, Knowing, Story, knowing_of, known_of}
+use Rattle.world_model.specs.Story.{Began, HadTurn, Knowing, knowing_of, known_of}
 use Rattle.world_model.specs.Steps.{Scene, after_turn, met_by, world_after}
-use Rattle.world_model.specs.Logs.{Played}
 use Rattle.world_laws.specs.Causes.{said_at}
 use Rattle.world_laws.specs.Causes.HasCause.{no_memory}
-use Rattle.world_laws.specs.Keeps.{BeganFresh, HasSaid, IsAtStage, IsInHand, IsRefreshing, IsSoundIn, IsSoundSession, Keeps, KeepsUp}
+use Rattle.world_laws.specs.Keeps.{HasSaid, IsAtStage, IsInHand, IsRefreshing, IsSoundIn, IsSoundSession, Keeps, KeepsUp}
 use Rattle.world_laws.specs.Keeps.KeepsUp.{still, grown, dropped}
 use Rattle.world_laws.specs.Laws.{RefusedTurnsKeep, StepLeaves}
-use Rattle.world_laws.specs.Frames.{unchanged}
 use Rattle.world_laws.proofs.Bringing.{are_named, in_a_view, its_key, its_view, knew_stand, some_same, starts}
-use Rattle.world_laws.proofs.MoreMet.{more_posts, more_snapshot, more_snapshots, more_stand, more_to_load, more_verified, some_weaker}
+use Rattle.world_laws.proofs.Beginning.{none_last}
+use Rattle.world_laws.proofs.MoreMet.{more_posts, more_snapshots, more_stand, more_to_load, more_verified}
 use Rattle.world_laws.proofs.NotRefused.{fresh_not_below}
 use Rattle.world_laws.proofs.Placed.{differ}
-use Rattle.world_laws.proofs.SecondTurns.{grown_not_behind, keeps_up, none_refused_later, sorted}
+use Rattle.world_laws.proofs.SecondTurns.{goes_on_held, grown_not_behind, keeps_up, none_refused_later, one_view, sorted}
 use Rattle.world_laws.proofs.TakingOn.{on_so}
-use Rattle.world_laws.proofs.TurnsKept.{after_of, goes_on_held, still_kept_in}
-use Rattle.world_laws.proofs.TurnsScene.{agent_now, agent_owned, all_sound, in_view, is_by, is_found, is_there, kept_sound, kept_viewed_now, keeper_owned, met_grows, pending_met, saved, snapshots_now, so}
+use Rattle.world_laws.proofs.TurnsKept.{after_of, still_kept_in}
+use Rattle.world_laws.proofs.TurnsScene.{agent_now, agent_owned, all_sound, anyway, in_view, is_by, is_found, is_there, kept_sound, kept_viewed_now, keeper_owned, met_grows, pending_met, saved, snapshots_now, so}
 use Rattle.world_laws.proofs.TurnsSigning.{left_before, still_signs, turned_to}
 use Rattle.world_laws.proofs.TurnsWorld.{FitsTurn, StaysSound, ToldThen, apart_before, found_its, keeps_then, knowing_then, world_then}
 
@@ -77,14 +75,6 @@ went_on a {s = s} load held floor (fetching basis loads fetches) = by basis load
     by : {loaded : List Brought} (o : Option Basis) → LoadsFor s.to_load loaded (Loaded o) → joined (going_on a (counting s.floor o)) ≡ start_of s (counting s.floor o)
     by None loads = held
     by (Some b) loads = counted b (ap is_some load ∙ loaded_some b loads) (dominates s.floor b.front) refl
-
-none_last : (before : List Brought) (last : Brought) → [] ≡ before ++ last ∷ [] → ⊥
-none_last [] last e = cc e
-none_last (b ∷ before) last e = cc e
-
-anyway : (o : Option View) → IfSome o (λ v. Unit {0})
-anyway None = tt
-anyway (Some v) = tt
 
 module _ (c : Scene) (r : ℕ) (p : Participant) (keeps : Keeps (c.world, c.story)) (hand : IsInHand c r) (is_p : participant c.world c.session.by ≡ Some p)
     (notes : List Note) (given : Refresh) (xid : ℕ) (asked : Asked) (done : HasRefreshed c.session notes given) (asks : Asks c.session.standing.view c.session.message xid asked) where
@@ -359,9 +349,6 @@ module _ (c : Scene) (r : ℕ) (p : Participant) (keeps : Keeps (c.world, c.stor
 
 -- ---- the law
 
-same_view : (v u : View) → Some v ≡ Some u → v ≡ u
-same_view v u e = cc e
-
 module _ (c : Scene) (r : ℕ) (p : Participant) (keeps : Keeps (c.world, c.story)) (hand : IsInHand c r) (is_p : participant c.world c.session.by ≡ Some p) where
   abbrev Leaves : Agent → Option Kept → Session → Type 0
   Leaves after save t = StepLeaves c (record c { world = world_after c.world (after_turn p after save); session = t; began = record c.began { knew = known_of c.story p.name } }) r
@@ -389,4 +376,4 @@ module _ (c : Scene) (r : ℕ) (p : Participant) (keeps : Keeps (c.world, c.stor
 pub refused_turns_keep : RefusedTurnsKeep
 refused_turns_keep c r p view end after save t keeps hand ringed is_p in_view refusal takes =
     refused_so c r p keeps hand is_p end after save t refusal
-    (subst (λ (u : View). TakesTurn c.world.now p.agent u (fails_next p.keeper) c.session end after save t) (sym (same_view c.session.standing.view view (sym (its_view c r hand p is_p) ∙ in_view))) takes)
+    (subst (λ (u : View). TakesTurn c.world.now p.agent u (fails_next p.keeper) c.session end after save t) (sym (one_view c.session.standing.view view (sym (its_view c r hand p is_p) ∙ in_view))) takes)

@@ -62,11 +62,11 @@ started_held {given = given} refreshes none = ⊎_elim (λ held. held) (λ f. ab
 
 -- ---- of a session's agent
 
-one_view : (v w : View) → Some v ≡ Some w → v ≡ w
+pub one_view : (v w : View) → Some v ≡ Some w → v ≡ w
 one_view v w e = cc e
 
 -- without a snapshot to load a turn goes on from what is held
-goes_on_held : (a : Agent) (o : Option Basis) → a.to_load ≡ None → going_on a o ≡ a.holding
+pub goes_on_held : (a : Agent) (o : Option Basis) → a.to_load ≡ None → going_on a o ≡ a.holding
 goes_on_held a None none = refl
 goes_on_held a (Some b) none = by (is_some a.to_load) (ap is_some none)
   where

@@ -1,18 +1,15 @@
 -- What holds of the participant whose session has a turn, before it.
-use Rattle.std.proofs.Common.{◌≡◌, ⊎_elim, ℕ, List, ◌++◌, map, fold, Option, Some, refl, sym, ap, ◌∙◌, subst, Contains}
+use Rattle.std.proofs.Common.{◌≡◌, ℕ, List, map, Option, Some, None, ap, ◌∙◌, subst, Contains}
 use Rattle.std.specs.Prelude.{IfSome, IsTrue, is_some}
 use Rattle.std.specs.List.{AllByRecursion}
-use Rattle.std.proofs.lemmas.List.Elements.{Contains-append_left, Contains-append_right, Contains-append_cases}
-use Rattle.ivy_base.specs.Naming.{NamesTellApart, head_key_of}
+use Rattle.ivy_base.specs.Naming.{NamesTellApart}
 use Rattle.log_model.specs.Closed.{log_of}
-use Rattle.log_model.specs.Vector.{stamp_at}
 use Rattle.log_model.specs.View.{View, IsView, is_named as is_of_view}
-use Rattle.log_model.proofs.Lists.{each, each_from}
+use Rattle.log_model.proofs.Lists.{each}
 use Rattle.view_blocks.specs.Faults.{HasKeys}
-use Rattle.turn_model.specs.Known.{EndsAt}
 use Rattle.dht_ids.specs.declared.post.Post.{Post}
 use Rattle.session_laws.specs.Loading.{IsSnapshotOf}
-use Rattle.world_model.specs.Agents.{IsKept, Kept, kept_bytes, own}
+use Rattle.world_model.specs.Agents.{Kept, own}
 use Rattle.world_model.specs.World.{Participant, named_bytes, participant}
 use Rattle.world_model.specs.Story.{Knowing, knowing_of}
 use Rattle.world_model.specs.Steps.{Scene, met_by}
@@ -32,6 +29,11 @@ module _ (met : List (List ℕ)) (posts : List Post) where
 
   pub post_met : (post : Post) → Contains posts post → Contains (met_by met posts) post.bytes
   post_met post c = met_then met (map (λ (o : Post). o.bytes) posts) post.bytes (into_map (λ (o : Post). o.bytes) posts post c)
+
+-- where there is no snapshot to load, whatever the view
+pub anyway : (o : Option View) → IfSome o (λ v. Unit {0})
+anyway None = tt
+anyway (Some v) = tt
 
 -- ---- the participant
 

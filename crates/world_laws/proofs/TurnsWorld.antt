@@ -1,21 +1,19 @@
 -- A participant changes by a turn and knows another set, and its open sessions stay.
-use Rattle.std.proofs.Common.{◌≡◌, ⊎_elim, ℕ, ◌≤◌, ◌<◌, Bool, true, false, cond, List, ◌++◌, map, Option, Some, None, refl, sym, ap, ◌∙◌, subst, Contains}
-use Rattle.std.specs.Prelude.{IfSome, Ok}
+use Rattle.std.proofs.Common.{◌≡◌, ℕ, ◌≤◌, ◌<◌, Bool, true, false, cond, List, ◌++◌, map, Option, Some, None, refl, sym, ap, ◌∙◌, subst, Contains}
+use Rattle.std.specs.Prelude.{IfSome}
 use Rattle.std.specs.List.{AllByRecursion, find}
 use Rattle.std.specs.Option.{option_map_or}
 use Rattle.std.specs.Str.{bytes_eq}
-use Rattle.std.proofs.lemmas.List.Elements.{Contains-append_left, Contains-append_cases}
+use Rattle.std.proofs.lemmas.List.Elements.{Contains-append_left}
 use Rattle.ring_model.proofs.Lists.{all_weaker}
-use Rattle.ivy_base.specs.declared.key.Key.{Key}
 use Rattle.ivy_base.specs.Naming.{NamesTellApart}
 use Rattle.log_model.proofs.Lists.{each, each_append, each_from, in_nothing}
 use Rattle.log_model.specs.Record.{Record}
-use Rattle.log_model.specs.Vector.{Dominates, Entry}
+use Rattle.log_model.specs.Vector.{Dominates}
 use Rattle.log_model.specs.View.{View}
 use Rattle.turn_model.specs.Basis.{Holding, fresh_basis, nothing_held}
 use Rattle.block_cache.specs.Blocks.{IsCache}
 use Rattle.session_laws.specs.Loading.{IsSnapshotOf}
-use Rattle.session_model.specs.Brought.{all_heads, brought_in, BlockOf}
 use Rattle.session_model.specs.Sessions.{Said, Session}
 use Rattle.world_model.specs.Agents.{Agent, own}
 use Rattle.world_model.specs.World.{World, NamedSession, Participant, named_bytes, participant, with_participant}
