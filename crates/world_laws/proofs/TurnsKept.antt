@@ -1,5 +1,5 @@
 -- What a keeper's bytes say after a turn, and what holds of the open sessions of the turn's participant.
-use Rattle.std.proofs.Common.{◌≡◌, ⊎_elim, ◌⊎◌, inl, inr, ℕ, ◌≤◌, ◌<◌, ◌^◌, Bool, true, false, cond, ◌&&◌, List, [], ◌∷◌, ◌++◌, map, Option, Some, None, refl, sym, ap, ◌∙◌, subst, arith, Contains}
+use Rattle.std.proofs.Common.{◌≡◌, ⊎_elim, ◌⊎◌, inl, inr, ℕ, ◌≤◌, ◌<◌, ◌^◌, Bool, true, false, cond, List, [], ◌∷◌, ◌++◌, map, Option, Some, None, refl, sym, ap, ◌∙◌, subst, arith, Contains}
 use Rattle.std.specs.Prelude.{IfSome, IsTrue, is_some}
 use Rattle.std.specs.List.{AllByRecursion}
 use Rattle.std.specs.Ordering.{eq_by_cmp}
@@ -22,7 +22,7 @@ use Rattle.turn_model.specs.Basis.{Basis, Holding, HoldsAll, fresh_basis, nothin
 use Rattle.turn_model.specs.Known.{EndsAt, IsVerified}
 use Rattle.dht_ids.specs.declared.post.Post.{Post}
 use Rattle.agent_model.specs.Agent.{joined, kept_of}
-use Rattle.agent_model.specs.Standing.{dominates, going_on}
+use Rattle.agent_model.specs.Standing.{going_on}
 use Rattle.session_model.specs.Sessions.{Session}
 use Rattle.session_laws.specs.Loading.{IsSnapshotOf}
 use Rattle.session_laws.proofs.Starting.{joined_front}

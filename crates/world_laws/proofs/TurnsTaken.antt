@@ -1,5 +1,5 @@
 -- What a turn takes, by the heads that its session was brought: which candidates there are, what they bring, and that this is all one.
-use Rattle.std.proofs.Common.{◌≡◌, ◌⊎◌, inl, inr, ⊎_elim, ℕ, ◌+◌, Bool, List, [], ◌∷◌, map, refl, sym, ap, ◌∙◌, subst, Contains}
+use Rattle.std.proofs.Common.{◌≡◌, ◌⊎◌, inl, inr, ⊎_elim, ℕ, Bool, List, [], ◌∷◌, map, refl, sym, ap, ◌∙◌, subst, Contains}
 use Rattle.std.specs.Cmp.{ranked}
 use Rattle.std.specs.List.{AllByRecursion}
 use Rattle.std.specs.Ordering.{eq_by_cmp, is_lt, nat_cmp, ordering_reverse}
@@ -11,7 +11,7 @@ use Rattle.ivy_base.specs.Naming.{NamesTellApart, head_key_of, key_cmp, owner_cm
 use Rattle.tree_model.proofs.Keys.{exact_keys, keys_total}
 use Rattle.candidate_laws.proofs.OneCandidate.{IsNewest, IsOne, cases_of}
 use Rattle.candidate_laws.proofs.OneChain.{one_chain}
-use Rattle.log_model.specs.Chain.{GoesOn, IsChain, IsGood, LinkedFrom}
+use Rattle.log_model.specs.Chain.{IsChain, IsGood, LinkedFrom}
 use Rattle.log_model.specs.Closed.{IsClosed, IsClosedPart, log_of}
 use Rattle.log_model.specs.Record.{Record}
 use Rattle.log_model.specs.Spelling.{no_name}
