@@ -57,3 +57,16 @@ pub mod SessionLines
 pub mod HeadlineOfPublishing
 pub mod HeadlineOfLines
 pub mod HeadlineOfScripts
+pub mod TurnsRefresh
+pub mod TurnsFloors
+pub mod TurnsTaken
+mod TurnsBlocks
+pub mod TurnsSets
+pub mod TurnsWorld
+mod TurnsSigning
+pub mod TurnsKnown
+mod TurnsKept
+mod TurnsScene
+mod AnsweredTurnsFit
+pub mod AnsweredTurns
+pub mod RefusedTurns

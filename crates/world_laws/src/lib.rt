@@ -17,15 +17,19 @@
 //! session that begins), `proofs/Afresh.antt` (a participant that changes, whose open sessions are gone), `proofs/OtherBytes.antt`
 //! (one whose keeper holds other bytes), `proofs/Newcomer.antt` (one more), `proofs/EnteredViews.antt` (what is known of another
 //! view's members is closed), `proofs/KnownHeads.antt` (the heads that left are over what is known), `proofs/SignatureBytes.antt`
-//! (signatures are bytes, and few), `proofs/OpenSessions.antt` (an open session is in hand; other open sessions that are stand in
-//! their place), `proofs/SessionLinesSteps.antt` (what many steps of a session leave, and what they leave as it was),
-//! `proofs/HeadlineOfPublishing.antt` (publishing alone has no turn), `proofs/LineKeys.antt` (the key of a log that a line begins
-//! can be saved). Nothing here runs, so there are no costs.
+//! (signatures are bytes, and few), `proofs/OpenSessions.antt` (an open session is in hand; other open sessions that are
+//! stand in their place), `proofs/SessionLinesSteps.antt` (what many steps of a session leave, and what they leave as it
+//! was), `proofs/HeadlineOfPublishing.antt` (publishing alone has no turn), `proofs/LineKeys.antt` (the key of a log that a
+//! line begins can be saved), `proofs/TurnsWorld.antt` (a participant that changes by a turn, whose open sessions stay),
+//! `proofs/TurnsKnown.antt` (what an agent knows after a turn), `proofs/TurnsSets.antt` (the set that a turn leaves),
+//! `proofs/TurnsFloors.antt` (a floor with a front joined into it), `proofs/TurnsTaken.antt` (a turn's candidates are one
+//! list), `proofs/TurnsRefresh.antt` (a refresh ends in one way, whatever names tell), `proofs/AnsweredTurns.antt` and
+//! `proofs/RefusedTurns.antt` (turns keep the world). Nothing here runs, so there are no costs.
 #![tactic(auto)]
 
 ghost use Rattle.world_laws.specs.Frames.{DamageLinesKeep, EachReplyBySteps, HeadlineOfRuns, JoinLinesKeep, KeeperLinesKeep, LinesKeepByThese, LogLinesKeep, MildChangesKeep, MoreBlocksKeep, RestartLinesKeep, RingLinesKeep, RoundLinesKeep, StillLinesKeep, StopLinesKeep, UseLinesKeep, ViewLinesKeep};
 ghost use Rattle.world_laws.specs.Kinds.{LineHasOneKind};
-ghost use Rattle.world_laws.specs.Laws.{AlikeTurnsAnswerAlike, AllStepsKeep, CallLinesKeep, CallsBegin, ClashIsDecided, EmptyKeeps, FewerStayApart, FreshTurnsAreAnswered, GetsBringKeep, GetsGoOnKeep, HeadlineBySteps, HeadsAreSavedFirst, KeptOnce, KnownIsOne, LackingKeeps, LackingStepsKeep, LeafSignsOnce, LinesKeepBySteps, ManyStepsKeep, MetGrows, OneTruth, OpenLineKeeps, OtherLogsDontCount, OthersHaveNoTurn, PublishingKeeps, PutsKeep, ReceivingKeeps, RefreshBrings, RefreshEndsInTurn, RefreshMayTurn, ScriptsBySteps, SecondTurnIsAnswered, SettlingKeeps, StepsKeepByTurns, StillLinesChangeNothing, TakingKeeps, UpperLeavesSignOnce, VainAsksKeep, WholePublishingKeeps};
+ghost use Rattle.world_laws.specs.Laws.{AlikeTurnsAnswerAlike, AllStepsKeep, AnsweredTurnsKeep, CallLinesKeep, CallsBegin, ClashIsDecided, EachStepKeeps, EmptyKeeps, FewerStayApart, FreshTurnsAreAnswered, GetsBringKeep, GetsGoOnKeep, HeadlineBySteps, HeadsAreSavedFirst, KeptOnce, KnownIsOne, LackingKeeps, LackingStepsKeep, LeafSignsOnce, LinesKeepBySteps, ManyStepsKeep, MetGrows, OneTruth, OpenLineKeeps, OtherLogsDontCount, OthersHaveNoTurn, PublishingKeeps, PutsKeep, ReceivingKeeps, RefreshBrings, RefreshEndsInTurn, RefreshMayTurn, RefusedTurnsKeep, ScriptsBySteps, SecondTurnIsAnswered, SettlingKeeps, StepsKeepByTurns, StillLinesChangeNothing, TakingKeeps, UpperLeavesSignOnce, VainAsksKeep, WholePublishingKeeps};
 
 /// A law and no code: of any blocks, names tell them apart, or two of them clash.
 pub fn clashes_are_decided()
@@ -181,8 +185,21 @@ pub fn calls_begin()
     ensures open { OpenLineKeeps }
 {}
 
-/// A law and no code: what is left to be shown of steps. Where turns, answered or refused, leave such a world and such a session,
-/// so does each step, if of any blocks it can be told whether they are a snapshot.
+/// Laws and no code: a turn that was answered leaves such a world and such a session, and is on the replay of a closed set of
+/// verified records; one that was refused leaves such a world and such a session, which begins anew.
+pub fn turns_keep()
+    ensures answered { AnsweredTurnsKeep }
+    ensures refused { RefusedTurnsKeep }
+{}
+
+/// A law and no code: each step leaves such a world and such a session, and a turn in it is on the replay, if of any blocks it
+/// can be told whether they are a snapshot.
+pub fn steps_keep()
+    ensures { EachStepKeeps }
+{}
+
+/// A law and no code: where turns, answered or refused, leave such a world and such a session, so does each step, if of any
+/// blocks it can be told whether they are a snapshot.
 pub fn steps_left()
     ensures { StepsKeepByTurns }
 {}
