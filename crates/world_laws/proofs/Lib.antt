@@ -50,3 +50,7 @@ pub mod GetsBring
 mod StepsLeft
 pub mod Beginning
 mod Opening
+pub mod ExistingPlans
+pub mod ExistingFates
+pub mod ExistingPuts
+pub mod ExistingMessages
