@@ -54,3 +54,5 @@ pub mod ExistingPlans
 pub mod ExistingFates
 pub mod ExistingPuts
 pub mod ExistingMessages
+pub mod ExistingSessions
+pub mod ExistingCalls
