@@ -56,3 +56,4 @@ pub mod ExistingPuts
 pub mod ExistingMessages
 pub mod ExistingSessions
 pub mod ExistingCalls
+pub mod ExistingAsks
