@@ -57,3 +57,4 @@ pub mod ExistingMessages
 pub mod ExistingSessions
 pub mod ExistingCalls
 pub mod ExistingAsks
+pub mod ExistingRing
