@@ -61,7 +61,7 @@ sent_by w name pieces (Some p) s is e = let parts = sent_view w pieces p p.agent
 
 -- ---- there is a ring
 
-some_participant : (w : World) (st : Story) → Keeps (w, st) → (p : Participant) → Contains w.participants p → (r : ℕ) × (w.replicas ≡ Some r)
+pub some_participant : (w : World) (st : Story) → Keeps (w, st) → (p : Participant) → Contains w.participants p → (r : ℕ) × (w.replicas ≡ Some r)
 some_participant w st keeps p among = by_ring w.replicas refl
   where
     by_ring : (o : Option ℕ) → w.replicas ≡ o → (r : ℕ) × (w.replicas ≡ Some r)

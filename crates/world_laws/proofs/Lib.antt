@@ -58,3 +58,5 @@ pub mod ExistingSessions
 pub mod ExistingCalls
 pub mod ExistingAsks
 pub mod ExistingRing
+pub mod ExistingLines
+pub mod Existing

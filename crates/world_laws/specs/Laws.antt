@@ -33,7 +33,7 @@ use Rattle.session_model.specs.Sessions.{Cache, Hears, TakesSome, Session, Refre
 use Rattle.session_model.specs.Courses.{Fails, HasRefreshed, IsRefusal, LacksMemory, Settles}
 use Rattle.session_model.specs.Replies.{said_no_memory}
 use Rattle.session_laws.specs.Going.{SnapshotsAreDecided}
-use Rattle.script_driver.specs.Run.{Outcome, Goes, Ran, Runs, WithLaw, HasPiece}
+use Rattle.script_driver.specs.Run.{Outcome, Goes, Ran, Runs, WithLaw, HasPiece, shown}
 use Rattle.script_driver.specs.Seen.{HasStory, SeenStep}
 use Rattle.script_model.specs.declared.command.Command.{Command}
 use Rattle.script_model.specs.declared.command.Command.TheVariants as command
@@ -198,9 +198,20 @@ HeadlineHolds = (w : Played) (line : List ℕ) (outcome : Outcome Played) → Ke
 abbrev pub EachReplyIsOnReplay : Type 0
 EachReplyIsOnReplay = (w : Played) (number : ℕ) (lines : List (List ℕ)) (ran : Ran) → Keeps w → Runs IvyStep w number lines ran → Runs (WithLaw IvyStep Headline) w number lines ran
 
--- A world has one outcome of each line, whichever story fits it, so each script has a run.
+-- The commands that always do something. Of a snapshot there may be no outcome: what is to be published may have more posts than can be saved.
+abbrev pub IsSure : Command → Type 0
+IsSure (command.Snap log) = ⊥
+IsSure command.Round = ⊥
+IsSure _ = Unit {0}
+
+-- A world has an outcome of each such line, whichever story fits it.
 abbrev pub EachLineDoesSomething : Type 0
-EachLineDoesSomething = (w : World) (line : List ℕ) → HasStory Keeps w → (outcome : Outcome World) × SeenStep Keeps IvyStep w line outcome
+EachLineDoesSomething = (w : World) (line : List ℕ) → IfSome (command_of line) IsSure → HasStory Keeps w → (outcome : Outcome World) × SeenStep Keeps IvyStep w line outcome
+
+-- So each script of such lines has a run, where each line leaves a world that keeps what it should.
+abbrev pub EachScriptHasARun : Type 0
+EachScriptHasARun = LinesKeep → (w : World) (number : ℕ) (lines : List (List ℕ)) → AllByRecursion (λ line. IfSome (command_of (shown line)) IsSure) lines → HasStory Keeps w
+    → (ran : Ran) × Runs (SeenStep Keeps IvyStep) w number lines ran
 
 -- ---- one run
 
