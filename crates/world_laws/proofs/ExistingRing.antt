@@ -139,7 +139,7 @@ least_of (q ∷ ps) p e = subst (λ x. IsAmong x (q ∷ ps)) (some_is e) (among_
     some_is : Some (fold (λ (a b : Peer). cond (nat_lt b.number a.number) b a) q ps) ≡ Some p → fold (λ (a b : Peer). cond (nat_lt b.number a.number) b a) q ps ≡ p
     some_is h = cc h
 
-live_made : (nodes : List Node) (p : Peer) → IsAmong p (map peer_of (filter (λ n. n.is_live) nodes)) → IsAmong p (map peer_of nodes)
+pub live_made : (nodes : List Node) (p : Peer) → IsAmong p (map peer_of (filter (λ n. n.is_live) nodes)) → IsAmong p (map peer_of nodes)
 live_made [] p h = absurd h
 live_made (n ∷ nodes) p h = by_test n.is_live h (λ g. live_made nodes p g)
   where

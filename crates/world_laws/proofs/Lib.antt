@@ -60,3 +60,4 @@ pub mod ExistingAsks
 pub mod ExistingRing
 pub mod ExistingLines
 pub mod Existing
+pub mod ExistingRounds
