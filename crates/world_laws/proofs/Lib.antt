@@ -61,3 +61,4 @@ pub mod ExistingRing
 pub mod ExistingLines
 pub mod Existing
 pub mod ExistingRounds
+pub mod ExistingRepairs
