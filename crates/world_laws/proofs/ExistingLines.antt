@@ -101,7 +101,7 @@ apart_more (m ∷ ns) n apart new = (
   apart_more ns n apart.1 (λ c. new (there m ns n c)),
 )
 
-serves_more : (w : World) (st : Story) (r : ℕ) → Keeps (w, st) → w.replicas ≡ Some r → (participants : List Participant) (views : List NamedView) (met : List (List ℕ)) → ((b : List ℕ) → Contains w.met b → Contains met b)
+pub serves_more : (w : World) (st : Story) (r : ℕ) → Keeps (w, st) → w.replicas ≡ Some r → (participants : List Participant) (views : List NamedView) (met : List (List ℕ)) → ((b : List ℕ) → Contains w.met b → Contains met b)
     → Serves r (map peer_of w.nodes) met (record w { participants = participants; views = views; met = met })
 serves_more w st r keeps ringed participants views met grows = (let ring = nodes_of_ring (w, st) r keeps ringed in record {
   ring = record { apart = ring.apart; replicas = ring.replicas; known = ring.known };

@@ -62,3 +62,4 @@ pub mod ExistingLines
 pub mod Existing
 pub mod ExistingRounds
 pub mod ExistingRepairs
+pub mod ExistingSnaps

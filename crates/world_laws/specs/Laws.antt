@@ -24,6 +24,7 @@ use Rattle.hash_signature_model.specs.declared.keys.PrivateKey.{PrivateKey}
 use Rattle.hash_signature_model.specs.declared.set.Set.{Set}
 use Rattle.hss_keys.specs.Signer.{Signer, leaf_used, leaves_used, left_of, lower_key, signed_lower}
 use Rattle.log_heads.specs.Signed.{hss_judged}
+use Rattle.agent_model.specs.SavedBytes.{ArePostsSpelled}
 use Rattle.agent_model.specs.Candidates.{AreCandidatesOf, Brings, MayTurn}
 use Rattle.agent_model.specs.Turning.{Answered, TurnEnd}
 use Rattle.agent_model.specs.Standing.{Refresh, Standing}
@@ -44,7 +45,7 @@ use Rattle.world_model.specs.Keepers.{fails_next}
 use Rattle.world_model.specs.World.{World, NamedSession, Participant, empty_world, named_bytes, participant, with_participant}
 use Rattle.world_model.specs.Fates.{FateOf}
 use Rattle.world_model.specs.Story.{HadTurn, Story, beginning, empty_story, having_begun, known_of, receiving}
-use Rattle.world_model.specs.Logs.{Played, Publishes}
+use Rattle.world_model.specs.Logs.{Played, Publishes, snapping_in}
 use Rattle.world_model.specs.Calls.{BeginsWith, Sending, reply_line}
 use Rattle.world_model.specs.Step.{Does, IvyStep}
 use Rattle.world_model.specs.Steps.{Scene, Steps, after_turn, ask_told, heads_by, turn_told, with_cache, world_after}
@@ -198,19 +199,18 @@ HeadlineHolds = (w : Played) (line : List ℕ) (outcome : Outcome Played) → Ke
 abbrev pub EachReplyIsOnReplay : Type 0
 EachReplyIsOnReplay = (w : Played) (number : ℕ) (lines : List (List ℕ)) (ran : Ran) → Keeps w → Runs IvyStep w number lines ran → Runs (WithLaw IvyStep Headline) w number lines ran
 
--- The commands that always do something. Of a snapshot there may be no outcome: what is to be published may have more posts than can be saved.
-abbrev pub IsSure : Command → Type 0
-IsSure (command.Snap log) = ⊥
-IsSure command.Round = ⊥
-IsSure _ = Unit {0}
+-- What is to be published has a spelling, where the command makes a snapshot: more posts than a word counts can't be saved, and then nothing is defined.
+abbrev pub CanBeDone : World → Command → Type 0
+CanBeDone w (command.Snap log) = IfSome (participant w log) (λ p. IfSome p.agent.view (λ view. IfSome (snapping_in p view).1 (λ k. ArePostsSpelled k.pending)))
+CanBeDone w _ = Unit {0}
 
--- A world has an outcome of each such line, whichever story fits it.
+-- A world has an outcome of each such line, and one whichever story fits it.
 abbrev pub EachLineDoesSomething : Type 0
-EachLineDoesSomething = (w : World) (line : List ℕ) → IfSome (command_of line) IsSure → HasStory Keeps w → (outcome : Outcome World) × SeenStep Keeps IvyStep w line outcome
+EachLineDoesSomething = (w : World) (line : List ℕ) → IfSome (command_of line) (CanBeDone w) → HasStory Keeps w → (outcome : Outcome World) × SeenStep Keeps IvyStep w line outcome
 
--- So each script of such lines has a run, where each line leaves a world that keeps what it should.
+-- So each script that makes no snapshot has a run, where lines leave worlds that keep what they should.
 abbrev pub EachScriptHasARun : Type 0
-EachScriptHasARun = LinesKeep → (w : World) (number : ℕ) (lines : List (List ℕ)) → AllByRecursion (λ line. IfSome (command_of (shown line)) IsSure) lines → HasStory Keeps w
+EachScriptHasARun = LinesKeep → (w : World) (number : ℕ) (lines : List (List ℕ)) → AllByRecursion (λ line. (log : List ℕ) → command_of (shown line) ≢ Some (command.Snap log)) lines → HasStory Keeps w
     → (ran : Ran) × Runs (SeenStep Keeps IvyStep) w number lines ran
 
 -- ---- one run

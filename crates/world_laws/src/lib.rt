@@ -192,8 +192,9 @@ pub fn lines_left()
     ensures runs { HeadlineOfRuns }
 {}
 
-/// Laws and no code: from a world that some story fits each line but one that makes a snapshot has an outcome, and one whichever
-/// story fits; so, where each line leaves such a world, each script of such lines has a run.
+/// Laws and no code: from a world that some story fits each line has an outcome, and it is one whichever story fits; of a line
+/// that makes a snapshot that asks that what is to be published can be saved. So, where each line leaves such a world, each script
+/// that makes no snapshot has a run.
 pub fn each_line_does_something()
     ensures lines { EachLineDoesSomething }
     ensures scripts { EachScriptHasARun }
