@@ -1,11 +1,10 @@
 -- Look-ups and puts by asks of a world's nodes: there are such asks up to the end.
-use Rattle.std.proofs.Common.{◌≡◌, ◌⊎◌, inl, inr, ℕ, Bool, true, false, List, [], ◌∷◌, ◌++◌, map, Option, Some, None, Result, refl, sym, ap, ◌∙◌, subst, arith, Contains}
-use Rattle.std.specs.Prelude.{IfSome}
+use Rattle.std.proofs.Common.{◌≡◌, ℕ, Bool, true, false, List, [], ◌∷◌, ◌++◌, map, Option, None, Result, refl, sym, ap, ◌∙◌, subst, arith, Contains}
 use Rattle.std.specs.List.{AllByRecursion}
 use Rattle.std.proofs.lemmas.List.{append-nil}
 use Rattle.ivy_base.specs.declared.key.Key.{Key}
 use Rattle.log_heads.specs.Signed.{hss_judged}
-use Rattle.dht_ids.specs.Asked.{IsForData, routes}
+use Rattle.dht_ids.specs.Asked.{IsForData}
 use Rattle.dht_ids.specs.declared.ask.Answer.{Answer}
 use Rattle.dht_ids.specs.declared.ask.Ask.{Ask}
 use Rattle.dht_ids.specs.declared.ask.Ask.TheVariants as ask
@@ -16,9 +15,8 @@ use Rattle.dhash_client.specs.Course.IsCourse.{no_route, of_owners}
 use Rattle.dhash_client.specs.Puts.{EndsPut}
 use Rattle.dhash_client.specs.declared.miss.Miss.{Miss}
 use Rattle.dhash_client.specs.declared.put.PutKind.TheVariants as put
-use Rattle.ring_model.specs.Lookup.{IsLookup}
 use Rattle.ring_model.proofs.Lists.{cons_head, cons_tail, nil_cons}
-use Rattle.ask_laws.proofs.AskedPlans.{Entries, Follows, IsToldBy, Plan, asking, ended, entry, kind_of}
+use Rattle.ask_laws.proofs.AskedPlans.{Entries, Follows, Plan, asking, ended, entry}
 use Rattle.ask_laws.proofs.AskedOwners.{entries_of, told_owners}
 use Rattle.ask_laws.proofs.AskedLookups.{look_back, look_plan}
 use Rattle.ask_laws.proofs.AskedPuts.{put_entries, told_put}

@@ -1,7 +1,7 @@
 -- Lines of calls do something: a whole call, and a session that is opened, goes some steps, or is brought to its end.
-use Rattle.std.proofs.Common.{◌≡◌, ◌≢◌, ◌⊎◌, inl, inr, ℕ, Bool, true, false, cond, List, [], ◌∷◌, ◌++◌, map, Option, Some, None, refl, sym, ap, ◌∙◌, subst, Contains}
+use Rattle.std.proofs.Common.{◌≡◌, ℕ, Bool, true, false, cond, List, [], ◌∷◌, ◌++◌, Option, Some, None, refl, sym, ap, ◌∙◌, subst, Contains}
 use Rattle.std.specs.Prelude.{is_some, option_map}
-use Rattle.std.specs.List.{AllByRecursion, find}
+use Rattle.std.specs.List.{find}
 use Rattle.std.specs.Str.{bytes_eq}
 use Rattle.log_heads.specs.Signed.{hss_judged}
 use Rattle.log_model.proofs.Lists.{each, here, in_nothing, there}
@@ -24,7 +24,7 @@ use Rattle.world_model.specs.Calls.StepLine.{not_open as stepping_not_open, out_
 use Rattle.world_model.specs.Calls.FinishLine.{not_open as finishing_not_open, ends}
 use Rattle.world_model.specs.Logs.{Played}
 use Rattle.world_model.specs.Steps.{RunsOut}
-use Rattle.world_model.specs.Story.{Story, Began, began_of, beginning, having_begun, with_began, without_began}
+use Rattle.world_model.specs.Story.{Story, began_of, beginning, having_begun}
 use Rattle.world_model.specs.World.{World, NamedSession, Participant, entries, participant, session_named, with_session, without_session}
 use Rattle.world_laws.specs.Keeps.{GoesOn, HasRing, Keeps}
 use Rattle.world_laws.proofs.Beginning.{calls_begin}
@@ -120,14 +120,16 @@ module _ (w : World) (st : Story) (keeps : Keeps (w, st)) where
   as_line name pieces None is = (Refuses, λ su fits. (Refuses, whole_sends_nothing, refl))
   as_line name pieces (Some s) is =
       let begins = some_session s.by.name s.message (entries w) (standing_in s.by.agent s.view) in
-      let end = begun name pieces s is begins.0 begins.1 in
-      (Goes (replied end.2.end.world end.2.said) (shown_end end.2.end.session end.2.said), λ su fits.
-      let runs = runs_out end.2.end.course (having_begun su) (beginning su s.by.name) in (
-        Goes (replied end.2.end.world end.2.said, runs.0) (shown_end end.2.end.session end.2.said),
-        calls s end.0 begins.0 (scene end.2.end.world runs.0 end.2.end.session (beginning su s.by.name)) end.2.said end.1 begins.1
-            (subst (λ (n : List ℕ). RunsOut hss_judged end.0 n (scene w (having_begun su) begins.0 (beginning su s.by.name)) (scene end.2.end.world runs.0 end.2.end.session (beginning su s.by.name))) (begun_by begins.1) runs.1) end.2.end.is_over,
-        refl,
-      ))
+      let end = begun name pieces s is begins.0 begins.1 in (
+        Goes (replied end.2.end.world end.2.said) (shown_end end.2.end.session end.2.said),
+        λ su fits.
+            let runs = runs_out end.2.end.course (having_begun su) (beginning su s.by.name) in (
+              Goes (replied end.2.end.world end.2.said, runs.0) (shown_end end.2.end.session end.2.said),
+              calls s end.0 begins.0 (scene end.2.end.world runs.0 end.2.end.session (beginning su s.by.name)) end.2.said end.1 begins.1
+                  (subst (λ (n : List ℕ). RunsOut hss_judged end.0 n (scene w (having_begun su) begins.0 (beginning su s.by.name)) (scene end.2.end.world runs.0 end.2.end.session (beginning su s.by.name))) (begun_by begins.1) runs.1) end.2.end.is_over,
+              refl,
+            ),
+      )
 
   pub open_line : (session : List ℕ) (sent : Option Sending) → IsSeen w (λ su o. OpenLine hss_judged (w, su) session sent o)
   open_line session None = (Refuses, λ su fits. (Refuses, opening_sends_nothing, refl))
@@ -148,22 +150,26 @@ module _ (w : World) (st : Story) (keeps : Keeps (w, st)) where
       by_test true counts =
           let its = opened w st keeps name s is in
           let end = session_ends w st its.r keeps its.ringed s its.goes_on in
-          let to = steps_to count end.end.course in
-          (Goes (with_session to.world name to.session) [], λ su fits.
-          let all = to.steps su (began_of su name) in (
-            _,
-            steps s its.r (scene to.world all.0 to.session (began_of su name)) counts its.ringed all.1,
-            refl,
-          ))
+          let to = steps_to count end.end.course in (
+            Goes (with_session to.world name to.session) [],
+            λ su fits.
+                let all = to.steps su (began_of su name) in (
+                  _,
+                  steps s its.r (scene to.world all.0 to.session (began_of su name)) counts its.ringed all.1,
+                  refl,
+                ),
+          )
 
   pub finish_line : (name : List ℕ) (o : Option Session) → session_named w name ≡ o → IsSeen w (λ su out. FinishLine hss_judged (w, su) name o out)
   finish_line name None is = (Refuses, λ su fits. (Refuses, finishing_not_open, refl))
   finish_line name (Some s) is =
       let its = opened w st keeps name s is in
-      let end = session_ends w st its.r keeps its.ringed s its.goes_on in
-      (Goes (replied (without_session end.end.world name) end.said) (shown_end end.end.session end.said), λ su fits.
-      let runs = runs_out end.end.course su (began_of su name) in (
-        _,
-        ends s its.r (scene end.end.world runs.0 end.end.session (began_of su name)) end.said its.ringed runs.1 end.end.is_over,
-        refl,
-      ))
+      let end = session_ends w st its.r keeps its.ringed s its.goes_on in (
+        Goes (replied (without_session end.end.world name) end.said) (shown_end end.end.session end.said),
+        λ su fits.
+            let runs = runs_out end.end.course su (began_of su name) in (
+              _,
+              ends s its.r (scene end.end.world runs.0 end.end.session (began_of su name)) end.said its.ringed runs.1 end.end.is_over,
+              refl,
+            ),
+      )

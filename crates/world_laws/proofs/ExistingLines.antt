@@ -1,5 +1,5 @@
 -- Lines of participants do something: a log begins, a view is made, a participant enters one or starts again; and so do lines that are functions of the world.
-use Rattle.std.proofs.Common.{◌≡◌, ◌≢◌, ◌⊎◌, inl, inr, ⊎_elim, ℕ, Bool, true, false, cond, List, [], ◌∷◌, ◌++◌, length, map, Option, Some, None, Result, refl, sym, ap, ◌∙◌, subst, Contains}
+use Rattle.std.proofs.Common.{◌≡◌, ◌⊎◌, inl, inr, ⊎_elim, ℕ, Bool, true, false, cond, List, [], ◌∷◌, ◌++◌, map, Option, Some, None, refl, sym, ap, ◌∙◌, subst, Contains}
 use Rattle.std.specs.Prelude.{is_some}
 use Rattle.std.specs.List.{AllByRecursion, find}
 use Rattle.std.specs.Str.{bytes_eq}
@@ -15,7 +15,6 @@ use Rattle.log_model.proofs.Lists.{each, here, in_cons, in_nothing, there}
 use Rattle.log_model.specs.Chain.{opening}
 use Rattle.log_model.specs.Rank.{own_entry}
 use Rattle.log_model.specs.Record.{Record}
-use Rattle.log_model.specs.Standing.{Stand}
 use Rattle.log_model.specs.View.{View, have_own_head_keys, view_block, view_name}
 use Rattle.turn_model.specs.Known.{IsKnown}
 use Rattle.dht_ids.specs.declared.post.Post.{Post}
@@ -26,7 +25,7 @@ use Rattle.script_driver.specs.Seen.{seen}
 use Rattle.script_model.specs.Words.{◌>>=◌}
 use Rattle.world_model.specs.Agents.{Entering, IsKept, Kept, entering, hss, kept_bytes, opened, own}
 use Rattle.world_model.specs.Keepers.{fails_next}
-use Rattle.world_model.specs.Logs.{IsKnownAgain, LogLine, Played, Publishes, RestartLine, ViewLine, acked_view, after_entering, afresh_told, beside, fresh_signer, in_key_order, is_too_large, keys_of, newcomer, restarted, to_publish, use_by, with_newcomer, with_view}
+use Rattle.world_model.specs.Logs.{IsKnownAgain, LogLine, RestartLine, ViewLine, acked_view, after_entering, afresh_told, beside, fresh_signer, in_key_order, is_too_large, keys_of, newcomer, restarted, to_publish, use_by, with_newcomer, with_view}
 use Rattle.world_model.specs.Logs.LogLine.{before_ring as log_before_ring, known as log_known, begins as log_begins}
 use Rattle.world_model.specs.Logs.RestartLine.{nobody as restart_nobody, outside as restart_outside, starts as restart_starts}
 use Rattle.world_model.specs.Logs.ViewLine.{known as view_known, no_members as view_no_members, no_former as view_no_former, one_head_key as view_one_head_key, exceeds as view_exceeds, makes as view_makes}
@@ -34,13 +33,13 @@ use Rattle.world_model.specs.Step.{Untold}
 use Rattle.world_model.specs.Steps.{having_made, met_by}
 use Rattle.world_model.specs.Story.{Story, began_nothing, knowing_of}
 use Rattle.world_model.specs.World.{World, NamedView, Participant, meets, named_bytes, participant, peer_of, view_named}
-use Rattle.world_laws.specs.Keeps.{AreApart, IsKeptSo, IsMetPost, IsSavedWell, IsSoundKept, IsSoundKeptIn, Keeps, SignsOnce}
+use Rattle.world_laws.specs.Keeps.{AreApart, IsKeptSo, IsMetPost, IsSavedWell, IsSoundKeptIn, Keeps, SignsOnce}
 use Rattle.world_laws.proofs.Afresh.{apart_before}
 use Rattle.world_laws.proofs.Apart.{clash_is_decided}
 use Rattle.world_laws.proofs.Bringing.{found_named}
 use Rattle.world_laws.proofs.ExistingAsks.{HasPut, put_whole}
 use Rattle.world_laws.proofs.ExistingCalls.{IsSeen, some_participant}
-use Rattle.world_laws.proofs.ExistingFates.{Serves, serves_so}
+use Rattle.world_laws.proofs.ExistingFates.{Serves}
 use Rattle.world_laws.proofs.ExistingPuts.{Ended, runs_out, scene}
 use Rattle.world_laws.proofs.ExistingSessions.{publishes_all}
 use Rattle.world_laws.proofs.Frames.{held_more, into_map, nodes_of_ring, ring_of}
@@ -179,11 +178,14 @@ module _ (w : World) (st : Story) (keeps : Keeps (w, st)) where
     Viewed members former = IsSeen w (λ su out. ViewLine hss_judged (w, su) name members former out)
 
     makes_view : (r : ℕ) → w.replicas ≡ Some r → (members former : List PubKey) → is_some (view_named w name) ≡ false → have_own_head_keys (members ++ former) ≡ true → is_too_large members former ≡ false → Viewed (Some members) (Some former)
-    makes_view r ringed members former new own_keys few = (Goes put.next [], λ su fits. (
-      Goes (put.next, record su { acked = su.acked ++ acked_view view put.puts.came }) [],
-      view_makes members former r view put.next new own_keys few ringed refl put.puts,
-      refl,
-    ))
+    makes_view r ringed members former new own_keys few = (
+      Goes put.next [],
+      λ su fits. (
+        Goes (put.next, record su { acked = su.acked ++ acked_view view put.puts.came }) [],
+        view_makes members former r view put.next new own_keys few ringed refl put.puts,
+        refl,
+      ),
+    )
       where
         view : View
         view = record { members = in_key_order members; former = in_key_order former }
@@ -244,10 +246,13 @@ module _ (w : World) (st : Story) (keeps : Keeps (w, st)) where
 
           by_view : (o : Option View) → k.view ≡ o → IsSoundKeptIn w.met p (knowing_of su p.name) k o → (set : List Record) × IsKnownAgain (restarted w p k) k set
           by_view None is h = ([], λ view e apart. cc (sym is ∙ e))
-          by_view (Some kept_view) is h = (h.known, λ view e apart. (
-            subst (λ (x : View). IsKnown x k.floor h.known) (some_is kept_view view (sym is ∙ e)) h.by_floor,
-            more_stand (w.met ++ map (λ (o : Post). o.bytes) k.pending) (met_by w.met k.pending) all_met h.known h.stand,
-          ))
+          by_view (Some kept_view) is h = (
+            h.known,
+            λ view e apart. (
+              subst (λ (x : View). IsKnown x k.floor h.known) (some_is kept_view view (sym is ∙ e)) h.by_floor,
+              more_stand (w.met ++ map (λ (o : Post). o.bytes) k.pending) (met_by w.met k.pending) all_met h.known h.stand,
+            ),
+          )
 
           by_names : NamesTellApart (named_bytes (restarted w p k)) ⊎ HasClash (named_bytes (restarted w p k)) → (set : List Record) × IsKnownAgain (restarted w p k) k set
           by_names (inl apart) = by_view k.view refl (sound apart)
@@ -262,8 +267,7 @@ module _ (w : World) (st : Story) (keeps : Keeps (w, st)) where
       by_view (Some view) in_view =
           let found = found_named w.participants name p is in
           let kept = each (IsKeptSo IsSavedWell) w.participants p keeps.saved found.0 in
-          let is_p : participant w p.name ≡ Some p = ap (participant w) found.1 ∙ is in
-          (
+          let is_p : participant w p.name ≡ Some p = ap (participant w) found.1 ∙ is in (
             Goes (restarted w p kept.0) [],
             λ su fits. let set = known_again p is_p kept.0 kept.1 kept.2 su fits in
                 (Goes (restarted w p kept.0, afresh_told (w, su) p.name set.0) [], restart_starts p view kept.0 set.0 in_view kept.1 kept.2 set.1, refl),

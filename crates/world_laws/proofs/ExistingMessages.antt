@@ -1,14 +1,13 @@
 -- Of each message it is known what becomes of it: it is answered by itself, or asks something of a turn; so a session begins with it.
-use Rattle.std.proofs.Common.{◌≡◌, ◌≢◌, ◌⊎◌, inl, inr, ℕ, zero, suc, ◌<◌, ◌≤◌, Bool, true, false, cond, List, [], length, Option, Some, None, refl, sym, ap, ◌∙◌, subst, arith}
+use Rattle.std.proofs.Common.{◌≡◌, ◌⊎◌, inl, inr, ℕ, zero, suc, ◌≤◌, Bool, true, false, cond, List, [], length, Option, Some, None, refl, sym, ap, ◌∙◌, subst, arith}
 use Rattle.std.specs.Prelude.{⊤}
 use Rattle.std.proofs.lemmas.Bool.{cases_eq, cases_lt, ne_eqb}
-use Rattle.wire_model.specs.Rpc.{CallMessage, Identity, IsCall, IsCaller, Success, ProgramUnavailable, ProgramMismatch, ProcedureUnavailable, GarbageArguments, RpcMismatch, BadCredential, reply}
+use Rattle.wire_model.specs.Rpc.{CallMessage, Identity, IsCall, IsCaller}
 use Rattle.wire_model.specs.Xdr.{opaque}
 use Rattle.nfs_model.specs.declared.arguments.Args.{Args}
 use Rattle.nfs_model.specs.declared.arguments.Args.TheVariants as call
 use Rattle.nfs_model.specs.declared.replies.Reply.{Reply}
 use Rattle.nfs_model.specs.Arguments.{AreArguments, ArgumentsFit, arguments, mount_program, nfs_program, procedure_of, program_of}
-use Rattle.nfs_model.specs.Results.{result}
 use Rattle.turn_model.specs.Turn.{Asked}
 use Rattle.log_model.specs.View.{View}
 use Rattle.dht_ids.specs.declared.peer.Peer.{Peer}

@@ -1,9 +1,8 @@
 -- Puts and look-ups as plans whose asks are known: where entry nodes were made, and answers name nodes that were made, only such nodes are asked.
-use Rattle.std.proofs.Common.{◌≡◌, ◌⊎◌, ℕ, zero, suc, ◌≤◌, Bool, true, false, cond, List, [], ◌∷◌, ◌++◌, length, Option, Some, None, IfSome, Result, Ok, Err, refl, sym, ap, ◌∙◌, subst, arith, inl, inr}
+use Rattle.std.proofs.Common.{◌≡◌, ◌⊎◌, ℕ, zero, suc, ◌≤◌, Bool, true, false, List, [], ◌∷◌, ◌++◌, Option, Some, None, IfSome, Result, Ok, Err, refl, sym, ap, ◌∙◌, subst, arith, inl, inr}
 use Rattle.std.specs.List.{AllByRecursion}
 use Rattle.std.proofs.lemmas.List.{append-nil}
-use Rattle.ivy_base.specs.declared.key.Key.{Key}
-use Rattle.dht_ids.specs.Asked.{route_in, routes, told}
+use Rattle.dht_ids.specs.Asked.{route_in, routes}
 use Rattle.dht_ids.specs.declared.ask.Answer.{Answer}
 use Rattle.dht_ids.specs.declared.ask.Answer.TheVariants as answer
 use Rattle.dht_ids.specs.declared.ask.Ask.{Ask}
@@ -13,7 +12,6 @@ use Rattle.dht_ids.specs.declared.peer.Peer.{Peer}
 use Rattle.ring_model.specs.Members.{IsAmong}
 use Rattle.ring_model.specs.Gets.{AreAsks, answered_in}
 use Rattle.ring_model.specs.Lookup.{IsLookup}
-use Rattle.ring_model.specs.Route.{Route}
 use Rattle.ring_model.proofs.Lists.{all-left, all-right, cons_head, cons_tail, nil_cons}
 use Rattle.dhash_client.specs.Machine.{outcome}
 use Rattle.dhash_client.specs.Course.{IsCourse, Told, told_all}

@@ -1,6 +1,5 @@
 -- A session's posts can be put to their end, whatever its story: each put asks a next node, hears any answer, and is over after finitely many asks; then all is settled.
-use Rattle.std.proofs.Common.{◌≡◌, ◌≢◌, ◌⊎◌, inl, inr, ℕ, zero, suc, ◌≤◌, Bool, true, false, cond, List, [], ◌∷◌, ◌++◌, length, map, filter, Option, Some, None, Result, refl, sym, ap, ◌∙◌, subst, arith, le_refl, Contains, not}
-use Rattle.std.specs.Prelude.{IsTrue, is_some}
+use Rattle.std.proofs.Common.{◌≡◌, ◌≢◌, ◌⊎◌, inl, inr, ℕ, zero, suc, ◌≤◌, Bool, true, false, cond, List, [], ◌∷◌, ◌++◌, length, map, filter, Option, Some, refl, sym, ap, ◌∙◌, subst, arith, le_refl, Contains, not}
 use Rattle.std.specs.List.{AllByRecursion}
 use Rattle.std.proofs.lemmas.List.{append_assoc, append-nil}
 use Rattle.log_heads.specs.Signed.{hss_judged}
@@ -12,14 +11,13 @@ use Rattle.dht_ids.specs.declared.ask.Heard.{Heard}
 use Rattle.dht_ids.specs.declared.peer.Peer.{Peer}
 use Rattle.dht_ids.specs.declared.post.Ack.{Ack}
 use Rattle.dht_ids.specs.declared.post.Post.{Post}
-use Rattle.dhash_client.specs.declared.miss.Miss.{Miss}
-use Rattle.ring_model.proofs.Lists.{all_weaker, nil_cons}
+use Rattle.ring_model.proofs.Lists.{nil_cons}
 use Rattle.agent_model.specs.Agent.{is_head}
 use Rattle.agent_model.specs.Others.{settled}
 use Rattle.session_model.specs.Asking.{AsksNext, IsBegun}
 use Rattle.session_model.specs.Courses.Fails.{goes_on}
 use Rattle.session_model.specs.Courses.Settles.{settles as settles_all}
-use Rattle.session_model.specs.Sessions.{Cache, IsPut, Publishing, Refreshing, Over, Said, Session, Stage, Takes, acknowledged, after_put, held_back, is_log, put_question}
+use Rattle.session_model.specs.Sessions.{Cache, IsPut, Publishing, Refreshing, Over, Said, Session, Takes, acknowledged, after_put, held_back, is_log, put_question}
 use Rattle.session_model.specs.Sessions.Hears.{puts_on, puts}
 use Rattle.session_model.specs.Sessions.Takes.{posted, cached}
 use Rattle.session_model.specs.Sessions.TakesAll.{none as takes_none}
@@ -99,9 +97,11 @@ module _ (r : ℕ) (peers : List Peer) (met : List (List ℕ)) (name : List ℕ)
   -- what the participant's session does is its step, where it doesn't refresh
   acting : (w v : World) (s t : Session) → Stands w → (s.stage ≡ Refreshing → ⊥) → ((st : Story) (b : Began) → (su : Story) × Acts hss_judged r by (scene w st s b) (scene v su t b)) → MayStep r name w s v t
   acting w v s t stands other act st b =
-      let one = act st b in
-      (one.0, acts by s by.cache (scene v one.0 t b) stands.is_by (takes_none (λ u after takes. takes_nothing r s u by.cache after other takes))
-      (subst (λ (u : World). Acts hss_judged r by (scene u st s b) (scene v one.0 t b)) (sym (placed_itself w stands.apart name by stands.is_by)) one.1))
+      let one = act st b in (
+        one.0,
+        acts by s by.cache (scene v one.0 t b) stands.is_by (takes_none (λ u after takes. takes_nothing r s u by.cache after other takes))
+            (subst (λ (u : World). Acts hss_judged r by (scene u st s b) (scene v one.0 t b)) (sym (placed_itself w stands.apart name by stands.is_by)) one.1),
+      )
 
   stands_then : (w : World) → Stands w → (node : Peer) (question : Ask) (a : IsAsked r peers met w node question) → Stands a.next
   stands_then w stands node question a = record {

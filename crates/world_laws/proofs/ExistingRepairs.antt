@@ -1,5 +1,5 @@
 -- The fourth part of a round can be done in each ring, and so a whole round: each block is put at its owners, of whom the node itself isn't asked.
-use Rattle.std.proofs.Common.{◌≡◌, ◌⊎◌, inl, inr, ⊎_elim, ℕ, suc, ◌+◌, ◌*◌, ◌<◌, ◌≤◌, Bool, true, false, cond, not, List, [], ◌∷◌, ◌++◌, filter, length, map, Option, Some, None, refl, sym, ap, ◌∙◌, subst, arith, Contains}
+use Rattle.std.proofs.Common.{◌≡◌, ◌⊎◌, inl, inr, ⊎_elim, ℕ, suc, ◌+◌, ◌*◌, ◌≤◌, Bool, true, false, cond, not, List, [], ◌∷◌, ◌++◌, filter, length, Option, Some, None, refl, sym, ap, ◌∙◌, subst, arith, Contains}
 use Rattle.std.specs.Prelude.{IfSome, fold}
 use Rattle.std.specs.List.{AllByRecursion}
 use Rattle.std.specs.Map.{values_of}
@@ -9,7 +9,7 @@ use Rattle.std.proofs.lemmas.List.Sums.{sum_by-cons}
 use Rattle.ivy_base.specs.declared.key.Key.{Key}
 use Rattle.ivy_base.specs.Naming.{key_cmp}
 use Rattle.log_heads.specs.Signed.{hss_judged}
-use Rattle.ring_model.specs.Gets.{AreAsks, answered_in, nodes}
+use Rattle.ring_model.specs.Gets.{answered_in, nodes}
 use Rattle.ring_model.specs.Members.{IsAmong}
 use Rattle.ring_model.proofs.Lists.{all-among, all_from, all_weaker, filter_gives}
 use Rattle.dht_ids.specs.declared.ask.Answer.{Answer}
@@ -17,21 +17,20 @@ use Rattle.dht_ids.specs.declared.ask.Answer.TheVariants as answer
 use Rattle.dht_ids.specs.declared.ask.Ask.{Ask}
 use Rattle.dht_ids.specs.declared.peer.Peer.{Peer}
 use Rattle.dhash_client.specs.Course.{Told}
-use Rattle.dhash_client.specs.Puts.{EndsPut, holds, is_of_put}
+use Rattle.dhash_client.specs.Puts.{is_of_put}
 use Rattle.node_store.specs.Stores.{Block, Blocks, IsStore, bytes_held, without}
 use Rattle.node_store.specs.declared.kind.Kind.{Kind}
 use Rattle.node_store.specs.declared.kind.Kind.TheVariants.{Content, Head}
 use Rattle.script_driver.specs.Run.{Outcome, Goes, Refuses}
 use Rattle.world_model.specs.Fates.{Fates, asking}
 use Rattle.world_model.specs.Fates.Fates.{none as fates_none, more as fates_more}
-use Rattle.world_model.specs.Nodes.{Node}
 use Rattle.world_model.specs.Ring.{FindsNobody, LooksUp, live_in_order}
 use Rattle.world_model.specs.Rounds.{EachDoes, FixesFrom, Forgets, IsDropped, IsRoundOf, PutsAll, PutsAround, Repairs, RoundLine, Stabilises, asks_of_others, is_other_peer, question_as}
 use Rattle.world_model.specs.Rounds.PutsAll.{done as all_put, keeps as put_kept, drops as put_dropped}
 use Rattle.world_model.specs.Rounds.PutsAround.{no_route, puts}
 use Rattle.world_model.specs.Rounds.RoundLine.{before_ring, goes}
 use Rattle.world_model.specs.Story.{Story}
-use Rattle.world_model.specs.World.{World, live_peers, node_at, peer_of, with_node}
+use Rattle.world_model.specs.World.{World, live_peers, with_node}
 use Rattle.ask_laws.proofs.AskedGets.{at_most_or_not}
 use Rattle.ask_laws.proofs.AskedLookups.{among_or_not, firsts, firsts_are}
 use Rattle.ask_laws.proofs.AskedOwners.{AreAsked, to_asks}
@@ -49,7 +48,6 @@ use Rattle.world_laws.proofs.ExistingRing.{live_made}
 use Rattle.world_laws.proofs.ExistingRounds.{Fine, IsMade, MayDoAt, ask_in, by_each, fixes_all, forgets_some, looked_fine, many_times, own, serves_in, stabilises_some}
 use Rattle.world_laws.proofs.Frames.{nodes_of_ring}
 use Rattle.world_laws.proofs.NodeFates.{HoldsMet, PutsMet, each_replaced, from_among}
-use Rattle.world_laws.proofs.RoundBlocks.{AllHold}
 use Rattle.world_laws.proofs.StoredBlocks.{from_sorted, to_sorted}
 
 -- ---- blocks that are dropped
@@ -198,8 +196,7 @@ module _ (r : ℕ) (base : List Shape) (planned : List ℕ) (start end : ℕ) (b
       let all = puts_each p made before.0.blocks (all-among (HoldsMet met) before.0 w.nodes fine.holds (at_among w.nodes p.id before.0 before.1)).1 w fine in
       let after = own r base planned start end b met all.next all.fine p made in
       let next : World = with_node all.next (record after.0 { blocks = fold (λ left key. without key left) after.0.blocks all.dropped }) in
-      let repairs : Repairs hss_judged r w p next = record { before = before.0; after = after.0; dropped = all.dropped; mid = all.next; is_before = before.1; puts = all.puts_all; is_after = after.1; drops = refl } in
-      (
+      let repairs : Repairs hss_judged r w p next = record { before = before.0; after = after.0; dropped = all.dropped; mid = all.next; is_before = before.1; puts = all.puts_all; is_after = after.1; drops = refl } in (
         next,
         repairs,
         record {

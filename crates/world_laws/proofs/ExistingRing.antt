@@ -1,21 +1,20 @@
 -- Lines that change the ring do something: there are the nodes of a settled ring, and a node that joins looks up its place.
-use Rattle.std.proofs.Common.{◌≡◌, ◌≢◌, ◌⊎◌, inl, inr, ⊎_elim, ℕ, zero, suc, ◌+◌, ◌*◌, ◌<◌, Bool, true, false, cond, ◌&&◌, ◌||◌, not, List, [], ◌∷◌, ◌++◌, length, map, filter, get_or, take, Option, Some, None, refl, sym, ap, ◌∙◌, subst, arith, Contains, nat_lt, nat_le}
+use Rattle.std.proofs.Common.{◌≡◌, ◌⊎◌, inl, inr, ⊎_elim, ℕ, zero, suc, ◌+◌, ◌*◌, ◌<◌, Bool, true, false, cond, ◌&&◌, ◌||◌, not, List, [], ◌∷◌, ◌++◌, length, map, filter, get_or, take, Option, Some, None, refl, sym, ap, ◌∙◌, subst, arith, Contains, nat_lt, nat_le}
 use Rattle.std.specs.Prelude.{◌==◌, is_some, fold}
-use Rattle.std.specs.List.{AllByRecursion, last_or}
+use Rattle.std.specs.List.{last_or}
 use Rattle.std.proofs.lemmas.Bool.{leb-false, lt-ltb}
-use Rattle.ivy_base.specs.declared.key.Key.{Key}
 use Rattle.log_heads.specs.Signed.{hss_judged}
-use Rattle.log_model.proofs.Lists.{in_nothing, or_right}
+use Rattle.log_model.proofs.Lists.{or_right}
 use Rattle.ring_model.specs.Members.{IsAmong, first, following, from_place}
-use Rattle.ring_model.specs.Ring.{IsFinger, start}
-use Rattle.ring_model.proofs.Lists.{among-left, among-right, among_filter, among_filtered, first_of}
+use Rattle.ring_model.specs.Ring.{start}
+use Rattle.ring_model.proofs.Lists.{among-left, among-right, among_filter, first_of}
 use Rattle.dht_ids.specs.Peers.{place}
 use Rattle.dht_ids.specs.declared.peer.Peer.{Peer}
-use Rattle.chord_core.specs.Settled.{AreFingers, IsSettledNode}
-use Rattle.chord_core.specs.State.{State, alone_node}
-use Rattle.script_driver.specs.Run.{Outcome, Goes, Refuses, Exceeds}
+use Rattle.chord_core.specs.Settled.{IsSettledNode}
+use Rattle.chord_core.specs.State.{State}
+use Rattle.script_driver.specs.Run.{Outcome, Refuses, Exceeds}
 use Rattle.world_model.specs.Nodes.{Node}
-use Rattle.world_model.specs.Ring.{AreSettled, FindsNobody, JoinLine, LooksUp, RingLine, empty_node, failed_join_text, first_peers, in_ring_order, is_known_id, is_refused_ring, joined_node, least, peer_numbered, with_new_node, with_peer}
+use Rattle.world_model.specs.Ring.{AreSettled, FindsNobody, JoinLine, LooksUp, RingLine, empty_node, first_peers, in_ring_order, is_known_id, is_refused_ring, least, peer_numbered, with_peer}
 use Rattle.world_model.specs.Ring.AreSettled.{none as settled_none, more as settled_more}
 use Rattle.world_model.specs.Ring.RingLine.{refused as ring_refused, exceeds as ring_exceeds, makes as ring_makes}
 use Rattle.world_model.specs.Ring.JoinLine.{before_ring as join_before_ring, known as join_known, exceeds as join_exceeds, alone as join_alone, joins as join_joins, fails as join_fails}

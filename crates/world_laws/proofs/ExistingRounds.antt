@@ -1,5 +1,5 @@
 -- The first three parts of a round can be done in each ring: a silent predecessor is forgotten, lists are renewed, and fingers are fixed.
-use Rattle.std.proofs.Common.{◌≡◌, ◌≢◌, ◌⊎◌, inl, inr, ⊎_elim, ℕ, zero, suc, ◌+◌, ◌*◌, ◌/◌, ◌%◌, ◌^◌, ◌<◌, ◌≤◌, Bool, true, false, ◌&&◌, List, [], ◌∷◌, ◌++◌, length, map, Option, Some, None, refl, sym, ap, ◌∙◌, subst, arith, Contains, nat_lt}
+use Rattle.std.proofs.Common.{◌≡◌, ◌≢◌, ◌⊎◌, inl, inr, ℕ, zero, suc, ◌+◌, ◌*◌, ◌/◌, ◌%◌, ◌^◌, ◌<◌, List, [], ◌∷◌, length, map, Option, Some, None, refl, sym, ap, ◌∙◌, subst, arith, Contains, nat_lt}
 use Rattle.std.specs.Prelude.{IfSome, IsTrue}
 use Rattle.std.specs.List.{AllByRecursion, list_all}
 use Rattle.std.proofs.Math.Nat.{div-lt_iff_lt-mul, mod-lt}
@@ -39,7 +39,7 @@ use Rattle.round_laws.proofs.Passing.{noticed}
 use Rattle.round_laws.proofs.Renewing.{all_renewed}
 use Rattle.round_laws.proofs.Repairing.{kept_look_up}
 use Rattle.round_laws.proofs.Rounding.{nodes_of}
-use Rattle.round_laws.proofs.Standing.{IsBase, IsWithin, KeepsRing, fated, knows_of, node_made, relinked, stands, still_asked}
+use Rattle.round_laws.proofs.Standing.{IsBase, IsWithin, KeepsRing, fated, knows_of, node_made, relinked, still_asked}
 use Rattle.world_laws.proofs.ExistingAsks.{HasFound, looks_up}
 use Rattle.world_laws.proofs.ExistingFates.{Serves, some_fate}
 use Rattle.world_laws.proofs.NodeFates.{PutsMet, fate_met, fate_rest, from_among}
@@ -53,8 +53,7 @@ digits zero x h = ([], refl, refl, omega (arith, h))
 digits (suc k) x h =
     let pos = pow_pos k in
     let few : x / 256 ^ k < 256 = (div-lt_iff_lt-mul {k = 256 ^ k} {x = x} {y = 256} pos).1 (subst (λ (n : ℕ). x < n) (one_more k) h) in
-    let rest = digits k (x % 256 ^ k) (mod-lt x pos) in
-    (
+    let rest = digits k (x % 256 ^ k) (mod-lt x pos) in (
       x / 256 ^ k ∷ rest.0,
       ap suc rest.1,
       both (nat_lt (x / 256 ^ k) 256) (list_all (λ b. nat_lt b 256) rest.0) (lt-ltb (x / 256 ^ k) 256 few) rest.2,
@@ -163,8 +162,7 @@ module _ (r : ℕ) (base : List Shape) (planned : List ℕ) (start end : ℕ) (b
       by_silence q before a (inr heard) = (a.next, keeps n q a.given a.next is before a.fate heard, a.fine)
       by_silence q before a (inl silent) =
           let m = own a.next a.fine p made in
-          let known = a.fine.within.known p.id m.0 m.1 in
-          (
+          let known = a.fine.within.known p.id m.0 m.1 in (
             with_node a.next (record m.0 { ring = with_links m.0.ring (record m.0.ring.links { before = None }) }),
             forgets n m.0 q a.next is before (subst (λ (x : Answer). FateOf hss_judged w q ask.Near x a.next) silent a.fate) m.1,
             relink a.next a.fine p made m.0 m.1 (record m.0.ring.links { before = None }) (known.list, known.fingers, tt),
@@ -187,8 +185,7 @@ module _ (r : ℕ) (base : List Shape) (planned : List ℕ) (start end : ℕ) (b
   notifies_some p made w fine [] all = (w, nobody, fine)
   notifies_some p made w fine (f ∷ rest) all =
       let a = some_fate w f (ask.Notify p) (made_in w fine f all.0) in
-      let does : Notifies hss_judged p w (f ∷ rest) a.next = notifies f rest a.given a.next a.fate in
-      (
+      let does : Notifies hss_judged p w (f ∷ rest) a.next = notifies f rest a.given a.next a.fate in (
         a.next,
         does,
         record {
@@ -202,8 +199,7 @@ module _ (r : ℕ) (base : List Shape) (planned : List ℕ) (start end : ℕ) (b
   relist : (w : World) → Fine w → (p : Peer) → IsMade p → (m : Node) → node_at w p.id ≡ Some m → (list : List Peer) → AllByRecursion IsMade list → Fine (with_node w (listing_now m list)) × (node_at (with_node w (listing_now m list)) p.id ≡ Some (listing_now m list))
   relist w fine p made m is list all =
       let known = fine.within.known p.id m is in
-      let here : at w.nodes (peer_of m).id ≡ Some m = subst (λ (id : Key). at w.nodes id ≡ Some m) (sym (at_id w.nodes p.id m is)) is in
-      (
+      let here : at w.nodes (peer_of m).id ≡ Some m = subst (λ (id : Key). at w.nodes id ≡ Some m) (sym (at_id w.nodes p.id m is)) is in (
         relink w fine p made m is (record m.ring.links { list = list }) (all, known.fingers, known.before),
         subst (λ (id : Key). at (replaced (listing_now m list) w.nodes) id ≡ Some (listing_now m list)) (at_id w.nodes p.id m is) (at_same w.nodes (listing_now m list) m here),
       )
@@ -246,8 +242,7 @@ module _ (r : ℕ) (base : List Shape) (planned : List ℕ) (start end : ℕ) (b
       let mid : Fine h.next = looked_fine w fine key p h in
       let n = own h.next mid p made in
       let next : World = with_node h.next (record n.0 { ring = with_links n.0.ring (with_finger k h.found n.0.ring.links) }) in
-      let fixes : FixesFinger hss_judged p k w next = record { key = key; is_key = is_key; starts = starts; found = h.found; mid = h.next; looks = h.looks; node = n.0; is_node = n.1; fixed = refl } in
-      (
+      let fixes : FixesFinger hss_judged p k w next = record { key = key; is_key = is_key; starts = starts; found = h.found; mid = h.next; looks = h.looks; node = n.0; is_node = n.1; fixed = refl } in (
         next,
         fixes,
         record {

@@ -1,11 +1,9 @@
 -- Each session that is in hand can be brought to its end, whatever its story: while it refreshes memory may be wanting, and then it publishes.
-use Rattle.std.proofs.Common.{◌≡◌, ◌≢◌, ℕ, Bool, true, false, List, [], ◌∷◌, map, filter, Option, Some, None, refl, sym, ap, ◌∙◌, subst, le_refl, Contains}
+use Rattle.std.proofs.Common.{◌≡◌, ◌≢◌, ℕ, [], map, Some, None, refl, le_refl, Contains}
 use Rattle.std.specs.Prelude.{length}
 use Rattle.std.specs.List.{AllByRecursion}
-use Rattle.log_model.proofs.Lists.{each_from}
 use Rattle.ring_model.proofs.Lists.{all_weaker}
 use Rattle.dht_ids.specs.declared.ask.Heard.{Heard}
-use Rattle.dht_ids.specs.declared.peer.Peer.{Peer}
 use Rattle.session_model.specs.Courses.{ended}
 use Rattle.session_model.specs.Courses.LacksMemory.{lacks}
 use Rattle.session_model.specs.Replies.{said_no_memory}
@@ -14,11 +12,12 @@ use Rattle.session_model.specs.Sessions.TakesSome.{none as some_none}
 use Rattle.world_model.specs.Logs.{to_publish}
 use Rattle.world_model.specs.Story.{Story}
 use Rattle.world_model.specs.Steps.Steps.{lacks_memory}
-use Rattle.world_model.specs.World.{World, Participant, entries, participant, peer_of, with_participant}
+use Rattle.world_model.specs.World.{World, Participant, participant, peer_of, with_participant}
 use Rattle.world_laws.specs.Keeps.{AreApart, GoesOn, IsAtStage, IsMetPost, IsRefreshing, Keeps}
+use Rattle.world_laws.specs.Laws.{EachSessionEnds}
 use Rattle.world_laws.proofs.ExistingFates.{Serves, names_made, serves_so}
 use Rattle.world_laws.proofs.ExistingPlans.{Names}
-use Rattle.world_laws.proofs.ExistingPuts.{Ended, MayStep, Stands, after_step, all_on, all_out, over}
+use Rattle.world_laws.proofs.ExistingPuts.{Ended, MayStep, Stands, after_step, all_on, all_out, over, runs_out}
 use Rattle.world_laws.proofs.WholePublishing.{each_published, entries_made, some_entries}
 
 -- what a session says in the end, and how
@@ -61,3 +60,8 @@ pub publishes_all : (w : World) (r : ℕ) (p : Participant) → Serves r (map pe
 publishes_all w r p serves apart is some posts =
     all_out r (map peer_of w.nodes) w.met p.name p (length (in_publishing_order p.agent.pending)) (in_publishing_order p.agent.pending) (le_refl (length (in_publishing_order p.agent.pending))) w (to_publish w p) None []
     (record { serves = serves; apart = apart; is_by = is }) refl refl (some_entries w some) (entries_made w) (each_published (IsMetPost w.met) p.agent.pending posts)
+
+pub each_session_ends : EachSessionEnds
+each_session_ends w r s story ringed goes_on =
+    let end = session_ends w story.0 r story.1 ringed s goes_on in
+    (end.end.world, end.end.session, end.said, end.end.is_over, λ st b. runs_out end.end.course st b)

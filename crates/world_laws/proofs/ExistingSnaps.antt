@@ -1,5 +1,5 @@
 -- A line that makes a snapshot does something, where what is to be published of it has a spelling.
-use Rattle.std.proofs.Common.{◌≡◌, ℕ, Bool, true, false, cond, List, ◌++◌, map, Option, Some, None, refl, sym, ap, ◌∙◌, subst, Contains}
+use Rattle.std.proofs.Common.{◌≡◌, ℕ, Bool, true, false, cond, List, map, Option, Some, None, refl, sym, ap, ◌∙◌, subst}
 use Rattle.std.specs.Prelude.{IfSome, codes}
 use Rattle.std.specs.List.{AllByRecursion}
 use Rattle.log_heads.specs.Signed.{hss_judged}
@@ -10,10 +10,10 @@ use Rattle.snapshot_model.specs.Spelling.{root_name, snapshot_blocks}
 use Rattle.agent_model.specs.Agent.{failed, kept_of}
 use Rattle.agent_model.specs.Others.{basis_of, snapped}
 use Rattle.agent_model.specs.SavedBytes.{ArePostsSpelled}
-use Rattle.script_driver.specs.Run.{Outcome, Goes, Refuses}
+use Rattle.script_driver.specs.Run.{Goes, Refuses}
 use Rattle.world_model.specs.Agents.{Agent, Kept}
 use Rattle.world_model.specs.Keepers.{fails_next}
-use Rattle.world_model.specs.Logs.{Played, SnapLine, having_snapped, having_tried, failed_text, snap_text, snapping_in, to_publish}
+use Rattle.world_model.specs.Logs.{SnapLine, having_snapped, having_tried, failed_text, snap_text, snapping_in, to_publish}
 use Rattle.world_model.specs.Logs.SnapLine.{nobody, outside, fails, makes}
 use Rattle.world_model.specs.Steps.{met_by}
 use Rattle.world_model.specs.Story.{Story, began_nothing}
@@ -77,15 +77,13 @@ module _ (w : World) (st : Story) (keeps : Keeps (w, st)) (log : List ℕ) (p : 
       by_test true tried =
           let h = posts_spelled tried in
           let ring = some_participant w st keeps p (found_named w.participants log p is_p).0 in
-          let end = published ring.0 ring.1 h in
-          (
+          let end = published ring.0 ring.1 h in (
             Goes end.world (snap_text p.name (root_name view (basis_of p.agent.holding))),
-            λ su fits. let runs = runs_out end.course su began_nothing in
-                (
-                  Goes (end.world, runs.0) (snap_text p.name (root_name view (basis_of p.agent.holding))),
-                  makes p q view ring.0 (end.world, runs.0) in_view tried ring.1 refl h (scene end.world runs.0 end.session began_nothing, runs.1, refl),
-                  refl,
-                ),
+            λ su fits. let runs = runs_out end.course su began_nothing in (
+              Goes (end.world, runs.0) (snap_text p.name (root_name view (basis_of p.agent.holding))),
+              makes p q view ring.0 (end.world, runs.0) in_view tried ring.1 refl h (scene end.world runs.0 end.session began_nothing, runs.1, refl),
+              refl,
+            ),
           )
 
 -- what is to be published of a snapshot of the participant has a spelling

@@ -30,7 +30,7 @@ use Rattle.agent_model.specs.Turning.{Answered, TurnEnd}
 use Rattle.agent_model.specs.Standing.{Refresh, Standing}
 use Rattle.session_model.specs.Brought.{brought_in, heads_at}
 use Rattle.session_model.specs.Refreshing.{Note}
-use Rattle.session_model.specs.Sessions.{Cache, Hears, TakesSome, Session, Refreshing, Over}
+use Rattle.session_model.specs.Sessions.{Cache, Hears, Said, TakesSome, Session, Refreshing, Over}
 use Rattle.session_model.specs.Courses.{Fails, HasRefreshed, IsRefusal, LacksMemory, Settles}
 use Rattle.session_model.specs.Replies.{said_no_memory}
 use Rattle.session_laws.specs.Going.{SnapshotsAreDecided}
@@ -44,13 +44,13 @@ use Rattle.world_model.specs.Agents.{Agent, IsKept, IsTurnIn, Kept, TakesTurn, k
 use Rattle.world_model.specs.Keepers.{fails_next}
 use Rattle.world_model.specs.World.{World, NamedSession, Participant, empty_world, named_bytes, participant, with_participant}
 use Rattle.world_model.specs.Fates.{FateOf}
-use Rattle.world_model.specs.Story.{HadTurn, Story, beginning, empty_story, having_begun, known_of, receiving}
+use Rattle.world_model.specs.Story.{Began, HadTurn, Story, beginning, empty_story, having_begun, known_of, receiving}
 use Rattle.world_model.specs.Logs.{Played, Publishes, snapping_in}
 use Rattle.world_model.specs.Calls.{BeginsWith, Sending, reply_line}
 use Rattle.world_model.specs.Step.{Does, IvyStep}
-use Rattle.world_model.specs.Steps.{Scene, Steps, after_turn, ask_told, heads_by, turn_told, with_cache, world_after}
+use Rattle.world_model.specs.Steps.{RunsOut, Scene, Steps, after_turn, ask_told, heads_by, turn_told, with_cache, world_after}
 use Rattle.world_laws.specs.Causes.{IsOf}
-use Rattle.world_laws.specs.Keeps.{BeganFresh, HasNoSnapshot, IsInHand, IsMetHead, IsSoundSession, Keeps, OnlyPublishes, sealed_with}
+use Rattle.world_laws.specs.Keeps.{BeganFresh, GoesOn, HasNoSnapshot, IsInHand, IsMetHead, IsSoundSession, Keeps, OnlyPublishes, sealed_with}
 use Rattle.world_laws.specs.Headline.{Headline, IsOnReplay, NewTurns, TurnHolds}
 
 -- ---- blocks met
@@ -198,6 +198,12 @@ HeadlineHolds = (w : Played) (line : List ℕ) (outcome : Outcome Played) → Ke
 
 abbrev pub EachReplyIsOnReplay : Type 0
 EachReplyIsOnReplay = (w : Played) (number : ℕ) (lines : List (List ℕ)) (ran : Ran) → Keeps w → Runs IvyStep w number lines ran → Runs (WithLaw IvyStep Headline) w number lines ran
+
+-- Each open session can be brought to its end, in the same steps whatever is told of it: it says something, and this world is left.
+abbrev pub EachSessionEnds : Type 0
+EachSessionEnds = (w : World) (r : ℕ) (s : Session) → HasStory Keeps w → w.replicas ≡ Some r → GoesOn w r s
+    → (next : World) × (t : Session) × (said : Said) × (t.stage ≡ Over (Some said))
+    × ((st : Story) (b : Began) → (told : Story) × RunsOut hss_judged r s.by (record { world = w; story = st; session = s; began = b }) (record { world = next; story = told; session = t; began = b }))
 
 -- What is to be published has a spelling, where the command makes a snapshot: more posts than a word counts can't be saved, and then nothing is defined.
 abbrev pub CanBeDone : World → Command → Type 0

@@ -17,12 +17,16 @@
 //! session that begins), `proofs/Afresh.antt` (a participant that changes, whose open sessions are gone), `proofs/OtherBytes.antt`
 //! (one whose keeper holds other bytes), `proofs/Newcomer.antt` (one more), `proofs/EnteredViews.antt` (what is known of another
 //! view's members is closed), `proofs/KnownHeads.antt` (the heads that left are over what is known), `proofs/SignatureBytes.antt`
-//! (signatures are bytes, and few). Nothing here runs, so there are no costs.
+//! (signatures are bytes, and few).
+//! That something can be done: `proofs/ExistingPlans.antt` (whom a put asks), `proofs/ExistingFates.antt` (an ask has a fate),
+//! `proofs/ExistingPuts.antt` and `proofs/ExistingSessions.antt` (sessions to their end), `proofs/ExistingAsks.antt` (look-ups and
+//! whole puts), `proofs/ExistingRounds.antt` and `proofs/ExistingRepairs.antt` (rounds), `proofs/ExistingMessages.antt` (what
+//! becomes of a message). Nothing here runs, so there are no costs.
 #![tactic(auto)]
 
 ghost use Rattle.world_laws.specs.Frames.{DamageLinesKeep, HeadlineOfRuns, JoinLinesKeep, KeeperLinesKeep, LinesKeepByThese, LogLinesKeep, MildChangesKeep, MoreBlocksKeep, RestartLinesKeep, RingLinesKeep, RoundLinesKeep, StillLinesKeep, StopLinesKeep, UseLinesKeep, ViewLinesKeep};
 ghost use Rattle.world_laws.specs.Kinds.{LineHasOneKind};
-ghost use Rattle.world_laws.specs.Laws.{AlikeTurnsAnswerAlike, CallsBegin, ClashIsDecided, EachLineDoesSomething, EachScriptHasARun, EmptyKeeps, FewerStayApart, FreshTurnsAreAnswered, GetsBringKeep, GetsGoOnKeep, HeadsAreSavedFirst, KeptOnce, KnownIsOne, LackingKeeps, LackingStepsKeep, LeafSignsOnce, MetGrows, OneTruth, OpenLineKeeps, OtherLogsDontCount, PublishingKeeps, PutsKeep, ReceivingKeeps, RefreshBrings, RefreshEndsInTurn, RefreshMayTurn, SecondTurnIsAnswered, SettlingKeeps, StepsKeepByTurns, StillLinesChangeNothing, TakingKeeps, UpperLeavesSignOnce, VainAsksKeep, WholePublishingKeeps};
+ghost use Rattle.world_laws.specs.Laws.{AlikeTurnsAnswerAlike, CallsBegin, ClashIsDecided, EachLineDoesSomething, EachScriptHasARun, EachSessionEnds, EmptyKeeps, FewerStayApart, FreshTurnsAreAnswered, GetsBringKeep, GetsGoOnKeep, HeadsAreSavedFirst, KeptOnce, KnownIsOne, LackingKeeps, LackingStepsKeep, LeafSignsOnce, MetGrows, OneTruth, OpenLineKeeps, OtherLogsDontCount, PublishingKeeps, PutsKeep, ReceivingKeeps, RefreshBrings, RefreshEndsInTurn, RefreshMayTurn, SecondTurnIsAnswered, SettlingKeeps, StepsKeepByTurns, StillLinesChangeNothing, TakingKeeps, UpperLeavesSignOnce, VainAsksKeep, WholePublishingKeeps};
 
 /// A law and no code: of any blocks, names tell them apart, or two of them clash.
 pub fn clashes_are_decided()
@@ -192,10 +196,11 @@ pub fn lines_left()
     ensures runs { HeadlineOfRuns }
 {}
 
-/// Laws and no code: from a world that some story fits each line has an outcome, and it is one whichever story fits; of a line
-/// that makes a snapshot that asks that what is to be published can be saved. So, where each line leaves such a world, each script
-/// that makes no snapshot has a run.
+/// Laws and no code: from a world that some story fits each open session can be brought to its end, and each line has an outcome,
+/// one and the same whichever story fits; of a line that makes a snapshot that asks that what is to be published can be saved. So,
+/// where each line leaves such a world, each script that makes no snapshot has a run.
 pub fn each_line_does_something()
+    ensures sessions { EachSessionEnds }
     ensures lines { EachLineDoesSomething }
     ensures scripts { EachScriptHasARun }
 {}
