@@ -24,7 +24,7 @@ use Rattle.world_model.specs.Calls.StepLine.{not_open as stepping_not_open, out_
 use Rattle.world_model.specs.Calls.FinishLine.{not_open as finishing_not_open, ends}
 use Rattle.world_model.specs.Logs.{Played}
 use Rattle.world_model.specs.Steps.{RunsOut}
-use Rattle.world_model.specs.Story.{Story, began_of, beginning, having_begun}
+use Rattle.world_model.specs.Story.{Story, began_of, beginning, having_begun, with_began, without_began}
 use Rattle.world_model.specs.World.{World, NamedSession, Participant, entries, participant, session_named, with_session, without_session}
 use Rattle.world_laws.specs.Keeps.{GoesOn, HasRing, Keeps}
 use Rattle.world_laws.proofs.Beginning.{calls_begin}
@@ -154,7 +154,7 @@ module _ (w : World) (st : Story) (keeps : Keeps (w, st)) where
             Goes (with_session to.world name to.session) [],
             λ su fits.
                 let all = to.steps su (began_of su name) in (
-                  _,
+                  Goes (with_session to.world name to.session, with_began all.0 name (began_of su name)) [],
                   steps s its.r (scene to.world all.0 to.session (began_of su name)) counts its.ringed all.1,
                   refl,
                 ),
@@ -168,7 +168,7 @@ module _ (w : World) (st : Story) (keeps : Keeps (w, st)) where
         Goes (replied (without_session end.end.world name) end.said) (shown_end end.end.session end.said),
         λ su fits.
             let runs = runs_out end.end.course su (began_of su name) in (
-              _,
+              Goes (replied (without_session end.end.world name) end.said, without_began runs.0 name) (shown_end end.end.session end.said),
               ends s its.r (scene end.end.world runs.0 end.end.session (began_of su name)) end.said its.ringed runs.1 end.end.is_over,
               refl,
             ),
