@@ -1,16 +1,13 @@
 -- Lines of calls do something: a whole call, and a session that is opened, goes some steps, or is brought to its end.
-use Rattle.std.proofs.Common.{◌≡◌, ℕ, Bool, true, false, cond, List, [], ◌∷◌, ◌++◌, Option, Some, None, refl, sym, ap, ◌∙◌, subst, Contains}
+use Rattle.std.proofs.Common.{◌≡◌, ℕ, Bool, true, false, cond, List, [], ◌∷◌, ◌++◌, Option, Some, None, refl, ap, ◌∙◌, subst, Contains}
 use Rattle.std.specs.Prelude.{is_some, option_map}
 use Rattle.std.specs.List.{find}
 use Rattle.std.specs.Str.{bytes_eq}
 use Rattle.log_heads.specs.Signed.{hss_judged}
 use Rattle.log_model.proofs.Lists.{each, here, in_nothing, there}
-use Rattle.log_model.specs.View.{View}
 use Rattle.script_driver.specs.Run.{Outcome, Goes, Refuses}
 use Rattle.script_driver.specs.Seen.{seen}
-use Rattle.script_model.specs.Words.{◌>>=◌}
 use Rattle.script_model.specs.declared.command.Piece.{Piece}
-use Rattle.script_model.specs.Messages.{message_of}
 use Rattle.dht_ids.specs.declared.peer.Peer.{Peer}
 use Rattle.agent_model.specs.Standing.{Standing}
 use Rattle.session_model.specs.Courses.{Begins}
@@ -32,32 +29,11 @@ use Rattle.world_laws.proofs.Bringing.{found_named}
 use Rattle.world_laws.proofs.ExistingMessages.{some_session}
 use Rattle.world_laws.proofs.ExistingPuts.{runs_out, scene, steps_to}
 use Rattle.world_laws.proofs.ExistingSessions.{EndsSo, session_ends}
+use Rattle.world_laws.proofs.Opening.{sent_by}
 
 -- what a line may do, whichever story there is, where it does this by each
 abbrev pub IsSeen : World → (Story → Outcome Played → Type 0) → Type 0
 IsSeen w Line = (outcome : Outcome World) × ((st : Story) → Keeps (w, st) → (o : Outcome Played) × Line st o × (outcome ≡ seen o))
-
--- ---- what is sent
-
-record IsSent (w : World) (name : List ℕ) (s : Sending) : Type 0 where
-  is_by : participant w name ≡ Some s.by
-  in_view : s.by.agent.view ≡ Some s.view
-
-sent_message : (p : Participant) (view : View) (m : Option (List ℕ)) (s : Sending) → (m >>= (λ message. Some (let x : Sending = record { by = p; view = view; message = message } in x))) ≡ Some s → (p ≡ s.by) × (view ≡ s.view)
-sent_message p view None s e = cc e
-sent_message p view (Some message) s e = (cc e, cc e)
-
-sent_view : (w : World) (pieces : List Piece) (p : Participant) (o : Option View) (s : Sending) → p.agent.view ≡ o
-    → (o >>= (λ view. message_of w.replies view pieces >>= (λ message. Some (let x : Sending = record { by = p; view = view; message = message } in x)))) ≡ Some s → (p ≡ s.by) × (s.by.agent.view ≡ Some s.view)
-sent_view w pieces p None s is e = cc e
-sent_view w pieces p (Some view) s is e =
-    let parts = sent_message p view (message_of w.replies view pieces) s e in
-    (parts.0, ap (λ (q : Participant). q.agent.view) (sym parts.0) ∙ is ∙ ap Some parts.1)
-
-sent_by : (w : World) (name : List ℕ) (pieces : List Piece) (o : Option Participant) (s : Sending) → participant w name ≡ o
-    → (o >>= (λ p. p.agent.view >>= (λ view. message_of w.replies view pieces >>= (λ message. Some (let x : Sending = record { by = p; view = view; message = message } in x))))) ≡ Some s → IsSent w name s
-sent_by w name pieces None s is e = cc e
-sent_by w name pieces (Some p) s is e = let parts = sent_view w pieces p p.agent.view s refl e in record { is_by = is ∙ ap Some parts.0; in_view = parts.1 }
 
 -- ---- there is a ring
 

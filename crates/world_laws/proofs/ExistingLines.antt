@@ -1,7 +1,7 @@
 -- Lines of participants do something: a log begins, a view is made, a participant enters one or starts again; and so do lines that are functions of the world.
 use Rattle.std.proofs.Common.{◌≡◌, ◌⊎◌, inl, inr, ⊎_elim, ℕ, Bool, true, false, cond, List, [], ◌∷◌, ◌++◌, map, Option, Some, None, refl, sym, ap, ◌∙◌, subst, Contains}
 use Rattle.std.specs.Prelude.{is_some}
-use Rattle.std.specs.List.{AllByRecursion, find}
+use Rattle.std.specs.List.{AllByRecursion}
 use Rattle.std.specs.Str.{bytes_eq}
 use Rattle.std.proofs.lemmas.List.{map-append}
 use Rattle.std.proofs.lemmas.List.Elements.{Contains-append_cases}
@@ -11,7 +11,7 @@ use Rattle.ivy_base.specs.Naming.{HasClash, NamesTellApart}
 use Rattle.hash_signature_model.specs.declared.set.Set.{Set}
 use Rattle.hss_keys.specs.Signer.{hss_key_of}
 use Rattle.log_heads.specs.Signed.{hss_judged}
-use Rattle.log_model.proofs.Lists.{each, here, in_cons, in_nothing, there}
+use Rattle.log_model.proofs.Lists.{each, here, there}
 use Rattle.log_model.specs.Chain.{opening}
 use Rattle.log_model.specs.Rank.{own_entry}
 use Rattle.log_model.specs.Record.{Record}
@@ -45,6 +45,7 @@ use Rattle.world_laws.proofs.ExistingSessions.{publishes_all}
 use Rattle.world_laws.proofs.Frames.{held_more, into_map, nodes_of_ring, ring_of}
 use Rattle.world_laws.proofs.Lines.{meets_it, meets_more}
 use Rattle.world_laws.proofs.MoreMet.{more_stand}
+use Rattle.world_laws.proofs.Newcomer.{apart_more, found_after, none_named}
 use Rattle.world_laws.proofs.Placed.{found_some}
 use Rattle.world_laws.proofs.SignedAmong.{met_stays, met_then}
 use Rattle.world_laws.proofs.SignedHeads.{so_of}
@@ -80,25 +81,6 @@ pub use_line_seen : (w : World) (st : Story) (p : Option Participant) (view : Op
 use_line_seen w st p view = (seen (use_by (w, st) p view), λ su fits. (use_by (w, su) p view, refl, use_seen w st su p view))
 
 -- ---- log
-
-none_named : {A : Type 0} (o : Option A) → is_some o ≡ false → o ≡ None
-none_named None h = refl
-none_named (Some x) h = cc h
-
-found_after : {A : Type 0} (test : A → Bool) (xs ys : List A) → find test xs ≡ None → find test (xs ++ ys) ≡ find test ys
-found_after test [] ys none = refl
-found_after test (x ∷ xs) ys none = by_test (test x) none (found_after test xs ys)
-  where
-    by_test : (b : Bool) → cond b (Some x) (find test xs) ≡ None → (find test xs ≡ None → find test (xs ++ ys) ≡ find test ys) → cond b (Some x) (find test (xs ++ ys)) ≡ find test ys
-    by_test true h later = cc h
-    by_test false h later = later h
-
-apart_more : (ns : List (List ℕ)) (n : List ℕ) → AreApart ns → (Contains ns n → ⊥) → AreApart (ns ++ n ∷ [])
-apart_more [] n apart new = (in_nothing n, tt)
-apart_more (m ∷ ns) n apart new = (
-  λ c. ⊎_elim apart.0 (λ last. ⊎_elim (λ e. new (subst (Contains (m ∷ ns)) (sym e) (here m ns))) (λ none. in_nothing m none) (in_cons n [] m last)) (Contains-append_cases ns (n ∷ []) m c),
-  apart_more ns n apart.1 (λ c. new (there m ns n c)),
-)
 
 pub serves_more : (w : World) (st : Story) (r : ℕ) → Keeps (w, st) → w.replicas ≡ Some r → (participants : List Participant) (views : List NamedView) (met : List (List ℕ)) → ((b : List ℕ) → Contains w.met b → Contains met b)
     → Serves r (map peer_of w.nodes) met (record w { participants = participants; views = views; met = met })

@@ -17,9 +17,8 @@ use Rattle.agent_model.specs.Others.{settled}
 use Rattle.session_model.specs.Asking.{AsksNext, IsBegun}
 use Rattle.session_model.specs.Courses.Fails.{goes_on}
 use Rattle.session_model.specs.Courses.Settles.{settles as settles_all}
-use Rattle.session_model.specs.Sessions.{Cache, IsPut, Publishing, Refreshing, Over, Said, Session, Takes, acknowledged, after_put, held_back, is_log, put_question}
+use Rattle.session_model.specs.Sessions.{IsPut, Publishing, Refreshing, Over, Said, Session, acknowledged, after_put, held_back, is_log, put_question}
 use Rattle.session_model.specs.Sessions.Hears.{puts_on, puts}
-use Rattle.session_model.specs.Sessions.Takes.{posted, cached}
 use Rattle.session_model.specs.Sessions.TakesAll.{none as takes_none}
 use Rattle.ask_laws.proofs.AskedPlans.{Entries, Follows, IsToldBy, Plan, asking, ended, entry, some_follows}
 use Rattle.ask_laws.proofs.AskedPuts.{kind_of_post, of_post, put_entries, puts_are_one, told_put}
@@ -36,7 +35,7 @@ use Rattle.world_laws.proofs.ExistingFates.{IsAsked, Serves, ask_one}
 use Rattle.world_laws.proofs.ExistingPlans.{AsksOnly, IsPlannedOf, Names, left_behind, put_planned}
 use Rattle.world_laws.proofs.Frames.{placed_itself}
 use Rattle.world_laws.proofs.NodeFates.{PutsMet}
-use Rattle.world_laws.proofs.Publishing.{fewer_met, question_fits, short_filter}
+use Rattle.world_laws.proofs.Publishing.{fewer_met, question_fits, short_filter, takes_nothing}
 
 -- ---- steps of which the story decides nothing
 
@@ -83,10 +82,6 @@ steps_to (suc count) (more step rest) = (let others = steps_to count rest in rec
 
 -- ---- a participant's session
 
-takes_nothing : (r : ℕ) (s t : Session) (cache after : Cache) → (s.stage ≡ Refreshing → ⊥) → Takes hss_judged r s cache t after → ⊥
-takes_nothing r s _ cache _ other (posted key bytes wants none is) = other wants.0
-takes_nothing r s _ cache _ other (cached key bytes wants none missing is) = other wants.0
-
 module _ (r : ℕ) (peers : List Peer) (met : List (List ℕ)) (name : List ℕ) (by : Participant) where
   -- its nodes answer, and the participant is there
   pub record Stands (w : World) : Type 0 where
@@ -99,7 +94,7 @@ module _ (r : ℕ) (peers : List Peer) (met : List (List ℕ)) (name : List ℕ)
   acting w v s t stands other act st b =
       let one = act st b in (
         one.0,
-        acts by s by.cache (scene v one.0 t b) stands.is_by (takes_none (λ u after takes. takes_nothing r s u by.cache after other takes))
+        acts by s by.cache (scene v one.0 t b) stands.is_by (takes_none (λ u after takes. takes_nothing hss_judged r s u by.cache after other takes))
             (subst (λ (u : World). Acts hss_judged r by (scene u st s b) (scene v one.0 t b)) (sym (placed_itself w stands.apart name by stands.is_by)) one.1),
       )
 

@@ -1,26 +1,21 @@
 -- The fourth part of a round can be done in each ring, and so a whole round: each block is put at its owners, of whom the node itself isn't asked.
-use Rattle.std.proofs.Common.{◌≡◌, ◌⊎◌, inl, inr, ⊎_elim, ℕ, suc, ◌+◌, ◌*◌, ◌≤◌, Bool, true, false, cond, not, List, [], ◌∷◌, ◌++◌, filter, length, Option, Some, None, refl, sym, ap, ◌∙◌, subst, arith, Contains}
+use Rattle.std.proofs.Common.{◌≡◌, ◌⊎◌, inl, inr, ⊎_elim, ℕ, suc, ◌*◌, ◌≤◌, Bool, true, false, cond, not, List, [], ◌∷◌, ◌++◌, filter, Option, Some, None, refl, sym, ap, ◌∙◌, subst, arith, Contains}
 use Rattle.std.specs.Prelude.{IfSome, fold}
 use Rattle.std.specs.List.{AllByRecursion}
-use Rattle.std.specs.Map.{values_of}
-use Rattle.std.specs.FinMap.Entries.{is_sorted-where_key}
 use Rattle.std.specs.Ordering.{eq_by_cmp}
-use Rattle.std.proofs.lemmas.List.Sums.{sum_by-cons}
 use Rattle.ivy_base.specs.declared.key.Key.{Key}
 use Rattle.ivy_base.specs.Naming.{key_cmp}
 use Rattle.log_heads.specs.Signed.{hss_judged}
 use Rattle.ring_model.specs.Gets.{answered_in, nodes}
 use Rattle.ring_model.specs.Members.{IsAmong}
-use Rattle.ring_model.proofs.Lists.{all-among, all_from, all_weaker, filter_gives}
+use Rattle.ring_model.proofs.Lists.{all-among, all_from}
 use Rattle.dht_ids.specs.declared.ask.Answer.{Answer}
 use Rattle.dht_ids.specs.declared.ask.Answer.TheVariants as answer
 use Rattle.dht_ids.specs.declared.ask.Ask.{Ask}
 use Rattle.dht_ids.specs.declared.peer.Peer.{Peer}
 use Rattle.dhash_client.specs.Course.{Told}
 use Rattle.dhash_client.specs.Puts.{is_of_put}
-use Rattle.node_store.specs.Stores.{Block, Blocks, IsStore, bytes_held, without}
-use Rattle.node_store.specs.declared.kind.Kind.{Kind}
-use Rattle.node_store.specs.declared.kind.Kind.TheVariants.{Content, Head}
+use Rattle.node_store.specs.Stores.{Block, Blocks, without}
 use Rattle.script_driver.specs.Run.{Outcome, Goes, Refuses}
 use Rattle.world_model.specs.Fates.{Fates, asking}
 use Rattle.world_model.specs.Fates.Fates.{none as fates_none, more as fates_more}
@@ -44,47 +39,11 @@ use Rattle.round_laws.proofs.Standing.{IsBase}
 use Rattle.world_laws.specs.Keeps.{Keeps}
 use Rattle.world_laws.proofs.ExistingAsks.{HasFound, looks_up}
 use Rattle.world_laws.proofs.ExistingPlans.{firsts_only}
-use Rattle.world_laws.proofs.ExistingRing.{live_made}
 use Rattle.world_laws.proofs.ExistingRounds.{Fine, IsMade, MayDoAt, ask_in, by_each, fixes_all, forgets_some, looked_fine, many_times, own, serves_in, stabilises_some}
 use Rattle.world_laws.proofs.Frames.{nodes_of_ring}
-use Rattle.world_laws.proofs.NodeFates.{HoldsMet, PutsMet, each_replaced, from_among}
-use Rattle.world_laws.proofs.StoredBlocks.{from_sorted, to_sorted}
-
--- ---- blocks that are dropped
-
-one_held : (e : Key × Block) (es : Blocks) → bytes_held (e ∷ es) ≡ length e.1.bytes + bytes_held es
-one_held e es = sum_by-cons (λ (b : Block). length b.bytes) e.1 (values_of es)
-
-fewer_bytes : (test : Key → Bool) (blocks : Blocks) → bytes_held (filter (λ e. test e.0) blocks) ≤ bytes_held blocks
-fewer_bytes test [] = omega arith
-fewer_bytes test (e ∷ es) = by (test e.0) (fewer_bytes test es)
-  where
-    by : (b : Bool) → bytes_held (filter (λ f. test f.0) es) ≤ bytes_held es → bytes_held (cond b (e ∷ filter (λ f. test f.0) es) (filter (λ f. test f.0) es)) ≤ bytes_held (e ∷ es)
-    by true h = let both : bytes_held (e ∷ filter (λ f. test f.0) es) ≤ bytes_held (e ∷ es) = omega (arith, h, one_held e es, one_held e (filter (λ f. test f.0) es)) in both
-    by false h = let less : bytes_held (filter (λ f. test f.0) es) ≤ bytes_held (e ∷ es) = omega (arith, h, one_held e es) in less
-
-module _ (met : List (List ℕ)) where
-  abbrev MetBlocks : Blocks → Type 0
-  MetBlocks blocks = IsStore blocks × AllByRecursion (λ e. Contains met e.1.bytes) blocks
-
-  without_met : (key : Key) (blocks : Blocks) → MetBlocks blocks → MetBlocks (without key blocks)
-  without_met key blocks h = (
-    record {
-      ascending = from_sorted (without key blocks) (is_sorted-where_key key_cmp (λ k. not (eq_by_cmp key_cmp key k)) blocks (to_sorted blocks h.0.ascending));
-      within = omega (arith, fewer_bytes (λ k. not (eq_by_cmp key_cmp key k)) blocks, h.0.within);
-    },
-    filter_gives (λ e. not (eq_by_cmp key_cmp key e.0)) (λ e. Contains met e.1.bytes) blocks (all_weaker _ _ blocks (λ e m pass. m) h.1),
-  )
-
-  all_without : (keys : List Key) (blocks : Blocks) → MetBlocks blocks → MetBlocks (fold (λ left key. without key left) blocks keys)
-  all_without [] blocks h = h
-  all_without (key ∷ keys) blocks h = all_without keys (without key blocks) (without_met key blocks h)
-
--- ---- 4
-
-block_asks : (met : List (List ℕ)) (kind : Kind) (key : Key) (bytes : List ℕ) → Contains met bytes → PutsMet met (question_as kind key bytes)
-block_asks met Content key bytes h = h
-block_asks met Head key bytes h = h
+use Rattle.world_laws.proofs.RingLines.{peers_of_live}
+use Rattle.world_laws.proofs.RoundBlocks.{all_without, of_kind}
+use Rattle.world_laws.proofs.NodeFates.{HoldsMet, each_replaced, from_among}
 
 module _ (r : ℕ) (base : List Shape) (planned : List ℕ) (start end : ℕ) (b : IsBase r base planned start end) (met : List (List ℕ)) where
   abbrev Good : World → Type 0
@@ -123,7 +82,7 @@ module _ (r : ℕ) (base : List Shape) (planned : List ℕ) (start end : ℕ) (b
         by_enough : IsEnough before ⊎ (IsEnough before → ⊥) → (t : Bool) → is_other_peer hss_judged p q ≡ t → ((given : Answer) (v : World) → Good v → OwnersAsked qs (before ++ (q, given) ∷ []) v) → OwnersAsked (q ∷ qs) before w
         by_enough (inl enough) t is later = nobody_asked (q ∷ qs) before w fine (inl enough)
         by_enough (inr not_yet) true other later =
-            let a = ask_in r base planned start end b met w fine q all.0 question (put_keeps hss_judged block.kind key block.bytes) (block_asks met block.kind key block.bytes block_met) in
+            let a = ask_in r base planned start end b met w fine q all.0 question (put_keeps hss_judged block.kind key block.bytes) (of_kind met block.kind key block.bytes block_met) in
             let rest = later a.given a.next a.fine in
             record {
               asks = (q, a.given) ∷ rest.asks;
@@ -228,4 +187,4 @@ round_line w st keeps (Some r) is =
     (Goes round.0 [], goes r round.0 round.1)
   where
     live_in : (w : World) (p : Peer) → IsAmong p (live_in_order w) → IsAmong p (made_by (shapes_of w))
-    live_in w p among = subst (IsAmong p) (made_shape w.nodes) (live_made w.nodes p (⊎_elim (λ none. absurd none) (λ live. live) (fold_among p [] (live_peers w) among)))
+    live_in w p among = subst (IsAmong p) (made_shape w.nodes) (peers_of_live w.nodes p (⊎_elim (λ none. absurd none) (λ live. live) (fold_among p [] (live_peers w) among)))

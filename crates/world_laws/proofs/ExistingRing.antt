@@ -1,5 +1,5 @@
 -- Lines that change the ring do something: there are the nodes of a settled ring, and a node that joins looks up its place.
-use Rattle.std.proofs.Common.{◌≡◌, ◌⊎◌, inl, inr, ⊎_elim, ℕ, zero, suc, ◌+◌, ◌*◌, ◌<◌, Bool, true, false, cond, ◌&&◌, ◌||◌, not, List, [], ◌∷◌, ◌++◌, length, map, filter, get_or, take, Option, Some, None, refl, sym, ap, ◌∙◌, subst, arith, Contains, nat_lt, nat_le}
+use Rattle.std.proofs.Common.{◌≡◌, ◌⊎◌, inl, inr, ℕ, zero, suc, ◌+◌, ◌*◌, ◌<◌, Bool, true, false, cond, ◌&&◌, ◌||◌, not, List, [], ◌∷◌, ◌++◌, length, map, filter, get_or, take, Option, Some, None, refl, sym, ap, ◌∙◌, subst, arith, Contains, nat_lt, nat_le}
 use Rattle.std.specs.Prelude.{◌==◌, is_some, fold}
 use Rattle.std.specs.List.{last_or}
 use Rattle.std.proofs.lemmas.Bool.{leb-false, lt-ltb}
@@ -24,6 +24,7 @@ use Rattle.world_laws.specs.Keeps.{Keeps}
 use Rattle.world_laws.proofs.ExistingAsks.{HasFound, looks_up}
 use Rattle.world_laws.proofs.ExistingFates.{serves_so}
 use Rattle.world_laws.proofs.NodeFates.{from_among}
+use Rattle.world_laws.proofs.RingLines.{least_of, peers_of_live}
 
 -- ---- a settled ring
 
@@ -122,31 +123,6 @@ ring_line w count r = by_test (is_refused_ring w count r) refl (nat_le count 256
 
 -- ---- a node joins
 
-among_all : (q : Peer) (ps : List Peer) → IsAmong (fold (λ (a b : Peer). cond (nat_lt b.number a.number) b a) q ps) (q ∷ ps)
-among_all q [] = inl refl
-among_all q (p ∷ ps) = by_test (nat_lt p.number q.number) (among_all q ps) (among_all p ps)
-  where
-    by_test : (t : Bool) → IsAmong (fold (λ (a b : Peer). cond (nat_lt b.number a.number) b a) q ps) (q ∷ ps) → IsAmong (fold (λ (a b : Peer). cond (nat_lt b.number a.number) b a) p ps) (p ∷ ps)
-        → IsAmong (fold (λ (a b : Peer). cond (nat_lt b.number a.number) b a) (cond t p q) ps) (q ∷ p ∷ ps)
-    by_test true h g = inr g
-    by_test false h g = ⊎_elim (λ e. inl e) (λ i. inr (inr i)) h
-
-least_of : (ps : List Peer) (p : Peer) → least ps ≡ Some p → IsAmong p ps
-least_of [] p e = cc e
-least_of (q ∷ ps) p e = subst (λ x. IsAmong x (q ∷ ps)) (some_is e) (among_all q ps)
-  where
-    some_is : Some (fold (λ (a b : Peer). cond (nat_lt b.number a.number) b a) q ps) ≡ Some p → fold (λ (a b : Peer). cond (nat_lt b.number a.number) b a) q ps ≡ p
-    some_is h = cc h
-
-pub live_made : (nodes : List Node) (p : Peer) → IsAmong p (map peer_of (filter (λ n. n.is_live) nodes)) → IsAmong p (map peer_of nodes)
-live_made [] p h = absurd h
-live_made (n ∷ nodes) p h = by_test n.is_live h (λ g. live_made nodes p g)
-  where
-    by_test : (t : Bool) → IsAmong p (map peer_of (cond t (n ∷ filter (λ m. m.is_live) nodes) (filter (λ m. m.is_live) nodes))) → (IsAmong p (map peer_of (filter (λ m. m.is_live) nodes)) → IsAmong p (map peer_of nodes)) → IsAmong p (map peer_of (n ∷ nodes))
-    by_test true (inl e) later = inl e
-    by_test true (inr g) later = inr (later g)
-    by_test false g later = inr (later g)
-
 pub join_line : (w : World) (st : Story) → Keeps (w, st) → (number : ℕ) (o : Option ℕ) → w.replicas ≡ o → (out : Outcome World) × JoinLine hss_judged w number o out
 join_line w st keeps number None is = (Refuses, join_before_ring)
 join_line w st keeps number (Some r) is = by_test (is_known_id (map peer_of w.nodes) (peer_numbered number)) refl (nat_le 256 (length w.nodes)) refl (least (live_peers w)) refl
@@ -163,6 +139,6 @@ join_line w st keeps number (Some r) is = by_test (is_known_id (map peer_of w.no
     by_test false new true full through is_least = (Exceeds, join_exceeds r new full)
     by_test false new false room None nobody = (_, join_alone r new room nobody)
     by_test false new false room (Some through) is_least =
-        let among : Contains (map peer_of w.nodes) through = from_among through (map peer_of w.nodes) (live_made w.nodes through (least_of (live_peers w) through is_least)) in
+        let among : Contains (map peer_of w.nodes) through = from_among through (map peer_of w.nodes) (peers_of_live w.nodes through (least_of (live_peers w) through is_least)) in
         let h = looks_up r (map peer_of w.nodes) w.met w (serves_so w st r keeps is) (peer_numbered number).id (through ∷ []) (among, tt) in
         by_found through new room is_least h h.found refl

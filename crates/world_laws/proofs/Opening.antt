@@ -245,9 +245,9 @@ module _ (w : Played) (name : List ℕ) (s : Sending) (t : Session) (keeps : Kee
 
 -- ---- what is sent
 
-record IsSent (w : World) (name : List ℕ) (s : Sending) : Type 0 where
-  is_by : participant w name ≡ Some s.by
-  in_view : s.by.agent.view ≡ Some s.view
+pub record IsSent (w : World) (name : List ℕ) (s : Sending) : Type 0 where
+  pub is_by : participant w name ≡ Some s.by
+  pub in_view : s.by.agent.view ≡ Some s.view
 
 sent_message : (p : Participant) (view : View) (m : Option (List ℕ)) (s : Sending) → (m >>= (λ message. Some (let x : Sending = record { by = p; view = view; message = message } in x))) ≡ Some s → (p ≡ s.by) × (view ≡ s.view)
 sent_message p view None s e = cc e
@@ -260,7 +260,7 @@ sent_view w pieces p (Some view) s is e =
     let parts = sent_message p view (message_of w.replies view pieces) s e in
     (parts.0, ap (λ (q : Participant). q.agent.view) (sym parts.0) ∙ is ∙ ap Some parts.1)
 
-sent_by : (w : World) (name : List ℕ) (pieces : List Piece) (o : Option Participant) (s : Sending) → participant w name ≡ o
+pub sent_by : (w : World) (name : List ℕ) (pieces : List Piece) (o : Option Participant) (s : Sending) → participant w name ≡ o
     → (o >>= (λ p. p.agent.view >>= (λ view. message_of w.replies view pieces >>= (λ message. Some (let x : Sending = record { by = p; view = view; message = message } in x))))) ≡ Some s → IsSent w name s
 sent_by w name pieces None s is e = cc e
 sent_by w name pieces (Some p) s is e = let parts = sent_view w pieces p p.agent.view s refl e in record { is_by = is ∙ ap Some parts.0; in_view = parts.1 }
