@@ -70,3 +70,16 @@ mod TurnsScene
 mod AnsweredTurnsFit
 pub mod AnsweredTurns
 pub mod RefusedTurns
+pub mod ExistingPlans
+pub mod ExistingFates
+pub mod ExistingPuts
+pub mod ExistingMessages
+pub mod ExistingSessions
+pub mod ExistingCalls
+pub mod ExistingAsks
+pub mod ExistingRing
+pub mod ExistingLines
+pub mod Existing
+pub mod ExistingRounds
+pub mod ExistingRepairs
+pub mod ExistingSnaps

@@ -37,7 +37,7 @@ found_before test (y ∷ xs) ys x is = by (test y) is (found_before test xs ys x
     by true h later = h
     by false h later = later h
 
-found_after : {A : Type 0} (test : A → Bool) (xs ys : List A) → find test xs ≡ None → find test (xs ++ ys) ≡ find test ys
+pub found_after : {A : Type 0} (test : A → Bool) (xs ys : List A) → find test xs ≡ None → find test (xs ++ ys) ≡ find test ys
 found_after test [] ys none = refl
 found_after test (x ∷ xs) ys none = by (test x) none (found_after test xs ys)
   where
@@ -45,14 +45,14 @@ found_after test (x ∷ xs) ys none = by (test x) none (found_after test xs ys)
     by true h later = cc h
     by false h later = later h
 
-apart_more : (ns : List (List ℕ)) (n : List ℕ) → AreApart ns → (Contains ns n → ⊥) → AreApart (ns ++ n ∷ [])
+pub apart_more : (ns : List (List ℕ)) (n : List ℕ) → AreApart ns → (Contains ns n → ⊥) → AreApart (ns ++ n ∷ [])
 apart_more [] n apart new = (in_nothing n, tt)
 apart_more (m ∷ ns) n apart new = (
   λ c. ⊎_elim apart.0 (λ last. ⊎_elim (λ e. new (subst (Contains (m ∷ ns)) (sym e) (here m ns))) (λ none. in_nothing m none) (in_cons n [] m last)) (Contains-append_cases ns (n ∷ []) m c),
   apart_more ns n apart.1 (λ c. new (there m ns n c)),
 )
 
-none_named : {A : Type 0} (o : Option A) → is_some o ≡ false → o ≡ None
+pub none_named : {A : Type 0} (o : Option A) → is_some o ≡ false → o ≡ None
 none_named None h = refl
 none_named (Some x) h = cc h
 

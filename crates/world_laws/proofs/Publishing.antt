@@ -110,7 +110,7 @@ ask_tells st name s t apart same =
 pub not_at_puts : (w : World) (r : ℕ) (s : Session) (stage : Stage) → IsAtPuts w r s stage → stage ≡ Refreshing → ⊥
 not_at_puts w r s stage h e = subst (IsAtPuts w r s) e h
 
-takes_nothing : (judged : Key → List ℕ → Option Judged) (r : ℕ) (s t : Session) (cache after : Cache) → (s.stage ≡ Refreshing → ⊥) → Takes judged r s cache t after → ⊥
+pub takes_nothing : (judged : Key → List ℕ → Option Judged) (r : ℕ) (s t : Session) (cache after : Cache) → (s.stage ≡ Refreshing → ⊥) → Takes judged r s cache t after → ⊥
 takes_nothing judged r s _ cache _ other (posted key bytes wants none is) = other wants.0
 takes_nothing judged r s _ cache _ other (cached key bytes wants none missing is) = other wants.0
 

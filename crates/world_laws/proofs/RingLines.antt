@@ -162,7 +162,7 @@ added_keeps w r number n keeps ringed new = world_changes w (record (no_changes 
 
 -- ---- joins
 
-peers_of_live : (nodes : List Node) (p : Peer) → IsAmong p (map peer_of (filter (λ n. n.is_live) nodes)) → IsAmong p (map peer_of nodes)
+pub peers_of_live : (nodes : List Node) (p : Peer) → IsAmong p (map peer_of (filter (λ n. n.is_live) nodes)) → IsAmong p (map peer_of nodes)
 peers_of_live [] p i = i
 peers_of_live (n ∷ nodes) p i = by n.is_live i (peers_of_live nodes p)
   where
@@ -172,7 +172,7 @@ peers_of_live (n ∷ nodes) p i = by n.is_live i (peers_of_live nodes p)
     by false j later = inr (later j)
 
 -- the least of some peers is one of them
-least_of : (ps : List Peer) (p : Peer) → least ps ≡ Some p → IsAmong p ps
+pub least_of : (ps : List Peer) (p : Peer) → least ps ≡ Some p → IsAmong p ps
 least_of [] p e = cc e
 least_of (q ∷ ps) p e = let is : fold smaller q ps ≡ p = cc e in subst (λ x. IsAmong x (q ∷ ps)) is (among_all q ps)
   where

@@ -60,7 +60,7 @@ module _ (met : List (List ℕ)) where
     filter_gives (λ e. not (eq_by_cmp key_cmp key e.0)) (λ e. Contains met e.1.bytes) blocks (all_weaker _ _ blocks (λ e m pass. m) h.1),
   )
 
-  all_without : (keys : List Key) (blocks : Blocks) → MetBlocks blocks → MetBlocks (fold (λ left key. without key left) blocks keys)
+  pub all_without : (keys : List Key) (blocks : Blocks) → MetBlocks blocks → MetBlocks (fold (λ left key. without key left) blocks keys)
   all_without [] blocks h = h
   all_without (key ∷ keys) blocks h = all_without keys (without key blocks) (without_met key blocks h)
 
@@ -79,7 +79,7 @@ module _ (met : List (List ℕ)) where
   asked_each question h [] = tt
   asked_each question h (s ∷ told) = (h, asked_each question h told)
 
-  of_kind : (kind : Kind) (key : Key) (bytes : List ℕ) → Contains met bytes → PutsMet met (question_as kind key bytes)
+  pub of_kind : (kind : Kind) (key : Key) (bytes : List ℕ) → Contains met bytes → PutsMet met (question_as kind key bytes)
   of_kind Content key bytes h = h
   of_kind Head key bytes h = h
 

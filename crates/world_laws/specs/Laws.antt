@@ -24,12 +24,13 @@ use Rattle.hash_signature_model.specs.declared.keys.PrivateKey.{PrivateKey}
 use Rattle.hash_signature_model.specs.declared.set.Set.{Set}
 use Rattle.hss_keys.specs.Signer.{Signer, leaf_used, leaves_used, left_of, lower_key, signed_lower}
 use Rattle.log_heads.specs.Signed.{hss_judged}
+use Rattle.agent_model.specs.SavedBytes.{ArePostsSpelled}
 use Rattle.agent_model.specs.Candidates.{AreCandidatesOf, Brings, MayTurn}
 use Rattle.agent_model.specs.Turning.{Answered, TurnEnd}
 use Rattle.agent_model.specs.Standing.{Refresh, Standing}
 use Rattle.session_model.specs.Brought.{brought_in, heads_at}
 use Rattle.session_model.specs.Refreshing.{Note}
-use Rattle.session_model.specs.Sessions.{Cache, Hears, TakesSome, Session, Refreshing, Over}
+use Rattle.session_model.specs.Sessions.{Cache, Hears, Said, TakesSome, Session, Refreshing, Over}
 use Rattle.session_model.specs.Courses.{Fails, HasRefreshed, IsRefusal, LacksMemory, Settles}
 use Rattle.session_model.specs.Replies.{said_no_memory}
 use Rattle.session_laws.specs.Going.{SnapshotsAreDecided}
@@ -43,13 +44,13 @@ use Rattle.world_model.specs.Agents.{Agent, IsKept, IsTurnIn, Kept, TakesTurn, k
 use Rattle.world_model.specs.Keepers.{fails_next}
 use Rattle.world_model.specs.World.{World, NamedSession, Participant, empty_world, named_bytes, participant, with_participant}
 use Rattle.world_model.specs.Fates.{FateOf}
-use Rattle.world_model.specs.Story.{HadTurn, Story, beginning, empty_story, having_begun, known_of, receiving}
-use Rattle.world_model.specs.Logs.{Played, Publishes}
+use Rattle.world_model.specs.Story.{Began, HadTurn, Story, beginning, empty_story, having_begun, known_of, receiving}
+use Rattle.world_model.specs.Logs.{Played, Publishes, snapping_in}
 use Rattle.world_model.specs.Calls.{BeginsWith, Sending, reply_line}
 use Rattle.world_model.specs.Step.{Does, IvyStep}
-use Rattle.world_model.specs.Steps.{RunsOut, Scene, Steps, StepsOn, after_turn, ask_told, heads_by, turn_told, with_cache, world_after}
+use Rattle.world_model.specs.Steps.{after_turn, ask_told, heads_by, RunsOut, Scene, Steps, StepsOn, turn_told, with_cache, world_after}
 use Rattle.world_laws.specs.Causes.{IsOf}
-use Rattle.world_laws.specs.Keeps.{BeganFresh, HasNoSnapshot, IsInHand, IsMetHead, IsSoundSession, Keeps, OnlyPublishes, sealed_with}
+use Rattle.world_laws.specs.Keeps.{BeganFresh, GoesOn, HasNoSnapshot, IsInHand, IsMetHead, IsSoundSession, Keeps, OnlyPublishes, sealed_with}
 use Rattle.world_laws.specs.Headline.{Headline, HoldsOf, IsOnReplay, NewTurns, TurnHolds}
 
 -- ---- blocks met
@@ -202,9 +203,25 @@ HeadlineHolds = (w : Played) (line : List ℕ) (outcome : Outcome Played) → Ke
 abbrev pub EachReplyIsOnReplay : Type 0
 EachReplyIsOnReplay = (w : Played) (number : ℕ) (lines : List (List ℕ)) (ran : Ran) → Keeps w → Runs IvyStep w number lines ran → Runs (WithLaw IvyStep Headline) w number lines ran
 
--- A world has one outcome of each line, whichever story fits it, so each script has a run.
+-- Each open session can be brought to its end, in the same steps whatever is told of it: it says something, and this world is left.
+abbrev pub EachSessionEnds : Type 0
+EachSessionEnds = (w : World) (r : ℕ) (s : Session) → HasStory Keeps w → w.replicas ≡ Some r → GoesOn w r s
+    → (next : World) × (t : Session) × (said : Said) × (t.stage ≡ Over (Some said))
+    × ((st : Story) (b : Began) → (told : Story) × RunsOut hss_judged r s.by (record { world = w; story = st; session = s; began = b }) (record { world = next; story = told; session = t; began = b }))
+
+-- What is to be published has a spelling, where the command makes a snapshot: more posts than a word counts can't be saved, and then nothing is defined.
+abbrev pub CanBeDone : World → Command → Type 0
+CanBeDone w (command.Snap log) = IfSome (participant w log) (λ p. IfSome p.agent.view (λ view. IfSome (snapping_in p view).1 (λ k. ArePostsSpelled k.pending)))
+CanBeDone w _ = Unit {0}
+
+-- A world has an outcome of each such line, and one whichever story fits it.
 abbrev pub EachLineDoesSomething : Type 0
-EachLineDoesSomething = (w : World) (line : List ℕ) → HasStory Keeps w → (outcome : Outcome World) × SeenStep Keeps IvyStep w line outcome
+EachLineDoesSomething = (w : World) (line : List ℕ) → IfSome (command_of line) (CanBeDone w) → HasStory Keeps w → (outcome : Outcome World) × SeenStep Keeps IvyStep w line outcome
+
+-- So each script that makes no snapshot has a run, where lines leave worlds that keep what they should.
+abbrev pub EachScriptHasARun : Type 0
+EachScriptHasARun = LinesKeep → (w : World) (number : ℕ) (lines : List (List ℕ)) → AllByRecursion (λ line. (log : List ℕ) → command_of (shown line) ≢ Some (command.Snap log)) lines → HasStory Keeps w
+    → (ran : Ran) × Runs (SeenStep Keeps IvyStep) w number lines ran
 
 -- ---- one run
 

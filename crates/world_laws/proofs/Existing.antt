@@ -1,0 +1,126 @@
+-- Each line does something in each world that keeps what it should, whichever story fits it.
+use Rattle.std.proofs.Common.{◌≡◌, ◌≢◌, ℕ, ◌+◌, Bool, true, false, List, [], ◌∷◌, length, Option, Some, None, refl, sym, ◌∙◌, subst}
+use Rattle.std.specs.Prelude.{IfSome, MatchBool, nat_lt, sum_by}
+use Rattle.log_heads.specs.Signed.{hss_judged}
+use Rattle.script_driver.specs.Run.{Outcome, Goes, Ends, Refuses, Exceeds, Ran, Runs, behind, ended, limited, refused, shown}
+use Rattle.script_driver.specs.Seen.{HasStory, SeenStep, seen}
+use Rattle.script_model.specs.declared.command.Command.{Command}
+use Rattle.script_model.specs.declared.command.Command.TheVariants as command
+use Rattle.script_model.specs.Lines.{command_of}
+use Rattle.world_model.specs.Calls.{sending_of}
+use Rattle.world_model.specs.Faults.{damage_line, holds_line, lose_line, node_named, order_line, work_line}
+use Rattle.world_model.specs.Logs.{Played, at_line, keep_line, keys_of}
+use Rattle.world_model.specs.Ring.{JoinLine, RingLine, stop_line}
+use Rattle.world_model.specs.Rounds.{RoundLine}
+use Rattle.world_model.specs.Step.{Does, IvyStep, MayDo, MayDoFirst, WithinLimit, most_bytes}
+use Rattle.world_model.specs.Story.{Story}
+use Rattle.world_model.specs.World.{World, participant, session_named, view_named}
+use Rattle.world_laws.specs.Keeps.{Keeps}
+use Rattle.world_laws.specs.Laws.{CanBeDone, EachLineDoesSomething, EachScriptHasARun, LinesKeep}
+use Rattle.world_laws.proofs.ExistingCalls.{IsSeen, as_line, finish_line, open_line, step_line}
+use Rattle.world_laws.proofs.ExistingLines.{by_function, log_line, restart_line, untold, use_line_seen, view_line}
+use Rattle.world_laws.proofs.ExistingRepairs.{round_line}
+use Rattle.world_laws.proofs.ExistingRing.{join_line, ring_line}
+use Rattle.world_laws.proofs.ExistingSnaps.{snap_line}
+use Rattle.world_laws.proofs.LineFits.{Fits, command_fits}
+
+command_does : (w : World) (st : Story) → Keeps (w, st) → (c : Command) → CanBeDone w c → Fits c → IsSeen w (λ su out. Does hss_judged (w, su) c out)
+command_does w st keeps (command.Ring nodes replicas) can fits = untold w (RingLine w nodes replicas) (ring_line w nodes replicas)
+command_does w st keeps (command.Log log id seed sets) can fits = log_line w st keeps log id seed sets
+command_does w st keeps (command.View view [] former) can fits = absurd (fits refl)
+command_does w st keeps (command.View view (m ∷ ms) former) can fits = view_line w st keeps view m ms (keys_of w (m ∷ ms)) (keys_of w former) refl
+command_does w st keeps (command.Use log view) can fits = use_line_seen w st (participant w log) (view_named w view)
+command_does w st keeps (command.At sec nsec) can fits = by_function w (at_line w sec nsec)
+command_does w st keeps (command.As log pieces) can fits = as_line w st keeps log pieces (sending_of w log pieces) refl
+command_does w st keeps (command.Open session log pieces) can fits = open_line w st keeps session (sending_of w log pieces)
+command_does w st keeps (command.Step session count) can fits = step_line w st keeps session count (session_named w session) refl
+command_does w st keeps (command.Finish session) can fits = finish_line w st keeps session (session_named w session) refl
+command_does w st keeps (command.Join number) can fits = untold w (JoinLine hss_judged w number w.replicas) (join_line w st keeps number w.replicas refl)
+command_does w st keeps (command.Stop node) can fits = by_function w (stop_line w (node_named w node))
+command_does w st keeps command.Round can fits = untold w (RoundLine hss_judged w w.replicas) (round_line w st keeps w.replicas refl)
+command_does w st keeps (command.Lose count) can fits = by_function w (lose_line w count)
+command_does w st keeps (command.Damage node key offset byte) can fits = by_function w (damage_line w node key offset byte)
+command_does w st keeps (command.Snap log) can fits = snap_line w st keeps log (participant w log) refl can
+command_does w st keeps (command.Restart log) can fits = restart_line w st keeps log (participant w log) refl
+command_does w st keeps (command.Keep log count new) can fits = by_function w (keep_line w log count new)
+command_does w st keeps (command.Holds node) can fits = by_function w (holds_line w node)
+command_does w st keeps (command.Order log) can fits = by_function w (order_line w log)
+command_does w st keeps (command.Work log) can fits = by_function w (work_line w log)
+command_does w st keeps command.Nothing can fits = (Goes w [], λ su is. (Goes (w, su) [], refl, refl))
+command_does w st keeps command.End can fits = (Ends, λ su is. (Ends, refl, refl))
+
+-- ---- lines
+
+may_do : (w : World) (st : Story) → Keeps (w, st) → (o : Option Command) → IfSome o (CanBeDone w) → ((c : Command) → o ≡ Some c → Fits c) → IsSeen w (λ su out. MayDo (w, su) o out)
+may_do w st keeps None can fits = (Refuses, λ su is. (Refuses, refl, refl))
+may_do w st keeps (Some c) can fits = command_does w st keeps c can (fits c refl)
+
+of_both : (w : World) (full : Bool) (May : Story → Outcome Played → Type 0) → IsSeen w May → IsSeen w (λ su out. MatchBool full (out ≡ Exceeds) (May su out))
+of_both w true May some = (Exceeds, λ su is. (Exceeds, refl, refl))
+of_both w false May some = some
+
+within : (w : World) (st : Story) → Keeps (w, st) → (o : Option Command) → IfSome o (CanBeDone w) → ((c : Command) → o ≡ Some c → Fits c) → IsSeen w (λ su out. WithinLimit (w, su) o out)
+within w st keeps o can fits = of_both w (nat_lt most_bytes (sum_by (λ b. length b) w.met)) (λ su out. MayDo (w, su) o out) (may_do w st keeps o can fits)
+
+may_first : (w : World) (st : Story) → Keeps (w, st) → (o : Option Command) → IfSome o (CanBeDone w) → ((c : Command) → o ≡ Some c → Fits c) → IsSeen w (λ su out. MayDoFirst (w, su) o out)
+may_first w st keeps None can fits = within w st keeps None can fits
+may_first w st keeps (Some (command.Ring nodes replicas)) can fits = within w st keeps (Some (command.Ring nodes replicas)) can fits
+may_first w st keeps (Some (command.Log log id seed sets)) can fits = within w st keeps (Some (command.Log log id seed sets)) can fits
+may_first w st keeps (Some (command.View view members former)) can fits = within w st keeps (Some (command.View view members former)) can fits
+may_first w st keeps (Some (command.Use log view)) can fits = within w st keeps (Some (command.Use log view)) can fits
+may_first w st keeps (Some (command.At sec nsec)) can fits = within w st keeps (Some (command.At sec nsec)) can fits
+may_first w st keeps (Some (command.As log pieces)) can fits = within w st keeps (Some (command.As log pieces)) can fits
+may_first w st keeps (Some (command.Open session log pieces)) can fits = within w st keeps (Some (command.Open session log pieces)) can fits
+may_first w st keeps (Some (command.Step session count)) can fits = within w st keeps (Some (command.Step session count)) can fits
+may_first w st keeps (Some (command.Finish session)) can fits = within w st keeps (Some (command.Finish session)) can fits
+may_first w st keeps (Some (command.Join number)) can fits = within w st keeps (Some (command.Join number)) can fits
+may_first w st keeps (Some (command.Stop node)) can fits = within w st keeps (Some (command.Stop node)) can fits
+may_first w st keeps (Some command.Round) can fits = within w st keeps (Some command.Round) can fits
+may_first w st keeps (Some (command.Lose count)) can fits = within w st keeps (Some (command.Lose count)) can fits
+may_first w st keeps (Some (command.Damage node key offset byte)) can fits = within w st keeps (Some (command.Damage node key offset byte)) can fits
+may_first w st keeps (Some (command.Snap log)) can fits = within w st keeps (Some (command.Snap log)) can fits
+may_first w st keeps (Some (command.Restart log)) can fits = within w st keeps (Some (command.Restart log)) can fits
+may_first w st keeps (Some (command.Keep log count new)) can fits = within w st keeps (Some (command.Keep log count new)) can fits
+may_first w st keeps (Some (command.Holds node)) can fits = within w st keeps (Some (command.Holds node)) can fits
+may_first w st keeps (Some (command.Order log)) can fits = within w st keeps (Some (command.Order log)) can fits
+may_first w st keeps (Some (command.Work log)) can fits = within w st keeps (Some (command.Work log)) can fits
+may_first w st keeps (Some command.Nothing) can fits = within w st keeps (Some command.Nothing) can fits
+may_first w st keeps (Some command.End) can fits = (Ends, λ su is. (Ends, refl, refl))
+
+pub each_line_does_something : EachLineDoesSomething
+each_line_does_something w line can story = may_first w story.0 story.1 (command_of line) can (λ c is. command_fits line c is)
+
+-- ---- scripts
+
+abbrev Run : World → ℕ → List (List ℕ) → Type 0
+Run w number lines = (ran : Ran) × Runs (SeenStep Keeps IvyStep) w number lines ran
+
+-- where a line goes on, some story fits the world that it leads to
+goes_to : (w : World) (st : Story) (line : List ℕ) (next : World) (output : List ℕ) → LinesKeep → Keeps (w, st) → (o : Outcome Played) → IvyStep (w, st) line o → Goes next output ≡ seen o → HasStory Keeps next
+goes_to w st line next output lines keeps (Goes then_is text) step e = (then_is.1, subst (λ (v : World). Keeps (v, then_is.1)) (sym (world_is next then_is.0 output text e)) (lines (w, st) then_is line text keeps step))
+  where
+    world_is : (v u : World) (a b : List ℕ) → Goes v a ≡ Goes u b → v ≡ u
+    world_is v u a b h = cc h
+goes_to w st line next output lines keeps Ends step e = cc e
+goes_to w st line next output lines keeps Refuses step e = cc e
+goes_to w st line next output lines keeps Exceeds step e = cc e
+
+-- a command that makes no snapshot
+can_without : (w : World) (o : Option Command) → ((log : List ℕ) → o ≢ Some (command.Snap log)) → IfSome o (CanBeDone w)
+can_without w None other = tt
+can_without w (Some (command.Snap log)) other = absurd (other log refl)
+can_without w (Some c) other = tt
+
+pub each_script_has_a_run : EachScriptHasARun
+unfolding Runs
+each_script_has_a_run keep w number [] can story = (refused number, refl)
+each_script_has_a_run keep w number (line ∷ lines) can story =
+    let does = each_line_does_something w (shown line) (can_without w (command_of (shown line)) can.0) story in
+    let o = does.1 story.0 story.1 in
+    after does.0 does.1 (λ next output is. each_script_has_a_run keep next (number + 1) lines can.1 (goes_to w story.0 (shown line) next output keep story.1 o.0 o.1 (sym is ∙ o.2)))
+  where
+    after : (outcome : Outcome World) → SeenStep Keeps IvyStep w (shown line) outcome → ((next : World) (output : List ℕ) → outcome ≡ Goes next output → Run next (number + 1) lines) → Run w number (line ∷ lines)
+    after (Goes next output) step later = (let rest = later next output refl in (behind output rest.0, (Goes next output, step, (rest.0, rest.1, refl))))
+    after Ends step later = (ended, (Ends, step, refl))
+    after Refuses step later = (refused number, (Refuses, step, refl))
+    after Exceeds step later = (limited number, (Exceeds, step, refl))
