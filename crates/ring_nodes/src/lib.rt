@@ -16,9 +16,14 @@
 //! answer to a get copies the block once, as a put does; damage copies it once. `held` copies all blocks of a node.
 #![tactic(auto)]
 
+mod joining;
+mod lookup;
 mod node;
 mod nodes;
 mod order;
-mod settle;
 
+mod settle;
+mod whole_put;
+
+pub use joining::Join;
 pub use nodes::RingNodes;
