@@ -1,21 +1,20 @@
 -- A node that a round changes in its place.
-use Rattle.std.proofs.Common.{◌≡◌, inl, ℕ, zero, suc, ◌<◌, List, [], ◌∷◌, length, map, set, get_or, refl, sym, ap, ◌∙◌, subst, Option, Some, None, IfSome, Result, Ok, Err}
+use Rattle.std.proofs.Common.{◌≡◌, ℕ, zero, suc, ◌<◌, List, [], ◌∷◌, length, map, set, get_or, sym, ap, ◌∙◌, subst, Some, IfSome, Result, Ok, Err}
 use Rattle.std.specs.Prelude.{OnErr, OnOk}
-use Rattle.std.specs.List.{AllByRecursion, position}
+use Rattle.std.specs.List.{position}
 use Rattle.ivy_base.specs.declared.key.Key.{Key}
 use Rattle.ivy_base.specs.declared.memory.Memory.{Memory}
 use Rattle.ring_model.specs.Members.{IsAmong, first}
-use Rattle.ring_model.proofs.Lists.{none_some, some_same}
 use Rattle.dht_ids.specs.declared.ask.Answer.{Answer}
 use Rattle.dht_ids.specs.declared.ask.Answer.TheVariants as answer
 use Rattle.dht_ids.specs.declared.peer.Peer.{Peer}
 use Rattle.chord_core.specs.State.{IsOfNear, stabilised}
 use Rattle.world_model.specs.Nodes.{Node}
-use Rattle.world_model.specs.World.{World, peer_of, with_node}
+use Rattle.world_model.specs.World.{peer_of}
 use Rattle.round_laws.specs.RingOf.{AreApart, KnowsOnly}
 use Rattle.round_laws.proofs.Nodes.{replaced}
 use Rattle.round_laws.proofs.Renewing.{all_renewed}
-use Rattle.ring_nodes.specs.NodesState.{AreAllAmong, AreSound, IsNodesOf, NamesOnly, NodesState, made_peers, node_of, with_nodes}
+use Rattle.ring_nodes.specs.NodesState.{AreAllAmong, AreSound, NamesOnly, NodesState, made_peers}
 use Rattle.ring_nodes.specs.Upkeep.{Changes, HasNode, fingered, forgotten, renewed_by}
 use Rattle.ring_nodes.proofs.Places.{found_at, found_within, has_id, set_replaces}
 use Rattle.ring_nodes.proofs.Sound.{old_knows}

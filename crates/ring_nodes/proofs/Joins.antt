@@ -18,12 +18,11 @@ use Rattle.dht_ids.specs.declared.peer.Peer.{Peer}
 use Rattle.dhash_client.specs.Machine.{outcome}
 use Rattle.dhash_client.specs.declared.miss.Miss.{Miss}
 use Rattle.chord_core.specs.State.{alone_node}
-use Rattle.script_driver.specs.Run.{Goes, Refuses, Exceeds}
+use Rattle.script_driver.specs.Run.{Goes}
 use Rattle.world_model.specs.Nodes.{Node}
 use Rattle.world_model.specs.World.{World, peer_of}
 use Rattle.world_model.specs.Ring.{FindsNobody, JoinLine, LooksUp, empty_node, is_known_id, joined_node, least, peer_numbered, with_new_node}
 use Rattle.world_model.specs.Ring.JoinLine.{known as is_met, exceeds, alone, joins, fails}
-use Rattle.round_laws.specs.RingOf.{KnowsOnly}
 use Rattle.ring_nodes.specs.declared.joining.Join.{Join}
 use Rattle.ring_nodes.specs.declared.joining.Join.TheVariants as join
 use Rattle.ring_nodes.specs.NodesState.{AreAllAmong, IsNodesOf, NodesState, made_peers, with_nodes}

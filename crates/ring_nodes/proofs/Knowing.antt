@@ -1,5 +1,5 @@
 -- Nodes know of made peers alone, and their answers name no others.
-use Rattle.std.proofs.Common.{◌≡◌, ℕ, ◌*◌, Bool, true, false, cond, not, List, [], ◌∷◌, ◌++◌, filter, length, refl, sym, subst, Option, Some, None, Result, Ok, Err, IfOk, IfSome}
+use Rattle.std.proofs.Common.{◌≡◌, ℕ, ◌*◌, Bool, true, false, cond, not, List, [], ◌∷◌, filter, length, sym, subst, Option, Some, None, Result, Ok, Err, IfOk}
 use Rattle.std.specs.Prelude.{OnErr, OnOk, nat_eq, nat_lt}
 use Rattle.std.specs.List.{AllByRecursion}
 use Rattle.std.specs.Option.{option_map_or}
@@ -8,7 +8,7 @@ use Rattle.ivy_base.specs.declared.memory.Memory.{Memory}
 use Rattle.ring_model.specs.Arc.{is_inside}
 use Rattle.ring_model.specs.Circle.{number}
 use Rattle.ring_model.specs.Members.{IsAmong}
-use Rattle.ring_model.specs.Route.{nearer_part, nearer_with, owners_part, with_nearer}
+use Rattle.ring_model.specs.Route.{nearer_with, owners_part, with_nearer}
 use Rattle.ring_model.proofs.Lists.{all-both, all_weaker, filter_gives}
 use Rattle.dht_ids.specs.Peers.{place}
 use Rattle.dht_ids.specs.declared.ask.Answer.{Answer}
@@ -23,7 +23,7 @@ use Rattle.world_model.specs.Nodes.{Node, answered, stored}
 use Rattle.world_model.specs.World.{peer_of}
 use Rattle.round_laws.specs.RingOf.{KnowsOnly}
 use Rattle.round_laws.proofs.Renewing.{all_some, some_nearest}
-use Rattle.ring_nodes.specs.NodesState.{AreAllAmong, BringsOnly, NamesOnly}
+use Rattle.ring_nodes.specs.NodesState.{BringsOnly, NamesOnly}
 
 -- ---- what a route names
 

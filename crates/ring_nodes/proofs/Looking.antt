@@ -1,5 +1,5 @@
 -- A look-up among the nodes, by the asks so far.
-use Rattle.std.proofs.Common.{◌≡◌, ℕ, ◌<◌, List, [], ◌∷◌, ◌++◌, length, refl, sym, ap, ◌∙◌, subst, Option, Some, None, Result, Ok, Err, IfOk, IfSome, arith}
+use Rattle.std.proofs.Common.{◌≡◌, ℕ, ◌<◌, List, [], ◌∷◌, ◌++◌, length, refl, sym, ap, ◌∙◌, subst, Option, Some, None, Result, IfOk, IfSome}
 use Rattle.std.specs.List.{AllByRecursion}
 use Rattle.std.proofs.lemmas.List.{map-append}
 use Rattle.ivy_base.specs.declared.key.Key.{Key}
@@ -7,7 +7,7 @@ use Rattle.ring_model.specs.Lookup.{IsLookup}
 use Rattle.ring_model.specs.Lookup.IsLookup.{over, spent, known, silent, answered}
 use Rattle.ring_model.specs.Members.{IsAmong}
 use Rattle.ring_model.specs.Route.{Route}
-use Rattle.ring_model.proofs.Lists.{all-both, cons_head, cons_tail, nil_cons, some_same}
+use Rattle.ring_model.proofs.Lists.{all-both, cons_head, cons_tail, nil_cons}
 use Rattle.dht_ids.specs.Asked.{route_in, routes}
 use Rattle.dht_ids.specs.declared.ask.Answer.{Answer}
 use Rattle.dht_ids.specs.declared.ask.Answer.TheVariants as answer
@@ -17,7 +17,7 @@ use Rattle.dht_ids.specs.declared.ask.Want.TheVariants as want
 use Rattle.dht_ids.specs.declared.judge.Judged.{Judged}
 use Rattle.dht_ids.specs.declared.peer.Peer.{Peer}
 use Rattle.dhash_client.specs.Course.{Told}
-use Rattle.dhash_client.specs.Machine.{Follow, FollowsAfter, IsWanted, State, Trail, fresh, outcome}
+use Rattle.dhash_client.specs.Machine.{FollowsAfter, IsWanted, State, Trail, fresh, outcome}
 use Rattle.dhash_client.specs.declared.miss.Miss.{Miss}
 use Rattle.dhash_client.proofs.Driven.{follows_both, is_look_up}
 use Rattle.ask_laws.proofs.AskedLookups.{look_goes_on}

@@ -1,18 +1,18 @@
 -- Nodes stay sound: where one is exchanged, where a ring is made, and where one is added.
-use Rattle.std.proofs.Common.{◌≡◌, inl, inr, ℕ, zero, suc, ◌<◌, ◌≤◌, Bool, true, false, not, ◌&&◌, ◌||◌, ◌==◌, List, [], ◌∷◌, ◌++◌, length, map, set, get_or, refl, sym, ap, ◌∙◌, subst, Option, Some, None, IfSome, arith}
+use Rattle.std.proofs.Common.{◌≡◌, inl, inr, ℕ, zero, suc, ◌<◌, ◌≤◌, Bool, true, false, not, ◌&&◌, ◌||◌, ◌==◌, List, [], ◌∷◌, ◌++◌, length, map, set, get_or, refl, sym, ap, subst, Option, Some, None, IfSome, arith}
 use Rattle.std.specs.List.{AllByRecursion, position}
 use Rattle.std.specs.Prelude.{nat_le}
 use Rattle.std.proofs.lemmas.Bool.{le-leb, ne_eqb}
 use Rattle.ivy_base.specs.declared.key.Key.{Key}
 use Rattle.ring_model.specs.Members.{IsAmong}
-use Rattle.ring_model.proofs.Lists.{all-among, all-both, all_weaker, among-left, among-right, index_among}
+use Rattle.ring_model.proofs.Lists.{all-among, all-both, all_weaker, among-left, index_among}
 use Rattle.dht_ids.specs.NodeIds.{node_id_of}
 use Rattle.dht_ids.specs.Peers.{place}
 use Rattle.dht_ids.specs.declared.peer.Peer.{Peer}
 use Rattle.chord_core.specs.State.{State}
 use Rattle.world_model.specs.Nodes.{Node}
 use Rattle.world_model.specs.World.{World, empty_world, peer_of}
-use Rattle.world_model.specs.Ring.{AreSettled, RingLine, first_peers, in_ring_order, is_refused_ring}
+use Rattle.world_model.specs.Ring.{AreSettled, first_peers, in_ring_order, is_refused_ring}
 use Rattle.world_model.specs.Ring.RingLine.{makes}
 use Rattle.round_laws.specs.RingOf.{AreApart, AreNamed, KnowsOnly}
 use Rattle.round_laws.proofs.Standing.{from_knows, knows_of, to_knows}

@@ -1,5 +1,5 @@
 -- A put among the nodes, by the asks so far.
-use Rattle.std.proofs.Common.{◌≡◌, ◌⊎◌, inl, inr, ⊎_elim, ℕ, ◌<◌, Bool, true, false, cond, List, [], ◌∷◌, ◌++◌, length, map, fold, refl, sym, ap, ◌∙◌, subst, Option, Some, None, Result, Ok, Err, IfSome, IfOk, nat_lt}
+use Rattle.std.proofs.Common.{◌≡◌, ◌⊎◌, inl, inr, ⊎_elim, ℕ, ◌<◌, Bool, true, false, cond, List, [], ◌∷◌, ◌++◌, length, map, fold, refl, sym, ap, ◌∙◌, subst, Option, Some, None, Result, Ok, IfSome, IfOk, nat_lt}
 use Rattle.std.specs.List.{AllByRecursion, flat_map}
 use Rattle.std.specs.Option.{option_map}
 use Rattle.std.proofs.lemmas.Grind.{flat_map-append}
@@ -9,7 +9,7 @@ use Rattle.ivy_base.specs.declared.key.Key.{Key}
 use Rattle.ring_model.specs.Gets.{AreFirsts}
 use Rattle.ring_model.specs.Gets.AreFirsts.{none as no_firsts, again as first_again, new as first_new}
 use Rattle.ring_model.specs.Members.{IsAmong, first}
-use Rattle.ring_model.proofs.Lists.{all-among, all-both, all-right, cons_head, cons_tail, nil_cons, none_some, some_same}
+use Rattle.ring_model.proofs.Lists.{all-both, all-right, cons_head, cons_tail, nil_cons, none_some, some_same}
 use Rattle.dht_ids.specs.Asked.{route_in, routes, told}
 use Rattle.dht_ids.specs.declared.ask.Answer.{Answer}
 use Rattle.dht_ids.specs.declared.ask.Answer.TheVariants as answer
@@ -22,14 +22,14 @@ use Rattle.dht_ids.specs.declared.judge.Judged.{Judged}
 use Rattle.dht_ids.specs.declared.peer.Peer.{Peer}
 use Rattle.dhash_client.specs.Course.{Asking, CourseState, IsCourse, IsStage, Told, awaited_at, next_owner, told_all}
 use Rattle.dhash_client.specs.Machine.{outcome}
-use Rattle.dhash_client.specs.Puts.{IsEnoughPut, EndsPut, IsPutOf, IsSamePut, PutIsAfter, PutIsWanted, PutState, is_of_put, put_awaited, put_begun, question_of}
+use Rattle.dhash_client.specs.Puts.{IsEnoughPut, EndsPut, IsSamePut, PutIsAfter, PutIsWanted, PutState, is_of_put, put_awaited, put_begun, question_of}
 use Rattle.dhash_client.specs.declared.miss.Miss.{Miss}
 use Rattle.dhash_client.specs.declared.put.PutKind.TheVariants as what
 use Rattle.dhash_client.proofs.DrivenGets.{put_begins}
 use Rattle.ask_laws.proofs.AskedLookups.{look_goes_on}
-use Rattle.world_model.specs.Fates.{FateOf, Fates, Puts, asking}
+use Rattle.world_model.specs.Fates.{Fates, asking}
 use Rattle.world_model.specs.Fates.Fates.{none as no_asks}
-use Rattle.world_model.specs.World.{World, empty_world, entries, peer_of, with_numbered}
+use Rattle.world_model.specs.World.{World, peer_of, with_numbered}
 use Rattle.ring_nodes.specs.NodesState.{AreAllAmong, IsNodesOf, NamesOnly, NodesState, made_peers, with_nodes}
 use Rattle.ring_nodes.specs.Looking.{PutSteps, PutsSo}
 use Rattle.ring_nodes.proofs.Looking.{AllNamed, found_made, next_made, one_more_fate}
@@ -259,16 +259,19 @@ module _ (judged : Key → List ℕ → Option Judged) (start : NodesState) (key
 
   -- the end
   pub puts_ended : (now : NodesState) (old new : PutState) (came : Result Bool Miss) → IsPutting now old → PutIsWanted old new (want.Done came) → (w : World) → IsNodesOf w start → PutsSo judged w r key (ask.PutBlock key bytes) came (with_nodes w now)
-  puts_ended now old new came l wanted w is = let trail = told_all (ask.Route key) l.after.looks ++ told_all (ask.PutBlock key bytes) l.after.asks in (record {
-    looks = l.after.looks;
-    asks = l.after.asks;
-    came = came;
-    fates = subst (λ s. Fates judged w s (with_nodes w now)) (same_asks now old l) (l.fates w is);
-    whole = subst (λ ps. IsCourse key (ask.PutBlock key bytes) ps (EndsPut r) trail came) (ap (λ ns. fold with_numbered [] (map peer_of ns)) (sym is.0))
-        (subst (λ t. IsCourse key (ask.PutBlock key bytes) (entries_of start) (EndsPut r) t came) (same_told now old l)
-        (subst (λ n. IsCourse key (ask.PutBlock key bytes) (entries_of start) (EndsPut n) (told_of l.asks) came) l.same.0.1
-        (subst (λ k. IsCourse k (ask.PutBlock k bytes) (entries_of start) (EndsPut old.course.replicas) (told_of l.asks) came) l.same.0.0
-        (subst (λ b. IsCourse old.course.look.key (ask.PutBlock old.course.look.key b) (entries_of start) (EndsPut old.course.replicas) (told_of l.asks) came) l.same.2
-        (subst (λ k. IsCourse old.course.look.key (question_of k old.bytes old.course.look.key) (entries_of start) (EndsPut old.course.replicas) (told_of l.asks) came) l.same.1
-        (wanted (entries_of start) (told_of l.asks) l.after))))));
-  }, refl)
+  puts_ended now old new came l wanted w is = let trail = told_all (ask.Route key) l.after.looks ++ told_all (ask.PutBlock key bytes) l.after.asks in (
+    record {
+      looks = l.after.looks;
+      asks = l.after.asks;
+      came = came;
+      fates = subst (λ s. Fates judged w s (with_nodes w now)) (same_asks now old l) (l.fates w is);
+      whole = subst (λ ps. IsCourse key (ask.PutBlock key bytes) ps (EndsPut r) trail came) (ap (λ ns. fold with_numbered [] (map peer_of ns)) (sym is.0))
+          (subst (λ t. IsCourse key (ask.PutBlock key bytes) (entries_of start) (EndsPut r) t came) (same_told now old l)
+          (subst (λ n. IsCourse key (ask.PutBlock key bytes) (entries_of start) (EndsPut n) (told_of l.asks) came) l.same.0.1
+          (subst (λ k. IsCourse k (ask.PutBlock k bytes) (entries_of start) (EndsPut old.course.replicas) (told_of l.asks) came) l.same.0.0
+          (subst (λ b. IsCourse old.course.look.key (ask.PutBlock old.course.look.key b) (entries_of start) (EndsPut old.course.replicas) (told_of l.asks) came) l.same.2
+          (subst (λ k. IsCourse old.course.look.key (question_of k old.bytes old.course.look.key) (entries_of start) (EndsPut old.course.replicas) (told_of l.asks) came) l.same.1
+          (wanted (entries_of start) (told_of l.asks) l.after))))));
+    },
+    refl,
+  )

@@ -13,7 +13,7 @@ use Rattle.world_model.specs.Ring.{FindsNobody, LooksUp, failed_join_text, is_kn
 use Rattle.world_model.specs.World.{World, peer_of}
 use Rattle.ring_nodes.specs.declared.joining.Join.{Join}
 use Rattle.ring_nodes.specs.declared.joining.Join.TheVariants as join
-use Rattle.ring_nodes.specs.NodesState.{AreAllAmong, NodesState, made_peers}
+use Rattle.ring_nodes.specs.NodesState.{NodesState, made_peers}
 
 -- a look-up of the key through that node, by asks in the world, has this result
 abbrev pub Finds : (Key → List ℕ → Option Judged) → World → Key → Peer → Result (List Peer) Miss → World → Type 0

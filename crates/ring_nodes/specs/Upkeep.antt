@@ -1,5 +1,5 @@
 -- What a round reads of a node, and what it changes of it.
-use Rattle.std.specs.Prelude.{◌≡◌, ℕ, List, set, Option, Some, None}
+use Rattle.std.specs.Prelude.{◌≡◌, ℕ, set, Some, None}
 use Rattle.ivy_base.specs.declared.key.Key.{Key}
 use Rattle.dht_ids.specs.declared.ask.Answer.{Answer}
 use Rattle.dht_ids.specs.declared.peer.Peer.{Peer}

@@ -121,12 +121,7 @@ fn alone(alloc: Global, peer: Peer, replicas: u32) -> Result<RingNode, Memory>
 }
 
 /// The node of a peer that takes its list from these owners. The error is want of memory.
-fn joined(
-    alloc: Global,
-    peer: Peer,
-    replicas: u32,
-    owners: &Peers,
-) -> Result<RingNode, Memory>
+fn joined(alloc: Global, peer: Peer, replicas: u32, owners: &Peers) -> Result<RingNode, Memory>
     requires { (1 ≤ replicas) × (replicas ≤ 8) }
     ensures { IfOk result (λ node. node ≡ joined_node peer replicas owners.now) }
 {

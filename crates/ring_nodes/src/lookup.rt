@@ -4,8 +4,8 @@ ghost use Rattle.std.specs.Prelude.{◌≡◌, ◌∷◌, [], IfOk};
 ghost use Rattle.ring_model.specs.Members.{IsAmong};
 
 use crate::nodes::RingNodes;
-use dht_ids::{Ask, Judge, Peer, Peers, Want};
 use dhash_client::{Lookup, Miss};
+use dht_ids::{Ask, Judge, Peer, Peers, Want};
 use ivy_base::{Key, Memory};
 use std::alloc::Global;
 

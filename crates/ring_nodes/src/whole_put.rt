@@ -4,8 +4,8 @@ ghost use Rattle.std.specs.Prelude.{◌≡◌, ◌≢◌, ◌<◌, None, IfOk};
 ghost use Rattle.ring_model.specs.Members.{IsAmong};
 
 use crate::nodes::RingNodes;
-use dht_ids::{Ask, Judge, Peer, Want};
 use dhash_client::{Miss, PutBlock};
+use dht_ids::{Ask, Judge, Peer, Want};
 use ivy_base::{Bytes, Key, Memory};
 use std::alloc::Global;
 

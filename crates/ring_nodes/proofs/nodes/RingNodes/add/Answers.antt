@@ -1,4 +1,4 @@
-use Rattle.std.proofs.Common.{◌≡◌, [], ◌∷◌, ◌++◌, sym, ap, ◌∙◌, subst}
+use Rattle.std.proofs.Common.{[], ◌∷◌, ◌++◌, sym, ap, ◌∙◌, subst}
 use Rattle.ring_nodes.specs.NodesState.{AreSound, NodesState}
 use Rattle.ring_nodes.proofs.Sound.{sound_more}
 use Rattle.ring_nodes.proofs.nodes.RingNodes.add.Goals as goal

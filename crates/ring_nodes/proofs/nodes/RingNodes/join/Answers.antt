@@ -1,9 +1,8 @@
-use Rattle.std.proofs.Common.{◌≡◌, true, false, sym, ap, ◌∙◌, subst, rules, ◌≤◌, ◌<◌, length}
+use Rattle.std.proofs.Common.{◌≡◌, true, false, sym, ap, ◌∙◌, subst, ◌≤◌, ◌<◌}
 use Rattle.chord_core.specs.State.{alone_node}
 use Rattle.dht_ids.specs.declared.peer.Peer.{Peer}
-use Rattle.world_model.specs.Ring.{empty_node, is_known_id, peer_numbered}
+use Rattle.world_model.specs.Ring.{empty_node}
 use Rattle.ring_nodes.specs.Joining.{IsNewPeer, with_node_more}
-use Rattle.ring_nodes.specs.NodesState.{made_peers}
 use Rattle.ring_nodes.proofs.Joins.{alone_line, full_line, known_is, least_made, lines_through, never_undone, new_alone, refused_line}
 use Rattle.ring_nodes.proofs.nodes.RingNodes.join.Goals as goal
 

@@ -1,4 +1,4 @@
-use Rattle.std.proofs.Common.{◌≡◌, subst}
+use Rattle.std.proofs.Common.{subst}
 use Rattle.world_model.specs.World.{World}
 use Rattle.ring_nodes.specs.Joining.{Finds}
 use Rattle.ring_nodes.specs.NodesState.{IsNodesOf, with_nodes}

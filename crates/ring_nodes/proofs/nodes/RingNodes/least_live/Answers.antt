@@ -1,4 +1,4 @@
-use Rattle.std.proofs.Common.{◌≡◌, true, false, ap, ◌∙◌, Some, cond, rules, sym}
+use Rattle.std.proofs.Common.{ap, ◌∙◌, Some, cond, rules, sym}
 use Rattle.world_model.specs.World.{peer_of}
 use Rattle.ring_nodes.specs.Joining.{lesser_of}
 use Rattle.ring_nodes.specs.NodesState.{NodesState}

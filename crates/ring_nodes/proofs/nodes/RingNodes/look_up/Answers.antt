@@ -1,8 +1,8 @@
-use Rattle.std.proofs.Common.{◌≡◌, [], ◌∷◌, sym, ap, ◌∙◌, subst, rules}
+use Rattle.std.proofs.Common.{◌≡◌, [], ◌∷◌, ap, ◌∙◌, subst, rules}
 use Rattle.dht_ids.specs.declared.ask.Ask.TheVariants as ask
 use Rattle.dht_ids.specs.declared.ask.Want.TheVariants as want
 use Rattle.dhash_client.specs.Machine.{IsWanted, fresh}
-use Rattle.ring_nodes.proofs.Looking.{IsLooking, asks_made, ended_made, looks_ended, looks_first, looks_more, looks_on}
+use Rattle.ring_nodes.proofs.Looking.{asks_made, ended_made, looks_ended, looks_first, looks_more, looks_on}
 use Rattle.ring_nodes.proofs.nodes.RingNodes.look_up.Goals as goal
 
 pub asks-init : goal.asks-init

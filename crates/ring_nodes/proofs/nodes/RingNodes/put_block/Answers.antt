@@ -1,10 +1,10 @@
-use Rattle.std.proofs.Common.{◌≡◌, refl, sym, ap, ◌∙◌, subst}
+use Rattle.std.proofs.Common.{◌≡◌, refl, ap, ◌∙◌, subst}
 use Rattle.dht_ids.specs.declared.ask.Want.TheVariants as want
 use Rattle.dhash_client.specs.Puts.{PutIsWanted, put_begun}
 use Rattle.dhash_client.specs.declared.put.PutKind.TheVariants as what
 use Rattle.world_model.specs.World.{empty_world}
 use Rattle.ring_nodes.specs.NodesState.{with_nodes}
-use Rattle.ring_nodes.proofs.WholePuts.{IsPutting, entries_of, put_made, puts_ended, puts_first, puts_more, puts_on}
+use Rattle.ring_nodes.proofs.WholePuts.{entries_of, put_made, puts_ended, puts_first, puts_more, puts_on}
 use Rattle.ring_nodes.proofs.nodes.RingNodes.put_block.Goals as goal
 
 pub asks-init : goal.asks-init

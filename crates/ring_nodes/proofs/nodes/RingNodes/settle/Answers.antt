@@ -1,4 +1,4 @@
-use Rattle.std.proofs.Common.{sym, ◌∙◌, subst}
+use Rattle.std.proofs.Common.{sym, subst}
 use Rattle.world_model.specs.Ring.{AreSettled, in_ring_order}
 use Rattle.round_laws.specs.RingOf.{AreApart}
 use Rattle.ring_nodes.proofs.Settling.{first_apart}
