@@ -27,7 +27,7 @@ headline_of_runs lines headline w number script ran keeps runs =
 
 -- ---- what a line that goes on does
 
-abbrev Done : Played → Option Command → Played → List ℕ → Type 0
+abbrev pub Done : Played → Option Command → Played → List ℕ → Type 0
 Done w o next output = (c : Command) × (o ≡ Some c) × Does hss_judged w c (Goes next output)
 
 goes_or_refuses : (next : Played) (output : List ℕ) → Goes next output ≡ Refuses → ⊥
@@ -47,7 +47,7 @@ does_any : (w next : Played) (output : List ℕ) (o : Option Command) → Within
 does_any w next output None h = absurd (goes_or_refuses next output (within (nat_lt most_bytes (sum_by (λ b. length b) w.0.met)) next output (Goes next output ≡ Refuses) h))
 does_any w next output (Some c) h = (c, refl, within (nat_lt most_bytes (sum_by (λ b. length b) w.0.met)) next output (Does hss_judged w c (Goes next output)) h)
 
-does_line : (w next : Played) (output : List ℕ) (o : Option Command) → MayDoFirst w o (Goes next output) → Done w o next output
+pub does_line : (w next : Played) (output : List ℕ) (o : Option Command) → MayDoFirst w o (Goes next output) → Done w o next output
 does_line w next output None h = does_any w next output None h
 does_line w next output (Some (command.Ring nodes replicas)) h = does_any w next output (Some (command.Ring nodes replicas)) h
 does_line w next output (Some (command.Log log id seed sets)) h = does_any w next output (Some (command.Log log id seed sets)) h

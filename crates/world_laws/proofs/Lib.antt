@@ -50,3 +50,6 @@ pub mod GetsBring
 mod StepsLeft
 pub mod Beginning
 mod Opening
+mod NoSnapshotTurns
+mod NoSnapshotSteps
+mod NoSnapshotLines

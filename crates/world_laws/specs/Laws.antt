@@ -1,5 +1,5 @@
 -- Laws of the world's steps and of its runs. Each is stated here, and proved by the crates above.
-use Rattle.std.specs.Prelude.{◌≡◌, ◌≢◌, ◌⊎◌, ◌↔◌, ℕ, ◌+◌, ◌<◌, List, [], ◌∷◌, ◌++◌, map, take, Contains, Option, Some, IfSome}
+use Rattle.std.specs.Prelude.{◌≡◌, ◌≢◌, ◌⊎◌, ◌↔◌, ℕ, ◌+◌, ◌<◌, Bool, List, [], ◌∷◌, ◌++◌, map, take, Contains, Option, Some, IfSome}
 use Rattle.std.specs.List.{AllByRecursion}
 use Rattle.ivy_base.specs.declared.key.Key.{Key}
 use Rattle.ivy_base.specs.declared.key.PubKey.{PubKey}
@@ -13,7 +13,7 @@ use Rattle.log_model.specs.Standing.{Stand}
 use Rattle.log_model.specs.Vector.{Entry, Stamp, Vector, stamp_at}
 use Rattle.log_model.specs.View.{View}
 use Rattle.nfs_model.specs.declared.replies.Reply.{Reply}
-use Rattle.turn_model.specs.Basis.{Knows}
+use Rattle.turn_model.specs.Basis.{Holding, Knows}
 use Rattle.turn_model.specs.Known.{EndsAt, IsKnown}
 use Rattle.turn_model.specs.Turn.{Candidate, IsPrefixOf, Turned}
 use Rattle.dht_ids.specs.declared.ask.Answer.{Answer}
@@ -22,10 +22,12 @@ use Rattle.dht_ids.specs.declared.judge.Judged.{Judged}
 use Rattle.dht_ids.specs.declared.peer.Peer.{Peer}
 use Rattle.hash_signature_model.specs.declared.keys.PrivateKey.{PrivateKey}
 use Rattle.hash_signature_model.specs.declared.set.Set.{Set}
+use Rattle.hss_keys.specs.Saved.{IsSigner}
 use Rattle.hss_keys.specs.Signer.{Signer, leaf_used, leaves_used, left_of, lower_key, signed_lower}
 use Rattle.log_heads.specs.Signed.{hss_judged}
+use Rattle.agent_model.specs.Agent.{kept_of}
 use Rattle.agent_model.specs.Candidates.{AreCandidatesOf, Brings, MayTurn}
-use Rattle.agent_model.specs.Turning.{Answered, TurnEnd}
+use Rattle.agent_model.specs.Turning.{Answered, Becomes, MayTake, TurnEnd}
 use Rattle.agent_model.specs.Standing.{Refresh, Standing}
 use Rattle.session_model.specs.Brought.{brought_in, heads_at}
 use Rattle.session_model.specs.Refreshing.{Note}
@@ -39,12 +41,12 @@ use Rattle.script_model.specs.declared.command.Command.{Command}
 use Rattle.script_model.specs.declared.command.Command.TheVariants as command
 use Rattle.script_model.specs.declared.command.Piece.{Piece}
 use Rattle.script_model.specs.Lines.{command_of}
-use Rattle.world_model.specs.Agents.{Agent, IsKept, IsTurnIn, Kept, TakesTurn, kept_bytes, own}
+use Rattle.world_model.specs.Agents.{Agent, IsKept, IsTurnIn, Kept, TakesTurn, hss, kept_bytes, own}
 use Rattle.world_model.specs.Keepers.{fails_next}
 use Rattle.world_model.specs.World.{World, NamedSession, Participant, empty_world, named_bytes, participant, with_participant}
 use Rattle.world_model.specs.Fates.{FateOf}
 use Rattle.world_model.specs.Story.{HadTurn, Story, beginning, empty_story, having_begun, known_of, receiving}
-use Rattle.world_model.specs.Logs.{Played, Publishes}
+use Rattle.world_model.specs.Logs.{Played, Publishes, fresh_signer}
 use Rattle.world_model.specs.Calls.{BeginsWith, Sending, reply_line}
 use Rattle.world_model.specs.Step.{Does, IvyStep}
 use Rattle.world_model.specs.Steps.{Scene, Steps, after_turn, ask_told, heads_by, turn_told, with_cache, world_after}
@@ -346,3 +348,17 @@ FreshTurnsAreAnswered = (c next : Scene) (r : ℕ) (notes : List Note) (given : 
 abbrev pub WholePublishingKeeps : Type 0
 WholePublishingKeeps = (w : Played) (r : ℕ) (p : Participant) (next : Played) → Keeps w → w.0.replicas ≡ Some r → participant w.0 p.name ≡ Some p → Publishes hss_judged r w p next
     → Keeps next × (next.1.turns ≡ w.1.turns)
+
+-- ---- what is left to be shown of worlds without snapshots
+
+-- What may be saved of an agent may be of what a turn makes of it, and what is then saved may be.
+abbrev pub TurnsAreSaved : Type 0
+TurnsAreSaved = (view : View) (a after : Agent) (h : Holding) (fails : Bool) (written : List Record) (saving : Option Kept) → a.view ≡ Some view → IsKept (kept_of a) → MayTake hss view a h
+    → Becomes hss view a h fails written after saving → IsKept (kept_of after) × IfSome saving IsKept
+
+-- A line by which a log begins gives a key that can be saved.
+abbrev pub LogsHaveSigners : Type 0
+LogsHaveSigners = (line log id seed : List ℕ) (sets : List Set) → command_of line ≡ Some (command.Log log id seed sets) → IsSigner (fresh_signer id seed sets)
+
+abbrev pub NoSnapshotComesByThese : Type 0
+NoSnapshotComesByThese = TurnsAreSaved → LogsHaveSigners → NoSnapshotComes
