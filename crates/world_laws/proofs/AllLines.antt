@@ -77,9 +77,9 @@ does_line w next output (Some command.End) h = absurd (goes_or_ends next output 
 some_first : (m : List ℕ) (ms : List (List ℕ)) → m ∷ ms ≡ [] → ⊥
 some_first m ms e = cc e
 
-command_keeps : (w next : Played) (output : List ℕ) (c : Command) → (IsLeft c ⊎ (Fits c → ⊥) → Keeps next) → Keeps w → Does hss_judged w c (Goes next output) → Keeps next
+pub command_keeps : (w next : Played) (output : List ℕ) (c : Command) → (IsLeft c ⊎ (Fits c → ⊥) → Keeps next) → Keeps w → Does hss_judged w c (Goes next output) → Keeps next
 command_keeps w next output (command.Ring nodes replicas) left keeps does = ring_lines_keep nodes replicas w next output keeps does
-command_keeps w next output (command.Log log id seed sets) left keeps does = ⊎_elim (λ whole. log_lines_keep log id seed sets whole w next output keeps does) (λ none. left (inl none)) (decide_signer id seed sets)
+command_keeps w next output (command.Log log id seed sets) left keeps does = ⊎_elim (λ whole. log_lines_keep log id seed sets whole w next output keeps does) (λ none. left (inr none)) (decide_signer id seed sets)
 command_keeps w next output (command.View view [] former) left keeps does = left (inr (λ some. some refl))
 command_keeps w next output (command.View view (m ∷ ms) former) left keeps does = view_lines_keep view (m ∷ ms) former (some_first m ms) w next output keeps does
 command_keeps w next output (command.Use log view) left keeps does = use_lines_keep log view w next output keeps does

@@ -50,6 +50,13 @@ pub mod GetsBring
 mod StepsLeft
 pub mod Beginning
 mod Opening
+pub mod LineKeys
+pub mod SessionLinesSteps
+pub mod SessionLinesOpen
+pub mod SessionLines
+pub mod HeadlineOfPublishing
+pub mod HeadlineOfLines
+pub mod HeadlineOfScripts
 mod NoSnapshotTurns
 mod NoSnapshotSteps
 mod NoSnapshotLines

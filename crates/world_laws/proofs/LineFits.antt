@@ -1,18 +1,22 @@
--- A line that makes a view names a member.
+-- A line that makes a view names a member, and one that begins a log a key that can be saved.
 use Rattle.std.proofs.Common.{◌≡◌, ◌≢◌, ℕ, ◌^◌, Bool, true, false, cond, List, [], ◌∷◌, length, Option, Some, None, refl, ap, ◌∙◌, subst, arith, nat_lt}
 use Rattle.std.specs.Prelude.{◌==◌, IfSome, codes}
 use Rattle.std.specs.List.{AllByRecursion}
 use Rattle.std.specs.Str.{bytes_eq}
 use Rattle.std.proofs.lemmas.List.Splits.{length-slice_split}
+use Rattle.hss_keys.specs.Saved.{IsSigner}
 use Rattle.script_driver.specs.Run.{line_limit}
 use Rattle.script_model.specs.declared.command.Command.{Command}
 use Rattle.script_model.specs.declared.command.Command.TheVariants as command
 use Rattle.script_model.specs.Lines.{as_of, at_of, call_command, command_of, command_of_words, damage_of, end_of, holds_of, is_comment, join_of, keep_of, kept_of, log_of, lose_of, of_log, open_of, ring_command, ring_of, round_of, setup_command, step_of, stop_of, use_of, view_of}
 use Rattle.script_model.specs.Words.{◌>>=◌, byte_of, each_of, hex_bytes, key_of, name_of, names_of, node_of, number_below, parts_at, piece_of, sets_of, words_of}
+use Rattle.world_model.specs.Logs.{fresh_signer}
+use Rattle.world_laws.proofs.LineKeys.{key_is_signer}
 
 -- what a line's command fits
 abbrev pub Fits : Command → Type 0
 Fits (command.View view members former) = members ≢ []
+Fits (command.Log log id seed sets) = IsSigner (fresh_signer id seed sets)
 Fits _ = Unit {0}
 
 abbrev SomeFits : Option Command → Type 0
@@ -35,12 +39,12 @@ fits3 (Some x) None q make h = tt
 fits3 (Some x) (Some y) None make h = tt
 fits3 (Some x) (Some y) (Some z) make h = h x y z refl
 
-fits4 : {A B C D : Type 0} (o : Option A) (p : Option B) (q : Option C) (r : Option D) (make : A → B → C → D → Command) → ((x : A) (y : B) (z : C) (u : D) → Fits (make x y z u)) → SomeFits (o >>= λ x. p >>= λ y. q >>= λ z. r >>= λ u. Some (make x y z u))
+fits4 : {A B C D : Type 0} (o : Option A) (p : Option B) (q : Option C) (r : Option D) (make : A → B → C → D → Command) → ((x : A) (y : B) (z : C) (u : D) → p ≡ Some y → q ≡ Some z → r ≡ Some u → Fits (make x y z u)) → SomeFits (o >>= λ x. p >>= λ y. q >>= λ z. r >>= λ u. Some (make x y z u))
 fits4 None p q r make h = tt
 fits4 (Some x) None q r make h = tt
 fits4 (Some x) (Some y) None r make h = tt
 fits4 (Some x) (Some y) (Some z) None make h = tt
-fits4 (Some x) (Some y) (Some z) (Some u) make h = h x y z u
+fits4 (Some x) (Some y) (Some z) (Some u) make h = h x y z u refl refl refl
 
 -- ---- names
 
@@ -71,7 +75,7 @@ log_fits [] = tt
 log_fits (p ∷ []) = tt
 log_fits (p ∷ i ∷ []) = tt
 log_fits (p ∷ i ∷ s ∷ []) = tt
-log_fits (p ∷ i ∷ s ∷ w ∷ []) = fits4 (name_of p) (hex_bytes 16 i) (hex_bytes 32 s) (sets_of w) (λ x y z u. command.Log x y z u) (λ x y z u. tt)
+log_fits (p ∷ i ∷ s ∷ w ∷ []) = fits4 (name_of p) (hex_bytes 16 i) (hex_bytes 32 s) (sets_of w) (λ x y z u. command.Log x y z u) (λ x y z u e f g. key_is_signer i s w y z u e f g)
 log_fits (p ∷ i ∷ s ∷ w ∷ v ∷ ws) = tt
 
 view_fits : (ws : List (List ℕ)) → SomeFits (view_of ws)
@@ -139,7 +143,7 @@ damage_fits [] = tt
 damage_fits (n ∷ []) = tt
 damage_fits (n ∷ k ∷ []) = tt
 damage_fits (n ∷ k ∷ o ∷ []) = tt
-damage_fits (n ∷ k ∷ o ∷ b ∷ []) = fits4 (node_of n) (key_of k) (number_below (2 ^ 64) o) (byte_of b) (λ x y z u. command.Damage x y z u) (λ x y z u. tt)
+damage_fits (n ∷ k ∷ o ∷ b ∷ []) = fits4 (node_of n) (key_of k) (number_below (2 ^ 64) o) (byte_of b) (λ x y z u. command.Damage x y z u) (λ x y z u e f g. tt)
 damage_fits (n ∷ k ∷ o ∷ b ∷ w ∷ ws) = tt
 
 keep_fits : (ws : List (List ℕ)) → SomeFits (keep_of ws)

@@ -77,13 +77,13 @@ not_open (s ∷ sessions) name closed h = by (bytes_eq s.name name) refl closed 
 
 -- ---- causes and soundness, where the story tells of more sessions
 
-cause_told : (st su : Story) (n : ℕ) (s : Session) (said : Said) → su.turns ≡ st.turns → HasCause st n s said → HasCause su n s said
+pub cause_told : (st su : Story) (n : ℕ) (s : Session) (said : Said) → su.turns ≡ st.turns → HasCause st n s said → HasCause su n s said
 cause_told st su n s _ same (alone given by) = alone given by
 cause_told st su n s _ same (missed xid asked given miss asks refreshed is) = missed xid asked given miss asks refreshed is
 cause_told st su n s _ same (turned h xid asked given among of asks refreshed) = turned h xid asked given (subst (λ (turns : List HadTurn). Contains turns h) (sym same) among) of asks refreshed
 cause_told st su n s _ same (no_memory xid asked asks) = no_memory xid asked asks
 
-said_told : (st su : Story) (n : ℕ) (s : Session) (o : Option Said) → su.turns ≡ st.turns → HasSaid st n s o → HasSaid su n s o
+pub said_told : (st su : Story) (n : ℕ) (s : Session) (o : Option Said) → su.turns ≡ st.turns → HasSaid st n s o → HasSaid su n s o
 said_told st su n s None same h = tt
 said_told st su n s (Some said) same h = cause_told st su n s said same h
 
@@ -245,31 +245,37 @@ module _ (w : Played) (name : List ℕ) (s : Sending) (t : Session) (keeps : Kee
 
 -- ---- what is sent
 
-record IsSent (w : World) (name : List ℕ) (s : Sending) : Type 0 where
-  is_by : participant w name ≡ Some s.by
-  in_view : s.by.agent.view ≡ Some s.view
+pub record IsSent (w : World) (name : List ℕ) (pieces : List Piece) (s : Sending) : Type 0 where
+  pub is_by : participant w name ≡ Some s.by
+  pub in_view : s.by.agent.view ≡ Some s.view
+  pub is_message : message_of w.replies s.view pieces ≡ Some s.message
 
-sent_message : (p : Participant) (view : View) (m : Option (List ℕ)) (s : Sending) → (m >>= (λ message. Some (let x : Sending = record { by = p; view = view; message = message } in x))) ≡ Some s → (p ≡ s.by) × (view ≡ s.view)
+sent_message : (p : Participant) (view : View) (m : Option (List ℕ)) (s : Sending) → (m >>= (λ message. Some (let x : Sending = record { by = p; view = view; message = message } in x))) ≡ Some s → (p ≡ s.by) × (view ≡ s.view) × (m ≡ Some s.message)
 sent_message p view None s e = cc e
-sent_message p view (Some message) s e = (cc e, cc e)
+sent_message p view (Some message) s e = let is : (let x : Sending = record { by = p; view = view; message = message } in x) ≡ s = cc e in (ap (λ (x : Sending). x.by) is, ap (λ (x : Sending). x.view) is, ap (λ (x : Sending). Some x.message) is)
 
 sent_view : (w : World) (pieces : List Piece) (p : Participant) (o : Option View) (s : Sending) → p.agent.view ≡ o
-    → (o >>= (λ view. message_of w.replies view pieces >>= (λ message. Some (let x : Sending = record { by = p; view = view; message = message } in x)))) ≡ Some s → (p ≡ s.by) × (s.by.agent.view ≡ Some s.view)
+    → (o >>= (λ view. message_of w.replies view pieces >>= (λ message. Some (let x : Sending = record { by = p; view = view; message = message } in x)))) ≡ Some s
+    → (p ≡ s.by) × (s.by.agent.view ≡ Some s.view) × (message_of w.replies s.view pieces ≡ Some s.message)
 sent_view w pieces p None s is e = cc e
 sent_view w pieces p (Some view) s is e =
     let parts = sent_message p view (message_of w.replies view pieces) s e in
-    (parts.0, ap (λ (q : Participant). q.agent.view) (sym parts.0) ∙ is ∙ ap Some parts.1)
+    (parts.0, ap (λ (q : Participant). q.agent.view) (sym parts.0) ∙ is ∙ ap Some parts.1, ap (λ (v : View). message_of w.replies v pieces) (sym parts.1) ∙ parts.2)
 
-sent_by : (w : World) (name : List ℕ) (pieces : List Piece) (o : Option Participant) (s : Sending) → participant w name ≡ o
-    → (o >>= (λ p. p.agent.view >>= (λ view. message_of w.replies view pieces >>= (λ message. Some (let x : Sending = record { by = p; view = view; message = message } in x))))) ≡ Some s → IsSent w name s
-sent_by w name pieces None s is e = cc e
-sent_by w name pieces (Some p) s is e = let parts = sent_view w pieces p p.agent.view s refl e in record { is_by = is ∙ ap Some parts.0; in_view = parts.1 }
+sent_of : (w : World) (name : List ℕ) (pieces : List Piece) (o : Option Participant) (s : Sending) → participant w name ≡ o
+    → (o >>= (λ p. p.agent.view >>= (λ view. message_of w.replies view pieces >>= (λ message. Some (let x : Sending = record { by = p; view = view; message = message } in x))))) ≡ Some s → IsSent w name pieces s
+sent_of w name pieces None s is e = cc e
+sent_of w name pieces (Some p) s is e = let parts = sent_view w pieces p p.agent.view s refl e in record { is_by = is ∙ ap Some parts.0; in_view = parts.1; is_message = parts.2 }
+
+-- what a line sends is of the participant that it names
+pub sent_by : (w : World) (name : List ℕ) (pieces : List Piece) (s : Sending) → sending_of w name pieces ≡ Some s → IsSent w name pieces s
+sent_by w name pieces s is = sent_of w name pieces (participant w name) s refl is
 
 by_line : (session name : List ℕ) (pieces : List Piece) (w next : Played) (output : List ℕ) (o : Option Sending) (result : Outcome Played) → Keeps w → sending_of w.0 name pieces ≡ o → OpenLine hss_judged w session o result → result ≡ Goes next output → Keeps next
 by_line session name pieces w next output _ _ keeps is sends_nothing e = cc e
 by_line session name pieces w next output _ _ keeps is (is_open s already) e = cc e
 by_line session name pieces w next output _ _ keeps is (opens s t closed begins) e =
-    let sent = sent_by w.0 name pieces (participant w.0 name) s refl is in
+    let sent = sent_by w.0 name pieces s is in
     let named : s.by.name ≡ name = (found_named w.0.participants name s.by sent.is_by).1 in
     subst Keeps (cc e) (opened_so w session s t keeps (subst (λ (n : List ℕ). participant w.0 n ≡ Some s.by) (sym named) sent.is_by) sent.in_view closed begins w.0.replicas refl)
 

@@ -28,7 +28,7 @@ use Rattle.world_model.specs.Story.{Story}
 use Rattle.world_model.specs.Logs.{Played, fresh_signer}
 use Rattle.world_model.specs.Step.{Does}
 use Rattle.world_laws.specs.Keeps.{AreParticipants, Keeps, PeersAreMade}
-use Rattle.world_laws.specs.Laws.{EachReplyIsOnReplay, HeadlineHolds, IsStill, LinesKeep}
+use Rattle.world_laws.specs.Laws.{EachReplyIsOnReplay, HeadlineHolds, IsStill, LinesKeep, StepsKeep}
 
 -- ---- participants
 
@@ -153,7 +153,6 @@ RestartLinesKeep = (log : List ℕ) → LineKeeps (command.Restart log)
 
 -- the commands of which it is still to be shown
 abbrev pub IsLeft : Command → Type 0
-IsLeft (command.Log log id seed sets) = IsSigner (fresh_signer id seed sets) → ⊥
 IsLeft (command.As log pieces) = Unit {0}
 IsLeft (command.Step session count) = Unit {0}
 IsLeft (command.Finish session) = Unit {0}
@@ -167,3 +166,7 @@ LinesKeepByThese = ((c : Command) (w next : Played) (line output : List ℕ) →
 -- Where each line leaves such a world, and the headline holds of each, it holds of each line of a run.
 abbrev pub HeadlineOfRuns : Type 0
 HeadlineOfRuns = LinesKeep → HeadlineHolds → EachReplyIsOnReplay
+
+-- Where each step leaves such a world and such a session, and the line that makes a snapshot such a world, the headline holds of each line of a run.
+abbrev pub EachReplyBySteps : Type 0
+EachReplyBySteps = StepsKeep → ((log : List ℕ) → LineKeeps (command.Snap log)) → EachReplyIsOnReplay

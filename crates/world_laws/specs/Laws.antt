@@ -35,7 +35,7 @@ use Rattle.session_model.specs.Sessions.{Cache, Hears, TakesSome, Session, Refre
 use Rattle.session_model.specs.Courses.{Fails, HasRefreshed, IsRefusal, LacksMemory, Settles}
 use Rattle.session_model.specs.Replies.{said_no_memory}
 use Rattle.session_laws.specs.Going.{SnapshotsAreDecided}
-use Rattle.script_driver.specs.Run.{Outcome, Goes, Ran, Runs, WithLaw, HasPiece}
+use Rattle.script_driver.specs.Run.{Outcome, Goes, Ran, Runs, WithLaw, HasPiece, shown}
 use Rattle.script_driver.specs.Seen.{HasStory, SeenStep}
 use Rattle.script_model.specs.declared.command.Command.{Command}
 use Rattle.script_model.specs.declared.command.Command.TheVariants as command
@@ -49,10 +49,10 @@ use Rattle.world_model.specs.Story.{HadTurn, Story, beginning, empty_story, havi
 use Rattle.world_model.specs.Logs.{Played, Publishes, fresh_signer}
 use Rattle.world_model.specs.Calls.{BeginsWith, Sending, reply_line}
 use Rattle.world_model.specs.Step.{Does, IvyStep}
-use Rattle.world_model.specs.Steps.{Scene, Steps, after_turn, ask_told, heads_by, turn_told, with_cache, world_after}
+use Rattle.world_model.specs.Steps.{RunsOut, Scene, Steps, StepsOn, after_turn, ask_told, heads_by, turn_told, with_cache, world_after}
 use Rattle.world_laws.specs.Causes.{IsOf}
 use Rattle.world_laws.specs.Keeps.{BeganFresh, HasNoSnapshot, IsInHand, IsMetHead, IsSoundSession, Keeps, OnlyPublishes, sealed_with}
-use Rattle.world_laws.specs.Headline.{Headline, IsOnReplay, NewTurns, TurnHolds}
+use Rattle.world_laws.specs.Headline.{Headline, HoldsOf, IsOnReplay, NewTurns, TurnHolds}
 
 -- ---- blocks met
 
@@ -348,6 +348,46 @@ FreshTurnsAreAnswered = (c next : Scene) (r : ℕ) (notes : List Note) (given : 
 abbrev pub WholePublishingKeeps : Type 0
 WholePublishingKeeps = (w : Played) (r : ℕ) (p : Participant) (next : Played) → Keeps w → w.0.replicas ≡ Some r → participant w.0 p.name ≡ Some p → Publishes hss_judged r w p next
     → Keeps next × (next.1.turns ≡ w.1.turns)
+
+-- ---- lines of calls
+
+-- Where each step leaves such a world and such a session, so do many, and all up to the end: each turn in them is on the replay.
+abbrev pub ManyStepsKeep : Type 0
+ManyStepsKeep = StepsKeep → (c next : Scene) (r count : ℕ) → Keeps (c.world, c.story) → IsInHand c r → c.world.replicas ≡ Some r → StepsOn hss_judged r c.session.by count c next → StepLeaves c next r
+
+abbrev pub AllStepsKeep : Type 0
+AllStepsKeep = StepsKeep → (c next : Scene) (r : ℕ) → Keeps (c.world, c.story) → IsInHand c r → c.world.replicas ≡ Some r → RunsOut hss_judged r c.session.by c next → StepLeaves c next r
+
+-- the commands by which sessions go on
+abbrev pub IsCall : Command → Type 0
+IsCall (command.As log pieces) = Unit {0}
+IsCall (command.Step session count) = Unit {0}
+IsCall (command.Finish session) = Unit {0}
+IsCall _ = ⊥
+
+-- Then these leave such a world, and the headline holds of them.
+abbrev pub CallLinesKeep : Type 0
+CallLinesKeep = StepsKeep → (c : Command) (w next : Played) (output : List ℕ) → IsCall c → Keeps w → Does hss_judged w c (Goes next output) → Keeps next × HoldsOf w c next output
+
+-- So does each line that makes no snapshot.
+abbrev pub MakesNoSnapshot : List ℕ → Type 0
+MakesNoSnapshot line = (log : List ℕ) → command_of line ≢ Some (command.Snap log)
+
+abbrev pub LinesKeepBySteps : Type 0
+LinesKeepBySteps = StepsKeep → (w next : Played) (line output : List ℕ) → MakesNoSnapshot line → Keeps w → IvyStep w line (Goes next output) → Keeps next
+
+-- In no other command a turn is had, whatever the world.
+abbrev pub OthersHaveNoTurn : Type 0
+OthersHaveNoTurn = (c : Command) (w next : Played) (output : List ℕ) → (IsCall c → ⊥) → Does hss_judged w c (Goes next output) → next.1.turns ≡ w.1.turns
+
+-- So the headline holds of each line.
+abbrev pub HeadlineBySteps : Type 0
+HeadlineBySteps = StepsKeep → HeadlineHolds
+
+-- So, in a script that makes no snapshot, it holds of each line of a run.
+abbrev pub ScriptsBySteps : Type 0
+ScriptsBySteps = StepsKeep → (w : Played) (number : ℕ) (lines : List (List ℕ)) (ran : Ran) → AllByRecursion (λ line. MakesNoSnapshot (shown line)) lines → Keeps w → Runs IvyStep w number lines ran
+    → Runs (WithLaw IvyStep Headline) w number lines ran
 
 -- ---- what is left to be shown of worlds without snapshots
 

@@ -20,9 +20,9 @@
 //! (signatures are bytes, and few). Nothing here runs, so there are no costs.
 #![tactic(auto)]
 
-ghost use Rattle.world_laws.specs.Frames.{DamageLinesKeep, HeadlineOfRuns, JoinLinesKeep, KeeperLinesKeep, LinesKeepByThese, LogLinesKeep, MildChangesKeep, MoreBlocksKeep, RestartLinesKeep, RingLinesKeep, RoundLinesKeep, StillLinesKeep, StopLinesKeep, UseLinesKeep, ViewLinesKeep};
+ghost use Rattle.world_laws.specs.Frames.{DamageLinesKeep, EachReplyBySteps, HeadlineOfRuns, JoinLinesKeep, KeeperLinesKeep, LinesKeepByThese, LogLinesKeep, MildChangesKeep, MoreBlocksKeep, RestartLinesKeep, RingLinesKeep, RoundLinesKeep, StillLinesKeep, StopLinesKeep, UseLinesKeep, ViewLinesKeep};
 ghost use Rattle.world_laws.specs.Kinds.{LineHasOneKind};
-ghost use Rattle.world_laws.specs.Laws.{AlikeTurnsAnswerAlike, CallsBegin, ClashIsDecided, EmptyKeeps, FewerStayApart, FreshTurnsAreAnswered, GetsBringKeep, GetsGoOnKeep, HeadsAreSavedFirst, KeptOnce, KnownIsOne, LackingKeeps, LackingStepsKeep, LeafSignsOnce, MetGrows, NoSnapshotComesByThese, OneTruth, OpenLineKeeps, OtherLogsDontCount, PublishingKeeps, PutsKeep, ReceivingKeeps, RefreshBrings, RefreshEndsInTurn, RefreshMayTurn, SecondTurnIsAnswered, SettlingKeeps, StepsKeepByTurns, StillLinesChangeNothing, TakingKeeps, UpperLeavesSignOnce, VainAsksKeep, WholePublishingKeeps};
+ghost use Rattle.world_laws.specs.Laws.{AlikeTurnsAnswerAlike, AllStepsKeep, CallLinesKeep, CallsBegin, ClashIsDecided, EmptyKeeps, FewerStayApart, FreshTurnsAreAnswered, GetsBringKeep, GetsGoOnKeep, HeadlineBySteps, HeadsAreSavedFirst, KeptOnce, KnownIsOne, LackingKeeps, LackingStepsKeep, LeafSignsOnce, LinesKeepBySteps, ManyStepsKeep, MetGrows, NoSnapshotComesByThese, OneTruth, OpenLineKeeps, OtherLogsDontCount, OthersHaveNoTurn, PublishingKeeps, PutsKeep, ReceivingKeeps, RefreshBrings, RefreshEndsInTurn, RefreshMayTurn, ScriptsBySteps, SecondTurnIsAnswered, SettlingKeeps, StepsKeepByTurns, StillLinesChangeNothing, TakingKeeps, UpperLeavesSignOnce, VainAsksKeep, WholePublishingKeeps};
 
 /// A law and no code: of any blocks, names tell them apart, or two of them clash.
 pub fn clashes_are_decided()
@@ -184,12 +184,35 @@ pub fn steps_left()
     ensures { StepsKeepByTurns }
 {}
 
-/// Laws and no code: what is left to be shown of lines. Where the command that snaps, those by which sessions go on, and a
-/// log whose key can't be saved leave such a world, so does each line; and where each line does, and the headline holds of
-/// each, it holds of each line of a run.
+/// Laws and no code: what is left to be shown of lines. Where the command that snaps and those by which sessions go on leave
+/// such a world, so does each line; and where each line does, and the headline holds of each, it holds of each line of a run.
 pub fn lines_left()
     ensures lines { LinesKeepByThese }
     ensures runs { HeadlineOfRuns }
+{}
+
+/// Laws and no code: where each step of a session in hand leaves a world that keeps what it should and such a session, so do
+/// many steps, and all up to the end, and each turn in them is on the replay; and the lines by which sessions go on leave such
+/// a world, and the headline holds of them.
+pub fn lines_of_calls_keep()
+    ensures many { ManyStepsKeep }
+    ensures all { AllStepsKeep }
+    ensures lines { CallLinesKeep }
+{}
+
+/// A law and no code: in a command by which no session goes on no turn is had, whatever the world.
+pub fn other_lines_have_no_turn()
+    ensures { OthersHaveNoTurn }
+{}
+
+/// Laws and no code: where each step leaves such a world and such a session, each line but one that makes a snapshot leaves
+/// such a world, and the headline holds of each line; so it holds of each line of a run of a script that makes none, and of any
+/// script, if the line that makes one leaves such a world too.
+pub fn headline_by_steps()
+    ensures lines { LinesKeepBySteps }
+    ensures headline { HeadlineBySteps }
+    ensures scripts { ScriptsBySteps }
+    ensures all { EachReplyBySteps }
 {}
 
 /// A law and no code: what is left to be shown of worlds without snapshots. Where what a turn makes of an agent can be saved, and
