@@ -50,6 +50,14 @@ pub mod GetsBring
 mod StepsLeft
 pub mod Beginning
 mod Opening
+mod TurnsRefresh
+mod TurnsFloors
+mod TurnsTaken
+mod TurnsBlocks
+mod TurnsSets
+mod TurnsWorld
+mod TurnsSigning
+mod TurnsKnown
 pub mod LineKeys
 pub mod SessionLinesSteps
 pub mod SessionLinesOpen
