@@ -65,6 +65,7 @@ pub mod SessionLines
 pub mod HeadlineOfPublishing
 pub mod HeadlineOfLines
 pub mod HeadlineOfScripts
+mod NoSnapshotSaved
 mod NoSnapshotTurns
 mod NoSnapshotSteps
 mod NoSnapshotLines

@@ -47,13 +47,15 @@ use Rattle.world_model.specs.Calls.FinishLine.{ends as finishing_ends, not_open 
 use Rattle.world_model.specs.Faults.{damage_by, damage_line, damaged_to, holds_by, holds_line, holds_text, key_named, lose_line, node_named, order_line, order_text, showing, work_line, work_text}
 use Rattle.world_model.specs.Step.{Does, IvyStep, Untold}
 use Rattle.world_laws.specs.Keeps.{AreParticipants, HasNoSnapshot, IsKeptSo, IsSavedWell, Keeps}
-use Rattle.world_laws.specs.Laws.{LogsHaveSigners, NoSnapshotComes, TurnsAreSaved}
+use Rattle.world_laws.specs.Laws.{NoSnapshotComes, TurnsAreSaved}
 use Rattle.world_laws.proofs.AllLines.{Done, does_line}
 use Rattle.world_laws.proofs.Bringing.{found_named}
 use Rattle.world_laws.proofs.Lines.{ToSuch}
 use Rattle.world_laws.proofs.LogLines.{kept_whole}
 use Rattle.world_laws.proofs.SignedHeads.{so_of}
 use Rattle.world_laws.proofs.UseLines.{view_in, whole}
+use Rattle.world_laws.proofs.LineFits.{command_fits}
+use Rattle.world_laws.proofs.NoSnapshotSaved.{turns_are_saved}
 use Rattle.world_laws.proofs.NoSnapshotTurns.{IsBare, KeepsNone, saved_none}
 use Rattle.world_laws.proofs.NoSnapshotSteps.{AreBare, BareOf, fate_same, found_bare, placed_bare, runs_bare, steps_bare}
 
@@ -78,6 +80,10 @@ none_held (p ∷ ps) all = ((all.0.snapshot, all.0.to_load, all.0.basis), none_h
 
 abbrev IsBareWorld : Played → Type 0
 IsBareWorld w = AreBare w.0.participants
+
+-- a line by which a log begins gives a key that can be saved
+abbrev LogsHaveSigners : Type 0
+LogsHaveSigners = (line log id seed : List ℕ) (sets : List Set) → command_of line ≡ Some (command.Log log id seed sets) → IsSigner (fresh_signer id seed sets)
 
 abbrev OnGoes : Outcome World → Type 0
 OnGoes (Goes next output) = AreBare next.participants
@@ -297,8 +303,11 @@ module _ (saved : TurnsAreSaved) where
   of_command w keeps all command.Nothing signers none outcome does = subst (λ (o : Outcome Played). ToSuch IsBareWorld o) (sym does) all
   of_command w keeps all command.End signers none outcome does = subst (λ (o : Outcome Played). ToSuch IsBareWorld o) (sym does) tt
 
-  pub no_snapshot_comes : LogsHaveSigners → NoSnapshotComes
-  no_snapshot_comes signers w next line output keeps none mild step =
+  pub no_snapshot_by : LogsHaveSigners → NoSnapshotComes
+  no_snapshot_by signers w next line output keeps none mild step =
       let done = does_line w next output (command_of line) step in
       let after = of_command w keeps (bare_before w keeps none) done.0 (λ log id seed sets is. signers line log id seed sets (done.1 ∙ ap Some is)) (λ log is. mild log (done.1 ∙ ap Some is)) (Goes next output) done.2 in
       record { kept = none_kept next.0.participants after; agents = none_held next.0.participants after }
+
+pub no_snapshot_comes : NoSnapshotComes
+no_snapshot_comes = no_snapshot_by turns_are_saved (λ line log id seed sets is. command_fits line (command.Log log id seed sets) is)

@@ -22,7 +22,6 @@ use Rattle.dht_ids.specs.declared.judge.Judged.{Judged}
 use Rattle.dht_ids.specs.declared.peer.Peer.{Peer}
 use Rattle.hash_signature_model.specs.declared.keys.PrivateKey.{PrivateKey}
 use Rattle.hash_signature_model.specs.declared.set.Set.{Set}
-use Rattle.hss_keys.specs.Saved.{IsSigner}
 use Rattle.hss_keys.specs.Signer.{Signer, leaf_used, leaves_used, left_of, lower_key, signed_lower}
 use Rattle.log_heads.specs.Signed.{hss_judged}
 use Rattle.agent_model.specs.Agent.{kept_of}
@@ -46,7 +45,7 @@ use Rattle.world_model.specs.Keepers.{fails_next}
 use Rattle.world_model.specs.World.{World, NamedSession, Participant, empty_world, named_bytes, participant, with_participant}
 use Rattle.world_model.specs.Fates.{FateOf}
 use Rattle.world_model.specs.Story.{HadTurn, Story, beginning, empty_story, having_begun, known_of, receiving}
-use Rattle.world_model.specs.Logs.{Played, Publishes, fresh_signer}
+use Rattle.world_model.specs.Logs.{Played, Publishes}
 use Rattle.world_model.specs.Calls.{BeginsWith, Sending, reply_line}
 use Rattle.world_model.specs.Step.{Does, IvyStep}
 use Rattle.world_model.specs.Steps.{RunsOut, Scene, Steps, StepsOn, after_turn, ask_told, heads_by, turn_told, with_cache, world_after}
@@ -389,16 +388,9 @@ abbrev pub ScriptsBySteps : Type 0
 ScriptsBySteps = StepsKeep → (w : Played) (number : ℕ) (lines : List (List ℕ)) (ran : Ran) → AllByRecursion (λ line. MakesNoSnapshot (shown line)) lines → Keeps w → Runs IvyStep w number lines ran
     → Runs (WithLaw IvyStep Headline) w number lines ran
 
--- ---- what is left to be shown of worlds without snapshots
+-- ---- what turns save
 
 -- What may be saved of an agent may be of what a turn makes of it, and what is then saved may be.
 abbrev pub TurnsAreSaved : Type 0
 TurnsAreSaved = (view : View) (a after : Agent) (h : Holding) (fails : Bool) (written : List Record) (saving : Option Kept) → a.view ≡ Some view → IsKept (kept_of a) → MayTake hss view a h
     → Becomes hss view a h fails written after saving → IsKept (kept_of after) × IfSome saving IsKept
-
--- A line by which a log begins gives a key that can be saved.
-abbrev pub LogsHaveSigners : Type 0
-LogsHaveSigners = (line log id seed : List ℕ) (sets : List Set) → command_of line ≡ Some (command.Log log id seed sets) → IsSigner (fresh_signer id seed sets)
-
-abbrev pub NoSnapshotComesByThese : Type 0
-NoSnapshotComesByThese = TurnsAreSaved → LogsHaveSigners → NoSnapshotComes

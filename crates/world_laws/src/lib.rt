@@ -22,7 +22,7 @@
 
 ghost use Rattle.world_laws.specs.Frames.{DamageLinesKeep, EachReplyBySteps, HeadlineOfRuns, JoinLinesKeep, KeeperLinesKeep, LinesKeepByThese, LogLinesKeep, MildChangesKeep, MoreBlocksKeep, RestartLinesKeep, RingLinesKeep, RoundLinesKeep, StillLinesKeep, StopLinesKeep, UseLinesKeep, ViewLinesKeep};
 ghost use Rattle.world_laws.specs.Kinds.{LineHasOneKind};
-ghost use Rattle.world_laws.specs.Laws.{AlikeTurnsAnswerAlike, AllStepsKeep, CallLinesKeep, CallsBegin, ClashIsDecided, EmptyKeeps, FewerStayApart, FreshTurnsAreAnswered, GetsBringKeep, GetsGoOnKeep, HeadlineBySteps, HeadsAreSavedFirst, KeptOnce, KnownIsOne, LackingKeeps, LackingStepsKeep, LeafSignsOnce, LinesKeepBySteps, ManyStepsKeep, MetGrows, NoSnapshotComesByThese, OneTruth, OpenLineKeeps, OtherLogsDontCount, OthersHaveNoTurn, PublishingKeeps, PutsKeep, ReceivingKeeps, RefreshBrings, RefreshEndsInTurn, RefreshMayTurn, ScriptsBySteps, SecondTurnIsAnswered, SettlingKeeps, StepsKeepByTurns, StillLinesChangeNothing, TakingKeeps, UpperLeavesSignOnce, VainAsksKeep, WholePublishingKeeps};
+ghost use Rattle.world_laws.specs.Laws.{AlikeTurnsAnswerAlike, AllStepsKeep, CallLinesKeep, CallsBegin, ClashIsDecided, EmptyKeeps, FewerStayApart, FreshTurnsAreAnswered, GetsBringKeep, GetsGoOnKeep, HeadlineBySteps, HeadsAreSavedFirst, KeptOnce, KnownIsOne, LackingKeeps, LackingStepsKeep, LeafSignsOnce, LinesKeepBySteps, ManyStepsKeep, MetGrows, NoSnapshotComes, OneTruth, OpenLineKeeps, OtherLogsDontCount, OthersHaveNoTurn, PublishingKeeps, PutsKeep, ReceivingKeeps, RefreshBrings, RefreshEndsInTurn, RefreshMayTurn, ScriptsBySteps, SecondTurnIsAnswered, SettlingKeeps, StepsKeepByTurns, StillLinesChangeNothing, TakingKeeps, TurnsAreSaved, UpperLeavesSignOnce, VainAsksKeep, WholePublishingKeeps};
 
 /// A law and no code: of any blocks, names tell them apart, or two of them clash.
 pub fn clashes_are_decided()
@@ -215,8 +215,9 @@ pub fn headline_by_steps()
     ensures all { EachReplyBySteps }
 {}
 
-/// A law and no code: what is left to be shown of worlds without snapshots. Where what a turn makes of an agent can be saved, and
-/// a log begins by a line with a key that can be, a line that makes no snapshot leaves a world without one so.
+/// Laws and no code: what a turn makes of an agent that may be saved may be saved, and what it saves; and a line that makes no
+/// snapshot leaves a world without one so.
 pub fn no_snapshot_comes()
-    ensures { NoSnapshotComesByThese }
+    ensures saved { TurnsAreSaved }
+    ensures lines { NoSnapshotComes }
 {}
