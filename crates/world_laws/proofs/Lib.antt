@@ -69,3 +69,5 @@ mod NoSnapshotSaved
 mod NoSnapshotTurns
 mod NoSnapshotSteps
 mod NoSnapshotLines
+mod SnapBounds
+mod SnapSpelled

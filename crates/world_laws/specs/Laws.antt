@@ -11,7 +11,8 @@ use Rattle.log_model.specs.Closed.{log_of}
 use Rattle.log_model.specs.Spelling.{HasSpelling, no_name, record_block}
 use Rattle.log_model.specs.Standing.{Stand}
 use Rattle.log_model.specs.Vector.{Entry, Stamp, Vector, stamp_at}
-use Rattle.log_model.specs.View.{View}
+use Rattle.log_model.specs.View.{View, IsView}
+use Rattle.view_blocks.specs.Faults.{HasKeys}
 use Rattle.nfs_model.specs.declared.replies.Reply.{Reply}
 use Rattle.turn_model.specs.Basis.{Holding, Knows}
 use Rattle.turn_model.specs.Known.{EndsAt, IsKnown}
@@ -25,6 +26,7 @@ use Rattle.hash_signature_model.specs.declared.set.Set.{Set}
 use Rattle.hss_keys.specs.Signer.{Signer, leaf_used, leaves_used, left_of, lower_key, signed_lower}
 use Rattle.log_heads.specs.Signed.{hss_judged}
 use Rattle.agent_model.specs.Agent.{kept_of}
+use Rattle.agent_model.specs.Others.{basis_of}
 use Rattle.agent_model.specs.Candidates.{AreCandidatesOf, Brings, MayTurn}
 use Rattle.agent_model.specs.Turning.{Answered, Becomes, MayTake, TurnEnd}
 use Rattle.agent_model.specs.Standing.{Refresh, Standing}
@@ -33,6 +35,7 @@ use Rattle.session_model.specs.Refreshing.{Note}
 use Rattle.session_model.specs.Sessions.{Cache, Hears, TakesSome, Session, Refreshing, Over}
 use Rattle.session_model.specs.Courses.{Fails, HasRefreshed, IsRefusal, LacksMemory, Settles}
 use Rattle.session_model.specs.Replies.{said_no_memory}
+use Rattle.snapshot_model.specs.Reading.{IsBasisSpelled}
 use Rattle.session_laws.specs.Going.{SnapshotsAreDecided}
 use Rattle.script_driver.specs.Run.{Outcome, Goes, Ran, Runs, WithLaw, HasPiece, shown}
 use Rattle.script_driver.specs.Seen.{HasStory, SeenStep}
@@ -394,3 +397,9 @@ ScriptsBySteps = StepsKeep → (w : Played) (number : ℕ) (lines : List (List �
 abbrev pub TurnsAreSaved : Type 0
 TurnsAreSaved = (view : View) (a after : Agent) (h : Holding) (fails : Bool) (written : List Record) (saving : Option Kept) → a.view ≡ Some view → IsKept (kept_of a) → MayTake hss view a h
     → Becomes hss view a h fails written after saving → IsKept (kept_of after) × IfSome saving IsKept
+
+-- ---- snapshots that are made
+
+-- What an agent holds of a closed set has a spelling as a snapshot.
+abbrev pub HeldIsSpelled : Type 0
+HeldIsSpelled = (view : View) (floor : Vector) (h : Holding) (known : List Record) → IsView view → HasKeys view → Knows view floor h known → IsBasisSpelled (basis_of h)
