@@ -58,6 +58,7 @@ mod TurnsSets
 mod TurnsWorld
 mod TurnsSigning
 mod TurnsKnown
+mod TurnsKept
 pub mod LineKeys
 pub mod SessionLinesSteps
 pub mod SessionLinesOpen

@@ -68,7 +68,7 @@ abbrev pub IsOwnOrUnder : List (List ℕ) → List Entry → PubKey → Record �
 IsOwnOrUnder met received own r = (r.owner ≡ own) ⊎ ((r.owner ≡ own → ⊥) × IsUnderHead met received r)
 
 module _ (view : View) (well : IsView view) (own : PubKey) (member : Contains view.members own) (floor : Vector) (received : List Entry) (known : List Record) (by_floor : IsKnown view floor known)
-    (met : List (List ℕ)) (h : Holding) (set : List Record) (more : (r : Record) → Contains known r → Contains set r) (closed : IsClosed view set) (holds : HoldsAll view set h) (stand : Stand met set)
+    (met : List (List ℕ)) (h : Holding) (set : List Record) (more : (r : Record) → Contains known r → Contains set r) (closed : IsClosed view set) (holds : HoldsAll view set h)
     (sound : (r : Record) → Contains set r → IsOwnOrUnder met received own r) where
   front_is : joined h ≡ front set
   front_is = joined_front view set h holds
@@ -84,15 +84,18 @@ module _ (view : View) (well : IsView view) (own : PubKey) (member : Contains vi
       inl (mine, omega (arith, number, low, high))
   backed r c (inr other) = inr other
 
-  pub knows_then : KnowsThen view own floor received known met h set
-  knows_then = record {
+  pub verified_then : IsVerified met view own (join floor (joined h)) received set
+  verified_then = record { chains = closed.chains; backed = each_from (IsBacked met own (join floor (joined h)) received) set (λ r c. backed r c (sound r c)) }
+
+  pub knows_then : Stand met set → KnowsThen view own floor received known met h set
+  knows_then stand = record {
     more = more;
     closed = closed;
     holds = holds;
     by_floor = subst (λ (v : Vector). IsKnown view (join floor v) set) (sym front_is) (joined_known view well floor known set by_floor more closed);
     covers = far;
     stand = stand;
-    verified = record { chains = closed.chains; backed = each_from (IsBacked met own (join floor (joined h)) received) set (λ r c. backed r c (sound r c)) };
+    verified = verified_then;
   }
 
 -- among more blocks
@@ -142,7 +145,7 @@ module _ (c : Scene) (r : ℕ) (p : Participant) (keeps : Keeps (c.world, c.stor
     in_view : a.view ≡ Some view
     in_view = its_view c r hand p is_p
 
-    agent : IsSound c.world.met p knowing view
+    pub agent : IsSound c.world.met p knowing view
     agent = agent_sound c keeps apart its p is_p in_view
 
     of : IsTurnOf hss heads (named_bytes c.world) c.session.standing c.began.knew knowing.known given.started a view (fails_next p.keeper) asked c.world.now h written reply
@@ -191,10 +194,10 @@ module _ (c : Scene) (r : ℕ) (p : Participant) (keeps : Keeps (c.world, c.stor
     pub well : IsView view
     well = in_a_view c keeps apart its p is_p in_view
 
-    kept : IsKept (kept_of a)
+    pub kept : IsKept (kept_of a)
     kept = (each (IsKeptSo IsSavedWell) c.world.participants p keeps.saved (found_named c.world.participants c.session.by p is_p).0).3.agent
 
-    member : Contains view.members (own a)
+    pub member : Contains view.members (own a)
     member = (subst (λ (o : Option View). IfSome o (λ v. IsView v × HasKeys v × Contains v.members (own a) × AllByRecursion (λ e. IsTrue (is_named v e.0)) a.floor)) in_view kept.view).2
 
     -- the heads that were brought were received
@@ -226,7 +229,7 @@ module _ (c : Scene) (r : ℕ) (p : Participant) (keeps : Keeps (c.world, c.stor
 
     pub taken_known : KnowsThen view (own a) a.floor knowing.received knowing.known c.world.met h taken
     taken_known = knows_then view well (own a) member a.floor knowing.received knowing.known agent.knows.by_floor c.world.met h taken has_all largest.closed holds
-        (each_from (StandsAmong c.world.met) taken (λ q among. (at_hand q among).1)) (λ q among. (at_hand q among).0)
+        (λ q among. (at_hand q among).0) (each_from (StandsAmong c.world.met) taken (λ q among. (at_hand q among).1))
 
     pub same_own_log : log_of (own a) taken ≡ log_of (own a) knowing.known
     same_own_log = subst (λ (o : PubKey). log_of o taken ≡ log_of o knowing.known) own_is
@@ -243,19 +246,29 @@ module _ (c : Scene) (r : ℕ) (p : Participant) (keeps : Keeps (c.world, c.stor
         subst (IsClosed view) (sym writes)
         (turn_closed (inputs_before hss a view) taken asked c.world.now last.0 well member largest.closed last.1 (caller_is_identity asks.caller) asks.arguments.fit keeps.moment)
 
-    -- among blocks with those of these records
-    module _ (more : List (List ℕ)) (grows : (b : List ℕ) → Contains c.world.met b → Contains more b) (owned : AllByRecursion (λ q. q.owner ≡ own a) written) (stand : Stand more written) where
-      in_more : (q : Record) → IsUnderHead c.world.met knowing.received q → IsUnderHead more knowing.received q
-      in_more q u = record { head = u.head; received = u.received; log = u.log; linked = u.linked; stand = more_stand c.world.met more grows u.log u.stand; of_log = u.of_log; ends = u.ends; below = u.below }
+    module _ (owned : AllByRecursion (λ q. q.owner ≡ own a) written) where
+      has_more : (q : Record) → Contains knowing.known q → Contains (taken ++ written) q
+      has_more q known = Contains-append_left taken written q (has_all q known)
 
-      either : (q : Record) → Contains (taken ++ written) q → IsOwnOrUnder more knowing.received (own a) q × StandsAmong more q
-      either q among = ⊎_elim
-          (λ old. let w = at_hand q old in (⊎_elim (λ mine. inl mine) (λ other. inr (other.0, in_more q other.1)) w.0, grows (record_block q) w.1))
-          (λ new. (inl (each (λ (x : Record). x.owner ≡ own a) written q owned new), each (StandsAmong more) written q stand new))
-          (Contains-append_cases taken written q among)
+      written_holds : HoldsAll view (taken ++ written) (with_held h written)
+      written_holds = holds_written view (own a) taken h holds (inputs_before hss a view) refl asked c.world.now written writes
 
-      pub written_known : KnowsThen view (own a) a.floor knowing.received knowing.known more (with_held h written) (taken ++ written)
-      written_known = knows_then view well (own a) member a.floor knowing.received knowing.known agent.knows.by_floor more (with_held h written) (taken ++ written)
-          (λ q known. Contains-append_left taken written q (has_all q known)) written_closed
-          (holds_written view (own a) taken h holds (inputs_before hss a view) refl asked c.world.now written writes)
-          (each_from (StandsAmong more) (taken ++ written) (λ q among. (either q among).1)) (λ q among. (either q among).0)
+      at_either : (q : Record) → Contains (taken ++ written) q → IsOwnOrUnder c.world.met knowing.received (own a) q
+      at_either q among = ⊎_elim (λ old. (at_hand q old).0) (λ new. inl (each (λ (x : Record). x.owner ≡ own a) written q owned new)) (Contains-append_cases taken written q among)
+
+      pub written_verified : IsVerified c.world.met view (own a) (join a.floor (joined (with_held h written))) knowing.received (taken ++ written)
+      written_verified = verified_then view well (own a) member a.floor knowing.received knowing.known agent.knows.by_floor c.world.met (with_held h written) (taken ++ written) has_more written_closed written_holds at_either
+
+      -- among blocks with those of these records
+      module _ (more : List (List ℕ)) (grows : (b : List ℕ) → Contains c.world.met b → Contains more b) (stand : Stand more written) where
+        in_more : (q : Record) → IsOwnOrUnder c.world.met knowing.received (own a) q → IsOwnOrUnder more knowing.received (own a) q
+        in_more q (inl mine) = inl mine
+        in_more q (inr (other, u)) =
+            inr (other, record { head = u.head; received = u.received; log = u.log; linked = u.linked; stand = more_stand c.world.met more grows u.log u.stand; of_log = u.of_log; ends = u.ends; below = u.below })
+
+        stands : (q : Record) → Contains (taken ++ written) q → StandsAmong more q
+        stands q among = ⊎_elim (λ old. grows (record_block q) (at_hand q old).1) (λ new. each (StandsAmong more) written q stand new) (Contains-append_cases taken written q among)
+
+        pub written_known : KnowsThen view (own a) a.floor knowing.received knowing.known more (with_held h written) (taken ++ written)
+        written_known = knows_then view well (own a) member a.floor knowing.received knowing.known agent.knows.by_floor more (with_held h written) (taken ++ written) has_more written_closed written_holds
+            (λ q among. in_more q (at_either q among)) (each_from (StandsAmong more) (taken ++ written) stands)
