@@ -61,7 +61,7 @@ mod TurnsKnown
 mod TurnsKept
 pub mod LineKeys
 pub mod SessionLinesSteps
-pub mod SessionLinesOpen
+pub mod OpenSessions
 pub mod SessionLines
 pub mod HeadlineOfPublishing
 pub mod HeadlineOfLines

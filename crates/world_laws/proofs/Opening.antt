@@ -1,33 +1,30 @@
 -- The line that opens a session leaves a world that keeps what it should.
 use Rattle.std.proofs.Common.{◌≡◌, ◌⊎◌, inl, inr, ⊎_elim, ℕ, ◌+◌, ◌<◌, Bool, true, false, cond, List, [], ◌∷◌, ◌++◌, map, Option, Some, None, refl, sym, ap, ◌∙◌, subst, arith, Contains}
 use Rattle.std.specs.Prelude.{is_some, option_map}
-use Rattle.std.specs.List.{AllByRecursion, find}
+use Rattle.std.specs.List.{find}
 use Rattle.std.specs.Option.{option_map_or}
 use Rattle.std.specs.Str.{bytes_eq}
 use Rattle.std.proofs.lemmas.List.Elements.{Contains-append_cases}
 use Rattle.std.proofs.lemmas.Slice.Eq.{bytes_eq-Decides}
-use Rattle.ivy_base.specs.Naming.{NamesTellApart}
 use Rattle.log_heads.specs.Signed.{hss_judged}
-use Rattle.log_model.proofs.Lists.{each, each_append, each_from, here, in_cons, in_nothing, there}
+use Rattle.log_model.proofs.Lists.{each, here, in_cons, in_nothing, there}
 use Rattle.log_model.specs.View.{View}
 use Rattle.script_driver.specs.Run.{Outcome, Goes}
 use Rattle.script_model.specs.Words.{◌>>=◌}
 use Rattle.script_model.specs.declared.command.Piece.{Piece}
 use Rattle.script_model.specs.Messages.{message_of}
-use Rattle.session_model.specs.Sessions.{Said, Session}
+use Rattle.session_model.specs.Sessions.{Session}
 use Rattle.world_model.specs.Calls.{BeginsWith, OpenLine, Sending, sending_of}
 use Rattle.world_model.specs.Calls.OpenLine.{sends_nothing, is_open, opens}
-use Rattle.world_model.specs.World.{World, NamedSession, Participant, named_bytes, participant, session_named}
-use Rattle.world_model.specs.Story.{Began, HadTurn, Story, began_nothing, began_of, beginning, having_begun}
+use Rattle.world_model.specs.World.{World, NamedSession, Participant, participant, session_named}
+use Rattle.world_model.specs.Story.{Began, Story, began_nothing, began_of, beginning, having_begun}
 use Rattle.world_model.specs.Logs.{Played}
-use Rattle.world_laws.specs.Causes.{HasCause, said_at}
-use Rattle.world_laws.specs.Causes.HasCause.{alone, missed, turned, no_memory}
-use Rattle.world_laws.specs.Frames.{unchanged}
-use Rattle.world_laws.specs.Keeps.{AreApart, AreSound, EntersOwned, GoesOn, HasRing, HasSaid, IsInHand, IsSoundSession, Keeps}
+use Rattle.world_laws.specs.Keeps.{AreApart, HasRing, IsInHand, Keeps}
 use Rattle.world_laws.specs.Laws.{OpenLineKeeps}
 use Rattle.world_laws.proofs.Beginning.{calls_begin}
 use Rattle.world_laws.proofs.Bringing.{found_named}
-use Rattle.world_laws.proofs.Frames.{goes_on_still, into_map}
+use Rattle.world_laws.proofs.Frames.{into_map}
+use Rattle.world_laws.proofs.OpenSessions.{open_hand, scene, sessions_keep}
 
 -- ---- lists
 
@@ -75,61 +72,6 @@ not_open (s ∷ sessions) name closed h = by (bytes_eq s.name name) refl closed 
     by true same f again = cc f
     by false other f again = again f (⊎_elim (λ is. absurd (let same : bytes_eq s.name name ≡ true = (bytes_eq-Decides s.name name).1 is in cc (sym same ∙ other))) (λ later. later) (in_cons s.name (map (λ x. x.name) sessions) name h))
 
--- ---- causes and soundness, where the story tells of more sessions
-
-pub cause_told : (st su : Story) (n : ℕ) (s : Session) (said : Said) → su.turns ≡ st.turns → HasCause st n s said → HasCause su n s said
-cause_told st su n s _ same (alone given by) = alone given by
-cause_told st su n s _ same (missed xid asked given miss asks refreshed is) = missed xid asked given miss asks refreshed is
-cause_told st su n s _ same (turned h xid asked given among of asks refreshed) = turned h xid asked given (subst (λ (turns : List HadTurn). Contains turns h) (sym same) among) of asks refreshed
-cause_told st su n s _ same (no_memory xid asked asks) = no_memory xid asked asks
-
-pub said_told : (st su : Story) (n : ℕ) (s : Session) (o : Option Said) → su.turns ≡ st.turns → HasSaid st n s o → HasSaid su n s o
-said_told st su n s None same h = tt
-said_told st su n s (Some said) same h = cause_told st su n s said same h
-
-module _ (w : Played) (sessions : List NamedSession) (told : List Named) where
-  abbrev v : World
-  v = record w.0 { sessions = sessions }
-
-  abbrev su : Story
-  su = record (having_begun w.1) { sessions = told }
-
-  sound_told : (s : Session) (b : Began) → IsSoundSession w.0 w.1 s b → IsSoundSession v su s b
-  sound_told s b h = record {
-    by = h.by;
-    is_by = h.is_by;
-    of = h.of;
-    knows = h.knows;
-    held = h.held;
-    edges = h.edges;
-    to_load = h.to_load;
-    known = h.known;
-    floor = h.floor;
-    keeps_up = h.keeps_up;
-    anew = h.anew;
-    stays_fresh = h.stays_fresh;
-    received = h.received;
-    blocks = h.blocks;
-  }
-
-  sound_begun : (s : Session) (b : Began) → IsSoundSession w.0 (having_begun w.1) s b → IsSoundSession v su s b
-  sound_begun s b h = record {
-    by = h.by;
-    is_by = h.is_by;
-    of = h.of;
-    knows = h.knows;
-    held = h.held;
-    edges = h.edges;
-    to_load = h.to_load;
-    known = h.known;
-    floor = h.floor;
-    keeps_up = h.keeps_up;
-    anew = h.anew;
-    stays_fresh = h.stays_fresh;
-    received = h.received;
-    blocks = h.blocks;
-  }
-
 -- ---- the line
 
 module _ (w : Played) (name : List ℕ) (s : Sending) (t : Session) (keeps : Keeps w) (is_by : participant w.0 s.by.name ≡ Some s.by) (in_view : s.by.agent.view ≡ Some s.view) (closed : is_some (session_named w.0 name) ≡ false)
@@ -160,10 +102,6 @@ module _ (w : Played) (name : List ℕ) (s : Sending) (t : Session) (keeps : Kee
   hand_in : (r : ℕ) → w.0.replicas ≡ Some r → IsInHand (record { world = w.0; story = having_begun w.1; session = t; began = its }) r
   hand_in r ringed = calls_begin w r s t keeps ringed is_by in_view begins
 
-  -- of each open session, the new one among them
-  each_open : (P : NamedSession → Type 0) → ((x : NamedSession) → Contains w.0.sessions x → P x) → P new → AllByRecursion P opened.sessions
-  each_open P old one = each_append P w.0.sessions (new ∷ []) (each_from P w.0.sessions old) (one, tt)
-
   there_is : (ps : List Participant) → ps ≡ [] → Contains ps s.by → ⊥
   there_is [] e h = in_nothing s.by h
   there_is (q ∷ ps) e h = cc e
@@ -171,12 +109,6 @@ module _ (w : Played) (name : List ℕ) (s : Sending) (t : Session) (keeps : Kee
   module _ (r : ℕ) (ringed : w.0.replicas ≡ Some r) where
     hand : IsInHand (record { world = w.0; story = having_begun w.1; session = t; began = its }) r
     hand = hand_in r ringed
-
-    ring_now : HasRing w.0 (Some r)
-    ring_now = subst (HasRing w.0) ringed keeps.ring
-
-    goes_with : (x : Session) → GoesOn w.0 r x → GoesOn opened r x
-    goes_with x g = goes_on_still w.0 opened (λ b h. h) (λ q h. h) r x g (unchanged g.by) g.is_by
 
     number_of : (x : NamedSession) → Contains w.0.sessions x → (began_of story x.name).number < w.1.begun
     number_of x among = subst (λ (b : Began). b.number < w.1.begun) (sym (same_began x among)) (each (λ (y : NamedSession). (began_of w.1 y.name).number < w.1.begun) w.0.sessions x keeps.numbers.sessions among)
@@ -194,50 +126,21 @@ module _ (w : Played) (name : List ℕ) (s : Sending) (t : Session) (keeps : Kee
         (λ none. absurd (in_nothing x none)) (in_cons new [] x a)
     by_number x y (inr a) (inr b) e = ⊎_elim (λ is. ⊎_elim (λ also. sym is ∙ also) (λ none. absurd (in_nothing y none)) (in_cons new [] y b)) (λ none. absurd (in_nothing x none)) (in_cons new [] x a)
 
-    sound_then : NamesTellApart (named_bytes w.0) → AreSound opened story
-    sound_then apart = (let before = keeps.sound apart in record {
-      agents = before.agents;
-      keepers = before.keepers;
-      to_load = before.to_load;
-      snapshots = before.snapshots;
-      sessions = each_open (λ x. IsSoundSession opened story x.session (began_of story x.name))
-          (λ x among. subst (IsSoundSession opened story x.session) (sym (same_began x among))
-          (sound_told w opened.sessions story.sessions x.session (began_of w.1 x.name) (each (λ (y : NamedSession). IsSoundSession w.0 w.1 y.session (began_of w.1 y.name)) w.0.sessions x before.sessions among)))
-          (subst (IsSoundSession opened story t) (sym its_began) (sound_begun w opened.sessions story.sessions t its (hand.sound apart)));
-    })
+    hand_of : (x : NamedSession) → Contains opened.sessions x → IsInHand (scene w keeps r ringed (w.1.begun + 1) x.session (began_of story x.name)) r
+    hand_of x among = ⊎_elim
+        (λ old. subst (λ (b : Began). IsInHand (scene w keeps r ringed (w.1.begun + 1) x.session b) r) (sym (same_began x old)) (open_hand w keeps r ringed (w.1.begun + 1) (omega arith) x old))
+        (λ one. ⊎_elim
+        (λ is. subst (λ (y : NamedSession). IsInHand (scene w keeps r ringed (w.1.begun + 1) y.session (began_of story y.name)) r) is (subst (λ (b : Began). IsInHand (scene w keeps r ringed (w.1.begun + 1) t b) r) (sym its_began) hand))
+        (λ none. absurd (in_nothing x none)) (in_cons new [] x one))
+        (Contains-append_cases w.0.sessions (new ∷ []) x among)
 
     keeps_then : Keeps (opened, story)
-    keeps_then = record {
-      fits = record {
-        participants = keeps.fits.participants;
-        sessions = map_one (λ (b : Named). b.0) w.1.sessions (name, its) ∙ ap (λ (names : List (List ℕ)). names ++ name ∷ []) keeps.fits.sessions ∙ sym (map_one (λ (x : NamedSession). x.name) w.0.sessions new);
-      };
-      ring = subst (HasRing opened) (sym ringed) (
-        ring_now.0,
-        ring_now.1,
-        ring_now.2,
-        each_open (λ x. GoesOn opened r x.session) (λ x among. goes_with x.session (each (λ (y : NamedSession). GoesOn w.0 r y.session) w.0.sessions x ring_now.3 among)) (goes_with t hand.goes_on),
-      );
-      met = record { held = keeps.met.held; pending = keeps.met.pending; cached = keeps.met.cached; views = keeps.met.views };
-      peers = record { named = keeps.peers.named; apart = keeps.peers.apart; few = keeps.peers.few; known = keeps.peers.known };
-      signs = keeps.signs;
-      saved = keeps.saved;
-      apart = keeps.apart;
+    keeps_then = sessions_keep w keeps r ringed opened.sessions story.sessions (w.1.begun + 1) (omega arith) (record {
+      told_of = map_one (λ (b : Named). b.0) w.1.sessions (name, its) ∙ ap (λ (names : List (List ℕ)). names ++ name ∷ []) keeps.fits.sessions ∙ sym (map_one (λ (x : NamedSession). x.name) w.0.sessions new);
       named_once = subst AreApart (sym (map_one (λ (x : NamedSession). x.name) w.0.sessions new)) (apart_one (map (λ (x : NamedSession). x.name) w.0.sessions) name keeps.named_once not_named);
-      moment = keeps.moment;
-      entered = each_from (EntersOwned opened) w.0.participants (λ p among. let its = each (EntersOwned w.0) w.0.participants p keeps.entered among in record { agent = its.agent; keeper = its.keeper });
-      received = keeps.received;
-      numbers = record {
-        apart = λ x y a b e. by_number x y (Contains-append_cases w.0.sessions (new ∷ []) x a) (Contains-append_cases w.0.sessions (new ∷ []) y b) e;
-        sessions = each_open (λ x. (began_of story x.name).number < w.1.begun + 1) (λ x among. let below = number_of x among in omega (arith, below)) (omega (arith, number_is));
-        turns = each_from (λ (h : HadTurn). h.began.number < w.1.begun + 1) w.1.turns (λ h among. let below = each (λ (x : HadTurn). x.began.number < w.1.begun) w.1.turns h keeps.numbers.turns among in omega (arith, below));
-      };
-      said = each_open (λ x. HasSaid story (began_of story x.name).number x.session (said_at x.session.stage))
-          (λ x among. subst (λ (b : Began). HasSaid story b.number x.session (said_at x.session.stage)) (sym (same_began x among))
-          (said_told w.1 story (began_of w.1 x.name).number x.session (said_at x.session.stage) refl (each (λ (y : NamedSession). HasSaid w.1 (began_of w.1 y.name).number y.session (said_at y.session.stage)) w.0.sessions x keeps.said among)))
-          (subst (λ (b : Began). HasSaid story b.number t (said_at t.stage)) (sym its_began) (said_told (having_begun w.1) story its.number t (said_at t.stage) refl hand.said));
-      sound = sound_then;
-    }
+      numbered = λ x y a b e. by_number x y (Contains-append_cases w.0.sessions (new ∷ []) x a) (Contains-append_cases w.0.sessions (new ∷ []) y b) e;
+      each_hand = hand_of;
+    })
 
   opened_so : (o : Option ℕ) → w.0.replicas ≡ o → Keeps (opened, story)
   opened_so None none = absurd (there_is w.0.participants (subst (HasRing w.0) none keeps.ring).1 (found_named w.0.participants s.by.name s.by is_by).0)

@@ -27,8 +27,8 @@ use Rattle.world_laws.specs.Keeps.{HasSaid, IsInHand, Keeps}
 use Rattle.world_laws.specs.Laws.{CallLinesKeep, StepsKeep}
 use Rattle.world_laws.proofs.Beginning.{calls_begin}
 use Rattle.world_laws.proofs.Bringing.{found_named}
-use Rattle.world_laws.proofs.Opening.{IsSent, cause_told, sent_by}
-use Rattle.world_laws.proofs.SessionLinesOpen.{back_keeps, begun_keeps, closed_keeps, named_hand, replied_keeps}
+use Rattle.world_laws.proofs.Opening.{IsSent, sent_by}
+use Rattle.world_laws.proofs.OpenSessions.{back_keeps, begun_keeps, cause_told, closed_keeps, named_hand, replied_keeps}
 use Rattle.world_laws.proofs.SessionLinesSteps.{Leads, runs_lead, steps_on_lead}
 
 -- where the outcome goes on, the world keeps what it should, and the headline holds

@@ -17,7 +17,10 @@
 //! session that begins), `proofs/Afresh.antt` (a participant that changes, whose open sessions are gone), `proofs/OtherBytes.antt`
 //! (one whose keeper holds other bytes), `proofs/Newcomer.antt` (one more), `proofs/EnteredViews.antt` (what is known of another
 //! view's members is closed), `proofs/KnownHeads.antt` (the heads that left are over what is known), `proofs/SignatureBytes.antt`
-//! (signatures are bytes, and few). Nothing here runs, so there are no costs.
+//! (signatures are bytes, and few), `proofs/OpenSessions.antt` (an open session is in hand; other open sessions that are stand in
+//! their place), `proofs/SessionLinesSteps.antt` (what many steps of a session leave, and what they leave as it was),
+//! `proofs/HeadlineOfPublishing.antt` (publishing alone has no turn), `proofs/LineKeys.antt` (the key of a log that a line begins
+//! can be saved). Nothing here runs, so there are no costs.
 #![tactic(auto)]
 
 ghost use Rattle.world_laws.specs.Frames.{DamageLinesKeep, EachReplyBySteps, HeadlineOfRuns, JoinLinesKeep, KeeperLinesKeep, LinesKeepByThese, LogLinesKeep, MildChangesKeep, MoreBlocksKeep, RestartLinesKeep, RingLinesKeep, RoundLinesKeep, StillLinesKeep, StopLinesKeep, UseLinesKeep, ViewLinesKeep};

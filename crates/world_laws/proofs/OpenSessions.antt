@@ -12,11 +12,11 @@ use Rattle.world_model.specs.World.{World, NamedSession, session_named, with_ses
 use Rattle.world_model.specs.Story.{Began, HadTurn, Story, began_nothing, began_of, having_begun, with_began, without_began}
 use Rattle.world_model.specs.Logs.{Played}
 use Rattle.world_model.specs.Steps.{Scene}
-use Rattle.world_laws.specs.Causes.{said_at}
+use Rattle.world_laws.specs.Causes.{HasCause, said_at}
+use Rattle.world_laws.specs.Causes.HasCause.{alone, missed, turned, no_memory}
 use Rattle.world_laws.specs.Frames.{unchanged}
 use Rattle.world_laws.specs.Keeps.{AreApart, EntersOwned, GoesOn, HasRing, HasSaid, IsInHand, IsSoundSession, Keeps}
 use Rattle.world_laws.proofs.Frames.{goes_on_still, into_map, no_changes, of_ring, ring_of, unchanged_mild, world_changes}
-use Rattle.world_laws.proofs.Opening.{said_told}
 use Rattle.world_laws.proofs.Placed.{apart_left, find_left, find_other, find_own, found_among, names_left, names_placed, other_name, placed, same_name}
 use Rattle.world_laws.proofs.SignedHeads.{from_map}
 
@@ -28,6 +28,18 @@ Named = List ℕ × Began
 
 abbrev began_name : Named → List ℕ
 began_name b = b.0
+
+-- ---- causes and soundness, where the story tells of other sessions
+
+pub cause_told : (st su : Story) (n : ℕ) (s : Session) (said : Said) → su.turns ≡ st.turns → HasCause st n s said → HasCause su n s said
+cause_told st su n s _ same (alone given by) = alone given by
+cause_told st su n s _ same (missed xid asked given miss asks refreshed is) = missed xid asked given miss asks refreshed is
+cause_told st su n s _ same (turned h xid asked given among of asks refreshed) = turned h xid asked given (subst (λ (turns : List HadTurn). Contains turns h) (sym same) among) of asks refreshed
+cause_told st su n s _ same (no_memory xid asked asks) = no_memory xid asked asks
+
+pub said_told : (st su : Story) (n : ℕ) (s : Session) (o : Option Said) → su.turns ≡ st.turns → HasSaid st n s o → HasSaid su n s o
+said_told st su n s None same h = tt
+said_told st su n s (Some said) same h = cause_told st su n s said same h
 
 -- a session stays sound where other sessions are open, and other calls began
 sound_moved : (w : World) (st : Story) (sessions : List NamedSession) (told : List Named) (begun : ℕ) (s : Session) (b : Began) → IsSoundSession w st s b
@@ -49,13 +61,15 @@ sound_moved w st sessions told begun s b h = record {
   blocks = h.blocks;
 }
 
+-- ---- open sessions
+
 module _ (w : Played) (keeps : Keeps w) (r : ℕ) (ringed : w.0.replicas ≡ Some r) where
   -- the session of that name and number in the world, of which so many calls began
   abbrev pub scene : ℕ → Session → Began → Scene
   scene begun s b = record { world = w.0; story = record w.1 { begun = begun }; session = s; began = b }
 
   -- each open session is in hand, however many calls begin after it
-  open_hand : (begun : ℕ) → w.1.begun ≤ begun → (x : NamedSession) → Contains w.0.sessions x → IsInHand (scene begun x.session (began_of w.1 x.name)) r
+  pub open_hand : (begun : ℕ) → w.1.begun ≤ begun → (x : NamedSession) → Contains w.0.sessions x → IsInHand (scene begun x.session (began_of w.1 x.name)) r
   open_hand begun later x among = record {
     number = let below = each (λ (y : NamedSession). (began_of w.1 y.name).number < w.1.begun) w.0.sessions x keeps.numbers.sessions among in omega (arith, below, later);
     goes_on = each (λ (y : NamedSession). GoesOn w.0 r y.session) w.0.sessions x (ring_of w keeps ringed).3 among;
