@@ -72,3 +72,4 @@ mod NoSnapshotSteps
 mod NoSnapshotLines
 mod SnapBounds
 mod SnapSpelled
+mod SnapLines
