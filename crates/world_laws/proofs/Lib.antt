@@ -70,6 +70,6 @@ mod NoSnapshotSaved
 mod NoSnapshotTurns
 mod NoSnapshotSteps
 mod NoSnapshotLines
-mod SnapBounds
-mod SnapSpelled
+pub mod SnapBounds
+pub mod SnapSpelled
 mod SnapLines

@@ -1,6 +1,6 @@
 -- A line that makes no snapshot leaves a world without one so.
-use Rattle.std.proofs.Common.{◌≡◌, ◌≢◌, ℕ, ◌+◌, Bool, true, false, cond, ◌&&◌, List, [], ◌∷◌, ◌++◌, map, Option, Some, None, refl, sym, ap, ◌∙◌, subst, Contains}
-use Rattle.std.specs.Prelude.{◌==◌, is_some, nat_le, nat_lt, option_map}
+use Rattle.std.proofs.Common.{◌≡◌, ◌≢◌, ℕ, ◌+◌, Bool, true, false, cond, ◌&&◌, List, [], ◌∷◌, ◌++◌, Option, Some, None, refl, sym, ap, ◌∙◌, subst}
+use Rattle.std.specs.Prelude.{◌==◌, is_some, nat_le, nat_lt}
 use Rattle.std.specs.List.{AllByRecursion}
 use Rattle.ivy_base.specs.declared.key.Key.{Key}
 use Rattle.ivy_base.specs.declared.key.PubKey.{PubKey}
@@ -24,8 +24,8 @@ use Rattle.script_driver.specs.Run.{Ends, Exceeds, Goes, Outcome, Refuses}
 use Rattle.script_model.specs.declared.command.Command.{Command}
 use Rattle.script_model.specs.declared.command.Command.TheVariants as command
 use Rattle.script_model.specs.Lines.{command_of}
-use Rattle.world_model.specs.Agents.{Entering, IsKept, Kept, hss, kept_bytes, opened}
-use Rattle.world_model.specs.Keepers.{asked_to_save, fails_next}
+use Rattle.world_model.specs.Agents.{Entering, IsKept, Kept, hss, opened}
+use Rattle.world_model.specs.Keepers.{fails_next}
 use Rattle.world_model.specs.Nodes.{Node}
 use Rattle.world_model.specs.World.{World, NamedView, Participant, participant, view_named, with_node, with_participant, without_session}
 use Rattle.world_model.specs.Fates.{Fates}
@@ -35,7 +35,7 @@ use Rattle.world_model.specs.Ring.RingLine.{exceeds as ring_exceeds, makes as ri
 use Rattle.world_model.specs.Ring.JoinLine.{alone as join_alone, before_ring as join_before_ring, exceeds as join_exceeds, fails as join_fails, joins as join_joins, known as join_known}
 use Rattle.world_model.specs.Rounds.{RoundLine}
 use Rattle.world_model.specs.Rounds.RoundLine.{before_ring as round_before_ring, goes as round_goes}
-use Rattle.world_model.specs.Logs.{LogLine, Played, RestartLine, ViewLine, after_entering, at_line, beside, fresh_signer, goes_if, keep_by, keep_line, newcomer, use_by, with_newcomer}
+use Rattle.world_model.specs.Logs.{LogLine, Played, RestartLine, ViewLine, after_entering, at_line, beside, fresh_signer, goes_if, keep_by, keep_line, newcomer, use_by}
 use Rattle.world_model.specs.Logs.LogLine.{before_ring as log_before_ring, begins as log_begins, known as log_known}
 use Rattle.world_model.specs.Logs.ViewLine.{exceeds as view_exceeds, known as view_known, makes as view_makes, no_former as view_no_former, no_members as view_no_members, one_head_key as view_one_head_key}
 use Rattle.world_model.specs.Logs.RestartLine.{nobody as restart_nobody, outside as restart_outside, starts as restart_starts}
@@ -45,18 +45,17 @@ use Rattle.world_model.specs.Calls.OpenLine.{is_open as opening_is_open, opens a
 use Rattle.world_model.specs.Calls.StepLine.{not_open as stepping_not_open, out_of_range as stepping_out_of_range, steps as stepping_steps}
 use Rattle.world_model.specs.Calls.FinishLine.{ends as finishing_ends, not_open as finishing_not_open}
 use Rattle.world_model.specs.Faults.{damage_by, damage_line, damaged_to, holds_by, holds_line, holds_text, key_named, lose_line, node_named, order_line, order_text, showing, work_line, work_text}
-use Rattle.world_model.specs.Step.{Does, IvyStep, Untold}
+use Rattle.world_model.specs.Step.{Does, Untold}
 use Rattle.world_laws.specs.Keeps.{AreParticipants, HasNoSnapshot, IsKeptSo, IsSavedWell, Keeps}
-use Rattle.world_laws.specs.Laws.{NoSnapshotComes, TurnsAreSaved}
-use Rattle.world_laws.proofs.AllLines.{Done, does_line}
+use Rattle.world_laws.specs.Laws.{NoSnapshotComes}
+use Rattle.world_laws.proofs.AllLines.{does_line}
 use Rattle.world_laws.proofs.Bringing.{found_named}
 use Rattle.world_laws.proofs.Lines.{ToSuch}
 use Rattle.world_laws.proofs.LogLines.{kept_whole}
 use Rattle.world_laws.proofs.SignedHeads.{so_of}
 use Rattle.world_laws.proofs.UseLines.{view_in, whole}
-use Rattle.world_laws.proofs.LineFits.{command_fits}
-use Rattle.world_laws.proofs.NoSnapshotSaved.{turns_are_saved}
-use Rattle.world_laws.proofs.NoSnapshotTurns.{IsBare, KeepsNone, saved_none}
+use Rattle.world_laws.proofs.LineFits.{Fits, command_fits}
+use Rattle.world_laws.proofs.NoSnapshotTurns.{saved_none}
 use Rattle.world_laws.proofs.NoSnapshotSteps.{AreBare, BareOf, fate_same, found_bare, placed_bare, runs_bare, steps_bare}
 
 -- ---- worlds
@@ -80,10 +79,6 @@ none_held (p ∷ ps) all = ((all.0.snapshot, all.0.to_load, all.0.basis), none_h
 
 abbrev IsBareWorld : Played → Type 0
 IsBareWorld w = AreBare w.0.participants
-
--- a line by which a log begins gives a key that can be saved
-abbrev LogsHaveSigners : Type 0
-LogsHaveSigners = (line log id seed : List ℕ) (sets : List Set) → command_of line ≡ Some (command.Log log id seed sets) → IsSigner (fresh_signer id seed sets)
 
 abbrev OnGoes : Outcome World → Type 0
 OnGoes (Goes next output) = AreBare next.participants
@@ -248,66 +243,62 @@ of_open all opening_sends_nothing = tt
 of_open all (opening_is_open s h) = tt
 of_open all (opening_opens s t h begins) = all
 
-module _ (saved : TurnsAreSaved) where
-  of_log : {w : Played} {name id seed : List ℕ} {sets : List Set} {o : Outcome Played} → Keeps w → IsSigner (fresh_signer id seed sets) → IsBareWorld w → LogLine hss_judged w name id seed sets o → ToSuch IsBareWorld o
-  of_log keeps signer all (log_before_ring h) = tt
-  of_log keeps signer all (log_known h) = tt
-  of_log {w = w} {name = name} {id = id} {seed = seed} {sets = sets} keeps signer all (log_begins r p next ringed new is published) =
-      subst (λ (v : Played). IsBareWorld v) (sym published.2) (runs_bare saved (each_append BareOf w.0.participants (p ∷ []) all (subst BareOf (sym is) bare, tt)) published.1)
-    where
-      may : IsKept (kept_of (opened (fresh_signer id seed sets) w.0.now))
-      may = kept_whole (fresh_signer id seed sets) signer refl w.0.now keeps.moment
+of_log : {w : Played} {name id seed : List ℕ} {sets : List Set} {o : Outcome Played} → Keeps w → IsSigner (fresh_signer id seed sets) → IsBareWorld w → LogLine hss_judged w name id seed sets o → ToSuch IsBareWorld o
+of_log keeps signer all (log_before_ring h) = tt
+of_log keeps signer all (log_known h) = tt
+of_log {w = w} {name = name} {id = id} {seed = seed} {sets = sets} keeps signer all (log_begins r p next ringed new is published) =
+    subst (λ (v : Played). IsBareWorld v) (sym published.2) (runs_bare (each_append BareOf w.0.participants (p ∷ []) all (subst BareOf (sym is) bare, tt)) published.1)
+  where
+    may : IsKept (kept_of (opened (fresh_signer id seed sets) w.0.now))
+    may = kept_whole (fresh_signer id seed sets) signer refl w.0.now keeps.moment
 
-      bare : BareOf (newcomer name (opened (fresh_signer id seed sets) w.0.now))
-      bare = record { whole = may; kept = (kept_of (opened (fresh_signer id seed sets) w.0.now), may, refl, refl); snapshot = refl; to_load = refl; basis = refl }
+    bare : BareOf (newcomer name (opened (fresh_signer id seed sets) w.0.now))
+    bare = record { whole = may; kept = (kept_of (opened (fresh_signer id seed sets) w.0.now), may, refl, refl); snapshot = refl; to_load = refl; basis = refl }
 
-  of_as : {w : Played} {sent : Option Sending} {o : Outcome Played} → IsBareWorld w → AsLine hss_judged w sent o → ToSuch IsBareWorld o
-  of_as all whole_sends_nothing = tt
-  of_as all (whole_calls s r t end said ringed begins runs over) = of_replied end.world said (runs_bare saved all runs)
+of_as : {w : Played} {sent : Option Sending} {o : Outcome Played} → IsBareWorld w → AsLine hss_judged w sent o → ToSuch IsBareWorld o
+of_as all whole_sends_nothing = tt
+of_as all (whole_calls s r t end said ringed begins runs over) = of_replied end.world said (runs_bare all runs)
 
-  of_step : {w : Played} {name : List ℕ} {count : ℕ} {s : Option Session} {o : Outcome Played} → IsBareWorld w → StepLine hss_judged w name count s o → ToSuch IsBareWorld o
-  of_step all stepping_not_open = tt
-  of_step all (stepping_out_of_range s h) = tt
-  of_step all (stepping_steps s r end h ringed steps) = steps_bare saved all steps
+of_step : {w : Played} {name : List ℕ} {count : ℕ} {s : Option Session} {o : Outcome Played} → IsBareWorld w → StepLine hss_judged w name count s o → ToSuch IsBareWorld o
+of_step all stepping_not_open = tt
+of_step all (stepping_out_of_range s h) = tt
+of_step all (stepping_steps s r end h ringed steps) = steps_bare all steps
 
-  of_finish : {w : Played} {name : List ℕ} {s : Option Session} {o : Outcome Played} → IsBareWorld w → FinishLine hss_judged w name s o → ToSuch IsBareWorld o
-  of_finish all finishing_not_open = tt
-  of_finish {name = name} all (finishing_ends s r end said ringed runs over) = of_replied (record end.world { sessions = (without_session end.world name).sessions }) said (runs_bare saved all runs)
+of_finish : {w : Played} {name : List ℕ} {s : Option Session} {o : Outcome Played} → IsBareWorld w → FinishLine hss_judged w name s o → ToSuch IsBareWorld o
+of_finish all finishing_not_open = tt
+of_finish {name = name} all (finishing_ends s r end said ringed runs over) = of_replied (record end.world { sessions = (without_session end.world name).sessions }) said (runs_bare all runs)
 
-  -- ---- the whole
+-- ---- the whole
 
-  of_command : (w : Played) → Keeps w → IsBareWorld w → (c : Command) → ((log id seed : List ℕ) (sets : List Set) → c ≡ command.Log log id seed sets → IsSigner (fresh_signer id seed sets)) → ((log : List ℕ) → c ≢ command.Snap log)
-      → (outcome : Outcome Played) → Does hss_judged w c outcome → ToSuch IsBareWorld outcome
-  of_command w keeps all (command.Ring nodes replicas) signers none outcome does = untold w (RingLine w.0 nodes replicas) (λ o h. of_ring w.0 nodes replicas o all h) outcome does
-  of_command w keeps all (command.Log log id seed sets) signers none outcome does = of_log keeps (signers log id seed sets refl) all does
-  of_command w keeps all (command.View view members former) signers none outcome does = of_view all does
-  of_command w keeps all (command.Use log view) signers none outcome does =
-      subst (λ (o : Outcome Played). ToSuch IsBareWorld o) (sym does) (of_use w keeps all log view (participant w.0 log) refl (view_named w.0 view) refl)
-  of_command w keeps all (command.At sec nsec) signers none outcome does = by_function w (at_line w.0 sec nsec) outcome does (of_goes_if _ (nat_lt sec 4294967296 && nat_lt nsec 1000000000) all)
-  of_command w keeps all (command.As log pieces) signers none outcome does = of_as all does
-  of_command w keeps all (command.Open session log pieces) signers none outcome does = of_open all does
-  of_command w keeps all (command.Step session count) signers none outcome does = of_step all does
-  of_command w keeps all (command.Finish session) signers none outcome does = of_finish all does
-  of_command w keeps all (command.Join number) signers none outcome does = untold w (JoinLine hss_judged w.0 number w.0.replicas) (λ o h. of_join w.0 number w.0.replicas o all h) outcome does
-  of_command w keeps all (command.Stop node) signers none outcome does = by_function w (stop_line w.0 (node_named w.0 node)) outcome does (of_stop w.0 (node_named w.0 node) all)
-  of_command w keeps all command.Round signers none outcome does = untold w (RoundLine hss_judged w.0 w.0.replicas) (λ o h. of_round w.0 w.0.replicas o all h) outcome does
-  of_command w keeps all (command.Lose count) signers none outcome does = by_function w (lose_line w.0 count) outcome does (of_goes_if _ (nat_lt 0 count && nat_le count 1000000) all)
-  of_command w keeps all (command.Damage node key offset byte) signers none outcome does =
-      by_function w (damage_line w.0 node key offset byte) outcome does (of_damage w.0 (node_named w.0 node) (key_named w.0 key) offset byte all)
-  of_command w keeps all (command.Snap log) signers none outcome does = absurd (none log refl)
-  of_command w keeps all (command.Restart log) signers none outcome does = of_restart log refl all does
-  of_command w keeps all (command.Keep log count new) signers none outcome does = by_function w (keep_line w.0 log count new) outcome does (of_keep w.0 log (participant w.0 log) count new refl all)
-  of_command w keeps all (command.Holds node) signers none outcome does = by_function w (holds_line w.0 node) outcome does (of_holds w.0 (node_named w.0 node) all)
-  of_command w keeps all (command.Order log) signers none outcome does = by_function w (order_line w.0 log) outcome does (of_showing w.0 (order_text w.0) (participant w.0 log) all)
-  of_command w keeps all (command.Work log) signers none outcome does = by_function w (work_line w.0 log) outcome does (of_showing w.0 work_text (participant w.0 log) all)
-  of_command w keeps all command.Nothing signers none outcome does = subst (λ (o : Outcome Played). ToSuch IsBareWorld o) (sym does) all
-  of_command w keeps all command.End signers none outcome does = subst (λ (o : Outcome Played). ToSuch IsBareWorld o) (sym does) tt
-
-  pub no_snapshot_by : LogsHaveSigners → NoSnapshotComes
-  no_snapshot_by signers w next line output keeps none mild step =
-      let done = does_line w next output (command_of line) step in
-      let after = of_command w keeps (bare_before w keeps none) done.0 (λ log id seed sets is. signers line log id seed sets (done.1 ∙ ap Some is)) (λ log is. mild log (done.1 ∙ ap Some is)) (Goes next output) done.2 in
-      record { kept = none_kept next.0.participants after; agents = none_held next.0.participants after }
+of_command : (w : Played) → Keeps w → IsBareWorld w → (c : Command) → Fits c → ((log : List ℕ) → c ≢ command.Snap log)
+    → (outcome : Outcome Played) → Does hss_judged w c outcome → ToSuch IsBareWorld outcome
+of_command w keeps all (command.Ring nodes replicas) fits none outcome does = untold w (RingLine w.0 nodes replicas) (λ o h. of_ring w.0 nodes replicas o all h) outcome does
+of_command w keeps all (command.Log log id seed sets) fits none outcome does = of_log keeps fits all does
+of_command w keeps all (command.View view members former) fits none outcome does = of_view all does
+of_command w keeps all (command.Use log view) fits none outcome does =
+    subst (λ (o : Outcome Played). ToSuch IsBareWorld o) (sym does) (of_use w keeps all log view (participant w.0 log) refl (view_named w.0 view) refl)
+of_command w keeps all (command.At sec nsec) fits none outcome does = by_function w (at_line w.0 sec nsec) outcome does (of_goes_if _ (nat_lt sec 4294967296 && nat_lt nsec 1000000000) all)
+of_command w keeps all (command.As log pieces) fits none outcome does = of_as all does
+of_command w keeps all (command.Open session log pieces) fits none outcome does = of_open all does
+of_command w keeps all (command.Step session count) fits none outcome does = of_step all does
+of_command w keeps all (command.Finish session) fits none outcome does = of_finish all does
+of_command w keeps all (command.Join number) fits none outcome does = untold w (JoinLine hss_judged w.0 number w.0.replicas) (λ o h. of_join w.0 number w.0.replicas o all h) outcome does
+of_command w keeps all (command.Stop node) fits none outcome does = by_function w (stop_line w.0 (node_named w.0 node)) outcome does (of_stop w.0 (node_named w.0 node) all)
+of_command w keeps all command.Round fits none outcome does = untold w (RoundLine hss_judged w.0 w.0.replicas) (λ o h. of_round w.0 w.0.replicas o all h) outcome does
+of_command w keeps all (command.Lose count) fits none outcome does = by_function w (lose_line w.0 count) outcome does (of_goes_if _ (nat_lt 0 count && nat_le count 1000000) all)
+of_command w keeps all (command.Damage node key offset byte) fits none outcome does =
+    by_function w (damage_line w.0 node key offset byte) outcome does (of_damage w.0 (node_named w.0 node) (key_named w.0 key) offset byte all)
+of_command w keeps all (command.Snap log) fits none outcome does = absurd (none log refl)
+of_command w keeps all (command.Restart log) fits none outcome does = of_restart log refl all does
+of_command w keeps all (command.Keep log count new) fits none outcome does = by_function w (keep_line w.0 log count new) outcome does (of_keep w.0 log (participant w.0 log) count new refl all)
+of_command w keeps all (command.Holds node) fits none outcome does = by_function w (holds_line w.0 node) outcome does (of_holds w.0 (node_named w.0 node) all)
+of_command w keeps all (command.Order log) fits none outcome does = by_function w (order_line w.0 log) outcome does (of_showing w.0 (order_text w.0) (participant w.0 log) all)
+of_command w keeps all (command.Work log) fits none outcome does = by_function w (work_line w.0 log) outcome does (of_showing w.0 work_text (participant w.0 log) all)
+of_command w keeps all command.Nothing fits none outcome does = subst (λ (o : Outcome Played). ToSuch IsBareWorld o) (sym does) all
+of_command w keeps all command.End fits none outcome does = subst (λ (o : Outcome Played). ToSuch IsBareWorld o) (sym does) tt
 
 pub no_snapshot_comes : NoSnapshotComes
-no_snapshot_comes = no_snapshot_by turns_are_saved (λ line log id seed sets is. command_fits line (command.Log log id seed sets) is)
+no_snapshot_comes w next line output keeps none mild step =
+    let done = does_line w next output (command_of line) step in
+    let after = of_command w keeps (bare_before w keeps none) done.0 (command_fits line done.0 done.1) (λ log is. mild log (done.1 ∙ ap Some is)) (Goes next output) done.2 in
+    record { kept = none_kept next.0.participants after; agents = none_held next.0.participants after }

@@ -1,6 +1,6 @@
 -- What a turn makes of an agent that may be saved may be saved, and so may what it saves.
-use Rattle.std.proofs.Common.{◌≡◌, ℕ, ◌+◌, ◌≤◌, Bool, List, [], ◌∷◌, ◌++◌, length, map, fold, Option, Some, None, sym, ap, ◌∙◌, subst, arith, Contains}
-use Rattle.std.specs.Prelude.{IfSome, IsTrue, ◌-◌}
+use Rattle.std.proofs.Common.{◌≡◌, ◌+◌, ◌≤◌, List, [], ◌∷◌, ◌++◌, length, map, fold, Option, Some, sym, ap, ◌∙◌, subst, arith, Contains}
+use Rattle.std.specs.Prelude.{IfSome, IsTrue}
 use Rattle.std.specs.List.{AllByRecursion}
 use Rattle.std.proofs.lemmas.List.{map-append}
 use Rattle.std.proofs.lemmas.List.Sums.{fold-append}
@@ -11,12 +11,11 @@ use Rattle.log_model.specs.Spelling.{most_records}
 use Rattle.log_model.specs.Vector.{Vector, join, seq_of}
 use Rattle.log_model.specs.View.{View, IsView, is_named}
 use Rattle.view_blocks.specs.Faults.{HasKeys}
-use Rattle.hss_keys.specs.Signer.{capacity}
 use Rattle.turn_model.specs.Basis.{Holding}
 use Rattle.agent_model.specs.Agent.{joined, kept_of}
-use Rattle.agent_model.specs.Turning.{Becomes, MayTake, MayWrite, with_held, written_by}
+use Rattle.agent_model.specs.Turning.{MayTake, MayWrite, with_held, written_by}
 use Rattle.agent_model.specs.Turning.Becomes.{loses, reads, saves}
-use Rattle.world_model.specs.Agents.{Agent, IsKept, Kept, hss, own, own_reach}
+use Rattle.world_model.specs.Agents.{Agent, IsKept, hss, own, own_reach}
 use Rattle.world_laws.specs.Laws.{TurnsAreSaved}
 use Rattle.world_laws.proofs.TurnsFloors.{IsSpelledIn, records_no_more, records_spelled}
 use Rattle.world_laws.proofs.TurnsSigning.{kept_still, kept_then, next_each}

@@ -1,5 +1,5 @@
 -- Participants without a snapshot have none after steps of a session.
-use Rattle.std.proofs.Common.{◌≡◌, ℕ, ◌<◌, Bool, true, false, cond, not, List, [], ◌∷◌, ◌++◌, length, map, filter, Option, Some, None, refl, sym, ap, ◌∙◌, subst, arith, Contains}
+use Rattle.std.proofs.Common.{◌≡◌, ℕ, Bool, true, false, cond, not, List, [], ◌∷◌, map, filter, Some, refl, sym, subst, arith}
 use Rattle.std.specs.Prelude.{if◌then◌else◌}
 use Rattle.std.specs.List.{AllByRecursion, list_any}
 use Rattle.std.specs.Str.{bytes_eq}
@@ -8,9 +8,7 @@ use Rattle.log_model.proofs.Lists.{each, each_from, from_filter}
 use Rattle.dht_ids.specs.declared.ask.Answer.{Answer}
 use Rattle.dht_ids.specs.declared.ask.Ask.{Ask}
 use Rattle.dht_ids.specs.declared.peer.Peer.{Peer}
-use Rattle.dht_ids.specs.declared.post.Ack.{Ack}
 use Rattle.dht_ids.specs.declared.post.Post.{Post}
-use Rattle.agent_model.specs.Agent.{kept_of}
 use Rattle.agent_model.specs.Others.{is_of}
 use Rattle.agent_model.specs.SavedBytes.{ArePostsSpelled}
 use Rattle.agent_model.specs.Turning.{Answered}
@@ -27,7 +25,6 @@ use Rattle.world_model.specs.Steps.Acts.{asks, asks_in_vain, is_refused, settles
 use Rattle.world_model.specs.Steps.RunsOut.{is_over as runs_over, more as runs_more}
 use Rattle.world_model.specs.Steps.Steps.{acts, lacks_memory}
 use Rattle.world_model.specs.Steps.StepsOn.{is_over as steps_over, more as steps_more, none as steps_none}
-use Rattle.world_laws.specs.Laws.{TurnsAreSaved}
 use Rattle.world_laws.proofs.Bringing.{found_named}
 use Rattle.world_laws.proofs.NoSnapshotTurns.{IsBare, taking_bare}
 use Rattle.world_laws.proofs.Publishing.{short_filter}
@@ -88,26 +85,25 @@ settled_bare a _ y s _ bare (settles_all said acks at) = record {
 
 -- ---- steps
 
-module _ (saved : TurnsAreSaved) where
-  acts_bare : {r : ℕ} {p : Participant} {c next : Scene} → BareOf p → AreBare c.world.participants → Acts hss_judged r p c next → AreBare next.world.participants
-  acts_bare {p = p} {c = c} bare all (asks node question answer next heard t cache fate hears goes) = placed_bare (record p { cache = cache }) next.participants bare (still_bare c.world next (fate_same fate) all)
-  acts_bare {c = c} bare all (asks_in_vain node question answer next heard t cache fate hears lacking) = still_bare c.world next (fate_same fate) all
-  acts_bare {p = p} {c = c} bare all (turns view reply applied after saving t turned in_view takes replies is_turn) =
-      placed_bare (record (after_turn p after saving) { work = applied }) c.world.participants (taking_bare saved c.world.now p.agent p.keeper view (fails_next p.keeper) c.session (Answered reply applied) after saving t in_view bare takes) all
-  acts_bare {p = p} {c = c} bare all (is_refused view end after saving t in_view refusal takes) =
-      placed_bare (after_turn p after saving) c.world.participants (taking_bare saved c.world.now p.agent p.keeper view (fails_next p.keeper) c.session end after saving t in_view bare takes) all
-  acts_bare {p = p} {c = c} bare all (settles after t is) = placed_bare (record p { agent = after }) c.world.participants (settled_bare p.agent after p.keeper c.session t bare is) all
+acts_bare : {r : ℕ} {p : Participant} {c next : Scene} → BareOf p → AreBare c.world.participants → Acts hss_judged r p c next → AreBare next.world.participants
+acts_bare {p = p} {c = c} bare all (asks node question answer next heard t cache fate hears goes) = placed_bare (record p { cache = cache }) next.participants bare (still_bare c.world next (fate_same fate) all)
+acts_bare {c = c} bare all (asks_in_vain node question answer next heard t cache fate hears lacking) = still_bare c.world next (fate_same fate) all
+acts_bare {p = p} {c = c} bare all (turns view reply applied after saving t turned in_view takes replies is_turn) =
+    placed_bare (record (after_turn p after saving) { work = applied }) c.world.participants (taking_bare c.world.now p.agent p.keeper view (fails_next p.keeper) c.session (Answered reply applied) after saving t in_view bare takes) all
+acts_bare {p = p} {c = c} bare all (is_refused view end after saving t in_view refusal takes) =
+    placed_bare (after_turn p after saving) c.world.participants (taking_bare c.world.now p.agent p.keeper view (fails_next p.keeper) c.session end after saving t in_view bare takes) all
+acts_bare {p = p} {c = c} bare all (settles after t is) = placed_bare (record p { agent = after }) c.world.participants (settled_bare p.agent after p.keeper c.session t bare is) all
 
-  step_bare : {r : ℕ} {name : List ℕ} {c next : Scene} → AreBare c.world.participants → Steps hss_judged r name c next → AreBare next.world.participants
-  step_bare {name = name} {c = c} all (acts p taken cache next is takes act) =
-      let bare = found_bare c.world name p is all in acts_bare bare (placed_bare (record p { cache = cache }) c.world.participants bare all) act
-  step_bare {name = name} {c = c} all (lacks_memory p taken t cache is takes lacking) = placed_bare (record p { cache = cache }) c.world.participants (found_bare c.world name p is all) all
+step_bare : {r : ℕ} {name : List ℕ} {c next : Scene} → AreBare c.world.participants → Steps hss_judged r name c next → AreBare next.world.participants
+step_bare {name = name} {c = c} all (acts p taken cache next is takes act) =
+    let bare = found_bare c.world name p is all in acts_bare bare (placed_bare (record p { cache = cache }) c.world.participants bare all) act
+step_bare {name = name} {c = c} all (lacks_memory p taken t cache is takes lacking) = placed_bare (record p { cache = cache }) c.world.participants (found_bare c.world name p is all) all
 
-  pub steps_bare : {r : ℕ} {name : List ℕ} {count : ℕ} {c next : Scene} → AreBare c.world.participants → StepsOn hss_judged r name count c next → AreBare next.world.participants
-  steps_bare all steps_none = all
-  steps_bare all (steps_over said over) = all
-  steps_bare all (steps_more step rest) = steps_bare (step_bare all step) rest
+pub steps_bare : {r : ℕ} {name : List ℕ} {count : ℕ} {c next : Scene} → AreBare c.world.participants → StepsOn hss_judged r name count c next → AreBare next.world.participants
+steps_bare all steps_none = all
+steps_bare all (steps_over said over) = all
+steps_bare all (steps_more step rest) = steps_bare (step_bare all step) rest
 
-  pub runs_bare : {r : ℕ} {name : List ℕ} {c next : Scene} → AreBare c.world.participants → RunsOut hss_judged r name c next → AreBare next.world.participants
-  runs_bare all (runs_over said over) = all
-  runs_bare all (runs_more step rest) = runs_bare (step_bare all step) rest
+pub runs_bare : {r : ℕ} {name : List ℕ} {c next : Scene} → AreBare c.world.participants → RunsOut hss_judged r name c next → AreBare next.world.participants
+runs_bare all (runs_over said over) = all
+runs_bare all (runs_more step rest) = runs_bare (step_bare all step) rest

@@ -1,5 +1,5 @@
 -- An agent without a snapshot, whose keeper keeps none, has none after a turn.
-use Rattle.std.proofs.Common.{◌≡◌, ℕ, Bool, true, false, ◌&&◌, List, [], ◌∷◌, ◌++◌, Option, Some, None, refl, ap, ◌∙◌}
+use Rattle.std.proofs.Common.{◌≡◌, Bool, true, false, ◌&&◌, List, [], Option, Some, None, refl, ap, ◌∙◌}
 use Rattle.std.specs.Prelude.{IfSome, is_some, if◌then◌else◌}
 use Rattle.ivy_base.specs.declared.key.Key.{Key}
 use Rattle.ivy_base.specs.declared.operation.Moment.{Moment}
@@ -17,7 +17,7 @@ use Rattle.session_model.specs.Sessions.{Session}
 use Rattle.session_model.specs.Courses.TakesTurn.{answers as turn_answers, begins_anew, gives_up}
 use Rattle.world_model.specs.Agents.{Agent, IsKept, Kept, TakesTurn, hss, kept_bytes}
 use Rattle.world_model.specs.Keepers.{Keeper, asked_to_save}
-use Rattle.world_laws.specs.Laws.{TurnsAreSaved}
+use Rattle.world_laws.proofs.NoSnapshotSaved.{turns_are_saved}
 
 -- the keeper holds the bytes of something that may be saved, in which there is no snapshot
 abbrev pub KeepsNone : Keeper → Type 0
@@ -71,30 +71,29 @@ plain : (o s : Option Key) (saving : Option Kept) → s ≡ None → IfSome savi
 plain o s None e h g = tt
 plain o s (Some k) e h g = (h, g ∙ e)
 
-module _ (saved : TurnsAreSaved) where
-  becomes_bare : (view : View) (a : Agent) (y : Keeper) (h : Holding) (fails : Bool) (written : List Record) (after : Agent) (saving : Option Kept) → a.view ≡ Some view → IsBare a y → h.basis ≡ fresh_basis
-      → MayTake hss view a h → Becomes hss view a h fails written after saving → IsBare after (asked_to_save y saving)
-  becomes_bare view a y h fails written after saving in_view bare fresh take becomes =
-      let whole = saved view a after h fails written saving in_view bare.whole take becomes in
-      let leaves = leaves_bare view a h fails written after saving becomes in
-      record {
-        whole = whole.0;
-        kept = saved_none y saving bare.kept (plain a.to_load a.snapshot saving bare.snapshot whole.1 leaves.saves);
-        snapshot = leaves.snapshot ∙ bare.snapshot;
-        to_load = leaves.to_load;
-        basis = leaves.basis ∙ fresh;
-      }
+becomes_bare : (view : View) (a : Agent) (y : Keeper) (h : Holding) (fails : Bool) (written : List Record) (after : Agent) (saving : Option Kept) → a.view ≡ Some view → IsBare a y → h.basis ≡ fresh_basis
+    → MayTake hss view a h → Becomes hss view a h fails written after saving → IsBare after (asked_to_save y saving)
+becomes_bare view a y h fails written after saving in_view bare fresh take becomes =
+    let whole = turns_are_saved view a after h fails written saving in_view bare.whole take becomes in
+    let leaves = leaves_bare view a h fails written after saving becomes in
+    record {
+      whole = whole.0;
+      kept = saved_none y saving bare.kept (plain a.to_load a.snapshot saving bare.snapshot whole.1 leaves.saves);
+      snapshot = leaves.snapshot ∙ bare.snapshot;
+      to_load = leaves.to_load;
+      basis = leaves.basis ∙ fresh;
+    }
 
-  turn_bare : (given : Refresh) (a : Agent) (y : Keeper) (view : View) (fails : Bool) (asked : Asked) (now : Moment) (end : TurnEnd) (after : Agent) (saving : Option Kept) → a.view ≡ Some view → IsBare a y
-      → Turns hss given a view fails asked now end after saving → IsBare after (asked_to_save y saving)
-  turn_bare given a y view fails asked now _ _ _ in_view bare (behind late) = bare
-  turn_bare given a y view fails asked now _ _ _ in_view bare (below timely under) = record { whole = bare.whole; kept = bare.kept; snapshot = bare.snapshot; to_load = refl; basis = refl }
-  turn_bare given a y view fails asked now _ _ _ in_view bare (answers h written reply after saving timely above same take becomes by_definition) =
-      becomes_bare view a y h fails written after saving in_view bare (same ∙ (ap (λ (g : Holding). g.basis) (going_bare a given.basis bare.to_load) ∙ bare.basis)) take becomes
+turn_bare : (given : Refresh) (a : Agent) (y : Keeper) (view : View) (fails : Bool) (asked : Asked) (now : Moment) (end : TurnEnd) (after : Agent) (saving : Option Kept) → a.view ≡ Some view → IsBare a y
+    → Turns hss given a view fails asked now end after saving → IsBare after (asked_to_save y saving)
+turn_bare given a y view fails asked now _ _ _ in_view bare (behind late) = bare
+turn_bare given a y view fails asked now _ _ _ in_view bare (below timely under) = record { whole = bare.whole; kept = bare.kept; snapshot = bare.snapshot; to_load = refl; basis = refl }
+turn_bare given a y view fails asked now _ _ _ in_view bare (answers h written reply after saving timely above same take becomes by_definition) =
+    becomes_bare view a y h fails written after saving in_view bare (same ∙ (ap (λ (g : Holding). g.basis) (going_bare a given.basis bare.to_load) ∙ bare.basis)) take becomes
 
-  -- so it is where a session has its agent take a turn
-  pub taking_bare : (now : Moment) (a : Agent) (y : Keeper) (view : View) (fails : Bool) (s : Session) (end : TurnEnd) (after : Agent) (saving : Option Kept) (t : Session) → a.view ≡ Some view → IsBare a y
-      → TakesTurn now a view fails s end after saving t → IsBare after (asked_to_save y saving)
-  taking_bare now a y view fails s _ _ _ _ in_view bare (turn_answers notes given xid asked reply applied after saving refreshed asks turns) = turn_bare given a y view fails asked now _ after saving in_view bare turns
-  taking_bare now a y view fails s _ _ _ _ in_view bare (begins_anew notes given xid asked end after saving refreshed asks turns refusal few) = turn_bare given a y view fails asked now end after saving in_view bare turns
-  taking_bare now a y view fails s _ _ _ _ in_view bare (gives_up notes given xid asked end after saving refreshed asks turns refusal many) = turn_bare given a y view fails asked now end after saving in_view bare turns
+-- so it is where a session has its agent take a turn
+pub taking_bare : (now : Moment) (a : Agent) (y : Keeper) (view : View) (fails : Bool) (s : Session) (end : TurnEnd) (after : Agent) (saving : Option Kept) (t : Session) → a.view ≡ Some view → IsBare a y
+    → TakesTurn now a view fails s end after saving t → IsBare after (asked_to_save y saving)
+taking_bare now a y view fails s _ _ _ _ in_view bare (turn_answers notes given xid asked reply applied after saving refreshed asks turns) = turn_bare given a y view fails asked now _ after saving in_view bare turns
+taking_bare now a y view fails s _ _ _ _ in_view bare (begins_anew notes given xid asked end after saving refreshed asks turns refusal few) = turn_bare given a y view fails asked now end after saving in_view bare turns
+taking_bare now a y view fails s _ _ _ _ in_view bare (gives_up notes given xid asked end after saving refreshed asks turns refusal many) = turn_bare given a y view fails asked now end after saving in_view bare turns

@@ -1,5 +1,5 @@
 -- The trees that closed sets of records stand for have the bounds of a snapshot's tree.
-use Rattle.std.proofs.Common.{◌≡◌, ℕ, ◌+◌, ◌-◌, ◌*◌, ◌≤◌, Bool, true, false, cond, not, ◌&&◌, List, [], ◌∷◌, length, map, Option, Some, None, refl, sym, ap, ◌∙◌, subst, arith, Contains}
+use Rattle.std.proofs.Common.{◌≡◌, ℕ, ◌+◌, ◌*◌, ◌≤◌, Bool, true, false, cond, not, ◌&&◌, List, [], ◌∷◌, length, map, Option, Some, None, refl, sym, ap, subst, arith}
 use Rattle.std.specs.Prelude.{is_some, unwrap_or, IfSome, if◌then◌else◌}
 use Rattle.std.specs.List.{AllByRecursion, cons_option, filter_map}
 use Rattle.std.specs.declared.cmp.Ordering.{Ordering}
@@ -26,7 +26,6 @@ use Rattle.log_model.specs.View.{View, IsView}
 use Rattle.log_model.proofs.Later.{good_of}
 use Rattle.log_model.proofs.Lists.{each_from}
 use Rattle.log_model.proofs.Sets.{ascending_in_order}
-use Rattle.nfs_laws.specs.Lengths.{NamesAreKeys}
 use Rattle.nfs_laws.specs.Replies.{TreeFits}
 use Rattle.nfs_laws.proofs.Counts.{few_in_closed}
 use Rattle.nfs_laws.proofs.Replays.{as_many, count_apply_all, few_overwritten, length-resized, sets_make_trees}

@@ -1,21 +1,20 @@
 -- The line that makes a snapshot leaves a world that keeps what it should.
-use Rattle.std.proofs.Common.{◌≡◌, ⊎_elim, inl, inr, ℕ, ◌<◌, ◌≤◌, Bool, true, false, cond, not, List, [], ◌∷◌, ◌++◌, length, map, filter, Option, Some, None, refl, sym, ap, ◌∙◌, subst, arith, Contains}
+use Rattle.std.proofs.Common.{◌≡◌, ⊎_elim, inr, ℕ, Bool, true, false, not, List, [], ◌++◌, map, filter, Option, Some, None, refl, sym, ap, ◌∙◌, subst, arith, Contains}
 use Rattle.std.specs.Prelude.{IfSome, IsTrue, is_some, if◌then◌else◌}
 use Rattle.std.specs.List.{AllByRecursion}
 use Rattle.std.proofs.lemmas.List.{append-nil}
 use Rattle.std.proofs.lemmas.List.Elements.{Contains-append_cases, Contains-append_left, Contains-append_right}
 use Rattle.ivy_base.specs.declared.key.Key.{Key}
-use Rattle.ivy_base.specs.Naming.{NamesTellApart, head_key_of}
+use Rattle.ivy_base.specs.Naming.{NamesTellApart}
 use Rattle.ivy_io.specs.Keepers as memory
 use Rattle.log_heads.specs.Signed.{hss_judged}
 use Rattle.log_model.specs.Closed.{log_of}
 use Rattle.log_model.specs.Record.{Record}
 use Rattle.log_model.specs.View.{View, IsView, is_named}
-use Rattle.log_model.specs.Vector.{Dominates, stamp_at}
+use Rattle.log_model.specs.Vector.{Dominates}
 use Rattle.log_model.proofs.Lists.{each, each_from, from_filter, in_filter, in_nothing}
 use Rattle.view_blocks.specs.Faults.{HasKeys}
-use Rattle.turn_model.specs.Basis.{Holding, StandsFor, fresh_basis, nothing_held}
-use Rattle.turn_model.specs.Known.{EndsAt}
+use Rattle.turn_model.specs.Basis.{Holding, fresh_basis, nothing_held}
 use Rattle.dht_ids.specs.declared.post.Post.{Post}
 use Rattle.snapshot_model.specs.Spelling.{root_name, snapshot_blocks, snapshot_of}
 use Rattle.snapshot_model.proofs.MadeLists.{is_key}
@@ -26,7 +25,7 @@ use Rattle.session_model.specs.Sessions.{Session}
 use Rattle.session_laws.specs.Loading.{IsSnapshotOf}
 use Rattle.script_driver.specs.Run.{Goes, Outcome}
 use Rattle.world_model.specs.Agents.{Agent, IsKept, Kept, kept_bytes, own, own_reach}
-use Rattle.world_model.specs.Keepers.{Keeper, asked_to_save, fails_next}
+use Rattle.world_model.specs.Keepers.{Keeper, asked_to_save}
 use Rattle.world_model.specs.World.{World, Participant, named_bytes, participant, with_participant}
 use Rattle.world_model.specs.Story.{Began, Knowing, knowing_of, known_of}
 use Rattle.world_model.specs.Steps.{heads_by, met_by}
@@ -39,7 +38,7 @@ use Rattle.world_laws.specs.Laws.{SkipsNone, SnapLinesKeep}
 use Rattle.world_laws.proofs.Bringing.{found_named, some_same}
 use Rattle.world_laws.proofs.Frames.{found_placed, into_map, participant_keeps, placed_itself}
 use Rattle.world_laws.proofs.Lines.{ToSuch}
-use Rattle.world_laws.proofs.MoreMet.{more_posts, more_snapshot, more_stand, more_to_load, more_verified}
+use Rattle.world_laws.proofs.MoreMet.{more_stand, more_to_load, more_verified}
 use Rattle.world_laws.proofs.OtherBytes.{other_bytes_keep}
 use Rattle.world_laws.proofs.SignedAmong.{fewer_signed_once, met_stays, met_then}
 use Rattle.world_laws.proofs.SignedHeads.{from_map, so_of}

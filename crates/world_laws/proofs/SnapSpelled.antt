@@ -1,21 +1,19 @@
 -- What a closed set of records stands for has a spelling as a snapshot.
-use Rattle.std.proofs.Common.{◌≡◌, ⊎_elim, ℕ, ◌+◌, ◌*◌, ◌<◌, ◌≤◌, ◌^◌, List, [], ◌∷◌, ◌++◌, length, map, fold, Option, Some, None, refl, sym, ap, ◌∙◌, subst, arith, Contains, sum_by}
+use Rattle.std.proofs.Common.{◌≡◌, ⊎_elim, ◌*◌, ◌<◌, ◌≤◌, ◌^◌, List, [], ◌∷◌, ◌++◌, length, map, fold, Option, Some, None, refl, sym, ap, ◌∙◌, subst, arith, Contains}
 use Rattle.std.specs.Prelude.{IfSome}
 use Rattle.std.specs.List.{AllByRecursion, last_or}
 use Rattle.std.proofs.lemmas.List.{map-append}
 use Rattle.std.proofs.lemmas.List.Sums.{sum_by-cons}
-use Rattle.ivy_base.specs.declared.key.PubKey.{PubKey}
 use Rattle.log_model.specs.Closed.{IsClosed}
-use Rattle.log_model.specs.Rank.{Rank, front, full_vector, rank, weight}
+use Rattle.log_model.specs.Rank.{Rank, front, full_vector, rank}
 use Rattle.log_model.specs.Record.{Record}
 use Rattle.log_model.specs.Vector.{Entry, Vector, join, weight_of}
 use Rattle.log_model.specs.View.{View, IsView}
 use Rattle.log_model.proofs.Later.{good_of}
 use Rattle.log_model.proofs.Lists.{each, each_from, here, in_nothing, there}
-use Rattle.turn_model.specs.Basis.{Basis, Holding, HoldsAll, Knows, StandsFor, fresh_basis, kept_tree, nothing_held, tide_of}
+use Rattle.turn_model.specs.Basis.{Basis, Holding, HoldsAll, Knows, StandsFor, nothing_held, tide_of}
 use Rattle.turn_model.proofs.Kept.{kept_tree_is_replay}
 use Rattle.view_blocks.specs.Faults.{HasKeys, IsPubKey}
-use Rattle.agent_model.specs.Agent.{joined}
 use Rattle.agent_model.specs.Others.{basis_of}
 use Rattle.session_laws.proofs.Starting.{joined_front}
 use Rattle.snapshot_model.specs.Blocks.{IsRankSpelled, IsVectorSpelled}

@@ -20,7 +20,8 @@
 //! (signatures are bytes, and few), `proofs/OpenSessions.antt` (an open session is in hand; other open sessions that are stand in
 //! their place), `proofs/SessionLinesSteps.antt` (what many steps of a session leave, and what they leave as it was),
 //! `proofs/HeadlineOfPublishing.antt` (publishing alone has no turn), `proofs/LineKeys.antt` (the key of a log that a line begins
-//! can be saved). Nothing here runs, so there are no costs.
+//! can be saved), `proofs/SnapBounds.antt` and `proofs/SnapSpelled.antt` (what a closed set stands for, and what an agent holds,
+//! has a spelling as a snapshot). Nothing here runs, so there are no costs.
 #![tactic(auto)]
 
 ghost use Rattle.world_laws.specs.Frames.{DamageLinesKeep, EachReplyBySteps, HeadlineOfRuns, JoinLinesKeep, KeeperLinesKeep, LinesKeepByThese, LogLinesKeep, MildChangesKeep, MoreBlocksKeep, RestartLinesKeep, RingLinesKeep, RoundLinesKeep, StillLinesKeep, StopLinesKeep, UseLinesKeep, ViewLinesKeep};
