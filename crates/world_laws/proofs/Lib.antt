@@ -77,3 +77,4 @@ mod NoSnapshotLines
 pub mod SnapBounds
 pub mod SnapSpelled
 mod SnapLines
+mod SnapWhole
