@@ -1,5 +1,5 @@
 -- Laws of the world's steps and of its runs. Each is stated here, and proved by the crates above.
-use Rattle.std.specs.Prelude.{◌≡◌, ◌≢◌, ◌⊎◌, ◌↔◌, ℕ, ◌+◌, ◌<◌, List, [], ◌∷◌, ◌++◌, map, take, Contains, Option, Some, IfSome}
+use Rattle.std.specs.Prelude.{◌≡◌, ◌≢◌, ◌⊎◌, ◌↔◌, ℕ, ◌+◌, ◌<◌, Bool, true, List, [], ◌∷◌, ◌++◌, map, take, Contains, Option, Some, IfSome}
 use Rattle.std.specs.List.{AllByRecursion}
 use Rattle.ivy_base.specs.declared.key.Key.{Key}
 use Rattle.ivy_base.specs.declared.key.PubKey.{PubKey}
@@ -11,28 +11,34 @@ use Rattle.log_model.specs.Closed.{log_of}
 use Rattle.log_model.specs.Spelling.{HasSpelling, no_name, record_block}
 use Rattle.log_model.specs.Standing.{Stand}
 use Rattle.log_model.specs.Vector.{Entry, Stamp, Vector, stamp_at}
-use Rattle.log_model.specs.View.{View}
+use Rattle.log_model.specs.View.{View, IsView}
+use Rattle.view_blocks.specs.Faults.{HasKeys}
 use Rattle.nfs_model.specs.declared.replies.Reply.{Reply}
-use Rattle.turn_model.specs.Basis.{Knows}
+use Rattle.turn_model.specs.Basis.{Holding, Knows}
 use Rattle.turn_model.specs.Known.{EndsAt, IsKnown}
 use Rattle.turn_model.specs.Turn.{Candidate, IsPrefixOf, Turned}
 use Rattle.dht_ids.specs.declared.ask.Answer.{Answer}
 use Rattle.dht_ids.specs.declared.ask.Ask.{Ask}
 use Rattle.dht_ids.specs.declared.judge.Judged.{Judged}
 use Rattle.dht_ids.specs.declared.peer.Peer.{Peer}
+use Rattle.dht_ids.specs.declared.post.Post.{Post}
 use Rattle.hash_signature_model.specs.declared.keys.PrivateKey.{PrivateKey}
 use Rattle.hash_signature_model.specs.declared.set.Set.{Set}
 use Rattle.hss_keys.specs.Signer.{Signer, leaf_used, leaves_used, left_of, lower_key, signed_lower}
 use Rattle.log_heads.specs.Signed.{hss_judged}
+use Rattle.agent_model.specs.Agent.{kept_of}
+use Rattle.agent_model.specs.Others.{basis_of, is_pending_block}
 use Rattle.agent_model.specs.SavedBytes.{ArePostsSpelled}
 use Rattle.agent_model.specs.Candidates.{AreCandidatesOf, Brings, MayTurn}
-use Rattle.agent_model.specs.Turning.{Answered, TurnEnd}
+use Rattle.agent_model.specs.Turning.{Answered, Becomes, MayTake, TurnEnd}
 use Rattle.agent_model.specs.Standing.{Refresh, Standing}
 use Rattle.session_model.specs.Brought.{brought_in, heads_at}
 use Rattle.session_model.specs.Refreshing.{Note}
 use Rattle.session_model.specs.Sessions.{Cache, Hears, Said, TakesSome, Session, Refreshing, Over}
 use Rattle.session_model.specs.Courses.{Fails, HasRefreshed, IsRefusal, LacksMemory, Settles}
 use Rattle.session_model.specs.Replies.{said_no_memory}
+use Rattle.snapshot_model.specs.Reading.{IsBasisSpelled}
+use Rattle.snapshot_model.specs.Spelling.{snapshot_blocks}
 use Rattle.session_laws.specs.Going.{SnapshotsAreDecided}
 use Rattle.script_driver.specs.Run.{Outcome, Goes, Ran, Runs, WithLaw, HasPiece, shown}
 use Rattle.script_driver.specs.Seen.{HasStory, SeenStep}
@@ -40,7 +46,7 @@ use Rattle.script_model.specs.declared.command.Command.{Command}
 use Rattle.script_model.specs.declared.command.Command.TheVariants as command
 use Rattle.script_model.specs.declared.command.Piece.{Piece}
 use Rattle.script_model.specs.Lines.{command_of}
-use Rattle.world_model.specs.Agents.{Agent, IsKept, IsTurnIn, Kept, TakesTurn, kept_bytes, own}
+use Rattle.world_model.specs.Agents.{Agent, IsKept, IsTurnIn, Kept, TakesTurn, hss, kept_bytes, own}
 use Rattle.world_model.specs.Keepers.{fails_next}
 use Rattle.world_model.specs.World.{World, NamedSession, Participant, empty_world, named_bytes, participant, with_participant}
 use Rattle.world_model.specs.Fates.{FateOf}
@@ -407,3 +413,26 @@ HeadlineBySteps = StepsKeep → HeadlineHolds
 abbrev pub ScriptsBySteps : Type 0
 ScriptsBySteps = StepsKeep → (w : Played) (number : ℕ) (lines : List (List ℕ)) (ran : Ran) → AllByRecursion (λ line. MakesNoSnapshot (shown line)) lines → Keeps w → Runs IvyStep w number lines ran
     → Runs (WithLaw IvyStep Headline) w number lines ran
+
+-- ---- what turns save
+
+-- What may be saved of an agent may be of what a turn makes of it, and what is then saved may be.
+abbrev pub TurnsAreSaved : Type 0
+TurnsAreSaved = (view : View) (a after : Agent) (h : Holding) (fails : Bool) (written : List Record) (saving : Option Kept) → a.view ≡ Some view → IsKept (kept_of a) → MayTake hss view a h
+    → Becomes hss view a h fails written after saving → IsKept (kept_of after) × IfSome saving IsKept
+
+-- ---- snapshots that are made
+
+-- What an agent holds of a closed set has a spelling as a snapshot.
+abbrev pub HeldIsSpelled : Type 0
+HeldIsSpelled = (view : View) (floor : Vector) (h : Holding) (known : List Record) → IsView view → HasKeys view → Knows view floor h known → IsBasisSpelled (basis_of h)
+
+-- each block of the agent's snapshot that counts as pending is pending, and not another one that has its name
+abbrev pub SkipsNone : Participant → View → Type 0
+SkipsNone p view = (b : List ℕ) → Contains (snapshot_blocks view (basis_of p.agent.holding)) b → is_pending_block p.agent.pending b ≡ true → (post : Post) × Contains p.agent.pending post × (post.bytes ≡ b)
+
+-- Then the line that makes a snapshot leaves such a world. Without that it doesn't: a block whose name a pending one has is neither published nor met, so of
+-- what was met names may still tell all apart, and the snapshot isn't of it.
+abbrev pub SnapLinesKeep : Type 0
+SnapLinesKeep = (log : List ℕ) (w next : Played) (output : List ℕ) → Keeps w → ((p : Participant) (view : View) → participant w.0 log ≡ Some p → p.agent.view ≡ Some view → SkipsNone p view)
+    → Does hss_judged w (command.Snap log) (Goes next output) → Keeps next

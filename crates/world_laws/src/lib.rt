@@ -28,12 +28,17 @@
 //! a put asks), `proofs/ExistingFates.antt` (an ask has a fate), `proofs/ExistingPuts.antt` and
 //! `proofs/ExistingSessions.antt` (sessions to their end), `proofs/ExistingAsks.antt` (look-ups and whole puts),
 //! `proofs/ExistingRounds.antt` and `proofs/ExistingRepairs.antt` (rounds), `proofs/ExistingMessages.antt` (what becomes of a
-//! message). Nothing here runs, so there are no costs.
+//! message), `proofs/SnapBounds.antt` and `proofs/SnapSpelled.antt` (what a closed set stands for, and what an agent holds,
+//! has a spelling as a snapshot), `proofs/TurnsWorld.antt` (a participant that changes by a turn, whose open sessions stay),
+//! `proofs/TurnsKnown.antt` (what an agent knows after a turn), `proofs/TurnsSets.antt` (the set that a turn leaves),
+//! `proofs/TurnsFloors.antt` (a floor with a front joined into it), `proofs/TurnsTaken.antt` (a turn's candidates are one
+//! list), `proofs/TurnsRefresh.antt` (a refresh ends in one way, whatever names tell), `proofs/AnsweredTurns.antt` and
+//! `proofs/RefusedTurns.antt` (turns keep the world). Nothing here runs, so there are no costs.
 #![tactic(auto)]
 
 ghost use Rattle.world_laws.specs.Frames.{DamageLinesKeep, EachReplyBySteps, HeadlineOfRuns, JoinLinesKeep, KeeperLinesKeep, LinesKeepByThese, LogLinesKeep, MildChangesKeep, MoreBlocksKeep, RestartLinesKeep, RingLinesKeep, RoundLinesKeep, StillLinesKeep, StopLinesKeep, UseLinesKeep, ViewLinesKeep};
 ghost use Rattle.world_laws.specs.Kinds.{LineHasOneKind};
-ghost use Rattle.world_laws.specs.Laws.{AlikeTurnsAnswerAlike, AllStepsKeep, AnsweredTurnsKeep, CallLinesKeep, CallsBegin, ClashIsDecided, EachLineDoesSomething, EachScriptHasARun, EachSessionEnds, EachStepKeeps, EmptyKeeps, FewerStayApart, FreshTurnsAreAnswered, GetsBringKeep, GetsGoOnKeep, HeadlineBySteps, HeadsAreSavedFirst, KeptOnce, KnownIsOne, LackingKeeps, LackingStepsKeep, LeafSignsOnce, LinesKeepBySteps, ManyStepsKeep, MetGrows, OneTruth, OpenLineKeeps, OtherLogsDontCount, OthersHaveNoTurn, PublishingKeeps, PutsKeep, ReceivingKeeps, RefreshBrings, RefreshEndsInTurn, RefreshMayTurn, RefusedTurnsKeep, ScriptsBySteps, SecondTurnIsAnswered, SettlingKeeps, StepsKeepByTurns, StillLinesChangeNothing, TakingKeeps, UpperLeavesSignOnce, VainAsksKeep, WholePublishingKeeps};
+ghost use Rattle.world_laws.specs.Laws.{AlikeTurnsAnswerAlike, AllStepsKeep, AnsweredTurnsKeep, CallLinesKeep, CallsBegin, ClashIsDecided, EachLineDoesSomething, EachScriptHasARun, EachSessionEnds, EachStepKeeps, EmptyKeeps, FewerStayApart, FreshTurnsAreAnswered, GetsBringKeep, GetsGoOnKeep, HeadlineBySteps, HeadlineHolds, HeadsAreSavedFirst, HeldIsSpelled, KeptOnce, KnownIsOne, LackingKeeps, LackingStepsKeep, LeafSignsOnce, LinesKeepBySteps, ManyStepsKeep, MetGrows, NoSnapshotComes, OneTruth, OpenLineKeeps, OtherLogsDontCount, OthersHaveNoTurn, PublishingKeeps, PutsKeep, ReceivingKeeps, RefreshBrings, RefreshEndsInTurn, RefreshMayTurn, RefusedTurnsKeep, ScriptsBySteps, SecondTurnIsAnswered, SettlingKeeps, SnapLinesKeep, StepsKeep, StepsKeepByTurns, StillLinesChangeNothing, TakingKeeps, TurnsAreSaved, UpperLeavesSignOnce, VainAsksKeep, WholePublishingKeeps};
 
 /// A law and no code: of any blocks, names tell them apart, or two of them clash.
 pub fn clashes_are_decided()
@@ -246,4 +251,29 @@ pub fn each_line_does_something()
     ensures sessions { EachSessionEnds }
     ensures lines { EachLineDoesSomething }
     ensures scripts { EachScriptHasARun }
+{}
+
+/// Laws and no code: what a turn makes of an agent that may be saved may be saved, and what it saves; and a line that makes no
+/// snapshot leaves a world without one so.
+pub fn no_snapshot_comes()
+    ensures saved { TurnsAreSaved }
+    ensures lines { NoSnapshotComes }
+{}
+
+/// A law and no code: what an agent holds has a spelling as a snapshot, where what it knows is closed.
+pub fn held_is_spelled()
+    ensures { HeldIsSpelled }
+{}
+
+/// A law and no code: the line that makes a snapshot leaves a world that keeps what it should, where no other pending block has
+/// the name of one of the snapshot's.
+pub fn snap_lines_keep()
+    ensures { SnapLinesKeep }
+{}
+
+/// Laws and no code: each step leaves a world that keeps what it should and such a session, and a turn in it is on the replay; so
+/// the headline holds of each line in such a world.
+pub fn headline_holds()
+    ensures steps { StepsKeep }
+    ensures headline { HeadlineHolds }
 {}
