@@ -231,8 +231,7 @@ pub fn held_is_spelled()
     ensures { HeldIsSpelled }
 {}
 
-/// A law and no code: the line that makes a snapshot leaves a world that keeps what it should, where no other pending block has
-/// the name of one of the snapshot's.
+/// A law and no code: the line that makes a snapshot leaves a world that keeps what it should.
 pub fn snap_lines_keep()
     ensures { SnapLinesKeep }
 {}
