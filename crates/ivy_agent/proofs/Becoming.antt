@@ -3,6 +3,7 @@ use Rattle.std.proofs.Common.{◌≡◌, ℕ, ◌+◌, ◌≤◌, ◌<◌, ◌^�
 use Rattle.std.specs.Prelude.{IfSome, IsTrue, option_map}
 use Rattle.std.specs.List.{AllByRecursion}
 use Rattle.std.specs.Ordering.{eq_by_cmp}
+use mathlib.Core.Option.{some-ne-none}
 use Rattle.std.specs.FinMap.Entries.{find-put}
 use Rattle.ivy_base.specs.declared.key.Key.{Key}
 use Rattle.ivy_base.specs.declared.key.PubKey.{PubKey}
@@ -172,16 +173,23 @@ module _ {K S : Type 0} (signs : Signing S) (IsWhole : S → Type 0) (saves : K 
 
   -- the definition's turn, where this becomes of the agent
   as_answered : (x : Agent S) (written : List Record) (saving : Option (Saved S)) (fails : Bool) (reply : Reply) → Becomes signs view a h fails written x saving
-      → IsByDefinition signs (refresh_with batch basis) a view fails asked now h written reply → IfSome saving (IsKept signs IsWhole) → (keeper keeper_after : K) → Saves saves keeper (option_map (kept_bytes signs) saving) fails keeper_after
+      → IsByDefinition signs (refresh_with batch basis) a view fails asked now h written reply
+      → (saving ≡ None → (other : Bool) → Becomes signs view a h other written x saving × IsByDefinition signs (refresh_with batch basis) a view other asked now h written reply)
+      → IfSome saving (IsKept signs IsWhole) → (keeper keeper_after : K) → Saves saves keeper (option_map (kept_bytes signs) saving) fails keeper_after
       → (y : Agent S) → y ≡ x → (t : Turned) → t.applied ≡ applied_between gone.held h.held + length written → t.reply ≡ bytes_of reply → t.posts ≡ x.pending → t.front ≡ joined x.holding
       → IsAnswered signs IsWhole saves view (refresh_with batch basis) asked now (record { agent = a; keeper = keeper }) t (record { agent = y; keeper = keeper_after })
-  as_answered x written saving fails reply becomes by_definition may_be keeper keeper_after left y y_is t count bytes posts front = record {
+  as_answered x written saving fails reply becomes by_definition either may_be keeper keeper_after left y y_is t count bytes posts front =
+      let turns_so : (f : Bool) → Becomes signs view a h f written x saving → IsByDefinition signs (refresh_with batch basis) a view f asked now h written reply
+      → Turns signs (refresh_with batch basis) a view f asked now (Answered reply t.applied) y saving =
+      (λ f becomes by_definition. subst (λ (p : ℕ × Agent S). Turns signs (refresh_with batch basis) a view f asked now (Answered reply p.0) p.1 saving) (λ i. (sym count i, sym y_is i))
+      (turning.answers h written reply x saving takes.caught_up takes.above refl may_take becomes by_definition)) in
+      record {
     fails = fails;
     reply = reply;
     turns = record {
       saving = saving;
-      turns = subst (λ (p : ℕ × Agent S). Turns signs (refresh_with batch basis) a view fails asked now (Answered reply p.0) p.1 saving) (λ i. (sym count i, sym y_is i))
-          (turning.answers h written reply x saving takes.caught_up takes.above refl may_take becomes by_definition);
+      turns = turns_so fails becomes by_definition;
+      either = λ none other. turns_so other (either none other).0 (either none other).1;
       keeper = left;
       kept = may_be;
     };
@@ -233,6 +241,7 @@ module _ {K S : Type 0} (signs : Signing S) (IsWhole : S → Type 0) (saves : K 
         }) in (
           as_answered (taking signs a h) [] None false reply reads
               (replies_by_definition signs a view batch basis from.under.0 new asked now well from.under.1 taken false reply (ap (λ (l : Key). serve_on (goes_by signs view k has_failed) (kept_tree h) (seq_of f l) asked now) (sym log) ∙ served))
+              (λ none other. (reads, replies_by_definition signs a view batch basis from.under.0 new asked now well from.under.1 taken other reply (ap (λ (l : Key). serve_on (goes_by signs view k has_failed) (kept_tree h) (seq_of f l) asked now) (sym log) ∙ served)))
               tt keeper keeper_after keeper_is y y_is done.turned (with_none done.turned.applied (applied_between gone.held h.held) given.count) given.bytes (given.posts ∙ ap (λ (q : Kept S). q.pending) kept_is) given.its_front,
           subst (λ (p : Agent S × Key × Vector). IsSound signs p.0 p.1 p.2) (λ i. (sym y_is i, (sym kept_is i).log, sym front_is i)) (sound_taking has_failed),
         )
@@ -375,7 +384,7 @@ module _ {K S : Type 0} (signs : Signing S) (IsWhole : S → Type 0) (saves : K 
               as_answered x written (Some (kept_of x)) false (written_reply view asked ops h written) (turning.saves drafted.start drafted.last may_write refl)
                   (subst (λ (l : List Record). IsByDefinition signs (refresh_with batch basis) a view false asked now h l (written_reply view asked ops h l)) drafted.written
                   (saved_by_definition signs a view batch basis from.under.0 new asked now well from.under.1 taken ops served_is))
-                  (kept_with_them IsWhole whole_next) keeper keeper_after (subst (λ (b : Bool). saves keeper (kept_bytes signs (kept_of x)) b keeper_after) is asked_to)
+                  (λ none. absurd (some-ne-none (kept_of x) none)) (kept_with_them IsWhole whole_next) keeper keeper_after (subst (λ (b : Bool). saves keeper (kept_bytes signs (kept_of x)) b keeper_after) is asked_to)
                   y y_is done.turned count_is bytes (w.given.posts ∙ ap (λ (q : Kept S). q.pending) kept_is ∙ drafted.signed.posts) (w.given.its_front ∙ done_front),
               subst (λ (p : Agent S × Key × Vector). IsSound signs p.0 p.1 p.2) (λ i. (sym y_is i, (sym kept_is i).log, sym done_front i)) sound_with,
             )
@@ -400,7 +409,7 @@ module _ {K S : Type 0} (signs : Signing S) (IsWhole : S → Type 0) (saves : K 
               as_answered (failed (taking signs a h)) written (Some (kept_of x)) true (lost_reply asked) (loses drafted.start drafted.last may_write refl)
                   (subst (λ (l : List Record). IsByDefinition signs (refresh_with batch basis) a view true asked now h l (lost_reply asked)) drafted.written
                   (lost_by_definition signs a view batch basis from.under.0 new asked now well from.under.1 taken ops served_is))
-                  (kept_with_them IsWhole whole_next) keeper keeper_after (subst (λ (b : Bool). saves keeper (kept_bytes signs (kept_of x)) b keeper_after) is asked_to)
+                  (λ none. absurd (some-ne-none (kept_of x) none)) (kept_with_them IsWhole whole_next) keeper keeper_after (subst (λ (b : Bool). saves keeper (kept_bytes signs (kept_of x)) b keeper_after) is asked_to)
                   y y_is done.turned count_is bytes (w.given.posts ∙ ap (λ (q : Kept S). q.pending) kept_is) (w.given.its_front ∙ done_front),
               subst (λ (p : Agent S × Key × Vector). IsSound signs p.0 p.1 p.2) (λ i. (sym y_is i, (sym kept_is i).log, sym done_front i)) (sound_taking true),
             )

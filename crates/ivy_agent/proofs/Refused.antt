@@ -30,25 +30,25 @@ module _ {K S : Type 0} (signs : Signing S) (IsWhole : S → Type 0) (saves : K 
 
   module _ (brought : Refresh) (view : View) where
     abbrev Ends : TurnEnd → Holder K S → Type 0
-    Ends end after = Turns signs brought before.agent view false asked now end after.agent None
+    Ends end after = (fails : Bool) → Turns signs brought before.agent view fails asked now end after.agent None
 
     refused : (end : TurnEnd) (standing : Standing) (after : Holder K S) → Ends end after → after.keeper ≡ before.keeper → standing_of standing ≡ anew_in signs after.agent view
         → IsRefused signs IsWhole saves view brought asked now before end standing after
     refused end standing after turns keeper anew = record {
-      turns = record { saving = None; turns = turns; keeper = keeper; kept = tt };
+      turns = record { saving = None; turns = turns false; either = λ none other. turns other; keeper = keeper; kept = tt };
       anew = anew;
     }
 
     ends_as : (why : Refusal) (told : TurnFault) (after : Holder K S) → ComesTo signs IsWhole saves view brought asked now before (Err why) before → Refuses signs view before why told after
         → TakesTurn signs IsWhole saves view brought asked now before (Err told) after
     ends_as refusal.Behind (fault.Behind standing) after c r = refused turning.Behind standing after
-        (subst (λ (x : Holder K S). Ends turning.Behind x) (sym r.0) (turning.behind c.1)) (ap (λ (x : Holder K S). x.keeper) r.0)
+        (subst (λ (x : Holder K S). Ends turning.Behind x) (sym r.0) (λ fails. turning.behind c.1)) (ap (λ (x : Holder K S). x.keeper) r.0)
         (r.1 ∙ ap (λ (x : Holder K S). anew_in signs x.agent view) (sym r.0))
     ends_as refusal.Behind (fault.BelowTide standing) after c r = absurd r
     ends_as refusal.Behind fault.Memory after c r = r
     ends_as refusal.BelowTide (fault.Behind standing) after c r = absurd r
     ends_as refusal.BelowTide (fault.BelowTide standing) after c r = refused turning.BelowTide standing after
-        (subst (λ (x : Holder K S). Ends turning.BelowTide x) (sym r.0) (turning.below c.1 c.2)) (ap (λ (x : Holder K S). x.keeper) r.0)
+        (subst (λ (x : Holder K S). Ends turning.BelowTide x) (sym r.0) (λ fails. turning.below c.1 c.2)) (ap (λ (x : Holder K S). x.keeper) r.0)
         (r.1 ∙ ap (λ (x : Holder K S). anew_in signs x.agent view) (sym r.0))
     ends_as refusal.BelowTide fault.Memory after c r = r
     ends_as refusal.Memory (fault.Behind standing) after c r = absurd r

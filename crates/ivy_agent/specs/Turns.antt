@@ -37,10 +37,11 @@ pub record Gives {S : Type 0} (reply : Reply) (after : Agent S) (t : Turned) : T
   pub front : t.front ≡ joined after.holding
 
 module _ {K S : Type 0} (signs : Signing S) (IsWhole : S → Type 0) (saves : K → List ℕ → Bool → K → Type 0) (view : View) (brought : Refresh) (asked : Asked) (now : Moment) (before : Holder K S) where
-  -- by whether the save fails: how it ends, the agent, and the keeper; and what is saved may be
+  -- By whether the save fails: how it ends, the agent, and the keeper; and what is saved may be. Where nothing is to be saved it is so whether or not a save would fail.
   pub record TurnsAs (fails : Bool) (end : TurnEnd) (after : Holder K S) : Type 0 where
     pub saving : Option (Kept S)
     pub turns : Turns signs brought before.agent view fails asked now end after.agent saving
+    pub either : saving ≡ None → (other : Bool) → Turns signs brought before.agent view other asked now end after.agent saving
     pub keeper : Saves saves before.keeper (option_map (kept_bytes signs) saving) fails after.keeper
     pub kept : IfSome saving (IsKept signs IsWhole)
 
