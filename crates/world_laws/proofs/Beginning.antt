@@ -33,7 +33,7 @@ use Rattle.world_laws.proofs.Frames.{ring_of}
 use Rattle.world_laws.proofs.TakingOn.{on_so}
 use Rattle.world_laws.proofs.WholePublishing.{entries_made, some_entries}
 
-none_last : (before : List Brought) (last : Brought) → [] ≡ before ++ last ∷ [] → ⊥
+pub none_last : (before : List Brought) (last : Brought) → [] ≡ before ++ last ∷ [] → ⊥
 none_last [] last e = cc e
 none_last (b ∷ before) last e = cc e
 

@@ -50,15 +50,19 @@ pub mod GetsBring
 mod StepsLeft
 pub mod Beginning
 mod Opening
-mod TurnsRefresh
-mod TurnsFloors
-mod TurnsTaken
+pub mod TurnsRefresh
+pub mod TurnsFloors
+pub mod TurnsTaken
 mod TurnsBlocks
-mod TurnsSets
-mod TurnsWorld
+pub mod TurnsSets
+pub mod TurnsWorld
 mod TurnsSigning
-mod TurnsKnown
+pub mod TurnsKnown
 mod TurnsKept
+mod TurnsScene
+mod AnsweredTurnsFit
+pub mod AnsweredTurns
+pub mod RefusedTurns
 pub mod LineKeys
 pub mod SessionLinesSteps
 pub mod OpenSessions
@@ -73,3 +77,4 @@ mod NoSnapshotLines
 pub mod SnapBounds
 pub mod SnapSpelled
 mod SnapLines
+mod SnapWhole

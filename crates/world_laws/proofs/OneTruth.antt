@@ -60,7 +60,7 @@ goes_linked view owner p [] h = tt
 goes_linked view owner p (r ∷ rs) h =
     (h.0.owned, h.0.spelled, h.1.seq, h.1.prev, subst (λ (k : ℕ). LinkedFrom owner (k + 1) r.name rs) h.1.seq (goes_linked view owner r rs h.2))
 
-chain_linked : (view : View) (owner : PubKey) (chain : List Record) → IsChain view owner chain → LinkedFrom owner 1 no_name chain
+pub chain_linked : (view : View) (owner : PubKey) (chain : List Record) → IsChain view owner chain → LinkedFrom owner 1 no_name chain
 chain_linked view owner [] h = tt
 chain_linked view owner (r ∷ rs) h =
     (h.0.owned, h.0.spelled, h.1.seq, h.1.prev, subst (λ (k : ℕ). LinkedFrom owner (k + 1) r.name rs) h.1.seq (goes_linked view owner r rs h.2))

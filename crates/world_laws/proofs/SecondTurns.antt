@@ -62,11 +62,11 @@ started_held {given = given} refreshes none = ⊎_elim (λ held. held) (λ f. ab
 
 -- ---- of a session's agent
 
-one_view : (v w : View) → Some v ≡ Some w → v ≡ w
+pub one_view : (v w : View) → Some v ≡ Some w → v ≡ w
 one_view v w e = cc e
 
 -- without a snapshot to load a turn goes on from what is held
-goes_on_held : (a : Agent) (o : Option Basis) → a.to_load ≡ None → going_on a o ≡ a.holding
+pub goes_on_held : (a : Agent) (o : Option Basis) → a.to_load ≡ None → going_on a o ≡ a.holding
 goes_on_held a None none = refl
 goes_on_held a (Some b) none = by (is_some a.to_load) (ap is_some none)
   where
@@ -87,12 +87,12 @@ module _ (c : Scene) (keeps : Keeps (c.world, c.story)) (apart : NamesTellApart 
   same_participant : sound.by ≡ p
   same_participant = some_same sound.by p (sym sound.is_by ∙ is_p)
 
-  keeps_up : KeepsUp c.session sound.of p.agent (known_of c.story p.name)
+  pub keeps_up : KeepsUp c.session sound.of p.agent (known_of c.story p.name)
   keeps_up = subst (λ (name : List ℕ). KeepsUp c.session sound.of p.agent (known_of c.story name)) (sym (found_named c.world.participants c.session.by p is_p).1)
       (subst (λ (q : Participant). KeepsUp c.session sound.of q.agent (known_of c.story c.session.by)) same_participant sound.keeps_up)
 
   module _ (notes : List Note) (given : Refresh) (done : HasRefreshed c.session notes given) where
-    sorted : is_sorted key_cmp given.started ≡ true
+    pub sorted : is_sorted key_cmp given.started ≡ true
     sorted = start_is_sorted c.session.standing sound.of c.began.knew (brought_in c.session.parts) notes given Done sound.knows sound.held
         (basis_known c keeps apart sound p is_p in_view notes given done) done.1
 
@@ -106,7 +106,7 @@ module _ (c : Scene) (keeps : Keeps (c.world, c.story)) (apart : NamesTellApart 
         (are_named c keeps apart sound p is_p in_view) done.1 (held ∙ sym (started_held done.1 (sym load ∙ none))) sorted)
 
     -- all that it knows is held
-    grown_not_behind : HoldsAll c.session.standing.view (known_of c.story p.name) p.agent.holding → Dominates (joined p.agent.holding) c.session.standing.held
+    pub grown_not_behind : HoldsAll c.session.standing.view (known_of c.story p.name) p.agent.holding → Dominates (joined p.agent.holding) c.session.standing.held
         → is_behind c.session.standing.view c.session.standing.own p.agent.floor p.agent.holding given ≡ false
     grown_not_behind all far =
         let knows = (agent_sound c keeps apart sound p is_p in_view).knows in

@@ -1,7 +1,6 @@
 -- A record's block is no public key: what stands among the blocks and the keys stands among the blocks.
-use Rattle.std.proofs.Common.{◌≡◌, ⊎_elim, ℕ, ◌+◌, ◌≤◌, List, ◌∷◌, ◌++◌, length, map, sym, ap, ◌∙◌, subst, arith, length-append, Contains}
+use Rattle.std.proofs.Common.{◌≡◌, ⊎_elim, ℕ, ◌≤◌, List, ◌++◌, length, map, ap, ◌∙◌, arith, length-append, Contains}
 use Rattle.std.specs.Prelude.{flat_map}
-use Rattle.std.specs.List.{AllByRecursion}
 use Rattle.std.proofs.lemmas.List.Elements.{Contains-append_cases}
 use Rattle.ivy_base.proofs.NameLemmas.{length-name}
 use Rattle.ivy_base.specs.declared.key.PubKey.{PubKey}
@@ -15,7 +14,7 @@ use Rattle.log_model.specs.View.{View}
 use Rattle.log_model.proofs.Lists.{each, each_from}
 use Rattle.log_model.proofs.Part.{chain_good}
 use Rattle.world_model.specs.Agents.{own}
-use Rattle.world_model.specs.World.{World, Participant, named_bytes}
+use Rattle.world_model.specs.World.{Participant, named_bytes}
 use Rattle.world_model.specs.Logs.{Played}
 use Rattle.world_laws.specs.Keeps.{IsKeptSo, IsSavedWell, Keeps}
 use Rattle.world_laws.proofs.PublicKeys.{owner_is_key, word_octets}

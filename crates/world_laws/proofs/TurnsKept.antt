@@ -1,9 +1,8 @@
 -- What a keeper's bytes say after a turn, and what holds of the open sessions of the turn's participant.
-use Rattle.std.proofs.Common.{◌≡◌, ⊎_elim, ◌⊎◌, inl, inr, ℕ, ◌+◌, ◌≤◌, ◌<◌, ◌^◌, Bool, true, false, cond, ◌&&◌, List, [], ◌∷◌, ◌++◌, length, map, filter, fold, Option, Some, None, refl, sym, ap, ◌∙◌, subst, arith, Contains}
+use Rattle.std.proofs.Common.{◌≡◌, ⊎_elim, ◌⊎◌, inl, inr, ℕ, ◌≤◌, ◌<◌, ◌^◌, Bool, true, false, cond, List, [], ◌∷◌, ◌++◌, map, Option, Some, None, refl, sym, ap, ◌∙◌, subst, arith, Contains}
 use Rattle.std.specs.Prelude.{IfSome, IsTrue, is_some}
 use Rattle.std.specs.List.{AllByRecursion}
 use Rattle.std.specs.Ordering.{eq_by_cmp}
-use Rattle.std.proofs.lemmas.List.{append-nil}
 use Rattle.std.proofs.lemmas.List.Elements.{Contains-append_left, Contains-append_cases, filter-append}
 use Rattle.ivy_base.specs.declared.key.Key.{Key}
 use Rattle.ivy_base.specs.declared.key.PubKey.{PubKey}
@@ -12,7 +11,7 @@ use Rattle.log_model.specs.Chain.{IsChain}
 use Rattle.log_model.specs.Closed.{log_of}
 use Rattle.log_model.specs.Rank.{front, own_entry}
 use Rattle.log_model.specs.Record.{Record}
-use Rattle.log_model.specs.Vector.{Dominates, Entry, Stamp, Vector, join, reach, seq_of, stamp_at}
+use Rattle.log_model.specs.Vector.{Dominates, Entry, Vector, join, reach, seq_of, stamp_at}
 use Rattle.log_model.specs.View.{View}
 use Rattle.log_model.proofs.Later.{good_of}
 use Rattle.log_model.proofs.Lists.{each, each_from, each_left, from_filter, in_cons, in_filter, in_nothing}
@@ -22,24 +21,24 @@ use Rattle.log_model.proofs.Weights.{Sorted, sorted_front}
 use Rattle.turn_model.specs.Basis.{Basis, Holding, HoldsAll, fresh_basis, nothing_held}
 use Rattle.turn_model.specs.Known.{EndsAt, IsVerified}
 use Rattle.dht_ids.specs.declared.post.Post.{Post}
-use Rattle.agent_model.specs.Agent.{joined, kept_of, own_key}
-use Rattle.agent_model.specs.Standing.{dominates, going_on}
+use Rattle.agent_model.specs.Agent.{joined, kept_of}
+use Rattle.agent_model.specs.Standing.{going_on}
 use Rattle.session_model.specs.Sessions.{Session}
 use Rattle.session_laws.specs.Loading.{IsSnapshotOf}
 use Rattle.session_laws.proofs.Starting.{joined_front}
-use Rattle.hss_keys.specs.Signer.{Signer}
-use Rattle.world_model.specs.Agents.{Agent, IsKept, Kept, hss, own, own_reach, sealed}
+use Rattle.world_model.specs.Agents.{Agent, IsKept, Kept, own, own_reach, sealed}
 use Rattle.world_model.specs.Keepers.{Keeper}
 use Rattle.world_model.specs.World.{World, Participant, participant}
 use Rattle.world_model.specs.Story.{Began, Knowing, Story, knowing_of, known_of}
 use Rattle.world_model.specs.Steps.{heads_by}
-use Rattle.world_laws.specs.Keeps.{BeganFresh, IsSavedWell, IsSoundKept, IsSoundKeptIn, IsSoundSession, KeepsUp, NamesOneOf, SignsOnce, sealed_with}
+use Rattle.world_laws.specs.Keeps.{IsSavedWell, IsSoundKept, IsSoundKeptIn, IsSoundSession, NamesOneOf, SignsOnce, sealed_with}
 use Rattle.world_laws.specs.Keeps.KeepsUp.{grown}
 use Rattle.world_laws.proofs.Bringing.{some_same}
 use Rattle.world_laws.proofs.KnownHeads.{heads_low}
 use Rattle.world_laws.proofs.MoreMet.{grows_before, more_snapshot, more_stand, more_verified, some_weaker}
 use Rattle.world_laws.proofs.NotRefused.{HasEach, has_part}
 use Rattle.world_laws.proofs.PublicKeys.{owner_is_key}
+use Rattle.world_laws.proofs.SecondTurns.{goes_on_held, one_view}
 use Rattle.world_laws.proofs.TurnsFloors.{joined_first}
 use Rattle.world_laws.proofs.TurnsKnown.{KnowsThen}
 use Rattle.world_laws.proofs.TurnsSigning.{turned_to}
@@ -171,15 +170,6 @@ module _ (p : Participant) (view : View) (now : Knowing) (met more : List (List 
 
 -- ---- open sessions
 
--- without a snapshot to load a turn goes on from what is held
-goes_on_held : (a : Agent) (o : Option Basis) → a.to_load ≡ None → going_on a o ≡ a.holding
-goes_on_held a None none = refl
-goes_on_held a (Some b) none = by (is_some a.to_load) (ap is_some none)
-  where
-    by : (t : Bool) → t ≡ false → cond (t && dominates a.floor b.front) (record { basis = b; held = [] }) a.holding ≡ a.holding
-    by false f = refl
-    by true f = cc f
-
 each_dominates : (v w : Vector) → HasEach v w → Dominates v w
 each_dominates v w has log = ⊎_elim
     (λ none. let zero : seq_of w log ≡ 0 = ap reach none in omega (arith, zero))
@@ -189,9 +179,6 @@ each_dominates v w has log = ⊎_elim
     let same : seq_of v f.0.0 ≡ seq_of v log = ap (λ (k : Key). seq_of v k) f.2 in
     omega (arith, le, at, same))
     (found_stamp w log)
-
-same_view : (v u : View) → Some v ≡ Some u → v ≡ u
-same_view v u e = cc e
 
 module _ (w : World) (st : Story) (p : Participant) (is_p : participant w p.name ≡ Some p) (view : View) (in_view : p.agent.view ≡ Some view) (basis : Option Basis)
     (met : List (List ℕ)) (h : Holding) (set : List Record) (knows : KnowsThen view (own p.agent) p.agent.floor (knowing_of st p.name).received (knowing_of st p.name).known met h set)
@@ -204,7 +191,7 @@ module _ (w : World) (st : Story) (p : Participant) (is_p : participant w p.name
   one = some_same its.by p (sym its.is_by ∙ ap (participant w) by_is ∙ is_p)
 
   view_is : view ≡ s.standing.view
-  view_is = same_view view s.standing.view (sym in_view ∙ viewed)
+  view_is = one_view view s.standing.view (sym in_view ∙ viewed)
 
   front_is : joined h ≡ front set
   front_is = joined_front view set h knows.holds

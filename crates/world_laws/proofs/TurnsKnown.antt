@@ -1,5 +1,5 @@
 -- What an agent knows after a turn that was answered, where names tell the blocks apart: what it took, and what it wrote.
-use Rattle.std.proofs.Common.{◌≡◌, ◌≢◌, ◌⊎◌, inl, inr, ⊎_elim, ℕ, ◌≤◌, List, [], ◌∷◌, ◌++◌, map, filter, Option, Some, None, refl, sym, ap, ◌∙◌, subst, arith, Contains}
+use Rattle.std.proofs.Common.{◌≡◌, ◌≢◌, ◌⊎◌, inl, inr, ⊎_elim, ℕ, ◌≤◌, List, [], ◌∷◌, ◌++◌, filter, Option, Some, None, refl, sym, ap, ◌∙◌, subst, arith, Contains}
 use Rattle.std.specs.List.{AllByRecursion}
 use Rattle.std.specs.Prelude.{IfSome, IsTrue}
 use Rattle.std.proofs.lemmas.List.Elements.{Contains-append_left, Contains-append_cases}
@@ -11,7 +11,7 @@ use Rattle.tree_model.proofs.Keys.{same_key_is}
 use Rattle.view_blocks.specs.Faults.{HasKeys}
 use Rattle.log_model.specs.Chain.{IsGood}
 use Rattle.log_model.specs.Closed.{IsClosed, IsClosedPart, log_of}
-use Rattle.log_model.specs.Rank.{front, full_vector}
+use Rattle.log_model.specs.Rank.{front}
 use Rattle.log_model.specs.Record.{Record}
 use Rattle.log_model.specs.Spelling.{record_block}
 use Rattle.log_model.specs.Standing.{Stand, StandsAmong}

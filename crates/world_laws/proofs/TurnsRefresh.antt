@@ -3,12 +3,11 @@ use Rattle.std.proofs.Common.{◌≡◌, ℕ, Bool, true, false, cond, List, [],
 use Rattle.std.specs.Prelude.{option_map}
 use Rattle.std.proofs.lemmas.List.{append-nil}
 use Rattle.ivy_base.specs.declared.key.Key.{Key}
-use Rattle.wire_model.specs.Rpc.{Auth, CallMessage, Identity, IsCall, IsCaller, IsIdentity, none as no_credential, system}
+use Rattle.wire_model.specs.Rpc.{Auth, CallMessage, Identity, IsCaller, IsIdentity, none as no_credential, system}
 use Rattle.wire_model.proofs.OneReading.{one_call, one_caller, whole}
 use Rattle.log_model.specs.Spelling.{IsKey}
 use Rattle.log_model.specs.Vector.{Vector}
 use Rattle.log_model.specs.View.{View}
-use Rattle.nfs_model.specs.declared.arguments.Args.{Args}
 use Rattle.nfs_model.specs.Arguments.{AreArguments}
 use Rattle.nfs_model.proofs.OneArguments.{one_arguments}
 use Rattle.turn_model.specs.Basis.{Basis}

@@ -1,5 +1,5 @@
 -- The set that a turn leaves: what it took, or that with the records that it writes, which stand over all of it.
-use Rattle.std.proofs.Common.{◌≡◌, ◌⊎◌, inl, inr, ⊎_elim, ℕ, ◌+◌, ◌≤◌, ◌<◌, Bool, true, false, cond, not, ◌||◌, List, [], ◌∷◌, ◌++◌, length, map, fold, refl, sym, ap, ◌∙◌, subst, arith, append_assoc}
+use Rattle.std.proofs.Common.{◌≡◌, ◌⊎◌, inl, inr, ℕ, ◌+◌, ◌≤◌, Bool, true, false, cond, not, ◌||◌, List, [], ◌∷◌, ◌++◌, length, map, refl, sym, ap, ◌∙◌, subst, arith, append_assoc}
 use Rattle.std.specs.Prelude.{nat_lt, ◌==◌, None}
 use Rattle.std.specs.List.{AllByRecursion}
 use Rattle.std.specs.Cmp.{eq_by_cmp_equiv}
@@ -11,7 +11,7 @@ use Rattle.ivy_base.specs.declared.operation.Moment.{Moment}
 use Rattle.ivy_base.specs.declared.operation.Op.{Op}
 use Rattle.ivy_base.specs.Naming.{head_key_of, key_cmp}
 use Rattle.tree_model.proofs.Keys.{keys_total, same_key_is, same_key_itself}
-use Rattle.log_model.specs.Rank.{front, full_vector, own_entry}
+use Rattle.log_model.specs.Rank.{front, full_vector}
 use Rattle.log_model.specs.Record.{Record}
 use Rattle.log_model.specs.Replay.{replay}
 use Rattle.log_model.specs.Spelling.{most_records, new_record}
@@ -24,7 +24,6 @@ use Rattle.nfs_model.specs.Changing.{Nothing, Operations, Plan, Refuse, is_chang
 use Rattle.turn_laws.proofs.Starts.{stamp_at-without_log}
 use Rattle.turn_model.specs.Basis.{Holding, HoldsAll, IsAboveTide}
 use Rattle.turn_model.specs.Turn.{Agent as Inputs, Asked, Turned, appended, by_plan, linked, own_name, own_seq, turn_on}
-use Rattle.agent_model.specs.Agent.{joined}
 use Rattle.agent_model.specs.Turning.{inputs_before, with_held}
 use Rattle.session_laws.proofs.Starting.{joined_front}
 use Rattle.world_model.specs.Agents.{Agent, hss, inputs}

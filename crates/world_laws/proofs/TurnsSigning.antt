@@ -1,6 +1,6 @@
 -- What an agent has signed and what its keeper holds after a turn, whether or not names tell the blocks apart.
-use Rattle.std.proofs.Common.{◌≡◌, ◌⊎◌, inl, inr, ⊎_elim, ℕ, ◌+◌, ◌≤◌, ◌<◌, Bool, true, false, cond, not, List, [], ◌∷◌, ◌++◌, length, length-append, map, filter, fold, Option, Some, None, refl, sym, ap, ◌∙◌, subst, arith, Contains}
-use Rattle.std.specs.Prelude.{IfSome, IsTrue, ◌-◌}
+use Rattle.std.proofs.Common.{◌≡◌, ◌⊎◌, inl, inr, ⊎_elim, ℕ, ◌+◌, ◌≤◌, ◌<◌, Bool, true, false, not, List, [], ◌∷◌, ◌++◌, length, map, filter, fold, Option, Some, None, refl, sym, ap, ◌∙◌, subst, arith, Contains}
+use Rattle.std.specs.Prelude.{IfSome, IsTrue}
 use Rattle.std.specs.List.{AllByRecursion}
 use Rattle.std.proofs.lemmas.List.{map-append}
 use Rattle.std.proofs.lemmas.List.Elements.{Contains-append_left, Contains-append_right, Contains-append_cases}
@@ -13,10 +13,8 @@ use Rattle.log_model.specs.Spelling.{most_records}
 use Rattle.log_model.specs.Vector.{Stamp, Vector, join, seq_of}
 use Rattle.log_model.specs.View.{View, IsView, is_named}
 use Rattle.log_model.proofs.Lists.{each, each_append, each_from, from_filter, here, in_cons, in_nothing}
-use Rattle.log_model.proofs.Weights.{Sorted}
 use Rattle.view_blocks.specs.Faults.{HasKeys}
 use Rattle.hss_keys.specs.Signer.{Signer, capacity}
-use Rattle.hss_keys.specs.Saved.{IsSigner}
 use Rattle.dht_ids.specs.declared.post.Post.{Post}
 use Rattle.turn_model.specs.Basis.{Holding}
 use Rattle.agent_model.specs.Agent.{head_post, is_head, kept_of, record_post, with_posts}

@@ -1,5 +1,5 @@
 -- What a turn takes, by the heads that its session was brought: which candidates there are, what they bring, and that this is all one.
-use Rattle.std.proofs.Common.{◌≡◌, ◌⊎◌, inl, inr, ⊎_elim, ℕ, ◌+◌, Bool, List, [], ◌∷◌, map, Some, refl, sym, ap, ◌∙◌, subst, Contains}
+use Rattle.std.proofs.Common.{◌≡◌, ◌⊎◌, inl, inr, ⊎_elim, ℕ, Bool, List, [], ◌∷◌, map, refl, sym, ap, ◌∙◌, subst, Contains}
 use Rattle.std.specs.Cmp.{ranked}
 use Rattle.std.specs.List.{AllByRecursion}
 use Rattle.std.specs.Ordering.{eq_by_cmp, is_lt, nat_cmp, ordering_reverse}
@@ -9,9 +9,9 @@ use Rattle.ivy_base.specs.declared.key.Key.{Key}
 use Rattle.ivy_base.specs.declared.key.PubKey.{PubKey}
 use Rattle.ivy_base.specs.Naming.{NamesTellApart, head_key_of, key_cmp, owner_cmp}
 use Rattle.tree_model.proofs.Keys.{exact_keys, keys_total}
-use Rattle.candidate_laws.proofs.OneCandidate.{IsNewest, IsOne, IsOfOther, cases_of}
+use Rattle.candidate_laws.proofs.OneCandidate.{IsNewest, IsOne, cases_of}
 use Rattle.candidate_laws.proofs.OneChain.{one_chain}
-use Rattle.log_model.specs.Chain.{GoesOn, IsChain, IsGood, LinkedFrom}
+use Rattle.log_model.specs.Chain.{IsChain, IsGood, LinkedFrom}
 use Rattle.log_model.specs.Closed.{IsClosed, IsClosedPart, log_of}
 use Rattle.log_model.specs.Record.{Record}
 use Rattle.log_model.specs.Spelling.{no_name}
@@ -19,26 +19,17 @@ use Rattle.log_model.specs.Standing.{Stand, StandsAmong}
 use Rattle.log_model.specs.Vector.{Entry, Stamp, Vector}
 use Rattle.log_model.specs.View.{View}
 use Rattle.log_model.proofs.ClosedPart.{same_part}
-use Rattle.log_model.proofs.Lists.{each, each_from, from_filter, in_filter}
+use Rattle.log_model.proofs.Lists.{each, from_filter, in_filter}
 use Rattle.log_model.proofs.Opening.{same_owner}
 use Rattle.log_model.proofs.Part.{chain_good}
 use Rattle.log_model.proofs.Sets.{chain_ascends, same_list}
-use Rattle.turn_model.specs.Candidates.{IsPassedOver, IsTried, IsTriedBefore, MakeChain}
+use Rattle.turn_model.specs.Candidates.{IsTriedBefore, MakeChain}
 use Rattle.turn_model.specs.Known.{IsUnderHead}
 use Rattle.turn_model.specs.Turn.{Candidate, IsAtHand}
-use Rattle.agent_model.specs.Candidates.{AreCandidatesOf, IsCandidateOf, IsMisled}
+use Rattle.agent_model.specs.Candidates.{AreCandidatesOf, IsCandidateOf}
 use Rattle.agent_model.specs.Candidates.IsCandidateOf.{misled as is_misled, by_heads}
 use Rattle.agent_model.specs.Standing.{Standing}
-
--- ---- a chain is linked by name
-
-linked_after : (view : View) (owner : PubKey) (p : Record) (rs : List Record) → GoesOn view owner p rs → LinkedFrom owner (p.seq + 1) p.name rs
-linked_after view owner p [] h = tt
-linked_after view owner p (r ∷ rs) h = (h.0.owned, h.0.spelled, h.1.seq, h.1.prev, subst (λ (n : ℕ). LinkedFrom owner (n + 1) r.name rs) h.1.seq (linked_after view owner r rs h.2))
-
-linked_chain : (view : View) (owner : PubKey) (chain : List Record) → IsChain view owner chain → LinkedFrom owner 1 no_name chain
-linked_chain view owner [] h = tt
-linked_chain view owner (r ∷ rs) h = (h.0.owned, h.0.spelled, h.1.seq, h.1.prev, subst (λ (n : ℕ). LinkedFrom owner (n + 1) r.name rs) h.1.seq (linked_after view owner r rs h.2))
+use Rattle.world_laws.proofs.OneTruth.{chain_linked}
 
 -- ---- of two heads one is tried before the other
 
@@ -139,7 +130,7 @@ module _ (heads : Key → List Stamp) (met : List (List ℕ)) (view : View) (s :
           head = (head_key_of owner, new.1.0);
           received = were (head_key_of owner) new.1.0 new.1.1.0;
           log = chain;
-          linked = subst (λ (o : PubKey). LinkedFrom o 1 no_name chain) (sym owned) (linked_chain view owner chain new.1.2.chain_of_log);
+          linked = subst (λ (o : PubKey). LinkedFrom o 1 no_name chain) (sym owned) (chain_linked view owner chain new.1.2.chain_of_log);
           stand = standing chain owner new.1.2.chain_of_log new.1.2.stand;
           of_log = ap head_key_of (sym owned);
           ends = new.1.2.ends;

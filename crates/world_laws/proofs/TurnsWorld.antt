@@ -1,21 +1,19 @@
 -- A participant changes by a turn and knows another set, and its open sessions stay.
-use Rattle.std.proofs.Common.{◌≡◌, ⊎_elim, ℕ, ◌≤◌, ◌<◌, Bool, true, false, cond, List, ◌++◌, map, Option, Some, None, refl, sym, ap, ◌∙◌, subst, Contains}
-use Rattle.std.specs.Prelude.{IfSome, Ok}
+use Rattle.std.proofs.Common.{◌≡◌, ℕ, ◌≤◌, ◌<◌, Bool, true, false, cond, List, ◌++◌, map, Option, Some, None, refl, sym, ap, ◌∙◌, subst, Contains}
+use Rattle.std.specs.Prelude.{IfSome}
 use Rattle.std.specs.List.{AllByRecursion, find}
 use Rattle.std.specs.Option.{option_map_or}
 use Rattle.std.specs.Str.{bytes_eq}
-use Rattle.std.proofs.lemmas.List.Elements.{Contains-append_left, Contains-append_cases}
+use Rattle.std.proofs.lemmas.List.Elements.{Contains-append_left}
 use Rattle.ring_model.proofs.Lists.{all_weaker}
-use Rattle.ivy_base.specs.declared.key.Key.{Key}
 use Rattle.ivy_base.specs.Naming.{NamesTellApart}
 use Rattle.log_model.proofs.Lists.{each, each_append, each_from, in_nothing}
 use Rattle.log_model.specs.Record.{Record}
-use Rattle.log_model.specs.Vector.{Dominates, Entry}
+use Rattle.log_model.specs.Vector.{Dominates}
 use Rattle.log_model.specs.View.{View}
 use Rattle.turn_model.specs.Basis.{Holding, fresh_basis, nothing_held}
 use Rattle.block_cache.specs.Blocks.{IsCache}
 use Rattle.session_laws.specs.Loading.{IsSnapshotOf}
-use Rattle.session_model.specs.Brought.{all_heads, brought_in, BlockOf}
 use Rattle.session_model.specs.Sessions.{Said, Session}
 use Rattle.world_model.specs.Agents.{Agent, own}
 use Rattle.world_model.specs.World.{World, NamedSession, Participant, named_bytes, participant, with_participant}
@@ -59,7 +57,7 @@ module _ (w : Played) (keeps : Keeps w) (p : Participant) (is_p : participant w.
   knowing_is : knowing_of w.1 p.name ≡ told.0
   knowing_is = ap (λ o. option_map_or (λ (k : Knowing). k) o (knowing_nothing p.name)) told.1
 
-  told_named : (knowing_of w.1 p.name).name ≡ p.name
+  pub told_named : (knowing_of w.1 p.name).name ≡ p.name
   told_named = ap told_name knowing_is ∙ (found_among told_name w.1.participants p.name told.0 told.1).1
 
   module _ (set : List Record) (turns : List HadTurn) where
@@ -146,7 +144,7 @@ module _ (w : Played) (keeps : Keeps w) (p : Participant) (is_p : participant w.
   found_other : (name : List ℕ) (o : Participant) → bytes_eq name p.name ≡ false → participant w.0 name ≡ Some o → participant v name ≡ Some o
   found_other name o other is = find_other by_name q name (other_name p.name q.name name (sym fit.named) other) w.0.participants ∙ is
 
-  found_its : (name : List ℕ) → bytes_eq name p.name ≡ true → participant v name ≡ Some q
+  pub found_its : (name : List ℕ) → bytes_eq name p.name ≡ true → participant v name ≡ Some q
   found_its name is = subst (λ n. participant v n ≡ Some q) (fit.named ∙ sym (same_name name p.name is))
       (find_own by_name q w.0.participants (subst (Contains (map by_name w.0.participants)) (sym fit.named) (into_map by_name w.0.participants p among)))
 

@@ -168,7 +168,7 @@ CallsBegin = (w : Played) (r : ℕ) (s : Sending) (t : Session) → Keeps w → 
 abbrev pub OpenLineKeeps : Type 0
 OpenLineKeeps = (session log : List ℕ) (pieces : List Piece) (w next : Played) (output : List ℕ) → Keeps w → Does hss_judged w (command.Open session log pieces) (Goes next output) → Keeps next
 
--- ---- what is left to be shown of steps
+-- ---- turns, and steps as a whole
 
 -- such a world and such a session, and each turn in the step is on the replay
 abbrev pub StepLeaves : Scene → Scene → ℕ → Type 0
@@ -192,6 +192,10 @@ RefusedTurnsKeep = (c : Scene) (r : ℕ) (p : Participant) (view : View) (end : 
 -- Where turns leave such a world and such a session, and it can be told whether blocks are a snapshot, so does each step.
 abbrev pub StepsKeepByTurns : Type 0
 StepsKeepByTurns = SnapshotsAreDecided → AnsweredTurnsKeep → RefusedTurnsKeep → StepsKeep
+
+-- So each step does, if of any blocks it can be told whether they are a snapshot.
+abbrev pub EachStepKeeps : Type 0
+EachStepKeeps = SnapshotsAreDecided → StepsKeep
 
 -- ---- replies
 

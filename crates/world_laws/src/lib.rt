@@ -21,12 +21,16 @@
 //! their place), `proofs/SessionLinesSteps.antt` (what many steps of a session leave, and what they leave as it was),
 //! `proofs/HeadlineOfPublishing.antt` (publishing alone has no turn), `proofs/LineKeys.antt` (the key of a log that a line begins
 //! can be saved), `proofs/SnapBounds.antt` and `proofs/SnapSpelled.antt` (what a closed set stands for, and what an agent holds,
-//! has a spelling as a snapshot). Nothing here runs, so there are no costs.
+//! has a spelling as a snapshot), `proofs/TurnsWorld.antt` (a participant that changes by a turn, whose open sessions stay),
+//! `proofs/TurnsKnown.antt` (what an agent knows after a turn), `proofs/TurnsSets.antt` (the set that a turn leaves),
+//! `proofs/TurnsFloors.antt` (a floor with a front joined into it), `proofs/TurnsTaken.antt` (a turn's candidates are one list),
+//! `proofs/TurnsRefresh.antt` (a refresh ends in one way, whatever names tell), `proofs/AnsweredTurns.antt` and
+//! `proofs/RefusedTurns.antt` (turns keep the world). Nothing here runs, so there are no costs.
 #![tactic(auto)]
 
 ghost use Rattle.world_laws.specs.Frames.{DamageLinesKeep, EachReplyBySteps, HeadlineOfRuns, JoinLinesKeep, KeeperLinesKeep, LinesKeepByThese, LogLinesKeep, MildChangesKeep, MoreBlocksKeep, RestartLinesKeep, RingLinesKeep, RoundLinesKeep, StillLinesKeep, StopLinesKeep, UseLinesKeep, ViewLinesKeep};
 ghost use Rattle.world_laws.specs.Kinds.{LineHasOneKind};
-ghost use Rattle.world_laws.specs.Laws.{AlikeTurnsAnswerAlike, AllStepsKeep, CallLinesKeep, CallsBegin, ClashIsDecided, EmptyKeeps, FewerStayApart, FreshTurnsAreAnswered, GetsBringKeep, GetsGoOnKeep, HeadlineBySteps, HeadsAreSavedFirst, HeldIsSpelled, KeptOnce, KnownIsOne, LackingKeeps, LackingStepsKeep, LeafSignsOnce, LinesKeepBySteps, ManyStepsKeep, MetGrows, NoSnapshotComes, OneTruth, OpenLineKeeps, OtherLogsDontCount, OthersHaveNoTurn, PublishingKeeps, PutsKeep, ReceivingKeeps, RefreshBrings, RefreshEndsInTurn, RefreshMayTurn, ScriptsBySteps, SecondTurnIsAnswered, SettlingKeeps, SnapLinesKeep, StepsKeepByTurns, StillLinesChangeNothing, TakingKeeps, TurnsAreSaved, UpperLeavesSignOnce, VainAsksKeep, WholePublishingKeeps};
+ghost use Rattle.world_laws.specs.Laws.{AlikeTurnsAnswerAlike, AllStepsKeep, AnsweredTurnsKeep, CallLinesKeep, CallsBegin, ClashIsDecided, EachStepKeeps, EmptyKeeps, FewerStayApart, FreshTurnsAreAnswered, GetsBringKeep, GetsGoOnKeep, HeadlineBySteps, HeadlineHolds, HeadsAreSavedFirst, HeldIsSpelled, KeptOnce, KnownIsOne, LackingKeeps, LackingStepsKeep, LeafSignsOnce, LinesKeepBySteps, ManyStepsKeep, MetGrows, NoSnapshotComes, OneTruth, OpenLineKeeps, OtherLogsDontCount, OthersHaveNoTurn, PublishingKeeps, PutsKeep, ReceivingKeeps, RefreshBrings, RefreshEndsInTurn, RefreshMayTurn, RefusedTurnsKeep, ScriptsBySteps, SecondTurnIsAnswered, SettlingKeeps, SnapLinesKeep, StepsKeep, StepsKeepByTurns, StillLinesChangeNothing, TakingKeeps, TurnsAreSaved, UpperLeavesSignOnce, VainAsksKeep, WholePublishingKeeps};
 
 /// A law and no code: of any blocks, names tell them apart, or two of them clash.
 pub fn clashes_are_decided()
@@ -182,8 +186,21 @@ pub fn calls_begin()
     ensures open { OpenLineKeeps }
 {}
 
-/// A law and no code: what is left to be shown of steps. Where turns, answered or refused, leave such a world and such a session,
-/// so does each step, if of any blocks it can be told whether they are a snapshot.
+/// Laws and no code: a turn that was answered leaves such a world and such a session, and is on the replay of a closed set of
+/// verified records; one that was refused leaves such a world and such a session, which begins anew.
+pub fn turns_keep()
+    ensures answered { AnsweredTurnsKeep }
+    ensures refused { RefusedTurnsKeep }
+{}
+
+/// A law and no code: each step leaves such a world and such a session, and a turn in it is on the replay, if of any blocks it
+/// can be told whether they are a snapshot.
+pub fn steps_keep()
+    ensures { EachStepKeeps }
+{}
+
+/// A law and no code: where turns, answered or refused, leave such a world and such a session, so does each step, if of any
+/// blocks it can be told whether they are a snapshot.
 pub fn steps_left()
     ensures { StepsKeepByTurns }
 {}
@@ -234,4 +251,11 @@ pub fn held_is_spelled()
 /// A law and no code: the line that makes a snapshot leaves a world that keeps what it should.
 pub fn snap_lines_keep()
     ensures { SnapLinesKeep }
+{}
+
+/// Laws and no code: each step leaves a world that keeps what it should and such a session, and a turn in it is on the replay; so
+/// the headline holds of each line in such a world.
+pub fn headline_holds()
+    ensures steps { StepsKeep }
+    ensures headline { HeadlineHolds }
 {}

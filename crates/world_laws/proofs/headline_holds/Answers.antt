@@ -1,0 +1,8 @@
+use Rattle.world_laws.proofs.SnapWhole as law
+use Rattle.world_laws.proofs.headline_holds.Goals as goal
+
+pub returns-clause-steps : goal.returns-clause-steps
+returns-clause-steps c = law.each_step_keeps
+
+pub returns-clause-headline : goal.returns-clause-headline
+returns-clause-headline c = law.headline_holds
