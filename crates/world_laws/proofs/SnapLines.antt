@@ -1,7 +1,10 @@
 -- The line that makes a snapshot leaves a world that keeps what it should.
-use Rattle.std.proofs.Common.{◌≡◌, ⊎_elim, inr, ℕ, Bool, true, false, not, List, [], ◌++◌, map, filter, Option, Some, None, refl, sym, ap, ◌∙◌, subst, arith, Contains}
+use Rattle.std.proofs.Common.{◌≡◌, ⊎_elim, inr, ℕ, Bool, true, false, not, ◌&&◌, List, [], ◌++◌, map, filter, Option, Some, None, refl, sym, ap, ◌∙◌, subst, arith, Contains}
 use Rattle.std.specs.Prelude.{IfSome, IsTrue, is_some, if◌then◌else◌}
 use Rattle.std.specs.List.{AllByRecursion}
+use Rattle.std.specs.Str.{bytes_eq}
+use Rattle.std.proofs.lemmas.Slice.Eq.{bytes_eq-Decides}
+use Rattle.tree_model.proofs.Sound.{both_true}
 use Rattle.std.proofs.lemmas.List.{append-nil}
 use Rattle.std.proofs.lemmas.List.Elements.{Contains-append_cases, Contains-append_left, Contains-append_right}
 use Rattle.ivy_base.specs.declared.key.Key.{Key}
@@ -12,14 +15,14 @@ use Rattle.log_model.specs.Closed.{log_of}
 use Rattle.log_model.specs.Record.{Record}
 use Rattle.log_model.specs.View.{View, IsView, is_named}
 use Rattle.log_model.specs.Vector.{Dominates}
-use Rattle.log_model.proofs.Lists.{each, each_from, from_filter, in_filter, in_nothing}
+use Rattle.log_model.proofs.Lists.{each, each_from, from_filter, in_filter, in_nothing, who_passes}
 use Rattle.view_blocks.specs.Faults.{HasKeys}
 use Rattle.turn_model.specs.Basis.{Holding, fresh_basis, nothing_held}
 use Rattle.dht_ids.specs.declared.post.Post.{Post}
 use Rattle.snapshot_model.specs.Spelling.{root_name, snapshot_blocks, snapshot_of}
 use Rattle.snapshot_model.proofs.MadeLists.{is_key}
 use Rattle.agent_model.specs.Agent.{failed, is_head, kept_of}
-use Rattle.agent_model.specs.Others.{basis_of, block_post, is_pending_block, snapped}
+use Rattle.agent_model.specs.Others.{basis_of, block_post, is_block, is_pending_block, snapped}
 use Rattle.agent_model.specs.SavedBytes.{ArePostsSpelled, HasItsName}
 use Rattle.session_model.specs.Sessions.{Session}
 use Rattle.session_laws.specs.Loading.{IsSnapshotOf}
@@ -34,7 +37,7 @@ use Rattle.world_model.specs.Logs.SnapLine.{fails as snap_fails, makes as snap_m
 use Rattle.world_laws.specs.Keeps.{AreParticipants, AreSignedOnce, AreSound, EntersOwned, IsKeptSo, IsMetPost, IsSavedWell, IsSound, IsSoundIn, IsSoundKept, IsSoundKeptIn, IsSoundSession, Keeps, KeepsUp, NamesOneOf, SignsOnce}
 use Rattle.world_laws.specs.Keeps.KeepsUp.{dropped, grown, still}
 use Rattle.world_laws.specs.Frames.{unchanged}
-use Rattle.world_laws.specs.Laws.{SkipsNone, SnapLinesKeep}
+use Rattle.world_laws.specs.Laws.{SnapLinesKeep}
 use Rattle.world_laws.proofs.Bringing.{found_named, some_same}
 use Rattle.world_laws.proofs.Frames.{found_placed, into_map, participant_keeps, placed_itself}
 use Rattle.world_laws.proofs.Lines.{ToSuch}
@@ -61,13 +64,19 @@ same_heads pending blocks b c =
     subst (Contains (heads_by pending)) (sym found.2) (into_map (λ (p : Post). p.bytes) (filter (λ (p : Post). is_head p.kind) pending) found.0 (in_filter (λ (p : Post). is_head p.kind) pending found.0
     (⊎_elim (λ old. old) (λ new. let made = from_map block_post blocks found.0 new in absurd (no_head found.0 made.0 made.2 its.1)) (Contains-append_cases pending (map block_post blocks) found.0 its.0)) its.1))
 
+-- a block that is pending already
+pending_block : (pending : List Post) (b : List ℕ) → is_pending_block pending b ≡ true → (post : Post) × Contains pending post × (post.bytes ≡ b)
+pending_block pending b there =
+    let found = who_passes (λ (post : Post). bytes_eq post.bytes b && is_block post.kind) pending there in
+    (found.0, found.1, (bytes_eq-Decides found.0.bytes b).0 (both_true (bytes_eq found.0.bytes b) (is_block found.0.kind) found.2).0)
+
 -- a session goes on as it did, whatever its agent has to publish
 still_up : (s : Session) (of : Holding) (a : Agent) (snapshot : Option Key) (posts : List Post) (known : List Record) → KeepsUp s of a known → KeepsUp s of (record a { snapshot = snapshot; pending = posts }) known
 still_up s of a snapshot posts known (still load held floor) = still load held floor
 still_up s of a snapshot posts known (grown load all far) = grown load all far
 still_up s of a snapshot posts known (dropped other first load basis) = dropped other first load basis
 
-module _ (w : Played) (keeps : Keeps w) (p : Participant) (is_p : participant w.0 p.name ≡ Some p) (view : View) (in_view : p.agent.view ≡ Some view) (skips : SkipsNone p view) where
+module _ (w : Played) (keeps : Keeps w) (p : Participant) (is_p : participant w.0 p.name ≡ Some p) (view : View) (in_view : p.agent.view ≡ Some view) where
   abbrev a : Agent
   a = p.agent
 
@@ -120,7 +129,7 @@ module _ (w : Played) (keeps : Keeps w) (p : Participant) (is_p : participant w.
     where
       by : (t : Bool) → is_pending_block a.pending b ≡ t → Contains (map (λ (post : Post). post.bytes) posts) b
       by true there =
-          let found = skips b c there in
+          let found = pending_block a.pending b there in
           subst (Contains (map (λ (post : Post). post.bytes) posts)) found.2 (into_map (λ (post : Post). post.bytes) posts found.0 (Contains-append_left a.pending (map block_post new_blocks) found.0 found.1))
       by false new = into_map (λ (post : Post). post.bytes) posts (block_post b) (Contains-append_right a.pending (map block_post new_blocks) (block_post b)
           (into_map block_post new_blocks b (in_filter (λ x. not (is_pending_block a.pending x)) blocks b c (ap not new))))
@@ -326,16 +335,16 @@ module _ (w : Played) (keeps : Keeps w) (p : Participant) (is_p : participant w.
 
 -- ---- the line
 
-snap_so : (w : Played) → Keeps w → (log : List ℕ) (o : Option Participant) → participant w.0 log ≡ o → ((p : Participant) (view : View) → o ≡ Some p → p.agent.view ≡ Some view → SkipsNone p view)
+snap_so : (w : Played) → Keeps w → (log : List ℕ) (o : Option Participant) → participant w.0 log ≡ o
     → (out : Outcome Played) → SnapLine hss_judged w o out → ToSuch Keeps out
-snap_so w keeps log _ is skips _ snap_nobody = tt
-snap_so w keeps log _ is skips _ (snap_outside p out) = tt
-snap_so w keeps log _ is skips _ (snap_fails p view in_view none spelled) =
-    failing w keeps p (ap (participant w.0) (found_named w.0.participants log p is).1 ∙ is) view in_view (skips p view refl in_view) p.agent.has_failed (memory.planned_next p.keeper) refl none spelled
-snap_so w keeps log _ is skips _ (snap_makes p q view r next in_view some ringed made spelled published) =
-    making w keeps p (ap (participant w.0) (found_named w.0.participants log p is).1 ∙ is) view in_view (skips p view refl in_view) p.agent.has_failed refl (memory.planned_next p.keeper) refl r next some ringed
+snap_so w keeps log _ is _ snap_nobody = tt
+snap_so w keeps log _ is _ (snap_outside p out) = tt
+snap_so w keeps log _ is _ (snap_fails p view in_view none spelled) =
+    failing w keeps p (ap (participant w.0) (found_named w.0.participants log p is).1 ∙ is) view in_view p.agent.has_failed (memory.planned_next p.keeper) refl none spelled
+snap_so w keeps log _ is _ (snap_makes p q view r next in_view some ringed made spelled published) =
+    making w keeps p (ap (participant w.0) (found_named w.0.participants log p is).1 ∙ is) view in_view p.agent.has_failed refl (memory.planned_next p.keeper) refl r next some ringed
     (subst (λ (x : Participant). ArePostsSpelled x.agent.pending) made spelled)
     (subst (λ (x : Participant). Publishes hss_judged r (record (with_participant w.0 x) { met = met_by w.0.met x.agent.pending }, w.1) x next) made published)
 
 pub snap_lines_keep : SnapLinesKeep
-snap_lines_keep log w next output keeps skips does = snap_so w keeps log (participant w.0 log) refl skips (Goes next output) does
+snap_lines_keep log w next output keeps does = snap_so w keeps log (participant w.0 log) refl (Goes next output) does

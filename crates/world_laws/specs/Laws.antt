@@ -1,5 +1,5 @@
 -- Laws of the world's steps and of its runs. Each is stated here, and proved by the crates above.
-use Rattle.std.specs.Prelude.{◌≡◌, ◌≢◌, ◌⊎◌, ◌↔◌, ℕ, ◌+◌, ◌<◌, Bool, true, List, [], ◌∷◌, ◌++◌, map, take, Contains, Option, Some, IfSome}
+use Rattle.std.specs.Prelude.{◌≡◌, ◌≢◌, ◌⊎◌, ◌↔◌, ℕ, ◌+◌, ◌<◌, Bool, List, [], ◌∷◌, ◌++◌, map, take, Contains, Option, Some, IfSome}
 use Rattle.std.specs.List.{AllByRecursion}
 use Rattle.ivy_base.specs.declared.key.Key.{Key}
 use Rattle.ivy_base.specs.declared.key.PubKey.{PubKey}
@@ -21,13 +21,12 @@ use Rattle.dht_ids.specs.declared.ask.Answer.{Answer}
 use Rattle.dht_ids.specs.declared.ask.Ask.{Ask}
 use Rattle.dht_ids.specs.declared.judge.Judged.{Judged}
 use Rattle.dht_ids.specs.declared.peer.Peer.{Peer}
-use Rattle.dht_ids.specs.declared.post.Post.{Post}
 use Rattle.hash_signature_model.specs.declared.keys.PrivateKey.{PrivateKey}
 use Rattle.hash_signature_model.specs.declared.set.Set.{Set}
 use Rattle.hss_keys.specs.Signer.{Signer, leaf_used, leaves_used, left_of, lower_key, signed_lower}
 use Rattle.log_heads.specs.Signed.{hss_judged}
 use Rattle.agent_model.specs.Agent.{kept_of}
-use Rattle.agent_model.specs.Others.{basis_of, is_pending_block}
+use Rattle.agent_model.specs.Others.{basis_of}
 use Rattle.agent_model.specs.SavedBytes.{ArePostsSpelled}
 use Rattle.agent_model.specs.Candidates.{AreCandidatesOf, Brings, MayTurn}
 use Rattle.agent_model.specs.Turning.{Answered, Becomes, MayTake, TurnEnd}
@@ -38,7 +37,6 @@ use Rattle.session_model.specs.Sessions.{Cache, Hears, Said, TakesSome, Session,
 use Rattle.session_model.specs.Courses.{Fails, HasRefreshed, IsRefusal, LacksMemory, Settles}
 use Rattle.session_model.specs.Replies.{said_no_memory}
 use Rattle.snapshot_model.specs.Reading.{IsBasisSpelled}
-use Rattle.snapshot_model.specs.Spelling.{snapshot_blocks}
 use Rattle.session_laws.specs.Going.{SnapshotsAreDecided}
 use Rattle.script_driver.specs.Run.{Outcome, Goes, Ran, Runs, WithLaw, HasPiece, shown}
 use Rattle.script_driver.specs.Seen.{HasStory, SeenStep}
@@ -427,12 +425,6 @@ TurnsAreSaved = (view : View) (a after : Agent) (h : Holding) (fails : Bool) (wr
 abbrev pub HeldIsSpelled : Type 0
 HeldIsSpelled = (view : View) (floor : Vector) (h : Holding) (known : List Record) → IsView view → HasKeys view → Knows view floor h known → IsBasisSpelled (basis_of h)
 
--- each block of the agent's snapshot that counts as pending is pending, and not another one that has its name
-abbrev pub SkipsNone : Participant → View → Type 0
-SkipsNone p view = (b : List ℕ) → Contains (snapshot_blocks view (basis_of p.agent.holding)) b → is_pending_block p.agent.pending b ≡ true → (post : Post) × Contains p.agent.pending post × (post.bytes ≡ b)
-
--- Then the line that makes a snapshot leaves such a world. Without that it doesn't: a block whose name a pending one has is neither published nor met, so of
--- what was met names may still tell all apart, and the snapshot isn't of it.
+-- The line that makes a snapshot leaves such a world.
 abbrev pub SnapLinesKeep : Type 0
-SnapLinesKeep = (log : List ℕ) (w next : Played) (output : List ℕ) → Keeps w → ((p : Participant) (view : View) → participant w.0 log ≡ Some p → p.agent.view ≡ Some view → SkipsNone p view)
-    → Does hss_judged w (command.Snap log) (Goes next output) → Keeps next
+SnapLinesKeep = (log : List ℕ) (w next : Played) (output : List ℕ) → Keeps w → Does hss_judged w (command.Snap log) (Goes next output) → Keeps next
