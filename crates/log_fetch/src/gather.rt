@@ -57,7 +57,7 @@ pub(crate) struct Gather {
     stage: Stage,
 }
 
-/// One function, so that whatever drops a fetch calls it and isn't proved over all of its parts once more.
+/// One function, so that whatever drops it calls this and isn't proved over all of its parts once more.
 impl Drop for Gather {
     fn drop(self) {
         let Gather {
