@@ -83,13 +83,6 @@ pub mod Existing
 pub mod ExistingRounds
 pub mod ExistingRepairs
 pub mod ExistingSnaps
-pub mod LineKeys
-pub mod SessionLinesSteps
-pub mod OpenSessions
-pub mod SessionLines
-pub mod HeadlineOfPublishing
-pub mod HeadlineOfLines
-pub mod HeadlineOfScripts
 mod NoSnapshotSaved
 mod NoSnapshotTurns
 mod NoSnapshotSteps
