@@ -1,11 +1,12 @@
 -- What a refresh wants behind what is at hand.
-use Rattle.std.proofs.Common.{◌≡◌, ◌≢◌, ◌⊎◌, ⊎_elim, inl, inr, ℕ, Bool, true, false, List, [], ◌∷◌, ◌++◌, Option, Some, None, Result, Ok, Err, refl, sym, ap, ◌∙◌, subst}
+use Rattle.std.proofs.Common.{◌≡◌, ◌≢◌, ◌⊎◌, ⊎_elim, inl, inr, ℕ, Bool, true, false, List, [], ◌∷◌, ◌++◌, Option, Some, None, Result, Ok, Err, IfOk, refl, sym, ap, ◌∙◌, subst}
 use Rattle.dht_ids.specs.declared.ask.Heard.{Heard}
 use Rattle.ivy_base.specs.declared.key.Key.{Key}
 use Rattle.ivy_base.specs.declared.key.PubKey.{PubKey}
 use Rattle.ivy_base.specs.declared.memory.Memory.{Memory}
 use Rattle.dht_ids.specs.declared.ask.Ask.{Ask}
 use Rattle.dht_ids.specs.declared.ask.Ask.TheVariants as ask
+use Rattle.dht_ids.specs.declared.ask.Want.{Want as Wanted}
 use Rattle.dht_ids.specs.declared.ask.Want.TheVariants as want
 use Rattle.dht_ids.specs.declared.peer.Peer.{Peer}
 use Rattle.dht_ids.specs.declared.post.Post.{Post}
@@ -141,9 +142,9 @@ module _ {J : Type 0} (judges : Judges J) (posts : List Post) (old mid new : Fet
     ended all end are e =
         ⊎_elim (λ same. inl (of_parts end (subst (λ (l : List Part). EndsAs t.standing t.standing.held (brought_in l) given end) same e)))
         (λ n.
-            let part : Part = record { brought = n.3; asks = [] } in
-            let got = subst (λ (es : List Peer). Gets (judges mid.judge) mid.replicas es n.1 [] n.3) n.0 n.4 in
-            inr (with_nobody part n.1 refl got n.0 end (subst (λ (l : List Part). EndsAs t.standing t.standing.held (brought_in l) given end) n.5 e), n.0))
+        let part : Part = record { brought = n.3; asks = [] } in
+        let got = subst (λ (es : List Peer). Gets (judges mid.judge) mid.replicas es n.1 [] n.3) n.0 n.4 in
+        inr (with_nobody part n.1 refl got n.0 end (subst (λ (l : List Part). EndsAs t.standing t.standing.held (brought_in l) given end) n.5 e), n.0))
         are
 
     -- so no node is to be heard
@@ -151,8 +152,8 @@ module _ {J : Type 0} (judges : Judges J) (posts : List Post) (old mid new : Fet
     nothing_waits e x waits =
         ⊎_elim (λ brings. waits_or_done mid.judge mid.replicas mid.state x is.fetch.sound waits brings.1)
         (λ nobody.
-            let aims = there_is_aim mid.state x waits in
-            get_asks_somebody (judges mid.judge) mid.replicas aims.0 mid.entries t.current x.0 x.1 (fetch_asks_next judges t.standing t.standing.held mid t.current x.0 x.1 aims.0 is.fetch waits aims.1) nobody.1)
+        let aims = there_is_aim mid.state x waits in
+        get_asks_somebody (judges mid.judge) mid.replicas aims.0 mid.entries t.current x.0 x.1 (fetch_asks_next judges t.standing t.standing.held mid t.current x.0 x.1 aims.0 is.fetch waits aims.1) nobody.1)
         e
 
   still_waits : (o : Option (Peer × Ask)) → fetch_awaited old ≡ o → fetch_awaited old ≢ None → (x : Peer × Ask) × (fetch_awaited mid ≡ Some x)
@@ -186,3 +187,8 @@ module _ {J : Type 0} (judges : Judges J) (posts : List Post) (old mid new : Fet
         b.same,
         is_standing judges posts b.now mid b.fetching,
       )
+
+  pub advances : (wanted : Result (Wanted Fetched) Memory) → IfOk wanted (FetchIsWanted judges mid new) → Advances judges posts old new before after wanted
+  advances (Ok (want.Ask node question)) w = advances_to_ask node question w
+  advances (Ok (want.Done given)) w = advances_to_end given w
+  advances (Err lacks) w = advance_lacks lacks

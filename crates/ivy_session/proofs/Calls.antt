@@ -137,11 +137,11 @@ module _ {J : Type 0} (judges : Judges J) (st : SessionState J) (c : Call) where
           let taken = by_same (λ (j : J) (n : ℕ). TakesAll (judges j) n s before t after) f.judge st.judge f.replicas st.replicas is.at.judge is.at.replicas all in
           ⊎_elim (λ missed. is_unrouted t told taken (record { none = nobody.none; xid = c.xid; asked = asked_of c.asked; asks = call.asks; miss = miss; is_told = missed.0 }))
           (λ lacks.
-              let stage_is : t.stage ≡ Refreshing = ap (λ (x : Session). x.stage) same ∙ is.at.fetching.stage in
-              let to_load : t.standing.to_load ≡ None = ap (λ (x : Session). x.standing.to_load) same ∙ is.at.fetching.none in
-              subst (λ (x : Served). NextIs judges (At f) new s before after (next.Done x)) (sym lacks.0)
-              (next_lacks t (ended t (said_no_memory c.xid) [] None) (said_no_memory c.xid) (some_of_all (judges st.judge) st.replicas taken) (lacks_so t c.xid (asked_of c.asked) stage_is to_load nobody.stands call.asks) refl
-              (ap (λ (x : SessionState J). x.notes) lacks.1 ∙ is.at.unnoted)))
+          let stage_is : t.stage ≡ Refreshing = ap (λ (x : Session). x.stage) same ∙ is.at.fetching.stage in
+          let to_load : t.standing.to_load ≡ None = ap (λ (x : Session). x.standing.to_load) same ∙ is.at.fetching.none in
+          subst (λ (x : Served). NextIs judges (At f) new s before after (next.Done x)) (sym lacks.0)
+          (next_lacks t (ended t (said_no_memory c.xid) [] None) (said_no_memory c.xid) (some_of_all (judges st.judge) st.replicas taken) (lacks_so t c.xid (asked_of c.asked) stage_is to_load nobody.stands call.asks) refl
+          (ap (λ (x : SessionState J). x.notes) lacks.1 ∙ is.at.unnoted)))
           tells
 
       pub concludes : (new : SessionState J) (wanted : Next) → ConcludesAs st new c given wanted → IsNext judges (At f) new before after wanted
@@ -184,8 +184,8 @@ module _ {J : Type 0} (judges : Judges J) (st : SessionState J) (c : Call) where
           let n = h.3 s node question waits is.at.fetching in
           heard_so h.0 n.0 n.0 h.1 (by_same (λ (j : J) (m : ℕ). Hears (judges j) m s before node question h.0 n.0 after) f.judge st.judge f.replicas st.replicas is.at.judge is.at.replicas n.1)
           (still_goes_on (λ notes refresh miss staged refreshes.
-              let w = fetches_by n.0.standing n.3.none refreshes in
-              in_not_fails g.state miss (one_end n.0.standing n.0.standing.held (brought_in n.0.parts) (end_in g.state) (FailsBy miss) (stands judges n.0.standing n.0.standing.held g n.3.fetch n.3.unfailed) (notes, w.0, w.1))))
+          let w = fetches_by n.0.standing n.3.none refreshes in
+          in_not_fails g.state miss (one_end n.0.standing n.0.standing.held (brought_in n.0.parts) (end_in g.state) (FailsBy miss) (stands judges n.0.standing n.0.standing.held g n.3.fetch n.3.unfailed) (notes, w.0, w.1))))
           (goes_to s n.0 f g is n.2 h.2.0 h.2.1 n.3),
     )
 

@@ -36,7 +36,7 @@ module _ {J : Type 0} (judges : Judges J) (f new : Fetching J) (given : Fetched)
       let e = w s.standing s.standing.held s.parts s.current h.fetch in
       let failed = failed_by judges f.entries s.standing s.standing.held (brought_in s.parts) s.current f.state h.fetch.asking h.failed in
       ⊎_elim (λ same. by_end e.4 (subst (λ (l : List Part). EndsAs s.standing s.standing.held (brought_in l) given e.4) same e.5))
-          (λ n. absurd (needs_or_fails n.1 failed.0 (one_end s.standing s.standing.held (brought_in s.parts) (Needs n.1) (FailsBy failed.0) n.2 (failed.1, failed.2, failed.3)))) e.2
+      (λ n. absurd (needs_or_fails n.1 failed.0 (one_end s.standing s.standing.held (brought_in s.parts) (Needs n.1) (FailsBy failed.0) n.2 (failed.1, failed.2, failed.3)))) e.2
 
 pub is_failure : {J : Type 0} (judges : Judges J) (f new : Fetching J) (given : Fetched) → FetchIsWanted judges f new (want.Done given) → (o : Option (Miss × List Noted)) → IfSome o (λ why. (given.result ≡ Err why.0) × (given.notes ≡ why.1)) → IfSome o (IsFailure judges f)
 is_failure judges f new given w None h = tt

@@ -102,7 +102,7 @@ module _ {J : Type 0} (judges : Judges J) (posts : List Post) (old new : Fetchin
     got_so want next needed o =
         let gets = subst (λ (es : List Peer). Gets (judges old.judge) old.replicas es want asks o.0) is.entries o.1 in
         subst (λ (c : Cache). Hears (judges old.judge) old.replicas s before node question answer (with_part s o.0 asks) c) (sym (keeps_so (judges old.judge) old.replicas old.entries o.0 o.1 before block (sym o.4)))
-            (got want o.0 (wants_so judges posts s old want (judges old.judge) old.replicas is needed) next gets)
+        (got want o.0 (wants_so judges posts s old want (judges old.judge) old.replicas is needed) next gets)
 
     -- a fetch that failed was given no block
     none_back : (want : Want) → (o : GetIsOver judges s.standing s.standing.held s.parts asks want old new block) → is_failed new ≡ true → (b : Option (Key × List ℕ)) → block ≡ b → kept_back b before ≡ before

@@ -5,6 +5,7 @@ mod Bringing
 mod Nobody
 mod Begun
 mod Taken
+mod AtHand
 mod Hears
 mod Failing
 mod Advancing
@@ -14,3 +15,4 @@ mod Begins
 mod Turns
 mod InPlace
 mod Refreshed
+mod TurnsInPlace

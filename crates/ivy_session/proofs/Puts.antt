@@ -73,18 +73,18 @@ module _ {J : Type 0} (judges : Judges J) (st : SessionState J) (told : Served) 
         by : (s : Session) → IsSession judges s (At p) → NextIs judges (At p) (At q) s cache cache (next.Ask node question)
         by s is =
             ⊎_elim (λ same.
-                let trail = same.1 s.current is.at.asks in
-                let f = first_is_next s.current q node question trail w.1 in
-                let staged : s.stage ≡ stage_of is.at.said q = is.at.stage ∙ sym (same.0 is.at.said) in
-                let replicas : q.replicas ≡ st.replicas = w.0.0 ∙ is.at.replicas in
-                let entries : q.entries ≡ s.entries = w.0.1 ∙ is.at.entries ∙ is.entries in
-                next_asks s node question (TakesAll.none (λ t after takes. none_taken (judges st.judge) st.replicas is.at.said (posts_of q) q.acks staged takes))
-                (record {
-                  entries = is.entries;
-                  starts = is.starts;
-                  at = record { said = is.at.said; is_told = is.at.is_told; stage = staged; replicas = replicas; entries = w.0.1 ∙ is.at.entries; asks = trail; noted = is.at.noted };
-                }) w.1
-                (asks_of_put is.at.said f.first f.posts q.acks (staged ∙ ap (λ (l : List Post). Publishing is.at.said l q.acks) f.posts_are) (next_of s q replicas entries f.first s.current node question f.next)))
+            let trail = same.1 s.current is.at.asks in
+            let f = first_is_next s.current q node question trail w.1 in
+            let staged : s.stage ≡ stage_of is.at.said q = is.at.stage ∙ sym (same.0 is.at.said) in
+            let replicas : q.replicas ≡ st.replicas = w.0.0 ∙ is.at.replicas in
+            let entries : q.entries ≡ s.entries = w.0.1 ∙ is.at.entries ∙ is.entries in
+            next_asks s node question (TakesAll.none (λ t after takes. none_taken (judges st.judge) st.replicas is.at.said (posts_of q) q.acks staged takes))
+            (record {
+              entries = is.entries;
+              starts = is.starts;
+              at = record { said = is.at.said; is_told = is.at.is_told; stage = staged; replicas = replicas; entries = w.0.1 ∙ is.at.entries; asks = trail; noted = is.at.noted };
+            }) w.1
+            (asks_of_put is.at.said f.first f.posts q.acks (staged ∙ ap (λ (l : List Post). Publishing is.at.said l q.acks) f.posts_are) (next_of s q replicas entries f.first s.current node question f.next)))
             (λ none. let f = first_is_next [] q node question none.2 w.1 in absurd (put_asks_somebody q.replicas q.entries f.first [] node question f.next (w.0.1 ∙ none.0)))
             w.3
 
@@ -95,7 +95,7 @@ module _ {J : Type 0} (judges : Judges J) (st : SessionState J) (told : Served) 
           let n = w is.at.said s.current is.at.asks in
           settles is.at.said acks
           (⊎_elim (λ e. inl (is.at.stage ∙ e))
-              (λ none. inr (sym is.entries ∙ sym is.at.entries ∙ none.0, subst (λ (r : ℕ). Passes r s.stage (Publishing is.at.said [] acks)) is.at.replicas (subst (λ (g : Stage). Passes p.replicas g (Publishing is.at.said [] acks)) (sym is.at.stage) none.1))) n.1)
+          (λ none. inr (sym is.entries ∙ sym is.at.entries ∙ none.0, subst (λ (r : ℕ). Passes r s.stage (Publishing is.at.said [] acks)) is.at.replicas (subst (λ (g : Stage). Passes p.replicas g (Publishing is.at.said [] acks)) (sym is.at.stage) none.1))) n.1)
           n.0 refl
           (record { entries = is.entries; starts = is.starts; at = record { said = is.at.said; is_told = is.at.is_told; stage = refl; noted = is.at.noted } }),
     )

@@ -1,28 +1,36 @@
 -- A refresh that is changed in place: what is wanted and heard, as steps of the session of the definitions.
-use Rattle.std.proofs.Common.{◌≡◌, ◌≢◌, inl, inr, Bool, true, false, List, Option, Some, None, Result, Ok, Err, IfSome, refl, sym, ap, ◌∙◌, subst}
+use Rattle.std.proofs.Common.{◌≡◌, ◌≢◌, ⊎_elim, inl, inr, Bool, true, false, List, Option, Some, None, Result, Ok, Err, IfSome, refl, sym, ap, ◌∙◌, subst}
 use Rattle.ivy_base.specs.declared.memory.Memory.{Memory}
 use Rattle.dht_ids.specs.declared.ask.Answer.{Answer}
 use Rattle.dht_ids.specs.declared.ask.Ask.{Ask}
+use Rattle.dht_ids.specs.declared.ask.Want.{Want}
 use Rattle.dht_ids.specs.declared.ask.Want.TheVariants as want
 use Rattle.dht_ids.specs.declared.peer.Peer.{Peer}
+use Rattle.dht_ids.specs.declared.post.Post.{Post}
 use Rattle.dhash_client.specs.declared.miss.Miss.{Miss}
 use Rattle.dhash_client.specs.GetHead.{Judges}
 use Rattle.session_model.specs.Sessions.{Cache}
 use Rattle.log_fetch.specs.declared.fetch.Fetched.{Fetched}
 use Rattle.log_fetch.specs.declared.note.Note.{Note as Noted}
+use Rattle.log_fetch.specs.Fetching.{Fetching}
 use Rattle.ivy_session.specs.declared.served.Call.{Call}
+use Rattle.ivy_session.specs.declared.served.Served.{Served}
 use Rattle.ivy_session.specs.declared.session.Next.{Next}
 use Rattle.ivy_session.specs.declared.session.Next.TheVariants as next
 use Rattle.ivy_session.specs.declared.session.Stage.{Stage}
 use Rattle.ivy_session.specs.declared.session.Stage.TheVariants as stage
 use Rattle.ivy_session.specs.States.{SessionState}
 use Rattle.ivy_session.specs.Stepping.{IsHeard, IsNext}
-use Rattle.ivy_session.specs.Ending.{ConcludesAs, lacking}
-use Rattle.ivy_session.specs.InPlace.{FetchHeard, FetchWants, call_at}
-use Rattle.ivy_session.proofs.Calls.{asks_next, concludes, hears_nothing, hears_on, lacks_next}
+use Rattle.ivy_session.specs.Taking.{IsFailure}
+use Rattle.ivy_session.specs.Ending.{ConcludesAs, EndsAs, lacking}
+use Rattle.ivy_session.specs.InPlace.{EndsRefresh, FailureAt, FetchHeard, FetchWants, TellsWhy, call_at, is_refreshing}
+use Rattle.ivy_session.proofs.Calls.{asks_next, concludes, hears_end, hears_nothing, hears_on, lacks_next}
 
 same_some : (a b : Call) → let x : Option Call = Some a in let y : Option Call = Some b in x ≡ y → a ≡ b
 same_some a b e = cc e
+
+same_fetch : {J : Type 0} (c d : Call) (f g : Fetching J) → stage.Refreshing c f ≡ stage.Refreshing d g → f ≡ g
+same_fetch c d f g e = cc e
 
 module _ {J : Type 0} (judges : Judges J) (st : SessionState J) (before after : Cache) where
   abbrev With : Stage J → SessionState J
@@ -76,3 +84,61 @@ module _ {J : Type 0} (judges : Judges J) (st : SessionState J) (before after : 
   fetch_hears_nothing given lacks (stage.Publishing told p) mid now h e = absurd h
   fetch_hears_nothing given lacks (stage.Over told) mid now h e = absurd h
   fetch_hears_nothing given lacks stage.Told mid now h e = absurd h
+
+  pub fetch_ends : (given : Result Answer Memory) (at between : Stage J) (new : SessionState J) → FetchHeard judges at between before after given (Ok true) → EndsRefresh judges (With between) new → IsHeard judges (With at) new before after given
+  fetch_ends given (stage.Refreshing c f) between new h ends =
+      let e = ends c h.0 h.1 in
+      subst (λ (x : SessionState J). IsHeard judges (With (stage.Refreshing c f)) x before after given) (sym e.3) (hears_end judges (With stage.Told) c f h.0 before after given e.0 e.1 (h.2 st.pending) e.2)
+  fetch_ends given (stage.Turning c) between new h ends = absurd h
+  fetch_ends given (stage.Publishing told p) between new h ends = absurd h
+  fetch_ends given (stage.Over told) between new h ends = absurd h
+  fetch_ends given stage.Told between new h ends = absurd h
+
+-- ---- it is still refreshing
+
+module _ {J : Type 0} (judges : Judges J) where
+  is_some : (x : Call) (o : Option Call) → o ≡ Some x → o ≢ None
+  is_some x o e none = cc e none
+
+  pub wants_call : (posts : List Post) (at now : Stage J) (before after : Cache) (result : Result (Want Fetched) Memory) → FetchWants judges posts at now before after result → call_at now ≢ None
+  wants_call posts (stage.Refreshing c f) now before after result h = is_some c (call_at now) (ap call_at h.1)
+  wants_call posts (stage.Turning c) now before after result h = absurd h
+  wants_call posts (stage.Publishing told p) now before after result h = absurd h
+  wants_call posts (stage.Over told) now before after result h = absurd h
+  wants_call posts stage.Told now before after result h = absurd h
+
+  pub heard_call : (at now : Stage J) (before after : Cache) (given : Result Answer Memory) (result : Result Bool Memory) → FetchHeard judges at now before after given result → (is_refreshing now ≡ true) × (call_at now ≢ None)
+  heard_call (stage.Refreshing c f) now before after given result h = (ap is_refreshing h.1, is_some c (call_at now) (ap call_at h.1))
+  heard_call (stage.Turning c) now before after given result h = absurd h
+  heard_call (stage.Publishing told p) now before after given result h = absurd h
+  heard_call (stage.Over told) now before after given result h = absurd h
+  heard_call stage.Told now before after given result h = absurd h
+
+  pub failure_call : (at now : Stage J) (why : Option (Miss × List Noted)) → FailureAt judges at now why → call_at now ≢ None
+  failure_call (stage.Refreshing c f) now why h = is_some c (call_at now) (ap call_at h.1)
+  failure_call (stage.Turning c) now why h = absurd h
+  failure_call (stage.Publishing told p) now why h = absurd h
+  failure_call (stage.Over told) now why h = absurd h
+  failure_call stage.Told now why h = absurd h
+
+-- ---- it has failed
+
+module _ {J : Type 0} (judges : Judges J) (st : SessionState J) where
+  abbrev As : Stage J → SessionState J
+  As at = record st { stage = at }
+
+  -- it is told why, where it fails by this
+  tells_end : (mid : SessionState J) (told : Served) (c : Call) (f : Fetching J) (why : Option (Miss × List Noted)) → IfSome why (IsFailure judges f) → TellsWhy (As stage.Told) mid c why told → EndsAs judges (As stage.Told) mid c f told
+  tells_end mid told c f None h tells = inl tells
+  tells_end mid told c f (Some why) h tells = ⊎_elim (λ missed. inr (why.0, why.1, h, missed.0, missed.1)) (λ lacks. inl lacks) tells
+
+  pub refresh_ends : (at between now : Stage J) (why : Option (Miss × List Noted)) (c : Call) (told : Served) (mid : SessionState J) → FailureAt judges at between why → call_at between ≡ Some c → now ≡ stage.Told → TellsWhy (As now) mid c why told
+      → EndsRefresh judges (As at) (record mid { stage = stage.Over told })
+  refresh_ends (stage.Refreshing first f) between now why c told mid h call is tells other g e =
+      let one : c ≡ other = same_some c other (sym call ∙ ap call_at h.1 ∙ ap call_at e) in
+      let tells_so = subst (λ (x : Stage J). TellsWhy (As x) mid other why told) is (subst (λ (x : Call). TellsWhy (As now) mid x why told) one tells) in
+      (mid, told, tells_end mid told other g why (subst (λ (x : Fetching J). IfSome why (IsFailure judges x)) (same_fetch first other f g e) h.2) tells_so, refl)
+  refresh_ends (stage.Turning first) between now why c told mid h call is tells other g e = absurd h
+  refresh_ends (stage.Publishing first p) between now why c told mid h call is tells other g e = absurd h
+  refresh_ends (stage.Over first) between now why c told mid h call is tells other g e = absurd h
+  refresh_ends stage.Told between now why c told mid h call is tells other g e = absurd h

@@ -72,8 +72,8 @@ module _ {J : Type 0} (judges : Judges J) (st : SessionState J) (c : Call) where
 
   module _ (turned : Turned) where
     answers : (new : SessionState J) → ((s : Session) (is : IsSession judges s At) (answer : Reply) → turned.reply ≡ bytes_of answer
-            → IsSession judges (answered s (said_of c.xid answer) is.at.notes turned.posts) new
-            ⊎ ((new.is_cut ≡ true) × IsSession judges (record (answered s (said_of c.xid answer) is.at.notes turned.posts) { stage = Over (Some (said_of c.xid answer)) }) new))
+        → IsSession judges (answered s (said_of c.xid answer) is.at.notes turned.posts) new
+        ⊎ ((new.is_cut ≡ true) × IsSession judges (record (answered s (said_of c.xid answer) is.at.notes turned.posts) { stage = Over (Some (said_of c.xid answer)) }) new))
         → (s : Session) → IsSession judges s At → TurnedIs judges At new s (Ok turned)
     answers new by s is answer e = record { xid = c.xid; asked = asked_of c.asked; asks = is.at.call.asks; notes = is.at.notes; given = is.at.given; refreshed = is.at.refreshed; publishes = by s is answer e }
 

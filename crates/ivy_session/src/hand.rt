@@ -53,8 +53,15 @@ fn take_one<J: Judge>(
 fn posted<'a>(posts: &'a [Post], key: &Key) -> Option<&'a [u8]>
     ensures { option_copied result ≡ pending_block key.now posts.now }
 {
-    let post = posts.iter().find(|post| is_block_of(post, key))?;
+    let post = post_of(posts, key)?;
     Some(post.bytes.as_slice())
+}
+
+/// The post of the content block of that name.
+fn post_of<'a>(posts: &'a [Post], key: &Key) -> Option<&'a Post>
+    ensures { option_map (λ post. post.now) result ≡ find (λ p. not (is_head p.kind) && same_key p.key key.now) posts.now }
+{
+    posts.iter().find(|post| is_block_of(post, key))
 }
 
 /// Whether the post is the content block of that name.

@@ -1,6 +1,6 @@
 //! The machine of a session.
 
-ghost use Rattle.std.specs.Prelude.{◌≡◌, ◌≢◌, ℕ, ◌≤◌, List, [], true, false, length, Some, None, IfOk, IfErr, IfSome, option_map};
+ghost use Rattle.std.specs.Prelude.{◌≡◌, ◌≢◌, ℕ, ◌+◌, ◌<◌, ◌≤◌, List, [], true, false, length, Some, None, IfOk, IfErr, IfSome, option_map};
 ghost use Rattle.agent_model.specs.Standing.{Standing as ModelStanding};
 ghost use Rattle.session_model.specs.Courses.{publishing_session};
 ghost use Rattle.log_fetch.specs.Standings.{standing_of};
@@ -303,9 +303,12 @@ impl<J: Judge> Session<J> {
         requires awaited { session_awaited self.old ≢ None }
         ensures { (cache : Cache) → IsHeard J.judges self.old self.new cache cache answer }
     {
-        if let Err(Memory) = put_heard(&mut self.stage, answer) {
-            self.is_cut = true;
-            end(&mut self.stage);
+        match put_heard(&mut self.stage, answer) {
+            Ok(()) => {}
+            Err(Memory) => {
+                self.is_cut = true;
+                end(&mut self.stage);
+            }
         }
     }
 
@@ -318,10 +321,10 @@ impl<J: Judge> Session<J> {
         let call = take_call(&mut self.stage);
         let told = reply_of(call, turned.reply.as_slice());
         match self.publishing_of(&turned.posts) {
-            Ok(publishing) => self.stage = Stage::Publishing(told, publishing),
+            Ok(publishing) => go_to(&mut self.stage, Stage::Publishing(told, publishing)),
             Err(Memory) => {
                 self.is_cut = true;
-                self.stage = Stage::Over(told);
+                go_to(&mut self.stage, Stage::Over(told));
             }
         }
     }
@@ -345,25 +348,33 @@ impl<J: Judge> Session<J> {
         ensures { IsTurned J.judges self.old self.new (Err (TurnFault.Behind standing)) }
     {
         let call = take_call(&mut self.stage);
-        self.stage = match self.fetch_anew(standing) {
-            Some(fetch) => Stage::Refreshing(call, fetch),
-            None => Stage::Over(no_memory(call)),
-        };
+        match self.fetch_anew(standing) {
+            Some(fetch) => go_to(&mut self.stage, Stage::Refreshing(call, fetch)),
+            None => go_to(&mut self.stage, Stage::Over(no_memory(call))),
+        }
     }
 
     /// The fetch with which the session begins anew from that standing. None is want of memory, or that it did so twice
     /// before.
-    fn fetch_anew(&mut self, mut standing: Standing) -> Option<Fetch<J>>
+    fn fetch_anew(&mut self, standing: Standing) -> Option<Fetch<J>>
         ensures { BeginsAnew J.judges self.old self.new standing result }
     {
         if self.starts >= MOST_STARTS {
             return None;
         }
+        let fetch = self.fetch_for(&standing);
+        self.renew(standing.pending);
+        fetch.ok()
+    }
+
+    /// Counts that it begins anew, with these posts at hand and nothing noted.
+    fn renew(&mut self, pending: Posts)
+        requires { self.old.starts < 2 }
+        ensures { self.new ≡ record self.old { starts = self.old.starts + 1; notes = []; pending = pending } }
+    {
         self.starts += 1;
         self.notes = Notes::of(Vec::new(self.alloc));
-        let fetch = self.fetch_for(&standing);
-        mem::swap(&mut self.pending, &mut standing.pending);
-        fetch.ok()
+        self.pending = pending;
     }
 
     /// The fetch for that standing. The error is want of memory.
@@ -379,6 +390,13 @@ impl<J: Judge> Session<J> {
             standing,
         )
     }
+}
+
+/// Goes to that stage.
+fn go_to<J: Judge>(stage: &mut Stage<J>, next: Stage<J>)
+    ensures { stage.new ≡ next }
+{
+    *stage = next;
 }
 
 /// Takes the call, which isn't answered yet.
@@ -479,10 +497,7 @@ fn put_wants<J: Judge>(stage: &mut Stage<J>) -> Result<Want<Acks>, Memory>
 }
 
 /// What publishes hears an answer. The error is want of memory.
-fn put_heard<J: Judge>(
-    stage: &mut Stage<J>,
-    answer: Result<Answer, Memory>,
-) -> Result<(), Memory>
+fn put_heard<J: Judge>(stage: &mut Stage<J>, answer: Result<Answer, Memory>) -> Result<(), Memory>
     requires publishing { is_publishing stage.old ≡ true }
     requires awaited { awaited_at stage.old ≢ None }
     ensures { PutHeard stage.old stage.new answer result }

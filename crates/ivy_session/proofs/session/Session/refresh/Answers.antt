@@ -32,5 +32,5 @@ returns-in-Err g c =
     let i = c.self.inside in
     let st : SessionState g.row.J.Denot = record { judge = i.judge; replicas = i.replicas; entries = i.entries; pending = i.pending; starts = i.starts; notes = i.notes; is_cut = i.is_cut; stage = i.stage } in
     let next_is = subst (λ (x : Served). IsNext g.J.Judge.judges (record st { stage = i.stage }) (record st { stage = c.take_call.new.stage }) c.args.cache.now c.fetch_wants.new.cache (next.Done x)) (sym c.no_memory.ensures)
-        (fetch_lacks g.J.Judge.judges st c.args.cache.now c.fetch_wants.new.cache c.in-Err.field-0 c.take_call.result i.stage c.fetch_wants.new.stage c.take_call.new.stage c.in-Err.ensures c.take_call.ensures.call) in
+    (fetch_lacks g.J.Judge.judges st c.args.cache.now c.fetch_wants.new.cache c.in-Err.field-0 c.take_call.result i.stage c.fetch_wants.new.stage c.take_call.new.stage c.in-Err.ensures c.take_call.ensures.call) in
     subst (λ (x : SessionState g.row.J.Denot). IsNext g.J.Judge.judges x (record st { stage = c.take_call.new.stage }) c.args.cache.now c.fetch_wants.new.cache (next.Done c.no_memory.result)) c.self.view_is next_is
