@@ -10,8 +10,8 @@ use Rattle.block_cache.specs.Blocks.{block_of, moved_to_front}
 use Rattle.agent_model.specs.Agent.{is_head}
 use Rattle.session_model.specs.Sessions.{Cache, pending_block}
 use Rattle.log_fetch.specs.Fetching.{Fetching, FetchWasGiven, fetch_awaited, fetch_left, fetch_wanted, is_failed}
-use Rattle.ivy_session.specs.Taking.{IsAway, TakesOne}
-use Rattle.ivy_session.proofs.Taken.{takes_cached, takes_posted, unasked}
+use Rattle.ivy_session.specs.Taking.{IsAway, TakesHand, TakesOne}
+use Rattle.ivy_session.proofs.Taken.{HasTakenSome, all_taken, one_taken, some_taken, takes_cached, takes_posted, unasked}
 
 some_or_none : {T : Type 0} (x : T) → Some x ≡ None → ⊥
 some_or_none x e = cc e
@@ -51,3 +51,19 @@ module _ {J : Type 0} (judges : Judges J) (posts : List Post) (old : Fetching J)
 
     pub none_given : (new : Fetching J) (lacks : Memory) → TakesOne judges posts old new cache cache (Err lacks)
     none_given new lacks = (unasked old key (sym want), refl)
+
+-- ---- one after the other
+
+module _ {J : Type 0} (judges : Judges J) (posts : List Post) (old mid new : Fetching J) (before between after : Cache) (h : HasTakenSome judges posts old mid before between) where
+  pub takes_on : (found : Bool) → TakesOne judges posts mid new between after (Ok found) → found ≡ true → HasTakenSome judges posts old new before after
+  takes_on found one e = one_taken judges posts old mid new before between after h (subst (λ (b : Bool). TakesOne judges posts mid new between after (Ok b)) e one).0
+
+  pub has_taken : (found : Bool) → TakesOne judges posts mid new between after (Ok found) → found ≡ false → TakesHand judges posts old new before after (Ok tt)
+  has_taken found one e =
+      let none = subst (λ (b : Bool). TakesOne judges posts mid new between after (Ok b)) e one in
+      subst (λ (f : Fetching J). TakesHand judges posts old f before after (Ok tt)) (sym none.0)
+      (subst (λ (c : Cache). TakesHand judges posts old mid before c (Ok tt)) (sym none.1) (all_taken judges posts old mid before between h none.2))
+
+  pub lacks_block : (lacks : Memory) → TakesOne judges posts mid new between after (Err lacks) → (given : Result (Unit {0}) Memory) → given ≡ Err lacks → TakesHand judges posts old new before after given
+  lacks_block lacks one given e =
+      subst (TakesHand judges posts old new before after) (sym e) (some_taken judges posts old mid new before between after lacks h one.0 one.1)

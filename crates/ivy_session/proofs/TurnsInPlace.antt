@@ -1,5 +1,5 @@
 -- A session whose turn is awaited, and one that is over: stages that are changed in place.
-use Rattle.std.proofs.Common.{◌≡◌, ◌≢◌, inl, inr, ℕ, ◌+◌, ◌<◌, ◌≤◌, Bool, true, false, List, [], Option, Some, None, Result, Ok, Err, IfOk, refl, sym, ap, ◌∙◌, subst}
+use Rattle.std.proofs.Common.{◌≡◌, ◌≢◌, inl, inr, ℕ, ◌+◌, ◌<◌, ◌≤◌, Bool, true, false, List, [], Option, Some, None, Result, Ok, Err, IfOk, IfSome, refl, sym, ap, ◌∙◌, subst}
 use Rattle.std.specs.Prelude.{result_ok}
 use Rattle.ivy_base.specs.declared.memory.Memory.{Memory}
 use Rattle.dht_ids.specs.declared.ask.Answer.{Answer}
@@ -131,3 +131,13 @@ is_to_put (stage.Turning c) fetching waits = absurd (waits refl)
 is_to_put (stage.Publishing told p) fetching waits = refl
 is_to_put (stage.Over told) fetching waits = absurd (waits refl)
 is_to_put stage.Told fetching waits = absurd (waits refl)
+
+-- the call is told that memory is wanting
+pub lack_at_turn : {J : Type 0} (judges : Judges J) (st : SessionState J) (at now : Stage J) (given : Result Turned TurnFault) (why : TurnFault) → is_turning at ≡ true → given ≡ Err why → why ≡ fault.Memory → IfSome (call_at at) (λ call. now ≡ stage.Over (lacking call))
+    → IsTurned judges (record st { stage = at }) (record st { stage = now }) given
+lack_at_turn judges st (stage.Turning c) now given why turning is is_memory over =
+    subst (λ (x : Result Turned TurnFault). IsTurned judges (record st { stage = stage.Turning c }) (record st { stage = now }) x) (sym (is ∙ ap (λ (x : TurnFault). Err x) is_memory)) (turn_lacks judges st (stage.Turning c) c refl refl now over)
+lack_at_turn judges st (stage.Refreshing c f) now given why turning is is_memory over = cc turning
+lack_at_turn judges st (stage.Publishing told p) now given why turning is is_memory over = cc turning
+lack_at_turn judges st (stage.Over told) now given why turning is is_memory over = cc turning
+lack_at_turn judges st stage.Told now given why turning is is_memory over = cc turning
