@@ -1,6 +1,7 @@
 -- How a session begins.
 use Rattle.std.proofs.Common.{◌≡◌, ℕ, Bool, true, false, List, [], ◌∷◌, ◌++◌, Option, Some, None, refl, sym, ap, ◌∙◌, subst}
 use Rattle.log_model.specs.Vector.{Vector}
+use Rattle.log_model.specs.View.{View}
 use Rattle.dht_ids.specs.declared.peer.Peer.{Peer}
 use Rattle.dht_ids.specs.declared.post.Post.{Post}
 use Rattle.dhash_client.specs.GetHead.{Judges}
@@ -9,6 +10,7 @@ use Rattle.session_model.specs.Replies.{IsByMessage, said_bare}
 use Rattle.session_model.specs.Sessions.{Over, Refreshing}
 use Rattle.session_model.specs.Courses.{Begins, fresh_session, publishing_session}
 use Rattle.call_messages.specs.Reading.{AsksWell}
+use Rattle.log_fetch.specs.declared.asked.Asked.{Asked}
 use Rattle.log_fetch.specs.declared.standing.Standing.{Standing as Given}
 use Rattle.log_fetch.specs.Fetching.{Fetching, FetchIsAfter, is_failed}
 use Rattle.log_fetch.specs.Standings.{asked_of, standing_of}
@@ -27,6 +29,10 @@ begun_on judges s start f h = by (is_failed f) refl
     by : (b : Bool) → is_failed f ≡ b → is_failed f ≡ false
     by false e = e
     by true e = let w = failed_by judges f.entries s start [] [] f.state h.asking e in absurd (never_missed w.0 w.3 refl)
+
+-- the call as it was read
+pub asks_well : (view : View) (message : List ℕ) (xid other : ℕ) (asked also : Asked) → other ≡ xid → also ≡ asked → AsksWell view message xid asked → AsksWell view message other also
+asks_well view message xid other asked also e f h = subst (λ (n : ℕ). AsksWell view message n also) (sym e) (subst (λ (a : Asked). AsksWell view message xid a) (sym f) h)
 
 module _ {J : Type 0} (judges : Judges J) (judge : J) (replicas : ℕ) (entries : List Peer) (message : List ℕ) where
   pub alone_begins : (standing : Standing) (pending : List Post) (given : Option (List ℕ)) → IsByMessage standing.view message given → BeginsAs judges message standing (begun judge replicas entries pending (stage.Over (reply_or_none given)))

@@ -98,7 +98,7 @@ module _ {J : Type 0} (judges : Judges J) (st : SessionState J) (before after : 
 
 module _ {J : Type 0} (judges : Judges J) where
   is_some : (x : Call) (o : Option Call) → o ≡ Some x → o ≢ None
-  is_some x o e none = cc e none
+  is_some x o e none = cc (e, none)
 
   pub wants_call : (posts : List Post) (at now : Stage J) (before after : Cache) (result : Result (Want Fetched) Memory) → FetchWants judges posts at now before after result → call_at now ≢ None
   wants_call posts (stage.Refreshing c f) now before after result h = is_some c (call_at now) (ap call_at h.1)
@@ -132,13 +132,13 @@ module _ {J : Type 0} (judges : Judges J) (st : SessionState J) where
   tells_end mid told c f None h tells = inl tells
   tells_end mid told c f (Some why) h tells = ⊎_elim (λ missed. inr (why.0, why.1, h, missed.0, missed.1)) (λ lacks. inl lacks) tells
 
-  pub refresh_ends : (at between now : Stage J) (why : Option (Miss × List Noted)) (c : Call) (told : Served) (mid : SessionState J) → FailureAt judges at between why → call_at between ≡ Some c → now ≡ stage.Told → TellsWhy (As now) mid c why told
-      → EndsRefresh judges (As at) (record mid { stage = stage.Over told })
-  refresh_ends (stage.Refreshing first f) between now why c told mid h call is tells other g e =
+  pub refresh_ends : (at between now : Stage J) (why : Option (Miss × List Noted)) (c : Call) (told : Served) (mid : SessionState J) (over : Stage J) → FailureAt judges at between why → call_at between ≡ Some c → now ≡ stage.Told → TellsWhy (As now) mid c why told
+      → over ≡ stage.Over told → EndsRefresh judges (As at) (record mid { stage = over })
+  refresh_ends (stage.Refreshing first f) between now why c told mid over h call is tells is_over other g e =
       let one : c ≡ other = same_some c other (sym call ∙ ap call_at h.1 ∙ ap call_at e) in
       let tells_so = subst (λ (x : Stage J). TellsWhy (As x) mid other why told) is (subst (λ (x : Call). TellsWhy (As now) mid x why told) one tells) in
-      (mid, told, tells_end mid told other g why (subst (λ (x : Fetching J). IfSome why (IsFailure judges x)) (same_fetch first other f g e) h.2) tells_so, refl)
-  refresh_ends (stage.Turning first) between now why c told mid h call is tells other g e = absurd h
-  refresh_ends (stage.Publishing first p) between now why c told mid h call is tells other g e = absurd h
-  refresh_ends (stage.Over first) between now why c told mid h call is tells other g e = absurd h
-  refresh_ends stage.Told between now why c told mid h call is tells other g e = absurd h
+      (mid, told, tells_end mid told other g why (subst (λ (x : Fetching J). IfSome why (IsFailure judges x)) (same_fetch first other f g e) h.2) tells_so, ap (λ (x : Stage J). record mid { stage = x }) is_over)
+  refresh_ends (stage.Turning first) between now why c told mid over h call is tells is_over other g e = absurd h
+  refresh_ends (stage.Publishing first p) between now why c told mid over h call is tells is_over other g e = absurd h
+  refresh_ends (stage.Over first) between now why c told mid over h call is tells is_over other g e = absurd h
+  refresh_ends stage.Told between now why c told mid over h call is tells is_over other g e = absurd h

@@ -1,8 +1,8 @@
 -- A session whose turn is awaited, and one that is over: stages that are changed in place.
 use Rattle.std.proofs.Common.{◌≡◌, ◌≢◌, inl, inr, ℕ, ◌+◌, ◌<◌, ◌≤◌, Bool, true, false, List, [], Option, Some, None, Result, Ok, Err, IfOk, IfSome, refl, sym, ap, ◌∙◌, subst}
-use Rattle.std.specs.Prelude.{result_ok}
+use Rattle.std.specs.Result.{result_ok}
 use Rattle.ivy_base.specs.declared.memory.Memory.{Memory}
-use Rattle.dht_ids.specs.declared.ask.Answer.{Answer}
+use Rattle.dht_ids.specs.declared.post.Post.{Post}
 use Rattle.dhash_client.specs.GetHead.{Judges}
 use Rattle.session_model.specs.Sessions.{Cache, Session}
 use Rattle.log_fetch.specs.declared.standing.Standing.{Standing}
@@ -86,6 +86,10 @@ module _ {J : Type 0} (judges : Judges J) (st : SessionState J) (at : Stage J) (
 
 -- ---- the fetch with which it begins anew
 
+pub renewed : {J : Type 0} (old new : SessionState J) (pending : List Post) (given : Standing) → new ≡ record old { starts = old.starts + 1; notes = []; pending = pending } → pending ≡ given.pending
+    → new ≡ record old { starts = old.starts + 1; notes = []; pending = given.pending }
+renewed old new pending given is e = is ∙ ap (λ (x : List Post). record old { starts = old.starts + 1; notes = []; pending = x }) e
+
 module _ {J : Type 0} (judges : Judges J) (old new : SessionState J) (given : Standing) where
   pub no_more_starts : 2 ≤ old.starts → new ≡ old → BeginsAnew judges old new given None
   no_more_starts many same = inr (many, same)
@@ -141,3 +145,11 @@ lack_at_turn judges st (stage.Refreshing c f) now given why turning is is_memory
 lack_at_turn judges st (stage.Publishing told p) now given why turning is is_memory over = cc turning
 lack_at_turn judges st (stage.Over told) now given why turning is is_memory over = cc turning
 lack_at_turn judges st stage.Told now given why turning is is_memory over = cc turning
+
+-- its turn was refused
+module _ {J : Type 0} (judges : Judges J) (old new : SessionState J) (given : Result Turned TurnFault) (why : TurnFault) (standing : Standing) (is : given ≡ Err why) where
+  pub turned_behind : why ≡ fault.Behind standing → IsTurned judges old new (Err (fault.Behind standing)) → IsTurned judges old new given
+  turned_behind e h = subst (IsTurned judges old new) (sym (is ∙ ap (λ (x : TurnFault). Err x) e)) h
+
+  pub turned_below : why ≡ fault.BelowTide standing → IsTurned judges old new (Err (fault.Behind standing)) → IsTurned judges old new given
+  turned_below e h = subst (IsTurned judges old new) (sym (is ∙ ap (λ (x : TurnFault). Err x) e)) h

@@ -102,7 +102,7 @@ impl<J: Judge> Session<J> {
             judge,
             replicas,
             entries,
-            pending: standing.pending,
+            pending: pending_of(standing),
             starts: 0,
             notes: Notes::of(Vec::new(alloc)),
             is_cut: false,
@@ -224,7 +224,7 @@ impl<J: Judge> Session<J> {
         match result {
             Ok(batch) => {
                 self.notes = notes;
-                self.stage = Stage::Turning(call);
+                go_to(&mut self.stage, Stage::Turning(call));
                 Next::Turn(Refresh { batch, basis: None })
             }
             Err(miss) => Next::Done(self.fail(call, &miss, notes)),
@@ -284,7 +284,7 @@ impl<J: Judge> Session<J> {
         let why = failure_at(&mut self.stage);
         let call = take_call(&mut self.stage);
         let told = self.tell(call, why);
-        self.stage = Stage::Over(told);
+        go_to(&mut self.stage, Stage::Over(told));
     }
 
     /// Tells why the refresh failed. None is want of memory.
@@ -360,10 +360,11 @@ impl<J: Judge> Session<J> {
         ensures { BeginsAnew J.judges self.old self.new standing result }
     {
         if self.starts >= MOST_STARTS {
+            drop(standing);
             return None;
         }
         let fetch = self.fetch_for(&standing);
-        self.renew(standing.pending);
+        self.renew(pending_of(standing));
         fetch.ok()
     }
 
@@ -392,11 +393,18 @@ impl<J: Judge> Session<J> {
     }
 }
 
+/// The blocks that are still to be put by that standing.
+fn pending_of(standing: Standing) -> Posts
+    ensures { result ≡ standing.pending }
+{
+    standing.pending
+}
+
 /// Goes to that stage.
 fn go_to<J: Judge>(stage: &mut Stage<J>, next: Stage<J>)
     ensures { stage.new ≡ next }
 {
-    *stage = next;
+    drop(mem::replace(stage, next));
 }
 
 /// Takes the call, which isn't answered yet.
@@ -406,7 +414,10 @@ fn take_call<J: Judge>(stage: &mut Stage<J>) -> Call
     ensures told { stage.new ≡ Stage.Told }
 {
     match mem::replace(stage, Stage::Told) {
-        Stage::Refreshing(call, _) => call,
+        Stage::Refreshing(call, fetch) => {
+            drop(fetch);
+            call
+        }
         Stage::Turning(call) => call,
         _ => unreachable!(),
     }
@@ -419,7 +430,10 @@ fn take_told<J: Judge>(stage: &mut Stage<J>) -> Served
     ensures told { stage.new ≡ Stage.Told }
 {
     match mem::replace(stage, Stage::Told) {
-        Stage::Publishing(told, _) => told,
+        Stage::Publishing(told, publishing) => {
+            drop(publishing);
+            told
+        }
         Stage::Over(told) => told,
         _ => unreachable!(),
     }
@@ -431,7 +445,7 @@ fn end<J: Judge>(stage: &mut Stage<J>)
     ensures { IfSome (told_at stage.old) (λ told. stage.new ≡ Stage.Over told) }
 {
     let told = take_told(stage);
-    *stage = Stage::Over(told);
+    go_to(stage, Stage::Over(told));
 }
 
 /// The call is to be told that memory is wanting.
@@ -440,7 +454,7 @@ fn lack<J: Judge>(stage: &mut Stage<J>)
     ensures { IfSome (call_at stage.old) (λ call. stage.new ≡ Stage.Over (lacking call)) }
 {
     let call = take_call(stage);
-    *stage = Stage::Over(no_memory(call));
+    go_to(stage, Stage::Over(no_memory(call)));
 }
 
 /// What the refresh wants. The error is want of memory.

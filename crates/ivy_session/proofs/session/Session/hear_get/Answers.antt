@@ -19,7 +19,7 @@ pub returns-in-Ok-false : goal.returns-in-Ok-false
 returns-in-Ok-false g c =
     let i = c.self.inside in
     let st : SessionState g.row.J.Denot = record { judge = i.judge; replicas = i.replicas; entries = i.entries; pending = i.pending; starts = i.starts; notes = i.notes; is_cut = i.is_cut; stage = i.stage } in
-    let heard = subst (λ failed. FetchHeard g.J.Judge.judges i.stage c.fetch_heard.new.stage c.args.cache.now c.fetch_heard.new.cache c.args.answer (Ok failed)) c.in-Ok-false.field-0-is c.in-Ok-false.ensures in
+    let heard = subst (λ failed. FetchHeard g.J.Judge.judges i.stage c.fetch_heard.new.stage c.args.cache.now c.fetch_heard.new.cache c.args.answer (Ok failed)) c.in-Ok-false.field-0-test c.in-Ok-false.ensures in
     subst (λ (x : SessionState g.row.J.Denot). IsHeard g.J.Judge.judges x (record st { stage = c.fetch_heard.new.stage }) c.args.cache.now c.fetch_heard.new.cache c.args.answer) c.self.view_is
     (fetch_goes_on g.J.Judge.judges st c.args.cache.now c.fetch_heard.new.cache c.args.answer i.stage c.fetch_heard.new.stage heard)
 
@@ -27,7 +27,7 @@ pub returns-in-Ok-true : goal.returns-in-Ok-true
 returns-in-Ok-true g c =
     let i = c.self.inside in
     let st : SessionState g.row.J.Denot = record { judge = i.judge; replicas = i.replicas; entries = i.entries; pending = i.pending; starts = i.starts; notes = i.notes; is_cut = i.is_cut; stage = i.stage } in
-    let heard = subst (λ failed. FetchHeard g.J.Judge.judges i.stage c.fetch_heard.new.stage c.args.cache.now c.fetch_heard.new.cache c.args.answer (Ok failed)) c.in-Ok-true.field-0-is c.in-Ok-true.ensures in
+    let heard = subst (λ failed. FetchHeard g.J.Judge.judges i.stage c.fetch_heard.new.stage c.args.cache.now c.fetch_heard.new.cache c.args.answer (Ok failed)) c.in-Ok-true.field-0-test c.in-Ok-true.ensures in
     subst (λ (x : SessionState g.row.J.Denot). IsHeard g.J.Judge.judges x c.end_refresh.new.self c.args.cache.now c.fetch_heard.new.cache c.args.answer) c.self.view_is
     (fetch_ends g.J.Judge.judges st c.args.cache.now c.fetch_heard.new.cache c.args.answer i.stage c.fetch_heard.new.stage c.end_refresh.new.self heard c.end_refresh.ensures)
 
