@@ -11,12 +11,14 @@ use Rattle.session_model.specs.Sessions.{Over, Refreshing}
 use Rattle.session_model.specs.Courses.{Begins, fresh_session, publishing_session}
 use Rattle.call_messages.specs.Reading.{AsksWell}
 use Rattle.log_fetch.specs.declared.asked.Asked.{Asked}
+use Rattle.log_fetch.specs.declared.note.Note.{Note as Noted}
 use Rattle.log_fetch.specs.declared.standing.Standing.{Standing as Given}
 use Rattle.log_fetch.specs.Fetching.{Fetching, FetchIsAfter, is_failed}
 use Rattle.log_fetch.specs.Standings.{asked_of, standing_of}
 use Rattle.post_publishing.specs.Publishing.{PublishingIsAfter, PublishingState, publishing_begun, stage_of}
 use Rattle.ivy_session.specs.declared.served.Call.{Call}
 use Rattle.ivy_session.specs.declared.served.Served.TheVariants as served
+use Rattle.ivy_session.specs.declared.session.Stage.{Stage}
 use Rattle.ivy_session.specs.declared.session.Stage.TheVariants as stage
 use Rattle.ivy_session.specs.States.{BeginsAs, IsSession, SessionState, begun, reply_or_none}
 use Rattle.ivy_session.proofs.Bringing.{never_missed}
@@ -75,3 +77,10 @@ module _ {J : Type 0} (judges : Judges J) (judge : J) (replicas : ℕ) (entries 
       noted = refl;
     };
   }
+
+  -- with these posts at hand, and nothing noted
+  pub begun_with : (standing : Standing) (pending other : List Post) (notes : List Noted) (at : Stage J) → other ≡ pending → notes ≡ [] → BeginsAs judges message standing (begun judge replicas entries pending at)
+      → BeginsAs judges message standing (record { judge = judge; replicas = replicas; entries = entries; pending = other; starts = 0; notes = notes; is_cut = false; stage = at })
+  begun_with standing pending other notes at e none h =
+      subst (λ (l : List Noted). BeginsAs judges message standing (record { judge = judge; replicas = replicas; entries = entries; pending = other; starts = 0; notes = l; is_cut = false; stage = at })) (sym none)
+      (subst (λ (l : List Post). BeginsAs judges message standing (begun judge replicas entries l at)) (sym e) h)

@@ -1,5 +1,4 @@
-use Rattle.std.proofs.Common.{◌≡◌, ◌+◌, [], rules, sym, subst, ◌∙◌, ap}
-use Rattle.ivy_session.specs.States.{SessionState}
+use Rattle.std.proofs.Common.{rules, sym, subst}
 use Rattle.ivy_session.specs.Ending.{BeginsAnew}
 use Rattle.ivy_session.proofs.TurnsInPlace.{renewed, starts_anew}
 use Rattle.ivy_session.proofs.session.Session.fetch_anew.Goals as goal

@@ -1,4 +1,4 @@
-use Rattle.std.proofs.Common.{◌≡◌, ◌≢◌, Ok, Err, false, true, None, ap, ◌∙◌, sym, subst}
+use Rattle.std.proofs.Common.{Ok, subst}
 use Rattle.ivy_session.specs.States.{SessionState}
 use Rattle.ivy_session.specs.Stepping.{IsHeard}
 use Rattle.ivy_session.specs.InPlace.{FetchHeard}

@@ -1,4 +1,4 @@
-use Rattle.std.proofs.Common.{Ok, Err, true, subst}
+use Rattle.std.proofs.Common.{true, subst}
 use Rattle.ivy_session.specs.States.{SessionState}
 use Rattle.ivy_session.specs.Stepping.{IsHeard}
 use Rattle.ivy_session.proofs.InPlace.{put_ends, put_is_heard}

@@ -1,4 +1,4 @@
-use Rattle.std.proofs.Common.{Ok, Err, true, subst}
+use Rattle.std.proofs.Common.{Ok, true, subst}
 use Rattle.dht_ids.specs.declared.ask.Want.{Want}
 use Rattle.dht_ids.specs.declared.post.Ack.{Ack}
 use Rattle.std.proofs.Common.{List}

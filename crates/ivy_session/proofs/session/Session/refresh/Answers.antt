@@ -1,12 +1,10 @@
-use Rattle.std.proofs.Common.{Ok, Err, subst, sym}
+use Rattle.std.proofs.Common.{Ok, subst, sym}
 use Rattle.ivy_session.specs.declared.served.Served.{Served}
 use Rattle.dht_ids.specs.declared.ask.Want.{Want}
 use Rattle.log_fetch.specs.declared.fetch.Fetched.{Fetched}
 use Rattle.ivy_session.specs.States.{SessionState}
 use Rattle.ivy_session.specs.declared.session.Next.TheVariants as next
-use Rattle.ivy_session.specs.declared.session.Stage.TheVariants as stage
 use Rattle.ivy_session.specs.Stepping.{IsNext}
-use Rattle.ivy_session.specs.Ending.{lacking}
 use Rattle.ivy_session.specs.InPlace.{FetchWants}
 use Rattle.ivy_session.proofs.Refreshed.{fetch_asks, fetch_concludes, fetch_lacks, wants_call}
 use Rattle.ivy_session.proofs.session.Session.refresh.Goals as goal
