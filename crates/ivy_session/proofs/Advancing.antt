@@ -1,5 +1,5 @@
 -- What a refresh wants behind what is at hand.
-use Rattle.std.proofs.Common.{◌≡◌, ◌≢◌, ◌⊎◌, ⊎_elim, inl, inr, ℕ, Bool, true, false, List, [], ◌∷◌, ◌++◌, Option, Some, None, Result, Ok, Err, IfOk, refl, sym, ap, ◌∙◌, subst}
+use Rattle.std.proofs.Common.{◌≡◌, ◌≢◌, ◌⊎◌, ⊎_elim, inl, inr, ℕ, false, List, [], ◌∷◌, ◌++◌, Option, Some, None, Result, Ok, Err, IfOk, refl, sym, ◌∙◌, subst}
 use Rattle.dht_ids.specs.declared.ask.Heard.{Heard}
 use Rattle.ivy_base.specs.declared.key.Key.{Key}
 use Rattle.ivy_base.specs.declared.key.PubKey.{PubKey}
@@ -10,11 +10,10 @@ use Rattle.dht_ids.specs.declared.ask.Want.{Want as Wanted}
 use Rattle.dht_ids.specs.declared.ask.Want.TheVariants as want
 use Rattle.dht_ids.specs.declared.peer.Peer.{Peer}
 use Rattle.dht_ids.specs.declared.post.Post.{Post}
-use Rattle.dhash_client.specs.declared.miss.Miss.{Miss}
 use Rattle.dhash_client.specs.GetHead.{Judges}
 use Rattle.session_model.specs.Asking.{AsksNext}
-use Rattle.session_model.specs.Brought.{Part, Want, Heads, Content, brought_in}
-use Rattle.session_model.specs.Refreshing.{Done, FailsBy, FetchesAll, Needs, RefreshEnd}
+use Rattle.session_model.specs.Brought.{Part, Want, brought_in}
+use Rattle.session_model.specs.Refreshing.{Done, FailsBy, Needs, RefreshEnd}
 use Rattle.session_model.specs.Sessions.{Cache, Gets, IsGet, Session, TakesAll, TakesSome, wanted_key}
 use Rattle.session_model.specs.Sessions.TakesSome.{none as some_none}
 use Rattle.log_fetch.specs.declared.fetch.Fetched.{Fetched}
@@ -23,13 +22,12 @@ use Rattle.log_fetch.specs.declared.fetch.State.TheVariants as state
 use Rattle.log_fetch.specs.declared.gather.Stage.{Stage}
 use Rattle.log_fetch.specs.declared.get.Get.{Get}
 use Rattle.log_fetch.specs.declared.get.Get.TheVariants as get
-use Rattle.log_fetch.specs.Fetching.{AreAll, EndsAs, Fetching, FetchIsAfter, FetchIsWanted, IsFor, IsGiven, IsSameFetch, IsSound, aim, aim_in, awaited_in, failed_in, fetch_awaited, is_failed}
+use Rattle.log_fetch.specs.Fetching.{AreAll, EndsAs, Fetching, FetchIsWanted, IsFor, IsSound, aim, aim_in, awaited_in, failed_in, fetch_awaited}
 use Rattle.log_fetch.specs.Gathering.{block_wanted, heads_wanted}
 use Rattle.ivy_session.proofs.Reaching.{end_for}
 use Rattle.ivy_session.specs.States.{IsFetching}
-use Rattle.ivy_session.specs.Stepping.{AsksOf}
 use Rattle.ivy_session.specs.Stepping.AsksOf.{gets}
-use Rattle.ivy_session.specs.Taking.{Advances, AtHand, Brings, HasNoRoute, IsSameCall, Stands, TakesHand}
+use Rattle.ivy_session.specs.Taking.{Advances, AtHand, Brings, HasNoRoute, IsSameCall, TakesHand}
 use Rattle.ivy_session.proofs.Asking.{fetch_asks_next}
 use Rattle.ivy_session.proofs.Bringing.{not_done}
 use Rattle.ivy_session.proofs.Fetches.{ComesTo, end_in, in_not_fails, is_standing, one_end, stands, wants_so}

@@ -1,8 +1,6 @@
 -- What a fetch or a put is to ask is the next ask of its get or put.
-use Rattle.std.proofs.Common.{◌≡◌, ◌≢◌, ℕ, ◌<◌, Bool, List, [], ◌∷◌, ◌++◌, length, Option, Some, None, IfSome, if◌then◌else◌, refl, sym, ap, ◌∙◌, subst}
+use Rattle.std.proofs.Common.{◌≡◌, ℕ, List, ◌∷◌, Option, Some, None, if◌then◌else◌, refl, sym, ◌∙◌, subst}
 use Rattle.log_model.specs.Vector.{Vector}
-use Rattle.ivy_base.specs.declared.key.Key.{Key}
-use Rattle.ivy_base.specs.declared.key.PubKey.{PubKey}
 use Rattle.ivy_base.specs.Naming.{head_key_of}
 use Rattle.dht_ids.specs.declared.ask.Ask.{Ask}
 use Rattle.dht_ids.specs.declared.ask.Ask.TheVariants as ask
@@ -13,13 +11,12 @@ use Rattle.dht_ids.specs.declared.post.PostKind.{PostKind}
 use Rattle.dht_ids.specs.declared.post.PostKind.TheVariants as kind
 use Rattle.dhash_client.specs.GetHead.{Judges}
 use Rattle.dhash_client.specs.Puts.{put_awaited}
-use Rattle.dhash_client.specs.declared.put.PutKind.{PutKind}
 use Rattle.dhash_client.specs.declared.put.PutKind.TheVariants as put
 use Rattle.agent_model.specs.Agent.{is_head}
 use Rattle.agent_model.specs.Standing.{Standing}
 use Rattle.session_model.specs.Asking.{AsksNext}
 use Rattle.session_model.specs.Brought.{Brought, Part, Want, Heads, Content}
-use Rattle.session_model.specs.Sessions.{Said, Session, IsGet, IsPut, put_question, wanted_key}
+use Rattle.session_model.specs.Sessions.{IsGet, put_question, wanted_key}
 use Rattle.log_fetch.specs.declared.fetch.State.{State}
 use Rattle.log_fetch.specs.declared.fetch.State.TheVariants as state
 use Rattle.log_fetch.specs.declared.gather.Stage.{Stage}

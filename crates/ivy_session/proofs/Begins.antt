@@ -1,5 +1,5 @@
 -- How a session begins.
-use Rattle.std.proofs.Common.{◌≡◌, ℕ, Bool, true, false, List, [], ◌∷◌, ◌++◌, Option, Some, None, refl, sym, ap, ◌∙◌, subst}
+use Rattle.std.proofs.Common.{◌≡◌, ℕ, Bool, true, false, List, [], Option, Some, None, refl, sym, ap, subst}
 use Rattle.log_model.specs.Vector.{Vector}
 use Rattle.log_model.specs.View.{View}
 use Rattle.dht_ids.specs.declared.peer.Peer.{Peer}
@@ -20,7 +20,7 @@ use Rattle.ivy_session.specs.declared.served.Call.{Call}
 use Rattle.ivy_session.specs.declared.served.Served.TheVariants as served
 use Rattle.ivy_session.specs.declared.session.Stage.{Stage}
 use Rattle.ivy_session.specs.declared.session.Stage.TheVariants as stage
-use Rattle.ivy_session.specs.States.{BeginsAs, IsSession, SessionState, begun, reply_or_none}
+use Rattle.ivy_session.specs.States.{BeginsAs, IsSession, begun, reply_or_none}
 use Rattle.ivy_session.proofs.Bringing.{never_missed}
 use Rattle.ivy_session.proofs.Hears.{failed_by}
 

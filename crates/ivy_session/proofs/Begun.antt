@@ -1,5 +1,5 @@
 -- Before anything was brought it is told what a refresh wants.
-use Rattle.std.proofs.Common.{◌≡◌, ◌≢◌, ◌⊎◌, ℕ, suc, ◌+◌, ◌-◌, ◌<◌, nat_lt, Bool, true, false, List, [], ◌∷◌, ◌++◌, Option, Some, None, if◌then◌else◌, refl, sym, ap, ◌∙◌, subst, inl, inr, arith}
+use Rattle.std.proofs.Common.{◌≡◌, ◌≢◌, ◌⊎◌, ℕ, suc, ◌-◌, ◌<◌, nat_lt, Bool, true, false, List, [], ◌∷◌, Option, Some, None, if◌then◌else◌, refl, sym, ◌∙◌, subst, inl, inr, arith}
 use Rattle.std.specs.Ordering.{eq_by_cmp}
 use Rattle.std.proofs.lemmas.Bool.{ltb-true}
 use Rattle.ivy_base.specs.declared.key.PubKey.{PubKey}
@@ -8,7 +8,7 @@ use Rattle.log_model.specs.Vector.{Stamp, Vector, seq_of, stamp_at}
 use Rattle.log_model.proofs.Opening.{same_owner}
 use Rattle.log_model.proofs.Owners.{owner_itself}
 use Rattle.agent_model.specs.Standing.{Chain, Standing, edge_at}
-use Rattle.session_model.specs.Brought.{Brought, Heads, Content, Part, brought_in}
+use Rattle.session_model.specs.Brought.{Heads, Content, Part, brought_in}
 use Rattle.session_model.specs.Walks.{GivesNone, Lacks, LogEnd, Tries, Walks, Wants}
 use Rattle.session_model.specs.Refreshing.{Done, Fetches, FetchesAll, Needs, Note, RefreshEnd, floors_own}
 use Rattle.session_model.specs.Sessions.{Session}

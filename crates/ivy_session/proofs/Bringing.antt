@@ -1,24 +1,22 @@
 -- What a part of what was brought tells: a block that came right has its name, what failed brought a miss last, and nobody to ask brings nothing.
-use Rattle.std.proofs.Common.{◌≡◌, ℕ, Bool, true, false, List, [], ◌∷◌, ◌++◌, map, Option, Some, None, Result, Ok, Err, refl, sym, ap, ◌∙◌, subst, append_assoc}
-use Rattle.std.proofs.lemmas.List.{append-nil, map-append}
+use Rattle.std.proofs.Common.{◌≡◌, ℕ, List, [], ◌∷◌, ◌++◌, Option, Some, None, Result, Ok, Err, refl, sym, ap, ◌∙◌, subst, append_assoc}
+use Rattle.std.proofs.lemmas.List.{map-append}
 use Rattle.ivy_base.specs.declared.key.Key.{Key}
 use Rattle.ivy_base.specs.declared.key.PubKey.{PubKey}
-use Rattle.ivy_base.specs.Naming.{name, head_key_of}
+use Rattle.ivy_base.specs.Naming.{name}
 use Rattle.log_model.specs.View.{View}
 use Rattle.log_model.specs.Vector.{Stamp, Vector}
 use Rattle.log_model.specs.Record.{Record}
 use Rattle.log_records.specs.declared.chain_fault.ChainFault.{ChainFault}
 use Rattle.log_records.specs.declared.edge.Edge.{Edge}
-use Rattle.ring_model.specs.Gets.{Got, Right, Damaged, Missing, EndsBlock, IsBlockGet}
-use Rattle.dht_ids.specs.declared.ask.Ask.TheVariants as ask
+use Rattle.ring_model.specs.Gets.{Got, Right, Damaged, Missing, EndsBlock}
 use Rattle.dht_ids.specs.declared.ask.Heard.{Heard}
 use Rattle.dht_ids.specs.declared.judge.Judged.{Judged}
 use Rattle.dht_ids.specs.declared.peer.Peer.{Peer}
 use Rattle.dhash_client.specs.declared.miss.Miss.{Miss}
-use Rattle.dhash_client.specs.Course.{Told, IsCourse, result_of}
+use Rattle.dhash_client.specs.Course.{Told, result_of}
 use Rattle.dhash_client.specs.Course.IsCourse.{no_route, of_owners}
-use Rattle.dhash_client.specs.GetBlock.{EndsGet, IsGetOfBlock, is_of_get, block_in as block_answered}
-use Rattle.block_cache.specs.Blocks.{kept}
+use Rattle.dhash_client.specs.GetBlock.{IsGetOfBlock, block_in as block_answered}
 use Rattle.agent_model.specs.Standing.{Chain, Standing}
 use Rattle.session_model.specs.Brought.{Brought, BlockOf, HeadsOf, Part, Want, brought_in}
 use Rattle.session_model.specs.Walks.{LogEnd, Misses, Stops, Tries, WalkEnd, Walks}

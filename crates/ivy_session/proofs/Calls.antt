@@ -1,5 +1,5 @@
 -- The refresh of a session: what it wants, and what it hears, as steps of the session of the definitions.
-use Rattle.std.proofs.Common.{◌≡◌, ◌≢◌, ◌⊎◌, ⊎_elim, inl, inr, ℕ, Bool, true, false, List, [], ◌∷◌, ◌++◌, map, Option, Some, None, Result, Ok, Err, refl, sym, ap, ◌∙◌, subst}
+use Rattle.std.proofs.Common.{◌≡◌, ⊎_elim, ℕ, true, false, List, [], map, Option, Some, None, Result, Ok, Err, refl, sym, ap, ◌∙◌, subst}
 use Rattle.std.specs.Option.{option_map}
 use Rattle.ivy_base.specs.declared.key.Key.{Key}
 use Rattle.ivy_base.specs.declared.memory.Memory.{Memory}
@@ -11,32 +11,30 @@ use Rattle.dhash_client.specs.declared.miss.Miss.{Miss}
 use Rattle.dhash_client.specs.GetHead.{Judges}
 use Rattle.log_records.specs.Batches.{Batch}
 use Rattle.fs_tree.specs.Bases.{basis_of}
-use Rattle.turn_model.specs.Turn.{Asked}
-use Rattle.agent_model.specs.Standing.{Chain, Refresh as ModelRefresh, Standing, chain_of}
+use Rattle.agent_model.specs.Standing.{Chain, Refresh as ModelRefresh, chain_of}
 use Rattle.session_model.specs.Brought.{brought_in}
-use Rattle.session_model.specs.Refreshing.{Done, FailsBy, Note, Refreshes}
+use Rattle.session_model.specs.Refreshing.{Done, FailsBy, Refreshes}
 use Rattle.session_model.specs.Replies.{said_no_memory, said_of, missed_reply}
 use Rattle.session_model.specs.Sessions.{Cache, Hears, Refreshing, Session, TakesAll, TakesSome}
-use Rattle.session_model.specs.Courses.{Fails, HasRefreshed, LacksMemory, ended}
+use Rattle.session_model.specs.Courses.{HasRefreshed, ended}
 use Rattle.session_model.specs.Courses.Fails.{fails as has_failed, goes_on as still_goes_on}
 use Rattle.log_fetch.specs.declared.fetch.Fetched.{Fetched}
-use Rattle.log_fetch.specs.declared.note.Note.{Note as Noted}
 use Rattle.log_fetch.specs.declared.refresh.Refresh.{Refresh}
-use Rattle.log_fetch.specs.Fetching.{Fetching, fetch_awaited}
-use Rattle.log_fetch.specs.Standings.{asked_of, notes_of, refresh_of}
+use Rattle.log_fetch.specs.Fetching.{Fetching}
+use Rattle.log_fetch.specs.Standings.{asked_of, refresh_of}
 use Rattle.dht_ids.specs.declared.ask.Want.TheVariants as want
 use Rattle.ivy_session.specs.declared.served.Call.{Call}
 use Rattle.ivy_session.specs.declared.served.Served.{Served}
 use Rattle.ivy_session.specs.declared.session.Next.{Next}
 use Rattle.ivy_session.specs.declared.session.Next.TheVariants as next
 use Rattle.ivy_session.specs.declared.session.Stage.TheVariants as stage
-use Rattle.ivy_session.specs.States.{IsCallOf, IsFetching, IsRefreshing, IsSession, IsTurning, SessionState, served_of}
+use Rattle.ivy_session.specs.States.{IsCallOf, IsFetching, IsSession, SessionState}
 use Rattle.ivy_session.specs.Stepping.{AsksOf, HeardIs, IsBatchOf, IsHeard, IsNext, NextIs}
 use Rattle.ivy_session.specs.Stepping.NextIs.{asks as next_asks, asks_again, turns, lacks_memory as next_lacks, is_unrouted}
 use Rattle.ivy_session.specs.Stepping.HeardIs.{hears as heard_so, lacks_memory as heard_lacks}
-use Rattle.ivy_session.specs.Taking.{Advances, AtHand, Brings, FailsAs, FetchHears, HasNoRoute, IsFailing, IsSameCall, Stands}
+use Rattle.ivy_session.specs.Taking.{Advances, AtHand, Brings, FetchHears, HasNoRoute, IsSameCall, Stands}
 use Rattle.ivy_session.specs.Ending.{ConcludesAs, EndsAs, TellsMiss, lacking, missing}
-use Rattle.ivy_session.proofs.Fetches.{ComesTo, end_in, fetches_by, given_of, in_not_fails, is_standing, lacks_so, one_end, refreshes_by, stands}
+use Rattle.ivy_session.proofs.Fetches.{end_in, fetches_by, given_of, in_not_fails, is_standing, lacks_so, one_end, refreshes_by, stands}
 
 -- by the same judge, from as many owners
 pub by_same : {J : Type 0} (P : J → ℕ → Type 0) (j k : J) (m n : ℕ) → j ≡ k → m ≡ n → P j m → P k n

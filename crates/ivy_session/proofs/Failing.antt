@@ -1,5 +1,5 @@
 -- Why a fetch that has failed did.
-use Rattle.std.proofs.Common.{◌≡◌, ◌⊎◌, ⊎_elim, ℕ, Bool, List, [], ◌∷◌, Option, Some, None, IfSome, Result, Ok, Err, refl, sym, ap, ◌∙◌, subst}
+use Rattle.std.proofs.Common.{◌≡◌, ⊎_elim, List, Option, Some, None, IfSome, Result, Ok, Err, sym, ◌∙◌, subst}
 use Rattle.dht_ids.specs.declared.ask.Want.TheVariants as want
 use Rattle.dhash_client.specs.declared.miss.Miss.{Miss}
 use Rattle.dhash_client.specs.GetHead.{Judges}
@@ -9,9 +9,9 @@ use Rattle.session_model.specs.Refreshing.{Done, FailsBy, Needs, RefreshEnd}
 use Rattle.session_model.specs.Sessions.{Session}
 use Rattle.log_fetch.specs.declared.fetch.Fetched.{Fetched}
 use Rattle.log_fetch.specs.declared.note.Note.{Note as Noted}
-use Rattle.log_fetch.specs.Fetching.{AreAll, EndsAs, Fetching, FetchIsWanted}
+use Rattle.log_fetch.specs.Fetching.{EndsAs, Fetching, FetchIsWanted}
 use Rattle.ivy_session.specs.Taking.{FailsAs, IsFailing, IsFailure}
-use Rattle.ivy_session.proofs.Fetches.{ComesTo, one_end}
+use Rattle.ivy_session.proofs.Fetches.{one_end}
 use Rattle.ivy_session.proofs.Hears.{failed_by}
 
 ok_or_err : (x : Batch) (miss : Miss) → Ok x ≡ Err miss → ⊥

@@ -1,5 +1,5 @@
 -- How a session's fetch stands, and its refresh by that.
-use Rattle.std.proofs.Common.{◌≡◌, ◌≢◌, ℕ, Bool, true, false, List, [], ◌∷◌, ◌++◌, Option, Some, None, Result, Ok, Err, refl, sym, ap, ◌∙◌, subst}
+use Rattle.std.proofs.Common.{◌≡◌, ℕ, true, false, List, [], ◌++◌, Option, Some, None, refl, sym, ◌∙◌, subst}
 use Rattle.dht_ids.specs.declared.post.Post.{Post}
 use Rattle.ivy_base.specs.declared.key.Key.{Key}
 use Rattle.ivy_base.specs.declared.key.PubKey.{PubKey}
@@ -10,18 +10,18 @@ use Rattle.dht_ids.specs.declared.peer.Peer.{Peer}
 use Rattle.dhash_client.specs.declared.miss.Miss.{Miss}
 use Rattle.dhash_client.specs.GetHead.{Judges}
 use Rattle.agent_model.specs.Standing.{Chain, Refresh, Standing}
-use Rattle.session_model.specs.Brought.{Brought, Part, Want, Heads, Content, brought_in}
+use Rattle.session_model.specs.Brought.{Brought, Part, Want, Content, brought_in}
 use Rattle.session_model.specs.Refreshing.{FetchesAll, Loaded, LoadEnd, LoadWants, LoadsFor, Note, RefreshEnd, Needs, FailsBy, Done, Refreshes, counting, start_of}
 use Rattle.session_model.specs.Refreshing.LoadsFor.{none as nothing_to_load, some as snapshot_to_load}
 use Rattle.session_model.specs.Refreshing.Refreshes.{loading, fetching}
 use Rattle.session_model.specs.Sessions.{Session, Refreshing, Wants}
 use Rattle.session_model.specs.Replies.{Asks, said_no_memory}
-use Rattle.session_model.specs.Courses.{HasRefreshed, LacksMemory, ended}
+use Rattle.session_model.specs.Courses.{LacksMemory, ended}
 use Rattle.turn_model.specs.Turn.{Asked}
 use Rattle.turn_model.specs.Basis.{Basis}
 use Rattle.log_fetch.specs.declared.fetch.State.{State}
 use Rattle.log_fetch.specs.declared.fetch.State.TheVariants as state
-use Rattle.log_fetch.specs.Fetching.{Fetching, FetchIsAfter, IsAsking, IsNeeded, IsSound, failed_in, fetch_awaited, fetch_wanted, free_block, is_failed, awaited_in}
+use Rattle.log_fetch.specs.Fetching.{Fetching, FetchIsAfter, IsAsking, IsSound, failed_in, fetch_awaited, fetch_wanted, free_block, is_failed, awaited_in}
 use Rattle.log_fetch.specs.Gathering.{heads_wanted, block_wanted}
 use Rattle.ivy_session.proofs.Reaching.{end_for, gathers_stand}
 use Rattle.session_laws.proofs.OneRefresh.{fetch_is_one}

@@ -1,9 +1,8 @@
 -- A refresh's fetch hears an answer.
-use Rattle.std.proofs.Common.{◌≡◌, ◌≢◌, ◌⊎◌, ⊎_elim, ℕ, Bool, true, false, List, [], ◌∷◌, ◌++◌, Option, Some, None, Result, Ok, Err, refl, sym, ap, ◌∙◌, subst}
+use Rattle.std.proofs.Common.{◌≡◌, ◌≢◌, ⊎_elim, ℕ, Bool, true, false, List, [], ◌∷◌, ◌++◌, Option, Some, None, Result, Ok, refl, sym, ap, ◌∙◌, subst}
 use Rattle.log_model.specs.Vector.{Vector}
 use Rattle.ivy_base.specs.declared.key.Key.{Key}
 use Rattle.ivy_base.specs.declared.memory.Memory.{Memory}
-use Rattle.ivy_base.specs.Naming.{name}
 use Rattle.dht_ids.specs.Asked.{told}
 use Rattle.dht_ids.specs.declared.ask.Answer.{Answer}
 use Rattle.dht_ids.specs.declared.ask.Ask.{Ask}
@@ -17,16 +16,16 @@ use Rattle.dhash_client.specs.GetHead.{Judges}
 use Rattle.block_cache.specs.Blocks.{kept}
 use Rattle.agent_model.specs.Standing.{Chain, Standing}
 use Rattle.session_model.specs.Asking.{AsksNext}
-use Rattle.session_model.specs.Brought.{Brought, BlockOf, Part, Want, brought_in}
+use Rattle.session_model.specs.Brought.{Brought, Part, Want, brought_in}
 use Rattle.session_model.specs.Refreshing.{FailsBy, FetchesAll, Needs, Note}
 use Rattle.session_model.specs.Sessions.{Cache, Gets, Hears, IsGet, Session, keeping, wanted_key, with_part}
 use Rattle.session_model.specs.Sessions.Hears.{gets_on, got}
 use Rattle.log_fetch.specs.declared.fetch.State.{State}
 use Rattle.log_fetch.specs.declared.fetch.State.TheVariants as state
-use Rattle.log_fetch.specs.Fetching.{Fetching, FetchHasHeard, FetchIsAfter, GetGoesOn, GetIsOver, IsAsking, EndsAs, awaited_in, block_in, failed_in, fetch_awaited, is_failed}
+use Rattle.log_fetch.specs.Fetching.{Fetching, FetchHasHeard, GetGoesOn, GetIsOver, IsAsking, awaited_in, block_in, failed_in, fetch_awaited, is_failed}
 use Rattle.ask_laws.proofs.AskedGets.{get_next_is_not_whole}
 use Rattle.ivy_session.specs.States.{IsFetching}
-use Rattle.ivy_session.specs.Taking.{FetchHears, IsFailing, IsHeardTo, IsSameCall, kept_back}
+use Rattle.ivy_session.specs.Taking.{FetchHears, IsHeardTo, IsSameCall, kept_back}
 use Rattle.ivy_session.proofs.Asking.{fetch_asks_next}
 use Rattle.ivy_session.proofs.Bringing.{none_kept, not_missed, one_kept, right_name}
 use Rattle.ivy_session.proofs.Fetches.{ComesTo, wants_so}

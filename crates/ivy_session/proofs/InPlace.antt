@@ -1,5 +1,5 @@
 -- Stages that are changed in place: what is wanted and heard, as steps of the session of the definitions.
-use Rattle.std.proofs.Common.{◌≡◌, ◌≢◌, Bool, true, false, List, Option, Some, None, Result, Ok, Err, IfSome, refl, sym, ap, ◌∙◌, subst}
+use Rattle.std.proofs.Common.{◌≡◌, true, List, Option, Some, Result, Ok, Err, IfSome, sym, ap, ◌∙◌, subst}
 use Rattle.ivy_base.specs.declared.memory.Memory.{Memory}
 use Rattle.dht_ids.specs.declared.ask.Answer.{Answer}
 use Rattle.dht_ids.specs.declared.ask.Ask.{Ask}

@@ -1,5 +1,5 @@
 -- A session that publishes: what it wants, and what it hears, as steps of the session of the definitions.
-use Rattle.std.proofs.Common.{◌≡◌, ◌≢◌, ◌⊎◌, ⊎_elim, inl, inr, ℕ, Bool, true, false, List, [], ◌∷◌, ◌++◌, Option, Some, None, Result, Ok, Err, refl, sym, ap, ◌∙◌, subst}
+use Rattle.std.proofs.Common.{◌≡◌, ◌≢◌, ⊎_elim, inl, inr, ℕ, Bool, true, false, List, [], ◌∷◌, ◌++◌, Option, Some, None, Result, Ok, refl, sym, ap, ◌∙◌, subst}
 use Rattle.ivy_base.specs.declared.key.Key.{Key}
 use Rattle.ivy_base.specs.declared.memory.Memory.{Memory}
 use Rattle.dht_ids.specs.Asked.{told as told_of}
@@ -11,22 +11,21 @@ use Rattle.dht_ids.specs.declared.judge.Judged.{Judged}
 use Rattle.dht_ids.specs.declared.peer.Peer.{Peer}
 use Rattle.dht_ids.specs.declared.post.Ack.{Ack}
 use Rattle.dht_ids.specs.declared.post.Post.{Post}
-use Rattle.dhash_client.specs.declared.miss.Miss.{Miss}
 use Rattle.dhash_client.specs.GetHead.{Judges}
 use Rattle.session_model.specs.Asking.{AsksNext}
-use Rattle.session_model.specs.Sessions.{Cache, Hears, IsPut, IsPutOfPost, Over, Publishing, Refreshing, Said, Session, Stage, Takes, TakesAll, acknowledged, after_put, put_question}
+use Rattle.session_model.specs.Sessions.{Cache, IsPut, IsPutOfPost, Publishing, Refreshing, Said, Session, Stage, Takes, TakesAll, acknowledged, after_put, put_question}
 use Rattle.session_model.specs.Sessions.Hears.{puts_on, puts}
 use Rattle.session_model.specs.Sessions.Takes.{posted, cached}
 use Rattle.session_model.specs.Courses.{Fails}
-use Rattle.post_publishing.specs.Publishing.{HasFirst, Passes, PublishingHasHeard, PublishingIsAfter, PublishingIsWanted, PublishingState, PutHears as Hearing, posts_of, publishing_awaited, stage_of}
+use Rattle.post_publishing.specs.Publishing.{Passes, PublishingIsAfter, PublishingIsWanted, PublishingState, PutHears as Hearing, posts_of, publishing_awaited, stage_of}
 use Rattle.post_publishing.specs.Publishing.PutHears.{puts_on as put_goes_on, puts as put_is_over}
 use Rattle.ask_laws.specs.Laws.{IsWholePutOfPost}
 use Rattle.ask_laws.proofs.AskedPuts.{post_next_is_not_whole}
 use Rattle.ivy_session.specs.declared.served.Served.{Served}
 use Rattle.ivy_session.specs.declared.session.Next.TheVariants as next
 use Rattle.ivy_session.specs.declared.session.Stage.TheVariants as stage
-use Rattle.ivy_session.specs.States.{IsPublishing, IsSession, SessionState, served_of}
-use Rattle.ivy_session.specs.Stepping.{AsksOf, HeardIs, IsHeard, IsNext, NextIs}
+use Rattle.ivy_session.specs.States.{IsSession, SessionState}
+use Rattle.ivy_session.specs.Stepping.{HeardIs, IsHeard, IsNext, NextIs}
 use Rattle.ivy_session.specs.Stepping.AsksOf.{puts as asks_of_put}
 use Rattle.ivy_session.specs.Stepping.NextIs.{asks as next_asks, settles, is_cut as next_is_cut}
 use Rattle.ivy_session.specs.Stepping.HeardIs.{hears as heard_so, is_cut as heard_is_cut}

@@ -1,5 +1,5 @@
 -- Blocks at hand are taken, one after the other, until none is that is wanted.
-use Rattle.std.proofs.Common.{◌≡◌, ◌≢◌, ℕ, Bool, true, false, List, [], ◌∷◌, ◌++◌, Option, Some, None, Result, Ok, Err, refl, sym, ap, ◌∙◌, subst}
+use Rattle.std.proofs.Common.{◌≡◌, ◌≢◌, ℕ, false, List, [], Option, Some, None, Ok, Err, refl, sym, ap, ◌∙◌, subst}
 use Rattle.ivy_base.specs.declared.key.Key.{Key}
 use Rattle.ivy_base.specs.declared.memory.Memory.{Memory}
 use Rattle.dht_ids.specs.declared.ask.Ask.{Ask}
@@ -9,7 +9,6 @@ use Rattle.dht_ids.specs.declared.post.Post.{Post}
 use Rattle.dhash_client.specs.GetHead.{Judges}
 use Rattle.block_cache.specs.Blocks.{block_of, moved_to_front}
 use Rattle.session_model.specs.Brought.{BlockOf, Content}
-use Rattle.session_model.specs.Refreshing.{Needs}
 use Rattle.session_model.specs.Sessions.{Cache, Session, Takes, TakesAll, TakesSome, Wants, pending_block, with_part}
 use Rattle.session_model.specs.Sessions.Takes.{posted, cached}
 use Rattle.session_model.specs.Sessions.TakesAll.{none as all_none, more as all_more}
@@ -18,7 +17,7 @@ use Rattle.log_fetch.specs.declared.fetch.State.{State}
 use Rattle.log_fetch.specs.declared.fetch.State.TheVariants as state
 use Rattle.log_fetch.specs.Fetching.{Fetching, FetchWasGiven, IsSameFetch, awaited_in, fetch_awaited, fetch_wanted, free_block, is_failed}
 use Rattle.ivy_session.specs.States.{IsFetching}
-use Rattle.ivy_session.specs.Taking.{HasTaken, IsAway, IsSameCall, Stands, TakesHand}
+use Rattle.ivy_session.specs.Taking.{HasTaken, IsAway, IsSameCall, TakesHand}
 use Rattle.ivy_session.proofs.Fetches.{is_standing, wants_block, wants_so}
 
 some_or_none : {T : Type 0} (x : T) → Some x ≡ None → ⊥

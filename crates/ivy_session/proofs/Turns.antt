@@ -1,45 +1,32 @@
 -- A session is told of its turn, as steps of the session of the definitions.
-use Rattle.std.proofs.Common.{◌≡◌, ◌≢◌, ◌⊎◌, ⊎_elim, inl, inr, ℕ, ◌+◌, ◌<◌, ◌≤◌, Bool, true, false, List, [], ◌∷◌, ◌++◌, Option, Some, None, Result, Ok, Err, IfOk, if◌then◌else◌, ◌==◌, refl, sym, ap, ◌∙◌, subst}
+use Rattle.std.proofs.Common.{◌≡◌, ◌⊎◌, ⊎_elim, inl, inr, ℕ, ◌+◌, ◌<◌, ◌≤◌, Bool, true, false, List, [], Some, None, Ok, Err, if◌then◌else◌, ◌==◌, refl, sym, ap, ◌∙◌, subst}
 use Rattle.std.proofs.lemmas.List.{append-nil}
-use Rattle.ivy_base.specs.declared.key.Key.{Key}
-use Rattle.ivy_base.specs.declared.key.PubKey.{PubKey}
-use Rattle.ivy_base.specs.declared.memory.Memory.{Memory}
-use Rattle.ivy_base.specs.Naming.{head_key_of, key_cmp}
 use Rattle.log_model.specs.View.{View}
-use Rattle.log_model.specs.Vector.{Stamp, Vector, seq_of, stamp_at}
-use Rattle.wire_model.specs.Rpc.{Success, SystemError, reply}
+use Rattle.wire_model.specs.Rpc.{Success, reply}
 use Rattle.nfs_model.specs.Arguments.{mount_program, program_of}
 use Rattle.nfs_model.specs.declared.arguments.Args.{Args}
 use Rattle.nfs_model.specs.declared.arguments.Args.TheVariants as args
 use Rattle.nfs_model.specs.declared.replies.Reply.{Reply}
 use Rattle.nfs_model.specs.Results.{result as bytes_of}
 use Rattle.nfs_model.specs.Reading.{mount_answer}
-use Rattle.dht_ids.specs.declared.peer.Peer.{Peer}
-use Rattle.dht_ids.specs.declared.post.Post.{Post}
 use Rattle.dhash_client.specs.GetHead.{Judges}
-use Rattle.turn_model.specs.Turn.{Asked}
-use Rattle.agent_model.specs.Standing.{Chain, Standing, edge_at}
-use Rattle.session_model.specs.Brought.{Brought}
-use Rattle.session_model.specs.Refreshing.{Note, RefreshEnd}
-use Rattle.session_model.specs.Replies.{Asks, alone_answer, said_no_memory, said_of}
-use Rattle.session_model.specs.Sessions.{Over, Publishing, Refreshing, Said, Session, in_publishing_order}
+use Rattle.agent_model.specs.Standing.{Standing}
+use Rattle.session_model.specs.Replies.{alone_answer, said_no_memory, said_of}
+use Rattle.session_model.specs.Sessions.{Over, Session}
 use Rattle.session_model.specs.Courses.{LacksMemory, anew, answered, ended}
 use Rattle.log_fetch.specs.declared.standing.Standing.{Standing as Given}
 use Rattle.log_fetch.specs.declared.turned.Turned.{Turned}
-use Rattle.log_fetch.specs.declared.turned.TurnFault.{TurnFault}
 use Rattle.log_fetch.specs.declared.turned.TurnFault.TheVariants as fault
-use Rattle.log_fetch.specs.Fetching.{Fetching, FetchIsAfter, is_failed}
+use Rattle.log_fetch.specs.Fetching.{Fetching}
 use Rattle.log_fetch.specs.Standings.{asked_of, notes_of, standing_of}
 use Rattle.post_publishing.specs.Publishing.{PublishingIsAfter, PublishingState, publishing_begun, stage_of}
 use Rattle.ivy_session.specs.declared.served.Call.{Call}
-use Rattle.ivy_session.specs.declared.served.Served.{Served}
 use Rattle.ivy_session.specs.declared.served.Served.TheVariants as served
 use Rattle.ivy_session.specs.declared.session.Stage.{Stage}
 use Rattle.ivy_session.specs.declared.session.Stage.TheVariants as stage
-use Rattle.ivy_session.specs.States.{IsCallOf, IsSession, IsTurning, SessionState, served_of}
-use Rattle.ivy_session.specs.Stepping.{IsAnswered, IsRefused, IsTurned, TurnedIs}
-use Rattle.ivy_session.specs.Taking.{Stands}
-use Rattle.ivy_session.specs.Ending.{BeginsAnew, IsFetchFor, IsNew, lacking, replying}
+use Rattle.ivy_session.specs.States.{IsCallOf, IsSession, SessionState, served_of}
+use Rattle.ivy_session.specs.Stepping.{IsRefused, IsTurned, TurnedIs}
+use Rattle.ivy_session.specs.Ending.{BeginsAnew, IsFetchFor, lacking, replying}
 use Rattle.ivy_session.proofs.Begins.{begun_on}
 use Rattle.ivy_session.proofs.Begun.{first_stands}
 use Rattle.ivy_session.proofs.Fetches.{lacks_so}

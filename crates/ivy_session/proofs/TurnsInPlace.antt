@@ -1,10 +1,10 @@
 -- A session whose turn is awaited, and one that is over: stages that are changed in place.
-use Rattle.std.proofs.Common.{◌≡◌, ◌≢◌, inl, inr, ℕ, ◌+◌, ◌<◌, ◌≤◌, Bool, true, false, List, [], Option, Some, None, Result, Ok, Err, IfOk, IfSome, refl, sym, ap, ◌∙◌, subst}
+use Rattle.std.proofs.Common.{◌≡◌, ◌≢◌, inl, inr, ℕ, ◌+◌, ◌<◌, ◌≤◌, true, false, List, [], Some, None, Result, Ok, Err, IfOk, IfSome, refl, sym, ap, ◌∙◌, subst}
 use Rattle.std.specs.Result.{result_ok}
 use Rattle.ivy_base.specs.declared.memory.Memory.{Memory}
 use Rattle.dht_ids.specs.declared.post.Post.{Post}
 use Rattle.dhash_client.specs.GetHead.{Judges}
-use Rattle.session_model.specs.Sessions.{Cache, Session}
+use Rattle.session_model.specs.Sessions.{Cache}
 use Rattle.log_fetch.specs.declared.standing.Standing.{Standing}
 use Rattle.log_fetch.specs.declared.turned.Turned.{Turned}
 use Rattle.log_fetch.specs.declared.turned.TurnFault.{TurnFault}
@@ -21,7 +21,7 @@ use Rattle.ivy_session.specs.States.{SessionState, awaited_at, is_told, is_turni
 use Rattle.ivy_session.specs.Stepping.{IsNext, IsTurned, NextIs}
 use Rattle.ivy_session.specs.Stepping.NextIs.{is_over}
 use Rattle.ivy_session.specs.Ending.{BeginsAnew, lacking, replying}
-use Rattle.ivy_session.specs.InPlace.{call_at, is_publishing, is_refreshing, told_at}
+use Rattle.ivy_session.specs.InPlace.{call_at, is_publishing, told_at}
 use Rattle.ivy_session.proofs.Turns.{begins_anew, is_cut_then, lacks_anew, lacks_turn, publishes_then}
 
 some_or_none : {T : Type 0} (x : T) → Some x ≡ None → ⊥

@@ -400,7 +400,8 @@ fn pending_of(standing: Standing) -> Posts
     standing.pending
 }
 
-/// Goes to that stage.
+/// Goes to that stage. What is left of the one before is dropped by a call, so that whatever changes a stage isn't proved
+/// over all of its parts once more.
 fn go_to<J: Judge>(stage: &mut Stage<J>, next: Stage<J>)
     ensures { stage.new ≡ next }
 {
