@@ -57,3 +57,11 @@ pub mod SessionLines
 pub mod HeadlineOfPublishing
 pub mod HeadlineOfLines
 pub mod HeadlineOfScripts
+pub mod CalmNodes
+pub mod CalmPuts
+pub mod CalmStates
+pub mod CalmSteps
+pub mod CalmScenes
+pub mod CalmLines
+pub mod CalmCommands
+pub mod CalmRuns

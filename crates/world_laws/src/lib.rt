@@ -23,6 +23,7 @@
 //! can be saved). Nothing here runs, so there are no costs.
 #![tactic(auto)]
 
+ghost use Rattle.world_laws.specs.Calm.{HasSameRing, RingStays};
 ghost use Rattle.world_laws.specs.Frames.{DamageLinesKeep, EachReplyBySteps, HeadlineOfRuns, JoinLinesKeep, KeeperLinesKeep, LinesKeepByThese, LogLinesKeep, MildChangesKeep, MoreBlocksKeep, RestartLinesKeep, RingLinesKeep, RoundLinesKeep, StillLinesKeep, StopLinesKeep, UseLinesKeep, ViewLinesKeep};
 ghost use Rattle.world_laws.specs.Kinds.{LineHasOneKind};
 ghost use Rattle.world_laws.specs.Laws.{AlikeTurnsAnswerAlike, AllStepsKeep, CallLinesKeep, CallsBegin, ClashIsDecided, EmptyKeeps, FewerStayApart, FreshTurnsAreAnswered, GetsBringKeep, GetsGoOnKeep, HeadlineBySteps, HeadsAreSavedFirst, KeptOnce, KnownIsOne, LackingKeeps, LackingStepsKeep, LeafSignsOnce, LinesKeepBySteps, ManyStepsKeep, MetGrows, OneTruth, OpenLineKeeps, OtherLogsDontCount, OthersHaveNoTurn, PublishingKeeps, PutsKeep, ReceivingKeeps, RefreshBrings, RefreshEndsInTurn, RefreshMayTurn, ScriptsBySteps, SecondTurnIsAnswered, SettlingKeeps, StepsKeepByTurns, StillLinesChangeNothing, TakingKeeps, UpperLeavesSignOnce, VainAsksKeep, WholePublishingKeeps};
@@ -216,4 +217,10 @@ pub fn headline_by_steps()
     ensures headline { HeadlineBySteps }
     ensures scripts { ScriptsBySteps }
     ensures all { EachReplyBySteps }
+{}
+
+/// A law and no code: in a calm script in which no node joins or stops and no round is made, the ring is settled at each line from
+/// the one that made it on.
+pub fn rings_stay()
+    ensures { RingStays HasSameRing }
 {}

@@ -1,0 +1,175 @@
+-- Runs in which the ring stays: from the line that made it on, it is settled, and what was acknowledged is held.
+use Rattle.std.proofs.Common.{◌≡◌, ◌⊎◌, inl, inr, ⊎_elim, ℕ, ◌+◌, ◌*◌, ◌^◌, ◌<◌, ◌≤◌, Bool, true, false, cond, not, ◌&&◌, List, [], ◌∷◌, ◌++◌, length, map, filter, take, Option, Some, None, IfSome, refl, sym, ap, ◌∙◌, subst, arith, nat_lt, Contains, append_assoc, is_some, option_map}
+use Rattle.std.specs.List.{AllByRecursion}
+use Rattle.std.specs.Option.{option_map_or}
+use Rattle.std.proofs.lemmas.Bool.{lt-ltb}
+use Rattle.ivy_base.specs.declared.key.Key.{Key}
+use Rattle.ivy_base.specs.declared.key.PubKey.{PubKey}
+use Rattle.ivy_base.specs.declared.operation.Moment.{Moment}
+use Rattle.ivy_base.specs.Naming.{NamesTellApart, head_key_of, name}
+use Rattle.ring_model.specs.Blocks.{IsAtLeast}
+use Rattle.ring_model.specs.Circle.{number}
+use Rattle.ring_model.specs.Members.{IsAmong, following, owners}
+use Rattle.ring_model.specs.Ring.{IsCoveredRing, IsSettledRing, Links}
+use Rattle.ring_model.proofs.Lists.{all-among, all_from, filter_all, filter_none, some_same}
+use Rattle.ring_model.proofs.Settled.{few_stops_covered}
+use Rattle.log_heads.specs.Signed.{IsSignedHead, hss_judged}
+use Rattle.log_heads.proofs.SignedHeads.{signed_heads}
+use Rattle.log_model.proofs.Lists.{both, each}
+use Rattle.log_model.specs.Spelling.{IsMoment, head_block}
+use Rattle.log_model.specs.Vector.{Stamp}
+use Rattle.wire_model.specs.Xdr.{opaque, word}
+use Rattle.wire_model.proofs.OneReading.{same_fronts}
+use Rattle.hss_keys.specs.Signer.{Signer, hss_key_of, owner_of}
+use Rattle.dht_ids.specs.Peers.{place}
+use Rattle.dht_ids.specs.declared.judge.Judged.{Judged}
+use Rattle.dht_ids.specs.declared.peer.Peer.{Peer}
+use Rattle.dht_ids.specs.declared.post.Post.{Post}
+use Rattle.agent_model.specs.Agent.{is_head}
+use Rattle.node_store.specs.Stores.{Block}
+use Rattle.node_store.specs.declared.kind.Kind.{Kind}
+use Rattle.node_store.specs.declared.kind.Kind.TheVariants.{Content, Head}
+use Rattle.script_driver.specs.Run.{Outcome, Goes}
+use Rattle.script_model.specs.declared.command.Command.{Command}
+use Rattle.script_model.specs.declared.command.Command.TheVariants as command
+use Rattle.script_model.specs.Lines.{command_of}
+use Rattle.world_model.specs.Agents.{Agent, Kept, own}
+use Rattle.world_model.specs.Nodes.{Node}
+use Rattle.world_model.specs.World.{Participant, World, empty_world, named_bytes, node_at, participant}
+use Rattle.world_model.specs.Story.{Story, empty_story}
+use Rattle.world_model.specs.Logs.{Played, goes_if}
+use Rattle.world_model.specs.Ring.{AreSettled, RingLine, empty_node, first_peers, in_ring_order, live_in_order}
+use Rattle.world_model.specs.Ring.AreSettled.{none as nobody, more as one_more}
+use Rattle.world_model.specs.Ring.RingLine.{refused as ring_refused, exceeds as ring_exceeds, makes as ring_makes}
+use Rattle.world_model.specs.Step.{IvyStep}
+use Rattle.round_laws.specs.RingOf.{IsCoveredIn, IsSettledIn, links_in, lives_in}
+use Rattle.round_laws.specs.Holding.{held_in, rank}
+use Rattle.round_laws.proofs.Nodes.{Shape, at_among, lives_by, lives_shape, made_by, made_shape, order_by, order_shape, shape}
+use Rattle.round_laws.proofs.Ringing.{ring_line_settles}
+use Rattle.round_laws.proofs.Rounding.{base_of, shapes_of, within_of}
+use Rattle.round_laws.proofs.Settling.{length_made, settled_by}
+use Rattle.world_laws.specs.Calm.{AckedIsHeld, Calmly, HasSameRing, IsCalmAt, IsQuiet, RingStays, Since, Stopped, post_rank, rank_in}
+use Rattle.world_laws.specs.Calm.Calmly.{none as calmly_none, more as calmly_more}
+use Rattle.world_laws.specs.Keeps.{Keeps, SignsOnce, sealed_with}
+use Rattle.world_laws.specs.Laws.{LinesKeep}
+use Rattle.world_laws.proofs.AllLines.{does_line}
+use Rattle.world_laws.proofs.Bringing.{found_named}
+use Rattle.world_laws.proofs.FirstWorld.{empty_keeps}
+use Rattle.world_laws.proofs.PublicKeys.{owner_is_key}
+use Rattle.world_laws.proofs.SignedHeads.{from_map}
+use Rattle.world_laws.proofs.CalmNodes.{IsHeld, IsIn, IsMadeRing, IsRing}
+use Rattle.world_laws.proofs.CalmPuts.{IsAckHeld, block_of, kind_of}
+use Rattle.world_laws.proofs.CalmStates.{AreApart, IsGood, IsLeft, IsUpTo, OfContent, OfHeads}
+use Rattle.world_laws.proofs.CalmLines.{LineGoes, goes_nowhere, goes_then}
+use Rattle.world_laws.proofs.CalmCommands.{command_goes}
+
+-- ---- the ring that was made
+
+all_live : {live : List Peer} {r : ℕ} {peers : List Peer} {nodes : List Node} → AreSettled live r peers nodes → AllByRecursion (λ s. s.1 ≡ true) (map shape nodes)
+all_live nobody = tt
+all_live (one_more state is rest) = (refl, all_live rest)
+
+all_empty : {live : List Peer} {r : ℕ} {peers : List Peer} {nodes : List Node} → AreSettled live r peers nodes → AllByRecursion (λ n. n.blocks ≡ []) nodes
+all_empty nobody = tt
+all_empty (one_more state is rest) = (refl, all_empty rest)
+
+goes_to : {one other : World} → Goes one [] ≡ Goes other [] → one ≡ other
+goes_to e = cc
+
+-- the ring of a line, and the world that it leaves
+pub record IsFirst (r : ℕ) (w made : World) : Type 0 where
+  pub ring : IsMadeRing r (shapes_of made) (links_in made)
+  pub still : IsRing r (shapes_of made) (links_in made) made.asked made
+  pub empty : AllByRecursion (λ n. n.blocks ≡ []) made.nodes
+  pub rest : made ≡ record w { replicas = Some r; nodes = made.nodes }
+
+pub first_of : (w made : World) (count r : ℕ) → w.lost ≡ [] → RingLine w count r (Goes made []) → IsFirst r w made
+first_of w made count r lost line = by (Goes made []) line refl
+  where
+    settles : (made : World) → RingLine w count r (Goes made []) → AllByRecursion (λ s. s.1 ≡ true) (map shape made.nodes) → AllByRecursion (λ n. n.blocks ≡ []) made.nodes → made ≡ record w { replicas = Some r; nodes = made.nodes } → IsFirst r w made
+    settles made line live empty rest =
+        let s = ring_line_settles w made count r [] line in
+        let b = base_of r made made.asked s.0 (λ k above most h. absurd (omega (arith, above, most))) in
+        let size = length_made made.nodes in
+        let few = s.2 in
+        let within = within_of r made s.0 in
+        record {
+          ring = record {
+            apart = b.apart;
+            owned = b.replicas;
+            live = live;
+            settled = settled_by r made (order_by (shapes_of made)) (lives_by (shapes_of made)) (links_in made) (order_shape made) (lives_shape made) refl s.1;
+            few = omega (arith, size, few);
+          };
+          still = record {
+            within = record { shapes = within.shapes; known = within.known; losses = ap (λ (v : World). v.lost) rest ∙ lost; asked = within.asked };
+            linked = refl;
+            replicas = ap (λ (v : World). v.replicas) rest;
+          };
+          empty = empty;
+          rest = rest;
+        }
+
+    by : (o : Outcome World) → RingLine w count r o → o ≡ Goes made [] → IsFirst r w made
+    by _ (ring_refused h) e = absurd cc
+    by _ (ring_exceeds h g) e = absurd cc
+    by _ (ring_makes nodes h g settled) e =
+        let is : record w { replicas = Some r; nodes = nodes } ≡ made = goes_to e in
+        subst (IsFirst r w) is (settles (record w { replicas = Some r; nodes = nodes }) (ring_makes nodes h g settled) (all_live settled) (all_empty settled) refl)
+
+-- ---- runs
+
+some_command : (c d : Command) → Some c ≡ Some d → c ≡ d
+some_command c d e = cc e
+
+module _ (r : ℕ) (base : List Shape) (links : Peer → Links Peer) (start : ℕ) (ring : IsMadeRing r base links) (Met Left : List ℕ → Type 0) where
+  pub runs_so : {v w : Played} {since after : Since} {lines : List (List ℕ)} → Calmly r v since lines w after → HasSameRing lines → IsRing r base links start v.0 → LineGoes r base links start ring Met Left v.0 v.1 w.0 w.1
+  runs_so {v = v} calmly_none same h = goes_nowhere r base links start ring Met Left v.0 v.1
+  runs_so (calmly_more {w = v} {mid = mid} {next = next} {line = line} c output is calm step rest) same h =
+      let done = does_line v mid output (command_of line) step in
+      let one = command_goes r base links start ring Met Left v mid done.0 output h.replicas (subst (λ o. IfSome o IsQuiet) done.1 same.0) done.2 in
+      goes_then r base links start ring Met Left v.0 mid.0 next.0 v.1 mid.1 next.1 one (runs_so rest same.1 (one.still h))
+
+  pub settled_so : (w : World) → IsRing r base links start w → IsSettledIn w r
+  settled_so w h =
+      subst (λ l. IsSettledRing place r 160 (live_in_order w) (lives_in w) l) (sym h.linked)
+      (subst (λ l. IsSettledRing place r 160 (live_in_order w) l links) (sym (lives_shape w ∙ ap lives_by h.within.shapes))
+      (subst (λ l. IsSettledRing place r 160 l (lives_by base) links) (sym (order_shape w ∙ ap order_by h.within.shapes)) ring.settled))
+
+pub covered_so : (w : World) (r : ℕ) → IsSettledIn w r → IsCoveredIn w r
+covered_so w r s = subst (λ l. IsCoveredRing place r l (lives_in w) (links_in w)) all (few_stops_covered place r 160 (live_in_order w) (lives_in w) (links_in w) (record { lived = lives_in w; settled = s; members = s.living; few = few }))
+  where
+    living : AllByRecursion (λ m. lives_in w m ≡ true) (live_in_order w)
+    living = all_from (λ m. lives_in w m ≡ true) (live_in_order w) s.lives_all
+
+    all : filter (lives_in w) (live_in_order w) ≡ live_in_order w
+    all = filter_all (lives_in w) (live_in_order w) living
+
+    none_stopped : filter (λ m. not (lives_in w m)) (live_in_order w) ≡ []
+    none_stopped = filter_none (λ m. not (lives_in w m)) (live_in_order w) (all_from (λ m. not (lives_in w m) ≡ false) (live_in_order w) (λ m i. ap not (s.lives_all m i)))
+
+    few : length (filter (λ m. not (lives_in w m)) (live_in_order w)) < r
+    few = let size = ap length none_stopped in let pos = s.positive in omega (arith, size, pos)
+
+-- a calm run in which the ring stays: its ring, and how the world goes on from there
+pub record IsStillRun (r : ℕ) (w : Played) (Met Left : List ℕ → Type 0) : Type 0 where
+  pub made : World
+  pub now : Moment
+  pub first : IsFirst r (record empty_world { now = now }) made
+  pub goes : LineGoes r (shapes_of made) (links_in made) made.asked first.ring Met Left made empty_story w.0 w.1
+
+pub run_of : (r : ℕ) (w : Played) (since : Since) (lines : List (List ℕ)) (Met Left : List ℕ → Type 0) → HasSameRing lines → IsCalmAt r w since lines → IsStillRun r w Met Left
+run_of r w since lines Met Left same calm =
+    let first = first_of (record empty_world { now = calm.fresh.0 }) calm.made calm.count r refl (subst (λ (v : Played). RingLine v.0 calm.count r (Goes calm.made [])) calm.fresh.2 calm.rings) in
+    record {
+      made = calm.made;
+      now = calm.fresh.0;
+      first = first;
+      goes = runs_so r (shapes_of calm.made) (links_in calm.made) calm.made.asked first.ring Met Left (subst (λ (v : Played). Calmly r (calm.made, v.1) (Stopped 0) lines w since) calm.fresh.2 calm.calmly) same first.still;
+    }
+
+pub ring_stays : RingStays HasSameRing
+ring_stays r w count lines same calm =
+    let run = run_of r w (Stopped count) lines (λ b. Unit {0}) (λ b. Unit {0}) same calm in
+    let settled = settled_so r (shapes_of run.made) (links_in run.made) run.made.asked run.first.ring (λ b. Unit {0}) (λ b. Unit {0}) w.0 (run.goes.still run.first.still) in
+    (covered_so w.0 r settled, λ none. settled)
