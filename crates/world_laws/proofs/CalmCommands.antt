@@ -186,7 +186,7 @@ module _ (r : ℕ) (base : List Shape) (links : Peer → Links Peer) (start : �
         let held : HeldStays w next = λ key kind least m i. b.1 key kind least m (a.1 key kind least m i) in
         let all = each_append (λ (x : Heard). IsTrueAt r base links start ring next (Some p) x.kind x) (told_all (ask.Route p.key) put.looks) (told_all (put_question p) put.asks) (more_heard r base links start ring mid next (Some p) (told_all (ask.Route p.key) put.looks) second.grows b.1 a.2) b.2 in
         let ends = put_ends r base links start ring next p (told_all (ask.Route p.key) put.looks ++ told_all (put_question p) put.asks) put.came (second.still (first_part.still h)) all
-            (subst (λ es. IsCourse p.key (put_question p) es (EndsPut r) (told_all (ask.Route p.key) put.looks ++ told_all (put_question p) put.asks) put.came) (entries_are r base links start ring Met Left w h) put.whole) in
+        (subst (λ es. IsCourse p.key (put_question p) es (EndsPut r) (told_all (ask.Route p.key) put.looks ++ told_all (put_question p) put.asks) put.came) (entries_are r base links start ring Met Left w h) put.whole) in
         good_later r base links start ring Met Left w next st (record st { acked = st.acked ++ made }) g more held b.0 (second.pending (first_part.pending g.pending)) (second.sessions ∙ first_part.sessions)
         (each_append (IsAckHeld r base links start ring next) st.acked made (still_acked r base links start ring w next st.acked more held g.acked) (came_so (acknowledged put.came) refl ends));
   }

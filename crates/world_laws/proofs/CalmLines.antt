@@ -148,8 +148,8 @@ module _ (r : ℕ) (base : List Shape) (links : Peer → Links Peer) (start : �
         let between = changed_more end.world v ps grows in
         let up_end = less_up_to r base links start ring Met Left end.world v between up in
         let both = g.good apart up_end (subst (IsRing r base links start) (sym e) h)
-            (subst (λ x. IsGood r base links start ring Met Left x c.story) (sym e) (record { kinds = good.kinds; acked = subst (AllByRecursion (IsAckHeld r base links start ring w)) (sym a) good.acked; pending = good.pending; sessions = good.sessions }))
-            (subst (λ x. InStep r base links start ring x c.session) (sym e) (step h good)) in
+        (subst (λ x. IsGood r base links start ring Met Left x c.story) (sym e) (record { kinds = good.kinds; acked = subst (AllByRecursion (IsAckHeld r base links start ring w)) (sym a) good.acked; pending = good.pending; sessions = good.sessions }))
+        (subst (λ x. InStep r base links start ring x c.session) (sym e) (step h good)) in
         (changes_go end.world v end.story su n l k o ps grows (λ i ss. sess ss both.1) f).good apart up (g.still (subst (IsRing r base links start) (sym e) h)) both.0;
   }
 

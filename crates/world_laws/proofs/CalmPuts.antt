@@ -325,7 +325,7 @@ module _ (r : ℕ) (base : List Shape) (links : Peer → Links Peer) (start : �
       let some : 1 ≤ answered_in holds asks = ⊎_elim (λ many. let pos = ring.settled.positive in omega (arith, many, pos)) (λ few. few.1) put.ends in
       let one = some_holds asks some in
       let own = asked_own r ring.settled.positive (all_from_key p.key) owned (distinct_from_place (order_by base) (number p.key) ring.settled.ascending) is asks (λ t. r ≤ answered_in is_of_put t)
-          (λ t long among. subst (λ n. r ≤ n) (sym (all_answered is_of_put t (answer_all asks t (IsPutTrue w p) (λ s g. g.0) h among))) long) put.asks one.0.0 (among_nodes one.0 asks one.1) in
+      (λ t long among. subst (λ n. r ≤ n) (sym (all_answered is_of_put t (answer_all asks t (IsPutTrue w p) (λ s g. g.0) h among))) long) put.asks one.0.0 (among_nodes one.0 asks one.1) in
       (one.0.0, own, (all-among (IsPutTrue w p) one.0 asks h one.1).1 (owner_made p.key one.0.0 own) one.2)
 
   pub put_ends : (w : World) (p : Post) (trail : List Heard) (came : Result Bool Miss) → IsRing r base links start w → AreTrue w (Some p) trail → IsPutOfPost r (entries_by base) p trail came → acknowledged came ≡ true → IsAckHeld w p

@@ -125,11 +125,15 @@ module _ (w : World) (n : List ℕ) (p q : Participant) (met : List (List ℕ)) 
   placed_more = record {
     met = grows;
     left = λ b h.
-        let found : participant placed h.0 ≡ Some (put_in h.1) = found_mapped put_in put_name w.participants h.0 h.1 h.2 in
-        (h.0, put_in h.1, found, ⊎_elim
-        (λ same. subst (λ (o : Participant). Contains o.left b) (sym same) h.3)
-        (λ mine. subst (λ (o : Participant). Contains o.left b) (sym mine.1) (left b (subst (λ (o : Participant). Contains o.left b) mine.0 h.3)))
-        (is_other h.0 h.1 h.2));
+        let found : participant placed h.0 ≡ Some (put_in h.1) = found_mapped put_in put_name w.participants h.0 h.1 h.2 in (
+          h.0,
+          put_in h.1,
+          found,
+          ⊎_elim
+              (λ same. subst (λ (o : Participant). Contains o.left b) (sym same) h.3)
+              (λ mine. subst (λ (o : Participant). Contains o.left b) (sym mine.1) (left b (subst (λ (o : Participant). Contains o.left b) mine.0 h.3)))
+              (is_other h.0 h.1 h.2),
+        );
   }
 
   pub placed_pending : ArePending w → AllByRecursion (IsOwnPost placed) q.agent.pending → ArePending placed
@@ -146,9 +150,9 @@ made_left p posts b h = met_stays p.left (heads_by posts) b h
 
 pub made_own : (v : World) (n : List ℕ) (p : Participant) (met : List (List ℕ)) (posts : List Post) → participant v n ≡ Some (having_made p posts) → v.met ≡ met_by met posts → AllByRecursion (IsOwnPost v) posts
 made_own v n p met posts is e = each_from (IsOwnPost v) posts (λ post among. (
-    subst (λ m. Contains m post.bytes) (sym e) (met_then met (map (λ (x : Post). x.bytes) posts) post.bytes (into_map (λ (x : Post). x.bytes) posts post among)),
-    λ head. (n, having_made p posts, is, met_then p.left (heads_by posts) post.bytes (into_map (λ (x : Post). x.bytes) _ post (in_filter (λ (x : Post). is_head x.kind) posts post among head))),
-  ))
+  subst (λ m. Contains m post.bytes) (sym e) (met_then met (map (λ (x : Post). x.bytes) posts) post.bytes (into_map (λ (x : Post). x.bytes) posts post among)),
+  λ head. (n, having_made p posts, is, met_then p.left (heads_by posts) post.bytes (into_map (λ (x : Post). x.bytes) _ post (in_filter (λ (x : Post). is_head x.kind) posts post among head))),
+))
 
 -- ---- sessions and worlds
 

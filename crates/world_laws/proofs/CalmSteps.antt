@@ -115,8 +115,8 @@ module _ (r : ℕ) (base : List Shape) (links : Peer → Links Peer) (start : �
         held : question ≡ put_question p → (is_of_put given ≡ true) × (IsAmong node (made_by base) → holds given ≡ true → IsHeldFor next p node)
         held g =
             let both = put_is_held (OfContent r base links start ring Met Left) (OfHeads r base links start ring Met Left) apart r base links start ring w next node (kind_of p) p.key p.bytes given
-                (subst (Fits (OfContent r base links start ring Met Left) (OfHeads r base links start ring Met Left)) (question_is p) (post_fits r base links start ring Met Left w p up own)) h kinds
-                (subst (λ q. FateOf hss_judged w node q given next) (g ∙ question_is p) fate) in
+            (subst (Fits (OfContent r base links start ring Met Left) (OfHeads r base links start ring Met Left)) (question_is p) (post_fits r base links start ring Met Left w p up own)) h kinds
+            (subst (λ q. FateOf hss_judged w node q given next) (g ∙ question_is p) fate) in
             (both.0, λ made taken. record { held = (both.1 made taken).0; met = (asked_more fate).met p.bytes own.0; named = λ e. (content_so e (both.1 made taken).1).1 })
 
         by_kind : (b : Bool) → (is_of_put given ≡ true) × (IsAmong node (made_by base) → holds given ≡ true → IsHeldFor next p node)

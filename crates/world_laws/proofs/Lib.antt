@@ -65,3 +65,4 @@ pub mod CalmScenes
 pub mod CalmLines
 pub mod CalmCommands
 pub mod CalmRuns
+pub mod CalmHeld

@@ -23,10 +23,10 @@
 //! can be saved). Nothing here runs, so there are no costs.
 #![tactic(auto)]
 
-ghost use Rattle.world_laws.specs.Calm.{HasSameRing, RingStays};
+ghost use Rattle.world_laws.specs.Calm.{AckedIsHeld, HasSameRing, RingStays};
 ghost use Rattle.world_laws.specs.Frames.{DamageLinesKeep, EachReplyBySteps, HeadlineOfRuns, JoinLinesKeep, KeeperLinesKeep, LinesKeepByThese, LogLinesKeep, MildChangesKeep, MoreBlocksKeep, RestartLinesKeep, RingLinesKeep, RoundLinesKeep, StillLinesKeep, StopLinesKeep, UseLinesKeep, ViewLinesKeep};
 ghost use Rattle.world_laws.specs.Kinds.{LineHasOneKind};
-ghost use Rattle.world_laws.specs.Laws.{AlikeTurnsAnswerAlike, AllStepsKeep, CallLinesKeep, CallsBegin, ClashIsDecided, EmptyKeeps, FewerStayApart, FreshTurnsAreAnswered, GetsBringKeep, GetsGoOnKeep, HeadlineBySteps, HeadsAreSavedFirst, KeptOnce, KnownIsOne, LackingKeeps, LackingStepsKeep, LeafSignsOnce, LinesKeepBySteps, ManyStepsKeep, MetGrows, OneTruth, OpenLineKeeps, OtherLogsDontCount, OthersHaveNoTurn, PublishingKeeps, PutsKeep, ReceivingKeeps, RefreshBrings, RefreshEndsInTurn, RefreshMayTurn, ScriptsBySteps, SecondTurnIsAnswered, SettlingKeeps, StepsKeepByTurns, StillLinesChangeNothing, TakingKeeps, UpperLeavesSignOnce, VainAsksKeep, WholePublishingKeeps};
+ghost use Rattle.world_laws.specs.Laws.{AlikeTurnsAnswerAlike, AllStepsKeep, CallLinesKeep, CallsBegin, ClashIsDecided, EmptyKeeps, FewerStayApart, FreshTurnsAreAnswered, GetsBringKeep, GetsGoOnKeep, HeadlineBySteps, HeadsAreSavedFirst, KeptOnce, KnownIsOne, LackingKeeps, LackingStepsKeep, LeafSignsOnce, LinesKeep, LinesKeepBySteps, ManyStepsKeep, MetGrows, OneTruth, OpenLineKeeps, OtherLogsDontCount, OthersHaveNoTurn, PublishingKeeps, PutsKeep, ReceivingKeeps, RefreshBrings, RefreshEndsInTurn, RefreshMayTurn, ScriptsBySteps, SecondTurnIsAnswered, SettlingKeeps, StepsKeepByTurns, StillLinesChangeNothing, TakingKeeps, UpperLeavesSignOnce, VainAsksKeep, WholePublishingKeeps};
 
 /// A law and no code: of any blocks, names tell them apart, or two of them clash.
 pub fn clashes_are_decided()
@@ -223,4 +223,10 @@ pub fn headline_by_steps()
 /// the one that made it on.
 pub fn rings_stay()
     ensures { RingStays HasSameRing }
+{}
+
+/// A law and no code: where each line leaves a world that keeps what it should, in such a script an owner of its key holds each
+/// post of which a put was acknowledged, or a newer head.
+pub fn acknowledged_is_held()
+    ensures { LinesKeep → AckedIsHeld HasSameRing }
 {}
