@@ -166,7 +166,7 @@ module _ (r : ℕ) (base : List Shape) (links : Peer → Links Peer) (start : �
       for_data : IsForData question
       for_data = ⊎_elim (λ g. subst IsForData (sym g) tt) (λ g. subst IsForData (sym g) (put_data p)) is_of
 
-  fates_split : (question : Ask) (looks : Told) (rest asks : List (Peer × (Ask × Answer))) (w next : World) → asks ≡ asking question looks ++ rest → Fates hss_judged w asks next → (mid : World) × Fates hss_judged w (asking question looks) mid × Fates hss_judged mid rest next
+  pub fates_split : (question : Ask) (looks : Told) (rest asks : List (Peer × (Ask × Answer))) (w next : World) → asks ≡ asking question looks ++ rest → Fates hss_judged w asks next → (mid : World) × Fates hss_judged w (asking question looks) mid × Fates hss_judged mid rest next
   fates_split question [] rest asks w next e fates = (w, fates_end, subst (λ l. Fates hss_judged w l next) e fates)
   fates_split question (s ∷ looks) rest asks w next e fates =
       let one = fates_first hss_judged w next asks s.0 question s.1 (asking question looks ++ rest) e fates in

@@ -167,7 +167,7 @@ still_world lines_keep r w since lines same calm =
     }
 
 -- the rank of a post is that of its block
-post_rank_is : (p : Post) → post_rank p ≡ rank hss_judged p.key (block_of p)
+pub post_rank_is : (p : Post) → post_rank p ≡ rank hss_judged p.key (block_of p)
 post_rank_is p = by (is_head p.kind) (hss_judged p.key p.bytes) refl
   where
     by : (b : Bool) (o : Option Judged) → hss_judged p.key p.bytes ≡ o → cond b (option_map_or (λ (j : Judged). j.seq) (hss_judged p.key p.bytes) 0) 0 ≡ rank hss_judged p.key (record { kind = cond b Head Content; bytes = p.bytes })

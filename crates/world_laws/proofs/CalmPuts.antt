@@ -97,6 +97,21 @@ among_entries q (p ∷ made) found h =
 pub entry_made : (base : List Shape) (q : Peer) → IsAmong q (entries_by base) → IsAmong q (made_by base)
 entry_made base q h = ⊎_elim (λ i. absurd i) (λ j. j) (among_entries q (made_by base) [] h)
 
+in_numbered : (q p : Peer) (ps : List Peer) → (p ≡ q) ⊎ IsAmong q ps → IsAmong q (with_numbered ps p)
+in_numbered q p [] h = h
+in_numbered q p (x ∷ ps) h = by (nat_lt p.number x.number) (in_numbered q p ps)
+  where
+    by : (b : Bool) → ((p ≡ q) ⊎ IsAmong q ps → IsAmong q (with_numbered ps p)) → IsAmong q (cond b (p ∷ x ∷ ps) (x ∷ with_numbered ps p))
+    by true later = h
+    by false later = ⊎_elim (λ e. inr (later (inl e))) (λ i. ⊎_elim (λ e. inl e) (λ j. inr (later (inr j))) i) h
+
+in_entries : (q : Peer) (made found : List Peer) → IsAmong q found ⊎ IsAmong q made → IsAmong q (fold with_numbered found made)
+in_entries q [] found h = ⊎_elim (λ i. i) (λ i. absurd i) h
+in_entries q (p ∷ made) found h = in_entries q made (with_numbered found p) (⊎_elim (λ i. inl (in_numbered q p found (inr i))) (λ i. ⊎_elim (λ e. inl (in_numbered q p found (inl e))) (λ j. inr j) i) h)
+
+pub made_entry : (base : List Shape) (q : Peer) → IsAmong q (made_by base) → IsAmong q (entries_by base)
+made_entry base q i = in_entries q (made_by base) [] (inr i)
+
 firsts_same : (seen ps qs : List Peer) → AreFirsts seen ps qs → AreDistinct ps → ((p : Peer) → IsAmong p ps → IsAmong p seen → ⊥) → qs ≡ ps
 firsts_same seen [] qs no_more d apart = refl
 firsts_same seen (p ∷ ps) qs (seen_again i f) d apart = absurd (apart p (inl refl) i)
@@ -111,7 +126,7 @@ first_answered answers zero asks a = tt
 first_answered answers (suc k) [] a = tt
 first_answered answers (suc k) (s ∷ asks) a = (a.0, first_answered answers k asks a.1)
 
-length_nodes : (asks : Told) → length (nodes asks) ≡ length asks
+pub length_nodes : (asks : Told) → length (nodes asks) ≡ length asks
 length_nodes [] = refl
 length_nodes (s ∷ asks) = ap suc (length_nodes asks)
 
@@ -236,30 +251,33 @@ module _ (r : ℕ) (base : List Shape) (links : Peer → Links Peer) (start : �
       by : IsLookup [] None [] (routes looks) found → outcome key found ≡ Ok owned → ⊥
       by l some = let g : outcome key None ≡ Ok owned = subst (λ (o : Option (List Peer)). outcome key o ≡ Ok owned) (none_found l refl refl) some in cc g
 
-  -- a look-up from all nodes finds the next 2r members
+  -- a look-up from all nodes, where there are some, finds the next 2r members
+  pub finds_all : (w : World) (post : Option Post) (key : Key) (looks : Told) (found : Option (List Peer)) (e : Peer) → IsRing r base links start w → AreTrue w post (told_all (ask.Route key) looks)
+      → IsLookup [] None (entries_by base) (routes looks) found → IsAmong e (entries_by base) → found ≡ Some (take (2 * r) (all_from_key key))
+  finds_all w post key looks found e h true_looks l entry =
+      lookup_right place r ring.settled.positive (lives_by base) (order_by base) links (number key) (entries_by base) (made_by base) (routes looks) found ring.settled.ascending ring.settled.living ring.settled.lives_all ring.settled.lists names
+      (looked key l looks refl (all_made (entries_by base) (entry_made base)) (looks_true w post key looks true_looks)) e (made_lives r base links start ring w e h (entry_made base e entry)) entry l
+    where
+      names : AreNames (order_by base) links (entries_by base) (made_by base)
+      names = record {
+        few = ring.few;
+        first = entry_made base;
+        linked = λ n m i j.
+            let made = lives_made base n (ring.settled.lives_all n i) in
+            let node = node_made hss_judged r base [] start start (base_to r base links start ring start) w n h.within made in
+            let s = stands hss_judged r base [] start start (base_to r base links start ring start) w n node.0 h.within made node.1 in
+            let k = h.within.known n.id node.0 node.1 in
+            let same : node.0.ring.links ≡ links n = sym s.links ∙ (λ t. h.linked t n) in
+            all-among (λ x. IsAmong x (made_by base)) m ((links n).list ++ (links n).fingers)
+            (subst (λ (x : Links Peer). AllByRecursion (λ y. IsAmong y (made_by base)) (x.list ++ x.fingers)) same (all-both (λ x. IsAmong x (made_by base)) node.0.ring.links.list node.0.ring.links.fingers k.list k.fingers)) j;
+      }
+
   pub finds : (w : World) (post : Option Post) (key : Key) (looks : Told) (found : Option (List Peer)) (owned : List Peer) → IsRing r base links start w → AreTrue w post (told_all (ask.Route key) looks)
       → IsLookup [] None (entries_by base) (routes looks) found → outcome key found ≡ Ok owned → owned ≡ take (2 * r) (all_from_key key)
   finds w post key looks found owned h true_looks l some = by (entries_by base) refl
     where
       right : (e : Peer) (rest : List Peer) → entries_by base ≡ e ∷ rest → found ≡ Some (take (2 * r) (all_from_key key))
-      right e rest is =
-          let entry : IsAmong e (entries_by base) = subst (IsAmong e) (sym is) (inl refl) in
-          lookup_right place r ring.settled.positive (lives_by base) (order_by base) links (number key) (entries_by base) (made_by base) (routes looks) found ring.settled.ascending ring.settled.living ring.settled.lives_all ring.settled.lists names
-          (looked key l looks refl (all_made (entries_by base) (entry_made base)) (looks_true w post key looks true_looks)) e (made_lives r base links start ring w e h (entry_made base e entry)) entry l
-        where
-          names : AreNames (order_by base) links (entries_by base) (made_by base)
-          names = record {
-            few = ring.few;
-            first = entry_made base;
-            linked = λ n m i j.
-                let made = lives_made base n (ring.settled.lives_all n i) in
-                let node = node_made hss_judged r base [] start start (base_to r base links start ring start) w n h.within made in
-                let s = stands hss_judged r base [] start start (base_to r base links start ring start) w n node.0 h.within made node.1 in
-                let k = h.within.known n.id node.0 node.1 in
-                let same : node.0.ring.links ≡ links n = sym s.links ∙ (λ t. h.linked t n) in
-                all-among (λ x. IsAmong x (made_by base)) m ((links n).list ++ (links n).fingers)
-                (subst (λ (x : Links Peer). AllByRecursion (λ y. IsAmong y (made_by base)) (x.list ++ x.fingers)) same (all-both (λ x. IsAmong x (made_by base)) node.0.ring.links.list node.0.ring.links.fingers k.list k.fingers)) j;
-          }
+      right e rest is = finds_all w post key looks found e h true_looks l (subst (IsAmong e) (sym is) (inl refl))
 
       owned_is : (o : Option (List Peer)) (xs : List Peer) → o ≡ Some xs → outcome key o ≡ Ok owned → owned ≡ xs
       owned_is None xs e g = absurd cc
@@ -273,6 +291,21 @@ module _ (r : ℕ) (base : List Shape) (links : Peer → Links Peer) (start : �
   -- who owns a key was made
   pub owner_made : (key : Key) (m : Peer) → IsAmong m (owners place r (order_by base) (number key)) → IsAmong m (made_by base)
   owner_made key m i = lives_made base m (ring.settled.lives_all m (from_place_live place (order_by base) (number key) m (among_take r m (all_from_key key) i)))
+
+  -- of the owners of a key, where there are some, a look-up finds some
+  pub finds_some : (w : World) (post : Option Post) (key : Key) (looks : Told) (found : Option (List Peer)) (m : Peer) → IsRing r base links start w → AreTrue w post (told_all (ask.Route key) looks)
+      → IsLookup [] None (entries_by base) (routes looks) found → IsAmong m (owners place r (order_by base) (number key)) → outcome key found ≡ Ok (take (2 * r) (all_from_key key))
+  finds_some w post key looks found m h true_looks l own =
+      let made = owner_made key m own in
+      let is = finds_all w post key looks found m h true_looks l (made_entry base m made) in
+      ap (outcome key) is ∙ some_owned (take (2 * r) (all_from_key key)) (among_longer_take own)
+    where
+      some_owned : (xs : List Peer) → IsAmong m xs → outcome key (Some xs) ≡ Ok xs
+      some_owned [] i = absurd i
+      some_owned (x ∷ xs) i = refl
+
+      among_longer_take : IsAmong m (take r (all_from_key key)) → IsAmong m (take (2 * r) (all_from_key key))
+      among_longer_take i = among_take r m (take (2 * r) (all_from_key key)) (subst (IsAmong m) (sym (take-take r (2 * r) (all_from_key key) (omega arith))) i)
 
   -- ---- puts
 
@@ -311,12 +344,12 @@ module _ (r : ℕ) (base : List Shape) (links : Peer → Links Peer) (start : �
       by [] e = let none : answered_in holds asks ≡ 0 = count ∙ ap length e in absurd (omega (arith, some, none))
       by (s ∷ l) e = (let one = holders s asks (subst (IsAmong s) (sym e) (inl refl)) in (s, one.0, one.1))
 
-  among_nodes : (s : Peer × Answer) (asks : Told) → IsAmong s asks → IsAmong s.0 (nodes asks)
+  pub among_nodes : (s : Peer × Answer) (asks : Told) → IsAmong s asks → IsAmong s.0 (nodes asks)
   among_nodes s [] i = absurd i
   among_nodes s (x ∷ asks) (inl e) = inl (ap (λ (y : Peer × Answer). y.0) e)
   among_nodes s (x ∷ asks) (inr i) = inr (among_nodes s asks i)
 
-  answer_all : (asks t : Told) (P : Peer × Answer → Type 0) → ((s : Peer × Answer) → P s → is_of_put s.1 ≡ true) → AllByRecursion P asks → AllByRecursion (λ s. IsAmong s asks) t → AllByRecursion (λ s. is_of_put s.1 ≡ true) t
+  pub answer_all : (asks t : Told) (P : Peer × Answer → Type 0) → ((s : Peer × Answer) → P s → is_of_put s.1 ≡ true) → AllByRecursion P asks → AllByRecursion (λ s. IsAmong s asks) t → AllByRecursion (λ s. is_of_put s.1 ≡ true) t
   answer_all asks [] P each_one h g = tt
   answer_all asks (s ∷ t) P each_one h g = (each_one s (all-among P s asks h g.0), answer_all asks t P each_one h g.1)
 

@@ -66,3 +66,5 @@ pub mod CalmLines
 pub mod CalmCommands
 pub mod CalmRuns
 pub mod CalmHeld
+pub mod CalmGets
+pub mod CalmGiven

@@ -23,7 +23,7 @@
 //! can be saved). Nothing here runs, so there are no costs.
 #![tactic(auto)]
 
-ghost use Rattle.world_laws.specs.Calm.{AckedIsHeld, HasSameRing, RingStays};
+ghost use Rattle.world_laws.specs.Calm.{AckedIsHeld, BlocksAreGiven, HasSameRing, HeadsAreGiven, RingStays};
 ghost use Rattle.world_laws.specs.Frames.{DamageLinesKeep, EachReplyBySteps, HeadlineOfRuns, JoinLinesKeep, KeeperLinesKeep, LinesKeepByThese, LogLinesKeep, MildChangesKeep, MoreBlocksKeep, RestartLinesKeep, RingLinesKeep, RoundLinesKeep, StillLinesKeep, StopLinesKeep, UseLinesKeep, ViewLinesKeep};
 ghost use Rattle.world_laws.specs.Kinds.{LineHasOneKind};
 ghost use Rattle.world_laws.specs.Laws.{AlikeTurnsAnswerAlike, AllStepsKeep, CallLinesKeep, CallsBegin, ClashIsDecided, EmptyKeeps, FewerStayApart, FreshTurnsAreAnswered, GetsBringKeep, GetsGoOnKeep, HeadlineBySteps, HeadsAreSavedFirst, KeptOnce, KnownIsOne, LackingKeeps, LackingStepsKeep, LeafSignsOnce, LinesKeep, LinesKeepBySteps, ManyStepsKeep, MetGrows, OneTruth, OpenLineKeeps, OtherLogsDontCount, OthersHaveNoTurn, PublishingKeeps, PutsKeep, ReceivingKeeps, RefreshBrings, RefreshEndsInTurn, RefreshMayTurn, ScriptsBySteps, SecondTurnIsAnswered, SettlingKeeps, StepsKeepByTurns, StillLinesChangeNothing, TakingKeeps, UpperLeavesSignOnce, VainAsksKeep, WholePublishingKeeps};
@@ -229,4 +229,11 @@ pub fn rings_stay()
 /// post of which a put was acknowledged, or a newer head.
 pub fn acknowledged_is_held()
     ensures { LinesKeep → AckedIsHeld HasSameRing }
+{}
+
+/// Laws and no code: there a get of a block of which a put was acknowledged gives it, and a get of a head gives one of its number
+/// or a greater one.
+pub fn acknowledged_is_given()
+    ensures blocks { LinesKeep → BlocksAreGiven HasSameRing }
+    ensures heads { LinesKeep → HeadsAreGiven HasSameRing }
 {}
