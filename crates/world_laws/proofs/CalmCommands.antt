@@ -59,7 +59,7 @@ use Rattle.world_laws.proofs.Lines.{meets_it, meets_more}
 use Rattle.world_laws.proofs.NodeFates.{fate_rest}
 use Rattle.world_laws.proofs.SignedAmong.{met_stays, met_then}
 use Rattle.world_laws.proofs.SignedHeads.{from_map}
-use Rattle.world_laws.proofs.CalmNodes.{HeldStays, HoldKinds, IsMadeRing, IsRing, asked_ring}
+use Rattle.world_laws.proofs.CalmNodes.{HeldStays, HoldKinds, IsMadeRing, IsRing, KeepsRings, asked_rings, kept_ring}
 use Rattle.world_laws.proofs.CalmPuts.{AreTrue, IsAckHeld, IsTrueAt, entries_by, put_ends}
 use Rattle.world_laws.proofs.CalmStates.{ArePending, AreApart, InStep, IsGood, IsLeft, IsMore, IsOwnPost, IsUpTo, OfContent, OfHeads, WorldGoes, asked_more, asked_pending, found_placed, good_later, less_up_to, made_left, made_own, more_heard, more_post, more_posts, more_then, placed, placed_more, same_more, still_acked}
 use Rattle.world_laws.proofs.CalmSteps.{placed_good, placed_ring, put_data, put_goes, put_told}
@@ -134,7 +134,7 @@ module _ (r : ℕ) (base : List Shape) (links : Peer → Links Peer) (start : �
 
   pub record AsksGo (w next : World) (p : Post) (more : List Heard) : Type 0 where
     pub grows : IsMore w next
-    pub still : IsRing r base links start w → IsRing r base links start next
+    pub still : KeepsRings w next
     pub pending : ArePending w → ArePending next
     pub sessions : next.sessions ≡ w.sessions
     pub good : AreApart r base links start ring Met Left → IsUpTo r base links start ring Met Left next → IsRing r base links start w → HoldKinds (OfContent r base links start ring Met Left) (OfHeads r base links start ring Met Left) w → IsOwnPost w p
@@ -143,13 +143,13 @@ module _ (r : ℕ) (base : List Shape) (links : Peer → Links Peer) (start : �
   pub asks_go : (p : Post) (question : Ask) → (question ≡ ask.Route p.key) ⊎ (question ≡ put_question p) → (looks : Told) (asks : List (Peer × (Ask × Answer))) (w next : World) → asks ≡ asking question looks → Fates hss_judged w asks next → AsksGo w next p (told_all question looks)
   asks_go p question is_of [] asks w next e fates =
       subst (λ v. AsksGo w v p []) (fates_nothing hss_judged w next asks e fates)
-      (record { grows = same_more w; still = λ h. h; pending = λ h. h; sessions = refl; good = λ apart up h kinds own. (kinds, λ key kind least m i. i, tt) })
+      (record { grows = same_more w; still = λ n b l t k h. h; pending = λ h. h; sessions = refl; good = λ apart up h kinds own. (kinds, λ key kind least m i. i, tt) })
   asks_go p question is_of (s ∷ looks) asks w next e fates =
       let one = fates_first hss_judged w next asks s.0 question s.1 (asking question looks) e fates in
       let rest = asks_go p question is_of looks (asking question looks) one.mid next refl one.others in
       record {
         grows = more_then w one.mid next (asked_more one.fate) rest.grows;
-        still = λ h. rest.still (asked_ring r base links start ring w one.mid s.0 question s.1 for_data one.fate h);
+        still = λ n b l t k h. rest.still n b l t k (asked_rings w one.mid s.0 question s.1 for_data one.fate n b l t k h);
         pending = λ h. rest.pending (asked_pending one.fate h);
         sessions = rest.sessions ∙ ap (λ (v : World). v.sessions) (fate_rest one.fate);
         good = λ apart up h kinds own.
@@ -178,14 +178,14 @@ module _ (r : ℕ) (base : List Shape) (links : Peer → Links Peer) (start : �
       → (acknowledged put.came ≡ true → IsAckHeld r base links start ring next (block_post block) → AllByRecursion (IsAckHeld r base links start ring next) made) → (acknowledged put.came ≡ false → made ≡ []) → LineGoes r base links start ring Met Left w st next (record st { acked = st.acked ++ made })
   puts_go w st block next made met put held_then none_then = record {
     grows = more;
-    still = λ h. second.still (first_part.still h);
+    still = λ n b l t k h. second.still n b l t k (first_part.still n b l t k h);
     good = λ apart up h g.
         let up_mid = less_up_to r base links start ring Met Left mid next second.grows up in
         let a = first_part.good apart up_mid h g.kinds own in
-        let b = second.good apart up (first_part.still h) a.0 (more_post w mid p first_part.grows own) in
+        let b = second.good apart up (kept_ring r base links start ring w mid first_part.still h) a.0 (more_post w mid p first_part.grows own) in
         let held : HeldStays w next = λ key kind least m i. b.1 key kind least m (a.1 key kind least m i) in
         let all = each_append (λ (x : Heard). IsTrueAt r base links start ring next (Some p) x.kind x) (told_all (ask.Route p.key) put.looks) (told_all (put_question p) put.asks) (more_heard r base links start ring mid next (Some p) (told_all (ask.Route p.key) put.looks) second.grows b.1 a.2) b.2 in
-        let ends = put_ends r base links start ring next p (told_all (ask.Route p.key) put.looks ++ told_all (put_question p) put.asks) put.came (second.still (first_part.still h)) all
+        let ends = put_ends r base links start ring next p (told_all (ask.Route p.key) put.looks ++ told_all (put_question p) put.asks) put.came (kept_ring r base links start ring mid next second.still (kept_ring r base links start ring w mid first_part.still h)) all
         (subst (λ es. IsCourse p.key (put_question p) es (EndsPut r) (told_all (ask.Route p.key) put.looks ++ told_all (put_question p) put.asks) put.came) (entries_are r base links start ring Met Left w h) put.whole) in
         good_later r base links start ring Met Left w next st (record st { acked = st.acked ++ made }) g more held b.0 (second.pending (first_part.pending g.pending)) (second.sessions ∙ first_part.sessions)
         (each_append (IsAckHeld r base links start ring next) st.acked made (still_acked r base links start ring w next st.acked more held g.acked) (came_so (acknowledged put.came) refl ends));

@@ -54,7 +54,7 @@ use Rattle.world_laws.proofs.PublicKeys.{owner_is_key}
 use Rattle.world_laws.proofs.RingLines.{ring_lines_keep}
 use Rattle.world_laws.proofs.Lines.{still_lines_keep}
 use Rattle.world_laws.proofs.SignedHeads.{from_map}
-use Rattle.world_laws.proofs.CalmNodes.{HoldKinds, IsHeld, IsIn, IsMadeRing, IsRing}
+use Rattle.world_laws.proofs.CalmNodes.{IsHeld, IsMadeRing, IsRing, kept_ring}
 use Rattle.world_laws.proofs.CalmPuts.{IsAckHeld, block_of, kind_of}
 use Rattle.world_laws.proofs.CalmStates.{AreApart, IsGood, IsLeft, IsUpTo, OfContent, OfHeads}
 use Rattle.world_laws.proofs.CalmRuns.{IsFirst, IsStillRun, run_of}
@@ -161,7 +161,7 @@ still_world lines_keep r w since lines same calm =
     record {
       run = run;
       keeps = keeps;
-      still = run.goes.still run.first.still;
+      still = kept_ring r (shapes_of run.made) (links_in run.made) run.made.asked run.first.ring run.made w.0 run.goes.still run.first.still;
       apart = apart;
       good = run.goes.good apart (record { met = λ b h. h; left = λ b h. h }) run.first.still (first_good r (record empty_world { now = run.now }) run.made run.first (Contains w.0.met) (IsLeft w.0) refl refl);
     }

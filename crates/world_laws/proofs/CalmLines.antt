@@ -42,10 +42,9 @@ use Rattle.round_laws.proofs.Fixing.{fates_first, fates_none as fates_nothing}
 use Rattle.ring_model.proofs.Lists.{all_weaker}
 use Rattle.world_laws.proofs.SignedAmong.{met_stays}
 use Rattle.world_laws.proofs.WholePublishing.{each_published}
-use Rattle.world_laws.proofs.CalmNodes.{HeldStays, HoldKinds, IsHeld, IsMadeRing, IsRing, asked_ring}
+use Rattle.world_laws.proofs.CalmNodes.{HeldStays, HoldKinds, IsHeld, IsMadeRing, IsRing, kept_ring, same_rings}
 use Rattle.world_laws.proofs.CalmPuts.{AreTrue, IsAckHeld, IsTrueAt, entries_by, kind_of}
 use Rattle.world_laws.proofs.CalmStates.{ArePending, AreApart, InStep, IsGood, IsLeft, IsMore, IsOwnPost, IsUpTo, OfContent, OfHeads, SceneGoes, WorldGoes, asked_more, asked_pending, good_later, less_up_to, made_left, made_own, more_posts, more_then, same_more, still_acked, still_in_step}
-use Rattle.world_laws.proofs.CalmSteps.{still_ring}
 use Rattle.world_laws.proofs.CalmScenes.{runs_go}
 
 -- ---- lists
@@ -91,12 +90,12 @@ module _ (r : ℕ) (base : List Shape) (links : Peer → Links Peer) (start : �
   pub goes_then : (u v w : World) (st su so : Story) → LineGoes u st v su → LineGoes v su w so → LineGoes u st w so
   goes_then u v w st su so f g = record {
     grows = more_then u v w f.grows g.grows;
-    still = λ h. g.still (f.still h);
-    good = λ apart up h k. g.good apart up (f.still h) (f.good apart (less_up_to r base links start ring Met Left v w g.grows up) h k);
+    still = λ n b l t k h. g.still n b l t k (f.still n b l t k h);
+    good = λ apart up h k. g.good apart up (kept_ring r base links start ring u v f.still h) (f.good apart (less_up_to r base links start ring Met Left v w g.grows up) h k);
   }
 
   pub goes_nowhere : (w : World) (st : Story) → LineGoes w st w st
-  goes_nowhere w st = record { grows = same_more w; still = λ h. h; good = λ apart up h g. g }
+  goes_nowhere w st = record { grows = same_more w; still = λ n b l t k h. h; good = λ apart up h g. g }
 
   -- ---- lines that change no node and no participant
 
@@ -110,7 +109,7 @@ module _ (r : ℕ) (base : List Shape) (links : Peer → Links Peer) (start : �
       → (IsRing r base links start w → AreInStep w w.sessions → AreInStep w v.sessions) → su.acked ≡ st.acked → LineGoes w st v su
   changes_go w v st su n l a o ps grows sess e = record {
     grows = more;
-    still = still_ring r base links start ring Met Left w v n l a o;
+    still = same_rings w v n l a o;
     good = λ apart up h g. record {
       kinds = λ id m f. g.kinds id m (subst (λ ns. at ns id ≡ Some m) n f);
       acked = subst (AllByRecursion (IsAckHeld r base links start ring v)) (sym e) (still_acked r base links start ring w v st.acked more (held_same w v n) g.acked);
@@ -131,7 +130,7 @@ module _ (r : ℕ) (base : List Shape) (links : Peer → Links Peer) (start : �
   pub scene_goes : (w : World) (st : Story) (c end : Scene) → c.world ≡ w → c.story.acked ≡ st.acked → SceneGoes r base links start ring Met Left c end → (IsRing r base links start w → IsGood r base links start ring Met Left w st → InStep r base links start ring w c.session) → LineGoes w st end.world end.story
   scene_goes w st c end e a g step = record {
     grows = subst (λ v. IsMore v end.world) e g.grows;
-    still = λ h. g.still (subst (IsRing r base links start) (sym e) h);
+    still = λ n b l t k h. g.still n b l t k (subst (IsRing n b l t) (sym e) h);
     good = λ apart up h k. (g.good apart up (subst (IsRing r base links start) (sym e) h)
         (subst (λ v. IsGood r base links start ring Met Left v c.story) (sym e) (record { kinds = k.kinds; acked = subst (AllByRecursion (IsAckHeld r base links start ring w)) (sym a) k.acked; pending = k.pending; sessions = k.sessions }))
         (subst (λ v. InStep r base links start ring v c.session) (sym e) (step h k))).0;
@@ -143,14 +142,14 @@ module _ (r : ℕ) (base : List Shape) (links : Peer → Links Peer) (start : �
       → (AreInStep end.world end.world.sessions → InStep r base links start ring end.world end.session → AreInStep end.world v.sessions) → su.acked ≡ end.story.acked → LineGoes w st v su
   scene_goes_to w st c end v su e a g step n l k o ps grows sess f = record {
     grows = more_then w end.world v (scene_goes w st c end e a g step).grows (changed_more end.world v ps grows);
-    still = λ h. still_ring r base links start ring Met Left end.world v n l k o ((scene_goes w st c end e a g step).still h);
+    still = λ m b x t y h. same_rings end.world v n l k o m b x t y ((scene_goes w st c end e a g step).still m b x t y h);
     good = λ apart up h good.
         let between = changed_more end.world v ps grows in
         let up_end = less_up_to r base links start ring Met Left end.world v between up in
         let both = g.good apart up_end (subst (IsRing r base links start) (sym e) h)
         (subst (λ x. IsGood r base links start ring Met Left x c.story) (sym e) (record { kinds = good.kinds; acked = subst (AllByRecursion (IsAckHeld r base links start ring w)) (sym a) good.acked; pending = good.pending; sessions = good.sessions }))
         (subst (λ x. InStep r base links start ring x c.session) (sym e) (step h good)) in
-        (changes_go end.world v end.story su n l k o ps grows (λ i ss. sess ss both.1) f).good apart up (g.still (subst (IsRing r base links start) (sym e) h)) both.0;
+        (changes_go end.world v end.story su n l k o ps grows (λ i ss. sess ss both.1) f).good apart up (kept_ring r base links start ring c.world end.world g.still (subst (IsRing r base links start) (sym e) h)) both.0;
   }
 
   pub publishes_go : (w : Played) (p : Participant) (next : Played) → participant w.0 p.name ≡ Some p → Publishes hss_judged r w p next → LineGoes w.0 w.1 next.0 next.1
@@ -174,7 +173,7 @@ module _ (r : ℕ) (base : List Shape) (links : Peer → Links Peer) (start : �
   pub newcomer_goes : (w : Played) (p : Participant) (o : Participant) → p ≡ having_made o p.agent.pending → is_some (participant w.0 p.name) ≡ false → LineGoes w.0 w.1 (with_newcomer w p).0 (with_newcomer w p).1
   newcomer_goes w p o is new = record {
     grows = more;
-    still = λ h. still_ring r base links start ring Met Left w.0 v refl refl refl refl h;
+    still = same_rings w.0 v refl refl refl refl;
     good = λ apart up h g. good_later r base links start ring Met Left w.0 v w.1 (with_newcomer w p).1 g more (λ key kind least m i. i) g.kinds (pending g.pending) refl (still_acked r base links start ring w.0 v w.1.acked more (λ key kind least m i. i) g.acked);
   }
     where

@@ -48,6 +48,11 @@ use Rattle.round_laws.proofs.Storing.{StoresAt, stores_at, under}
 
 -- ---- what nodes know
 
+-- nodes that stand apart, of which r own a key
+pub record AreKnown (r : ℕ) (base : List Shape) : Type 0 where
+  pub apart : AreApart (made_by base)
+  pub owned : AllByRecursion (λ s. s.2 ≡ r) base
+
 -- the shapes of a ring that was made settled: r of its nodes own a key, and all of them live
 pub record IsMadeRing (r : ℕ) (base : List Shape) (links : Peer → Links Peer) : Type 0 where
   pub apart : AreApart (made_by base)
@@ -61,6 +66,22 @@ pub record IsRing (r : ℕ) (base : List Shape) (links : Peer → Links Peer) (s
   pub within : IsWithin base [] start w
   pub linked : links_in w ≡ links
   pub replicas : w.replicas ≡ Some r
+
+-- from one world to another nobody comes or stops, and what nodes know stays
+abbrev pub KeepsRings : World → World → Type 0
+KeepsRings w v = (r : ℕ) (base : List Shape) (links : Peer → Links Peer) (start : ℕ) → AreKnown r base → IsRing r base links start w → IsRing r base links start v
+
+pub same_rings : (w v : World) → v.nodes ≡ w.nodes → v.lost ≡ w.lost → v.asked ≡ w.asked → v.replicas ≡ w.replicas → KeepsRings w v
+same_rings w v n l a o r base links start known h =
+    subst (λ x. IsRing r base links start (record v { nodes = x })) (sym n)
+    (subst (λ x. IsRing r base links start (record v { nodes = w.nodes; lost = x })) (sym l)
+    (subst (λ x. IsRing r base links start (record v { nodes = w.nodes; lost = w.lost; asked = x })) (sym a)
+    (subst (λ x. IsRing r base links start (record v { nodes = w.nodes; lost = w.lost; asked = w.asked; replicas = x })) (sym o)
+    (record {
+      within = record { shapes = h.within.shapes; known = h.within.known; losses = h.within.losses; asked = h.within.asked };
+      linked = h.linked;
+      replicas = h.replicas;
+    }))))
 
 keeps_ring : (question : Ask) → IsForData question → KeepsRing hss_judged question
 keeps_ring (ask.Route key) h n = (refl, refl)
@@ -82,14 +103,28 @@ pub record Answers (w : World) (to : Peer) (question : Ask) (given : Answer) (ne
   pub gives : given ≡ (answered hss_judged node question).0
   pub next_is : next ≡ with_node (counted w) (answered hss_judged node question).1
 
+base_from : (r : ℕ) (base : List Shape) (start end : ℕ) → AreKnown r base → IsBase r base [] start end
+base_from r base start end known = record { apart = known.apart; replicas = known.owned; quiet = λ k above most h. in_nothing k h }
+
+-- an ask for data
+pub asked_rings : (w next : World) (to : Peer) (question : Ask) (given : Answer) → IsForData question → FateOf hss_judged w to question given next → KeepsRings w next
+asked_rings w next to question given for_data fate r base links start known h =
+    let b = base_from r base start start known in
+    let a = still_asked hss_judged r base [] start start b w next to question given h.within (keeps_ring question for_data) (fated hss_judged r base [] start start b w next to question given h.within fate) in
+    record { within = a.within; linked = a.links ∙ h.linked; replicas = fate_replicas fate ∙ h.replicas }
+
 module _ (r : ℕ) (base : List Shape) (links : Peer → Links Peer) (start : ℕ) (ring : IsMadeRing r base links) where
+  known : AreKnown r base
+  known = record { apart = ring.apart; owned = ring.owned }
+
   pub base_to : (end : ℕ) → IsBase r base [] start end
-  base_to end = record { apart = ring.apart; replicas = ring.owned; quiet = λ k above most h. in_nothing k h }
+  base_to end = base_from r base start end known
+
+  pub kept_ring : (w v : World) → KeepsRings w v → IsRing r base links start w → IsRing r base links start v
+  kept_ring w v keeps h = keeps r base links start known h
 
   pub asked_ring : (w next : World) (to : Peer) (question : Ask) (given : Answer) → IsForData question → FateOf hss_judged w to question given next → IsRing r base links start w → IsRing r base links start next
-  asked_ring w next to question given for_data fate h =
-      let a = still_asked hss_judged r base [] start start (base_to start) w next to question given h.within (keeps_ring question for_data) (fated hss_judged r base [] start start (base_to start) w next to question given h.within fate) in
-      record { within = a.within; linked = a.links ∙ h.linked; replicas = fate_replicas fate ∙ h.replicas }
+  asked_ring w next to question given for_data fate h = kept_ring w next (asked_rings w next to question given for_data fate) h
 
   among_shape : (n : Node) (nodes : List Node) → IsAmong n nodes → IsAmong (shape n) (map shape nodes)
   among_shape n [] h = absurd h

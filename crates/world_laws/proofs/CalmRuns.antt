@@ -57,7 +57,7 @@ use Rattle.world_laws.proofs.Bringing.{found_named}
 use Rattle.world_laws.proofs.FirstWorld.{empty_keeps}
 use Rattle.world_laws.proofs.PublicKeys.{owner_is_key}
 use Rattle.world_laws.proofs.SignedHeads.{from_map}
-use Rattle.world_laws.proofs.CalmNodes.{IsHeld, IsIn, IsMadeRing, IsRing}
+use Rattle.world_laws.proofs.CalmNodes.{AreKnown, IsMadeRing, IsRing, KeepsRings, kept_ring}
 use Rattle.world_laws.proofs.CalmPuts.{IsAckHeld, block_of, kind_of}
 use Rattle.world_laws.proofs.CalmStates.{AreApart, IsGood, IsLeft, IsUpTo, OfContent, OfHeads}
 use Rattle.world_laws.proofs.CalmLines.{LineGoes, goes_nowhere, goes_then}
@@ -128,7 +128,7 @@ module _ (r : ℕ) (base : List Shape) (links : Peer → Links Peer) (start : �
   runs_so (calmly_more {w = v} {mid = mid} {next = next} {line = line} c output is calm step rest) same h =
       let done = does_line v mid output (command_of line) step in
       let one = command_goes r base links start ring Met Left v mid done.0 output h.replicas (subst (λ o. IfSome o IsQuiet) done.1 same.0) done.2 in
-      goes_then r base links start ring Met Left v.0 mid.0 next.0 v.1 mid.1 next.1 one (runs_so rest same.1 (one.still h))
+      goes_then r base links start ring Met Left v.0 mid.0 next.0 v.1 mid.1 next.1 one (runs_so rest same.1 (kept_ring r base links start ring v.0 mid.0 one.still h))
 
   pub settled_so : (w : World) → IsRing r base links start w → IsSettledIn w r
   settled_so w h =
@@ -171,5 +171,5 @@ run_of r w since lines Met Left same calm =
 pub ring_stays : RingStays HasSameRing
 ring_stays r w count lines same calm =
     let run = run_of r w (Stopped count) lines (λ b. Unit {0}) (λ b. Unit {0}) same calm in
-    let settled = settled_so r (shapes_of run.made) (links_in run.made) run.made.asked run.first.ring (λ b. Unit {0}) (λ b. Unit {0}) w.0 (run.goes.still run.first.still) in
+    let settled = settled_so r (shapes_of run.made) (links_in run.made) run.made.asked run.first.ring (λ b. Unit {0}) (λ b. Unit {0}) w.0 (kept_ring r (shapes_of run.made) (links_in run.made) run.made.asked run.first.ring run.made w.0 run.goes.still run.first.still) in
     (covered_so w.0 r settled, λ none. settled)

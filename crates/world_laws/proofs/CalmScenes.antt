@@ -31,7 +31,7 @@ use Rattle.round_laws.proofs.Nodes.{Shape}
 use Rattle.world_laws.proofs.NodeFates.{fate_rest}
 use Rattle.world_laws.proofs.SignedAmong.{met_stays}
 use Rattle.world_laws.proofs.WholePublishing.{each_published}
-use Rattle.world_laws.proofs.CalmNodes.{IsMadeRing, IsRing, asked_ring}
+use Rattle.world_laws.proofs.CalmNodes.{IsMadeRing, IsRing, asked_rings}
 use Rattle.world_laws.proofs.CalmPuts.{AreTrue, IsAckHeld}
 use Rattle.world_laws.proofs.CalmStates.{ArePending, InStep, IsMore, IsOwnPost, SceneGoes, asked_more, asked_pending, found_placed, good_later, less_up_to, made_left, made_own, more_posts, no_puts_true, posts_at, scene_stays, scene_then, still_acked, still_in_step}
 use Rattle.world_laws.proofs.CalmSteps.{answered_so, fails_step, hears_data, lacks_step, place_goes, takes_all_step, takes_some_step}
@@ -46,7 +46,7 @@ module _ (r : ℕ) (base : List Shape) (links : Peer → Links Peer) (start : �
       → Goes c (record { world = next; story = record c.story { acked = c.story.acked ++ acked_by c.session.stage t.stage }; session = t; began = c.began })
   ask_told_so c node question given next heard t cache after fate hears ends = record {
     grows = asked_more fate;
-    still = λ h. asked_ring r base links start ring c.world next node question given (hears_data hears) fate h;
+    still = asked_rings c.world next node question given (hears_data hears) fate;
     good = λ apart up h g s.
         let a = answered_so r base links start ring Met Left apart c.world next node question given (less_up_to r base links start ring Met Left c.world next (asked_more fate) up) h fate c.session s c.story g hears in (
           good_later r base links start ring Met Left c.world next c.story (record c.story { acked = c.story.acked ++ acked_by c.session.stage t.stage }) g (asked_more fate) a.0.held a.0.kinds (asked_pending fate g.pending) (ap (λ (v : World). v.sessions) (fate_rest fate))
@@ -59,7 +59,7 @@ module _ (r : ℕ) (base : List Shape) (links : Peer → Links Peer) (start : �
       → Goes c (record c { world = next; session = t })
   ask_in_vain c node question given next heard t cache after fate hears lacking = record {
     grows = asked_more fate;
-    still = λ h. asked_ring r base links start ring c.world next node question given (hears_data hears) fate h;
+    still = asked_rings c.world next node question given (hears_data hears) fate;
     good = λ apart up h g s.
         let a = answered_so r base links start ring Met Left apart c.world next node question given (less_up_to r base links start ring Met Left c.world next (asked_more fate) up) h fate c.session s c.story g hears in (
           good_later r base links start ring Met Left c.world next c.story c.story g (asked_more fate) a.0.held a.0.kinds (asked_pending fate g.pending) (ap (λ (v : World). v.sessions) (fate_rest fate))

@@ -34,7 +34,7 @@ use Rattle.world_laws.proofs.NodeFates.{fate_rest}
 use Rattle.world_laws.proofs.Placed.{is_name, same_name}
 use Rattle.world_laws.proofs.SignedAmong.{met_stays, met_then}
 use Rattle.log_model.proofs.Lists.{in_filter}
-use Rattle.world_laws.proofs.CalmNodes.{Fits, HeldStays, HoldKinds, IsMadeRing, IsRing, asked_holds, asked_ring}
+use Rattle.world_laws.proofs.CalmNodes.{Fits, HeldStays, HoldKinds, IsMadeRing, IsRing, KeepsRings, asked_holds, asked_ring, kept_ring}
 use Rattle.world_laws.proofs.CalmPuts.{AreTrue, IsAckHeld, IsPutTrueAt, IsTrueAt, entries_by, held_for}
 
 -- ---- heads that left, and posts
@@ -242,24 +242,24 @@ module _ (r : ℕ) (base : List Shape) (links : Peer → Links Peer) (start : �
 
     pub record WorldGoes (w : World) (st : Story) (v : World) (su : Story) : Type 0 where
       pub grows : IsMore w v
-      pub still : IsRing r base links start w → IsRing r base links start v
+      pub still : KeepsRings w v
       pub good : AreApart → IsUpTo v → IsRing r base links start w → IsGood w st → IsGood v su
 
     pub record SceneGoes (c next : Scene) : Type 0 where
       pub grows : IsMore c.world next.world
-      pub still : IsRing r base links start c.world → IsRing r base links start next.world
+      pub still : KeepsRings c.world next.world
       pub good : AreApart → IsUpTo next.world → IsRing r base links start c.world → IsGood c.world c.story → InStep c.world c.session → IsGood next.world next.story × InStep next.world next.session
 
     pub scene_stays : (c : Scene) → SceneGoes c c
-    scene_stays c = record { grows = same_more c.world; still = λ h. h; good = λ apart up h g s. (g, s) }
+    scene_stays c = record { grows = same_more c.world; still = λ s b l t k h. h; good = λ apart up h g s. (g, s) }
 
     pub scene_then : (c mid next : Scene) → SceneGoes c mid → SceneGoes mid next → SceneGoes c next
     scene_then c mid next f g = record {
       grows = more_then c.world mid.world next.world f.grows g.grows;
-      still = λ h. g.still (f.still h);
+      still = λ n b l t k h. g.still n b l t k (f.still n b l t k h);
       good = λ apart up h k s.
           let one = f.good apart (less_up_to mid.world next.world g.grows up) h k s in
-          g.good apart up (f.still h) one.0 one.1;
+          g.good apart up (kept_ring r base links start ring c.world mid.world f.still h) one.0 one.1;
     }
 
     -- what a session puts fits

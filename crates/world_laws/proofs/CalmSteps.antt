@@ -52,7 +52,7 @@ use Rattle.round_laws.proofs.Nodes.{Shape, made_by}
 use Rattle.world_laws.proofs.SignedAmong.{met_stays}
 use Rattle.world_laws.proofs.WholePublishing.{each_published}
 use Rattle.world_laws.proofs.NodeFates.{fate_rest}
-use Rattle.world_laws.proofs.CalmNodes.{Fits, HeldStays, HoldKinds, IsHeld, IsMadeRing, IsOfKind, IsRing, asked_ring, is_routed, put_is_held}
+use Rattle.world_laws.proofs.CalmNodes.{Fits, HeldStays, HoldKinds, IsHeld, IsMadeRing, IsOfKind, IsRing, KeepsRings, is_routed, put_is_held, same_rings}
 use Rattle.world_laws.proofs.CalmPuts.{AreTrue, IsAckHeld, IsHeldFor, IsTrueAt, block_of, entries_by, kind_of, put_ends, question_is}
 use Rattle.world_laws.proofs.CalmStates.{ArePending, AreApart, AskGoes, InStep, IsGood, IsLeft, IsMore, IsOwnPost, IsUpTo, OfContent, OfHeads, SceneGoes, ask_goes, asked_more, asked_pending, found_placed, good_later, less_up_to, made_left, made_own, more_heard, more_posts, more_then, placed, placed_more, placed_pending, post_fits, posts_at, same_more, scene_stays, scene_then, still_acked, still_in_step}
 
@@ -229,18 +229,6 @@ module _ (r : ℕ) (base : List Shape) (links : Peer → Links Peer) (start : �
   fails_step w (fails notes gives miss xid asked at refreshed asks_it) h = record { entries = h.entries; posts = tt; heard = tt }
   fails_step w (goes_on none) h = h
 
-  pub still_ring : (w v : World) → v.nodes ≡ w.nodes → v.lost ≡ w.lost → v.asked ≡ w.asked → v.replicas ≡ w.replicas → IsRing r base links start w → IsRing r base links start v
-  still_ring w v n l a o h =
-      subst (λ x. IsRing r base links start (record v { nodes = x })) (sym n)
-      (subst (λ x. IsRing r base links start (record v { nodes = w.nodes; lost = x })) (sym l)
-      (subst (λ x. IsRing r base links start (record v { nodes = w.nodes; lost = w.lost; asked = x })) (sym a)
-      (subst (λ x. IsRing r base links start (record v { nodes = w.nodes; lost = w.lost; asked = w.asked; replicas = x })) (sym o)
-      (record {
-        within = record { shapes = h.within.shapes; known = h.within.known; losses = h.within.losses; asked = h.within.asked };
-        linked = h.linked;
-        replicas = h.replicas;
-      }))))
-
   module _ (w : World) (n : List ℕ) (p q : Participant) (met : List (List ℕ)) (is_p : participant w n ≡ Some p) (named : q.name ≡ p.name) (grows : (b : List ℕ) → Contains w.met b → Contains met b) (left : (b : List ℕ) → Contains p.left b → Contains q.left b) where
     abbrev v : World
     v = placed w n p q met is_p named grows left
@@ -248,8 +236,8 @@ module _ (r : ℕ) (base : List Shape) (links : Peer → Links Peer) (start : �
     more : IsMore w v
     more = placed_more w n p q met is_p named grows left
 
-    pub placed_ring : IsRing r base links start w → IsRing r base links start v
-    placed_ring h = still_ring w v refl refl refl refl h
+    pub placed_ring : KeepsRings w v
+    placed_ring = same_rings w v refl refl refl refl
 
     pub placed_good : (st su : Story) → su.acked ≡ st.acked → AllByRecursion (IsOwnPost v) q.agent.pending → IsGood r base links start ring Met Left w st → IsGood r base links start ring Met Left v su
     placed_good st su e own g = good_later r base links start ring Met Left w v st su g more (λ key kind least m i. i) g.kinds (placed_pending w n p q met is_p named grows left g.pending own) refl
