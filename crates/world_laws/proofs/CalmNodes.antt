@@ -103,7 +103,7 @@ pub record Answers (w : World) (to : Peer) (question : Ask) (given : Answer) (ne
   pub gives : given ≡ (answered hss_judged node question).0
   pub next_is : next ≡ with_node (counted w) (answered hss_judged node question).1
 
-base_from : (r : ℕ) (base : List Shape) (start end : ℕ) → AreKnown r base → IsBase r base [] start end
+pub base_from : (r : ℕ) (base : List Shape) (start end : ℕ) → AreKnown r base → IsBase r base [] start end
 base_from r base start end known = record { apart = known.apart; replicas = known.owned; quiet = λ k above most h. in_nothing k h }
 
 -- an ask for data

@@ -119,7 +119,7 @@ first_of w made count r lost line = by (Goes made []) line refl
 
 -- ---- runs
 
-some_command : (c d : Command) → Some c ≡ Some d → c ≡ d
+pub some_command : (c d : Command) → Some c ≡ Some d → c ≡ d
 some_command c d e = cc e
 
 module _ (r : ℕ) (base : List Shape) (links : Peer → Links Peer) (start : ℕ) (ring : IsMadeRing r base links) (Met Left : List ℕ → Type 0) where

@@ -68,3 +68,4 @@ pub mod CalmRuns
 pub mod CalmHeld
 pub mod CalmGets
 pub mod CalmGiven
+pub mod CalmRounds

@@ -23,7 +23,7 @@
 //! can be saved). Nothing here runs, so there are no costs.
 #![tactic(auto)]
 
-ghost use Rattle.world_laws.specs.Calm.{AckedIsHeld, BlocksAreGiven, HasSameRing, HeadsAreGiven, RingStays};
+ghost use Rattle.world_laws.specs.Calm.{AckedIsHeld, AreAny, BlocksAreGiven, HasSameRing, HeadsAreGiven, RingStays};
 ghost use Rattle.world_laws.specs.Frames.{DamageLinesKeep, EachReplyBySteps, HeadlineOfRuns, JoinLinesKeep, KeeperLinesKeep, LinesKeepByThese, LogLinesKeep, MildChangesKeep, MoreBlocksKeep, RestartLinesKeep, RingLinesKeep, RoundLinesKeep, StillLinesKeep, StopLinesKeep, UseLinesKeep, ViewLinesKeep};
 ghost use Rattle.world_laws.specs.Kinds.{LineHasOneKind};
 ghost use Rattle.world_laws.specs.Laws.{AlikeTurnsAnswerAlike, AllStepsKeep, CallLinesKeep, CallsBegin, ClashIsDecided, EmptyKeeps, FewerStayApart, FreshTurnsAreAnswered, GetsBringKeep, GetsGoOnKeep, HeadlineBySteps, HeadsAreSavedFirst, KeptOnce, KnownIsOne, LackingKeeps, LackingStepsKeep, LeafSignsOnce, LinesKeep, LinesKeepBySteps, ManyStepsKeep, MetGrows, OneTruth, OpenLineKeeps, OtherLogsDontCount, OthersHaveNoTurn, PublishingKeeps, PutsKeep, ReceivingKeeps, RefreshBrings, RefreshEndsInTurn, RefreshMayTurn, ScriptsBySteps, SecondTurnIsAnswered, SettlingKeeps, StepsKeepByTurns, StillLinesChangeNothing, TakingKeeps, UpperLeavesSignOnce, VainAsksKeep, WholePublishingKeeps};
@@ -219,20 +219,20 @@ pub fn headline_by_steps()
     ensures all { EachReplyBySteps }
 {}
 
-/// A law and no code: in a calm script in which no node joins or stops and no round is made, the ring is settled at each line from
-/// the one that made it on.
+/// A law and no code: in a calm script the ring is settled after the line that makes it and after each round, and it is covered at
+/// each later line but between a join and its round.
 pub fn rings_stay()
-    ensures { RingStays HasSameRing }
+    ensures { RingStays AreAny }
 {}
 
-/// A law and no code: where each line leaves a world that keeps what it should, in such a script an owner of its key holds each
-/// post of which a put was acknowledged, or a newer head.
+/// A law and no code: where each line leaves a world that keeps what it should, in a calm script in which no node joins or stops
+/// and no round is made an owner of its key holds each post of which a put was acknowledged, or a newer head.
 pub fn acknowledged_is_held()
     ensures { LinesKeep → AckedIsHeld HasSameRing }
 {}
 
-/// Laws and no code: there a get of a block of which a put was acknowledged gives it, and a get of a head gives one of its number
-/// or a greater one.
+/// Laws and no code: in such a script a get of a block of which a put was acknowledged gives it, and a get of a head gives one of
+/// its number or a greater one.
 pub fn acknowledged_is_given()
     ensures blocks { LinesKeep → BlocksAreGiven HasSameRing }
     ensures heads { LinesKeep → HeadsAreGiven HasSameRing }

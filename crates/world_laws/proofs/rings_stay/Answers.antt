@@ -1,4 +1,4 @@
-use Rattle.world_laws.proofs.CalmRuns.{ring_stays}
+use Rattle.world_laws.proofs.CalmRounds.{ring_stays}
 use Rattle.world_laws.proofs.rings_stay.Goals as goal
 
 pub returns : goal.returns
