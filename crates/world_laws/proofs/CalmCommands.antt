@@ -1,11 +1,10 @@
 -- Each command that changes no node but by asks of sessions goes on so.
-use Rattle.std.proofs.Common.{◌≡◌, ◌⊎◌, inl, inr, ⊎_elim, ℕ, ◌≤◌, Bool, true, false, cond, List, [], ◌∷◌, ◌++◌, length, map, filter, find, Option, Some, None, Result, Ok, Err, refl, sym, ap, ◌∙◌, subst, nat_lt, nat_le, Contains, not, ◌&&◌, is_some, option_map}
-use Rattle.std.specs.List.{AllByRecursion, list_any}
+use Rattle.std.proofs.Common.{◌≡◌, ◌⊎◌, inl, inr, ⊎_elim, ℕ, Bool, true, false, cond, List, [], ◌∷◌, ◌++◌, map, filter, find, Option, Some, None, Result, Ok, Err, refl, sym, ap, ◌∙◌, subst, nat_lt, Contains, not, ◌&&◌, is_some, option_map}
+use Rattle.std.specs.List.{AllByRecursion}
 use Rattle.std.specs.Str.{bytes_eq}
 use Rattle.std.proofs.lemmas.List.Elements.{Contains-append_cases}
 use Rattle.ivy_base.specs.declared.key.Key.{Key}
 use Rattle.ivy_base.specs.declared.key.PubKey.{PubKey}
-use Rattle.ring_model.specs.Members.{first}
 use Rattle.ring_model.specs.Ring.{Links}
 use Rattle.hash_signature_model.specs.declared.set.Set.{Set}
 use Rattle.log_heads.specs.Signed.{hss_judged}
@@ -32,12 +31,12 @@ use Rattle.script_model.specs.declared.command.Command.{Command}
 use Rattle.script_model.specs.declared.command.Command.TheVariants as command
 use Rattle.world_model.specs.Agents.{Agent, Entering, Kept, entering, hss, opened}
 use Rattle.world_model.specs.Keepers.{asked_to_save, fails_next}
-use Rattle.world_model.specs.World.{NamedSession, NamedView, Participant, World, entries, participant, session_named, view_named, with_participant, with_session, without_session}
-use Rattle.world_model.specs.Story.{Began, Story, began_of, beginning, having_begun}
+use Rattle.world_model.specs.World.{NamedSession, Participant, World, entries, participant, session_named, view_named, with_participant, with_session, without_session}
+use Rattle.world_model.specs.Story.{Story, began_of, beginning, having_begun}
 use Rattle.world_model.specs.Fates.{Fates, Puts, asking}
 use Rattle.world_model.specs.Fates.Fates.{none as fates_end, more as fates_on}
 use Rattle.world_model.specs.Steps.{RunsOut, Scene, StepsOn, having_made, met_by}
-use Rattle.world_model.specs.Logs.{LogLine, Played, Publishes, RestartLine, SnapLine, ViewLine, acked_view, after_entering, afresh_told, at_line, beside, fresh_signer, goes_if, having_snapped, having_tried, keys_of, newcomer, restarted, snapping_in, use_by, use_line, with_newcomer, with_view}
+use Rattle.world_model.specs.Logs.{LogLine, Played, Publishes, RestartLine, SnapLine, ViewLine, acked_view, after_entering, at_line, beside, fresh_signer, goes_if, having_snapped, having_tried, keys_of, newcomer, use_by, with_newcomer, with_view}
 use Rattle.world_model.specs.Logs.LogLine.{before_ring as log_before_ring, known as log_known, begins as log_begins}
 use Rattle.world_model.specs.Logs.ViewLine.{known as view_known, no_members as view_no_members, no_former as view_no_former, one_head_key as view_one_head_key, exceeds as view_exceeds, makes as view_makes}
 use Rattle.world_model.specs.Logs.RestartLine.{nobody as restart_nobody, outside as restart_outside, starts as restart_starts}
@@ -60,8 +59,8 @@ use Rattle.world_laws.proofs.NodeFates.{fate_rest}
 use Rattle.world_laws.proofs.SignedAmong.{met_stays, met_then}
 use Rattle.world_laws.proofs.SignedHeads.{from_map}
 use Rattle.world_laws.proofs.CalmNodes.{HeldStays, HoldKinds, IsMadeRing, IsRing, KeepsRings, asked_rings, kept_ring}
-use Rattle.world_laws.proofs.CalmPuts.{AreTrue, IsAckHeld, IsTrueAt, entries_by, put_ends}
-use Rattle.world_laws.proofs.CalmStates.{ArePending, AreApart, InStep, IsGood, IsLeft, IsMore, IsOwnPost, IsUpTo, OfContent, OfHeads, WorldGoes, asked_more, asked_pending, found_placed, good_later, less_up_to, made_left, made_own, more_heard, more_post, more_posts, more_then, placed, placed_more, same_more, still_acked}
+use Rattle.world_laws.proofs.CalmPuts.{AreTrue, IsAckHeld, IsTrueAt, put_ends}
+use Rattle.world_laws.proofs.CalmStates.{ArePending, AreApart, InStep, IsMore, IsOwnPost, IsUpTo, OfContent, OfHeads, asked_more, asked_pending, found_placed, good_later, less_up_to, made_left, made_own, more_heard, more_post, more_posts, more_then, placed, placed_more, same_more, still_acked}
 use Rattle.world_laws.proofs.CalmSteps.{placed_good, placed_ring, put_data, put_goes, put_told}
 use Rattle.world_laws.proofs.CalmScenes.{runs_go, steps_go}
 use Rattle.world_laws.proofs.CalmLines.{LineGoes, changes_go, each_filtered, entries_are, goes_nowhere, goes_then, newcomer_found, newcomer_goes, publishes_go, scene_goes, scene_goes_to, sent_step}

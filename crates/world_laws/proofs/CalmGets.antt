@@ -1,17 +1,16 @@
 -- A get in a world of such a ring gives what an owner holds.
-use Rattle.std.proofs.Common.{◌≡◌, ◌≢◌, ◌⊎◌, inl, inr, ⊎_elim, ℕ, zero, suc, ◌*◌, ◌<◌, ◌≤◌, Bool, true, false, cond, List, [], ◌∷◌, ◌++◌, length, map, take, Option, Some, None, Result, Ok, Err, refl, sym, ap, ◌∙◌, subst, arith, le_refl, Contains, is_some, option_map}
+use Rattle.std.proofs.Common.{◌≡◌, ◌⊎◌, inl, inr, ⊎_elim, ℕ, suc, ◌*◌, ◌≤◌, true, List, [], ◌∷◌, ◌++◌, take, Option, Some, None, Result, Ok, Err, refl, sym, ap, ◌∙◌, subst, arith, Contains, is_some, option_map}
 use Rattle.std.specs.Prelude.{filter_map}
 use Rattle.std.specs.List.{AllByRecursion, cons_option}
 use Rattle.std.specs.Option.{option_map_or}
 use Rattle.ivy_base.specs.declared.key.Key.{Key}
-use Rattle.ivy_base.specs.Naming.{NamesTellApart, name}
 use Rattle.ring_model.specs.Circle.{number}
-use Rattle.ring_model.specs.Gets.{AreAsks, Damaged, Got, HasBlock, IsBlockGet, IsGiven, IsHeadGet, Missing, Right, answered_in, given, judged, nodes}
+use Rattle.ring_model.specs.Gets.{AreAsks, Damaged, Got, HasBlock, IsBlockGet, IsHeadGet, Missing, Right, answered_in, given, judged, nodes}
 use Rattle.ring_model.specs.Members.{IsAmong, owners}
 use Rattle.ring_model.specs.Ring.{Links}
 use Rattle.ring_model.proofs.Lists.{all-among, all-left, all-right, some_same}
 use Rattle.log_heads.specs.Signed.{hss_judged}
-use Rattle.log_model.proofs.Lists.{each, each_append}
+use Rattle.log_model.proofs.Lists.{each_append}
 use Rattle.dht_ids.specs.Asked.{IsForData, told}
 use Rattle.dht_ids.specs.Peers.{place}
 use Rattle.dht_ids.specs.declared.ask.Answer.{Answer}
@@ -23,19 +22,16 @@ use Rattle.dht_ids.specs.declared.ask.AskKind.TheVariants as kind
 use Rattle.dht_ids.specs.declared.ask.Heard.{Heard}
 use Rattle.dht_ids.specs.declared.judge.Judged.{Judged}
 use Rattle.dht_ids.specs.declared.peer.Peer.{Peer}
-use Rattle.dht_ids.specs.declared.post.Post.{Post}
 use Rattle.dhash_client.specs.Course.{IsCourse, Told, result_of, told_all}
 use Rattle.dhash_client.specs.Course.IsCourse.{no_route, of_owners}
 use Rattle.dhash_client.specs.GetBlock.{IsGetOfBlock, block_in, is_of_get}
 use Rattle.dhash_client.specs.GetHead.{IsGetOfHead}
-use Rattle.dhash_client.specs.Machine.{outcome}
 use Rattle.dhash_client.specs.declared.miss.Miss.{Miss}
 use Rattle.dhash_client.specs.declared.miss.Miss.TheVariants as miss
 use Rattle.node_store.specs.Stores.{Block, bytes_at}
 use Rattle.node_store.specs.declared.kind.Kind.{Kind}
 use Rattle.node_store.specs.declared.kind.Kind.TheVariants.{Content, Head}
-use Rattle.world_model.specs.Nodes.{Node, answered}
-use Rattle.world_model.specs.World.{World, node_at}
+use Rattle.world_model.specs.World.{World}
 use Rattle.world_model.specs.Fates.{FateOf, Fates, asking}
 use Rattle.round_laws.specs.Holding.{held_in, rank}
 use Rattle.round_laws.proofs.Nodes.{Shape, made_by, order_by}
@@ -45,7 +41,7 @@ use Rattle.round_laws.proofs.Owning.{distinct_from_place}
 use Rattle.round_laws.proofs.Standing.{stands}
 use Rattle.round_laws.proofs.Storing.{under}
 use Rattle.world_laws.proofs.CalmNodes.{Answers, Fits, HeldStays, HoldKinds, IsHeld, IsMadeRing, IsOfKind, IsRing, IsRouted, base_to, is_routed, who_answers}
-use Rattle.world_laws.proofs.CalmPuts.{AreTrue, all_answered, all_from_key, among_nodes, asked_own, entries_by, finds, finds_some, length_nodes, owner_made, owners_asked}
+use Rattle.world_laws.proofs.CalmPuts.{AreTrue, all_answered, all_from_key, entries_by, finds, finds_some, owner_made, owners_asked}
 use Rattle.world_laws.proofs.CalmStates.{AreApart, OfContent, OfHeads, ask_goes}
 
 -- ---- lists
@@ -176,7 +172,7 @@ module _ (r : ℕ) (base : List Shape) (links : Peer → Links Peer) (start : �
     gets_go question key is_of (s ∷ looks) asks w v next e fates h kinds held =
         let one = fates_first hss_judged v next asks s.0 question s.1 (asking question looks) e fates in
         let a = ask_goes r base links start ring Met Left apart v one.mid s.0 question s.1 (⊎_elim (λ g. subst IsForData (sym g) tt) (λ g. subst IsForData (sym g) tt) is_of)
-            (⊎_elim (λ g. subst (Fits (OfContent r base links start ring Met Left) (OfHeads r base links start ring Met Left)) (sym g) tt) (λ g. subst (Fits (OfContent r base links start ring Met Left) (OfHeads r base links start ring Met Left)) (sym g) tt) is_of) h kinds one.fate in
+        (⊎_elim (λ g. subst (Fits (OfContent r base links start ring Met Left) (OfHeads r base links start ring Met Left)) (sym g) tt) (λ g. subst (Fits (OfContent r base links start ring Met Left) (OfHeads r base links start ring Met Left)) (sym g) tt) is_of) h kinds one.fate in
         let rest = gets_go question key is_of looks (asking question looks) w one.mid next refl one.others a.still a.kinds (λ k kind least m i. a.held k kind least m (held k kind least m i)) in
         record {
           still = rest.still;

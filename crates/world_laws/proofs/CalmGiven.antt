@@ -1,34 +1,28 @@
 -- In calm runs in which the ring stays a get gives what was acknowledged.
-use Rattle.std.proofs.Common.{◌≡◌, inl, inr, ℕ, ◌≤◌, Bool, true, false, cond, List, [], ◌∷◌, ◌++◌, Result, Ok, refl, sym, ap, ◌∙◌, subst, Contains}
+use Rattle.std.proofs.Common.{◌≡◌, inl, inr, ℕ, cond, List, ◌++◌, refl, sym, ap, ◌∙◌, subst, Contains}
 use Rattle.std.proofs.lemmas.List.Elements.{Contains-append_left}
-use Rattle.ivy_base.specs.declared.key.Key.{Key}
-use Rattle.ring_model.specs.Circle.{number}
 use Rattle.ring_model.proofs.Lists.{all-both}
 use Rattle.log_heads.specs.Signed.{hss_judged}
-use Rattle.log_model.proofs.Lists.{each, each_append}
+use Rattle.log_model.proofs.Lists.{each}
 use Rattle.dht_ids.specs.declared.ask.Ask.TheVariants as ask
-use Rattle.dht_ids.specs.declared.ask.Heard.{Heard}
-use Rattle.dht_ids.specs.declared.judge.Judged.{Judged}
 use Rattle.dht_ids.specs.declared.post.Post.{Post}
 use Rattle.dhash_client.specs.Course.{Told, told_all}
 use Rattle.dhash_client.specs.GetBlock.{IsGetOfBlock}
 use Rattle.dhash_client.specs.GetHead.{IsGetOfHead}
-use Rattle.dhash_client.specs.declared.miss.Miss.{Miss}
-use Rattle.agent_model.specs.Agent.{is_head}
 use Rattle.node_store.specs.declared.kind.Kind.{Kind}
 use Rattle.node_store.specs.declared.kind.Kind.TheVariants.{Content, Head}
-use Rattle.world_model.specs.World.{World, named_bytes}
+use Rattle.world_model.specs.World.{World}
 use Rattle.world_model.specs.Fates.{Fates, asking}
 use Rattle.world_model.specs.Logs.{Played}
 use Rattle.round_laws.specs.Holding.{rank}
 use Rattle.round_laws.proofs.Nodes.{Shape}
 use Rattle.round_laws.proofs.Rounding.{shapes_of}
 use Rattle.round_laws.specs.RingOf.{links_in}
-use Rattle.world_laws.specs.Calm.{BlocksAreGiven, HasSameRing, HeadsAreGiven, IsCalmAt, Stopped, post_rank}
+use Rattle.world_laws.specs.Calm.{BlocksAreGiven, HasSameRing, HeadsAreGiven, Stopped, post_rank}
 use Rattle.world_laws.specs.Laws.{LinesKeep}
-use Rattle.world_laws.proofs.CalmNodes.{HeldStays, IsHeld}
-use Rattle.world_laws.proofs.CalmPuts.{IsAckHeld, block_of, entries_by, kind_of}
-use Rattle.world_laws.proofs.CalmStates.{IsLeft, OfContent}
+use Rattle.world_laws.proofs.CalmNodes.{IsHeld}
+use Rattle.world_laws.proofs.CalmPuts.{IsAckHeld, block_of, kind_of}
+use Rattle.world_laws.proofs.CalmStates.{IsLeft}
 use Rattle.world_laws.proofs.CalmLines.{entries_are}
 use Rattle.world_laws.proofs.CalmCommands.{fates_split}
 use Rattle.world_laws.proofs.CalmGets.{AreGot, IsOwnedAs, block_given, gets_go, head_given}
@@ -73,6 +67,6 @@ heads_are_given lines_keep r w next count lines p looks asks came same calm acke
     let made = world.run.made in
     let ring = world.run.first.ring in
     let given = head_given r (shapes_of made) (links_in made) made.asked ring (Contains w.0.met) (IsLeft w.0) w.0 w.0 p.key (post_rank p) (told_all (ask.Route p.key) looks ++ told_all (ask.Get p.key) asks) came
-        (owned r w world p acked Head (ap (λ b. cond b Head Content) head)) world.still (got r w world p acked next looks asks fates)
-        (subst (λ es. IsGetOfHead (hss_judged p.key) p.key r es (told_all (ask.Route p.key) looks ++ told_all (ask.Get p.key) asks) came) (entries_are r (shapes_of made) (links_in made) made.asked ring (Contains w.0.met) (IsLeft w.0) w.0 world.still) get) in
+    (owned r w world p acked Head (ap (λ b. cond b Head Content) head)) world.still (got r w world p acked next looks asks fates)
+    (subst (λ es. IsGetOfHead (hss_judged p.key) p.key r es (told_all (ask.Route p.key) looks ++ told_all (ask.Get p.key) asks) came) (entries_are r (shapes_of made) (links_in made) made.asked ring (Contains w.0.met) (IsLeft w.0) w.0 world.still) get) in
     (given.heads, given.one, given.came_is, given.among, given.newer)

@@ -1,5 +1,5 @@
 -- What was acknowledged is held by an owner, in calm runs in which the ring stays.
-use Rattle.std.proofs.Common.{◌≡◌, ◌⊎◌, ⊎_elim, ℕ, suc, ◌^◌, ◌<◌, ◌≤◌, Bool, true, false, cond, ◌&&◌, List, [], ◌∷◌, ◌++◌, length, map, Option, Some, None, IfSome, refl, sym, ap, ◌∙◌, subst, nat_lt, Contains, append_assoc, is_some, option_map, inl, inr}
+use Rattle.std.proofs.Common.{◌≡◌, ℕ, suc, Bool, true, false, cond, ◌&&◌, List, [], ◌∷◌, ◌++◌, length, map, Option, Some, None, refl, sym, ap, ◌∙◌, subst, nat_lt, Contains, append_assoc, is_some, option_map}
 use Rattle.std.specs.List.{AllByRecursion}
 use Rattle.std.specs.Option.{option_map_or}
 use Rattle.std.proofs.lemmas.Bool.{lt-ltb}
@@ -7,7 +7,7 @@ use Rattle.std.proofs.lemmas.List.Elements.{Contains-append_left, Contains-appen
 use Rattle.ivy_base.specs.declared.key.Key.{Key}
 use Rattle.ivy_base.specs.declared.key.PubKey.{PubKey}
 use Rattle.ivy_base.specs.declared.operation.Moment.{Moment}
-use Rattle.ivy_base.specs.Naming.{NamesTellApart, head_key_of, name}
+use Rattle.ivy_base.specs.Naming.{NamesTellApart, head_key_of}
 use Rattle.ring_model.specs.Blocks.{IsAtLeast}
 use Rattle.ring_model.specs.Circle.{number}
 use Rattle.ring_model.specs.Members.{IsAmong, owners}
@@ -29,17 +29,16 @@ use Rattle.node_store.specs.Stores.{Block}
 use Rattle.node_store.specs.declared.kind.Kind.TheVariants.{Content, Head}
 use Rattle.script_driver.specs.Run.{Goes}
 use Rattle.script_model.specs.declared.command.Command.TheVariants as command
-use Rattle.world_model.specs.Agents.{Kept, own}
+use Rattle.world_model.specs.Agents.{own}
 use Rattle.world_model.specs.Nodes.{Node}
-use Rattle.world_model.specs.World.{Participant, World, empty_world, named_bytes, node_at, participant}
+use Rattle.world_model.specs.World.{Participant, World, empty_world, named_bytes, participant}
 use Rattle.world_model.specs.Story.{empty_story}
 use Rattle.world_model.specs.Logs.{Played, beside, goes_if}
 use Rattle.world_model.specs.Ring.{RingLine, live_in_order}
 use Rattle.round_laws.specs.RingOf.{links_in}
-use Rattle.round_laws.specs.Holding.{held_in, rank}
+use Rattle.round_laws.specs.Holding.{rank}
 use Rattle.round_laws.proofs.Nodes.{Shape, at_among, order_by, order_shape}
 use Rattle.round_laws.proofs.Rounding.{shapes_of}
-use Rattle.round_laws.proofs.Storing.{under}
 use Rattle.std.specs.FinMap.Entries.{find as value_at}
 use Rattle.ivy_base.specs.Naming.{key_cmp}
 use Rattle.node_store.specs.Stores.{Blocks}
@@ -56,7 +55,7 @@ use Rattle.world_laws.proofs.Lines.{still_lines_keep}
 use Rattle.world_laws.proofs.SignedHeads.{from_map}
 use Rattle.world_laws.proofs.CalmNodes.{IsHeld, IsMadeRing, IsRing, kept_ring}
 use Rattle.world_laws.proofs.CalmPuts.{IsAckHeld, block_of, kind_of}
-use Rattle.world_laws.proofs.CalmStates.{AreApart, IsGood, IsLeft, IsUpTo, OfContent, OfHeads}
+use Rattle.world_laws.proofs.CalmStates.{AreApart, IsGood, IsLeft}
 use Rattle.world_laws.proofs.CalmRuns.{IsFirst, IsStillRun, run_of}
 
 -- ---- the world keeps what it should

@@ -1,50 +1,29 @@
 -- Lines that change no node but by asks of sessions: the world goes on so.
-use Rattle.std.proofs.Common.{◌≡◌, ◌⊎◌, inl, inr, ⊎_elim, ℕ, ◌≤◌, Bool, true, false, cond, List, [], ◌∷◌, ◌++◌, length, map, filter, find, Option, Some, None, Result, Ok, Err, refl, sym, ap, ◌∙◌, subst, nat_lt, Contains, not, ◌&&◌, is_some, arith}
+use Rattle.std.proofs.Common.{◌≡◌, ◌⊎◌, inl, inr, ⊎_elim, ℕ, Bool, true, false, cond, List, [], ◌∷◌, ◌++◌, map, filter, find, Some, None, refl, sym, ap, ◌∙◌, subst, Contains, is_some}
 use Rattle.std.specs.Prelude.{fold}
-use Rattle.std.specs.List.{AllByRecursion, list_any}
-use Rattle.std.specs.Option.{option_map_or}
+use Rattle.std.specs.List.{AllByRecursion}
 use Rattle.std.specs.Str.{bytes_eq}
-use Rattle.std.proofs.lemmas.List.{append-nil}
 use Rattle.std.proofs.lemmas.Slice.Eq.{bytes_eq-Decides}
-use Rattle.ivy_base.specs.declared.key.Key.{Key}
-use Rattle.ivy_base.specs.declared.key.PubKey.{PubKey}
-use Rattle.ring_model.specs.Members.{first}
 use Rattle.ring_model.specs.Ring.{Links}
-use Rattle.hash_signature_model.specs.declared.set.Set.{Set}
 use Rattle.log_heads.specs.Signed.{hss_judged}
-use Rattle.log_model.proofs.Lists.{each, each_append, each_from, from_filter}
-use Rattle.log_model.specs.View.{View, view_block, view_name}
-use Rattle.dht_ids.specs.Asked.{told}
-use Rattle.dht_ids.specs.declared.ask.Answer.{Answer}
-use Rattle.dht_ids.specs.declared.ask.Ask.{Ask}
-use Rattle.dht_ids.specs.declared.ask.Ask.TheVariants as ask
-use Rattle.dht_ids.specs.declared.ask.Heard.{Heard}
+use Rattle.log_model.proofs.Lists.{each, each_from, from_filter}
 use Rattle.dht_ids.specs.declared.peer.Peer.{Peer}
 use Rattle.dht_ids.specs.declared.post.Post.{Post}
-use Rattle.dhash_client.specs.Course.{Told, told_all}
-use Rattle.dhash_client.specs.declared.miss.Miss.{Miss}
-use Rattle.agent_model.specs.Agent.{restored}
-use Rattle.agent_model.specs.Others.{block_post}
-use Rattle.node_store.specs.declared.kind.Kind.{Kind}
 use Rattle.session_model.specs.Courses.{Begins}
 use Rattle.session_model.specs.Courses.Begins.{alone, refreshes}
-use Rattle.session_model.specs.Sessions.{Said, Session, in_publishing_order}
-use Rattle.world_model.specs.Agents.{Kept, opened}
-use Rattle.world_model.specs.World.{NamedSession, Participant, World, entries, participant, peer_of, with_participant, with_session, without_session, without_sessions_of}
-use Rattle.world_model.specs.Story.{Began, Story, began_nothing, began_of, beginning, having_begun}
-use Rattle.world_model.specs.Fates.{Fates, Puts, asking}
-use Rattle.world_model.specs.Fates.Fates.{none as fates_none, more as fates_more}
-use Rattle.world_model.specs.Steps.{RunsOut, Scene, having_made, met_by}
-use Rattle.world_model.specs.Logs.{Played, Publishes, fresh_signer, newcomer, to_publish, with_newcomer, with_view}
-use Rattle.world_model.specs.Calls.{BeginsWith, Sending, replied}
+use Rattle.session_model.specs.Sessions.{Session}
+use Rattle.world_model.specs.World.{NamedSession, Participant, World, entries, participant}
+use Rattle.world_model.specs.Story.{Story, began_nothing}
+use Rattle.world_model.specs.Steps.{Scene, having_made}
+use Rattle.world_model.specs.Logs.{Played, Publishes, to_publish, with_newcomer}
+use Rattle.world_model.specs.Calls.{BeginsWith, Sending}
 use Rattle.round_laws.proofs.Nodes.{Shape, at, made_by, made_shape}
-use Rattle.round_laws.proofs.Fixing.{fates_first, fates_none as fates_nothing}
 use Rattle.ring_model.proofs.Lists.{all_weaker}
 use Rattle.world_laws.proofs.SignedAmong.{met_stays}
 use Rattle.world_laws.proofs.WholePublishing.{each_published}
-use Rattle.world_laws.proofs.CalmNodes.{HeldStays, HoldKinds, IsHeld, IsMadeRing, IsRing, kept_ring, same_rings}
-use Rattle.world_laws.proofs.CalmPuts.{AreTrue, IsAckHeld, IsTrueAt, entries_by, kind_of}
-use Rattle.world_laws.proofs.CalmStates.{ArePending, AreApart, InStep, IsGood, IsLeft, IsMore, IsOwnPost, IsUpTo, OfContent, OfHeads, SceneGoes, WorldGoes, asked_more, asked_pending, good_later, less_up_to, made_left, made_own, more_posts, more_then, same_more, still_acked, still_in_step}
+use Rattle.world_laws.proofs.CalmNodes.{HeldStays, IsHeld, IsMadeRing, IsRing, kept_ring, same_rings}
+use Rattle.world_laws.proofs.CalmPuts.{IsAckHeld, entries_by}
+use Rattle.world_laws.proofs.CalmStates.{ArePending, InStep, IsGood, IsMore, IsOwnPost, SceneGoes, WorldGoes, good_later, less_up_to, made_own, more_posts, more_then, same_more, still_acked, still_in_step}
 use Rattle.world_laws.proofs.CalmScenes.{runs_go}
 
 -- ---- lists

@@ -1,10 +1,10 @@
 -- The nodes of a world while no node joins or stops, no round is made and no ask is lost: what they know of each other stays, and what they hold stays, or something newer of its kind.
-use Rattle.std.proofs.Common.{◌≡◌, ◌⊎◌, inl, inr, ⊎_elim, ℕ, ◌+◌, ◌<◌, ◌≤◌, Bool, true, false, cond, List, [], ◌∷◌, ◌++◌, length, map, Option, Some, None, refl, sym, ap, ◌∙◌, subst, arith, le_refl, nat_lt, option_map, Contains}
-use Rattle.std.specs.Prelude.{IfSome, is_some, ◌*◌, take}
+use Rattle.std.proofs.Common.{◌≡◌, inl, inr, ⊎_elim, ℕ, ◌+◌, ◌≤◌, Bool, true, false, cond, List, [], ◌∷◌, length, map, Option, Some, None, refl, sym, ap, ◌∙◌, subst, arith, le_refl, nat_lt, option_map, Contains}
+use Rattle.std.specs.Prelude.{IfSome, is_some}
 use Rattle.std.specs.List.{AllByRecursion}
-use Rattle.std.specs.Option.{option_and_then, option_or, option_map_or}
+use Rattle.std.specs.Option.{option_or}
 use Rattle.std.specs.Ordering.{eq_by_cmp}
-use Rattle.std.specs.FinMap.Entries.{find as value_at, find-put, put}
+use Rattle.std.specs.FinMap.Entries.{find as value_at, find-put}
 use Rattle.std.proofs.lemmas.Bool.{ltb-true, ltb-false}
 use Rattle.ivy_base.specs.declared.key.Key.{Key}
 use Rattle.ivy_base.specs.Naming.{key_cmp, name}
@@ -12,7 +12,6 @@ use Rattle.ring_model.specs.Blocks.{raised}
 use Rattle.ring_model.specs.Circle.{number}
 use Rattle.ring_model.specs.Members.{IsAmong}
 use Rattle.ring_model.specs.Ring.{Links, IsSettledRing}
-use Rattle.ring_model.specs.Route.{Route}
 use Rattle.ring_model.specs.Lookup.{IsFate}
 use Rattle.ring_model.proofs.Lists.{all-among, some_same, none_some}
 use Rattle.log_heads.specs.Signed.{hss_judged}
@@ -20,7 +19,6 @@ use Rattle.log_model.proofs.Lists.{in_nothing}
 use Rattle.dht_ids.specs.Asked.{IsForData, route_in}
 use Rattle.dht_ids.specs.Peers.{place}
 use Rattle.dht_ids.specs.declared.ask.Answer.{Answer}
-use Rattle.dht_ids.specs.declared.ask.Answer.TheVariants as answer
 use Rattle.dht_ids.specs.declared.ask.Ask.{Ask}
 use Rattle.dht_ids.specs.declared.ask.Ask.TheVariants as ask
 use Rattle.dht_ids.specs.declared.ask.StoreFault.{StoreFault}
@@ -28,7 +26,7 @@ use Rattle.dht_ids.specs.declared.ask.StoreFault.TheVariants.{WrongName}
 use Rattle.dht_ids.specs.declared.judge.Judged.{Judged}
 use Rattle.dht_ids.specs.declared.peer.Peer.{Peer}
 use Rattle.dhash_client.specs.Puts.{holds, is_of_put}
-use Rattle.node_store.specs.Stores.{Block, Blocks, content, content_fault, full, head, head_fault, not_judged, number_at, older}
+use Rattle.node_store.specs.Stores.{Block, content, content_fault, full, head, head_fault, not_judged, number_at, older}
 use Rattle.node_store.specs.declared.kind.Kind.{Kind}
 use Rattle.node_store.specs.declared.kind.Kind.TheVariants.{Content, Head}
 use Rattle.node_store.proofs.Maps.{keys_total}
@@ -37,9 +35,9 @@ use Rattle.world_model.specs.World.{World, node_at, peer_of, with_node}
 use Rattle.world_model.specs.Fates.{FateOf, counted}
 use Rattle.world_model.specs.Fates.FateOf.{lost, stopped, answers}
 use Rattle.world_model.specs.Rounds.{question_as}
-use Rattle.round_laws.specs.RingOf.{AreApart, links_in, lives_in, own_node}
+use Rattle.round_laws.specs.RingOf.{AreApart, links_in, own_node}
 use Rattle.round_laws.specs.Holding.{held_in, rank}
-use Rattle.round_laws.proofs.Nodes.{Shape, at, at_among, at_id, at_other, at_same, lives_by, made_by, made_shape, order_by, replaced, same_id, same_or_not, shape}
+use Rattle.round_laws.proofs.Nodes.{Shape, at, at_among, at_id, at_other, at_same, lives_by, made_by, order_by, replaced, same_id, same_or_not, shape}
 use Rattle.round_laws.proofs.Standing.{IsBase, IsWithin, KeepsRing, fated, peer_or_not, stands, still_asked, node_made}
 use Rattle.round_laws.proofs.Fixing.{routed}
 use Rattle.round_laws.proofs.Holding.{held_at, node_here, node_is, node_other}

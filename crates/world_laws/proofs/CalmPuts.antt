@@ -1,41 +1,37 @@
 -- A put of a session in such a ring, whose answers are true: where it was acknowledged an owner holds the post, or something newer.
-use Rattle.std.proofs.Common.{◌≡◌, ◌⊎◌, inl, inr, ⊎_elim, ℕ, zero, suc, ◌+◌, ◌<◌, ◌≤◌, Bool, true, false, cond, List, [], ◌∷◌, ◌++◌, length, map, filter, Option, Some, None, Result, Ok, Err, refl, sym, ap, ◌∙◌, subst, arith, le_refl, nat_lt, Contains, MatchBool, min, length-take, take-take}
-use Rattle.std.specs.Prelude.{IfSome, is_some, ◌*◌, take, fold}
+use Rattle.std.proofs.Common.{◌≡◌, ◌⊎◌, inl, inr, ⊎_elim, ℕ, zero, suc, ◌<◌, ◌≤◌, Bool, true, false, cond, List, [], ◌∷◌, ◌++◌, length, filter, Option, Some, None, Result, Ok, refl, sym, ap, ◌∙◌, subst, arith, nat_lt, Contains, length-take, take-take}
+use Rattle.std.specs.Prelude.{IfSome, ◌*◌, take, fold}
 use Rattle.std.specs.List.{AllByRecursion}
 use Rattle.std.proofs.lemmas.List.{take_all}
 use Rattle.std.proofs.lemmas.List.Sums.{length-filter}
 use Rattle.ivy_base.specs.declared.key.Key.{Key}
 use Rattle.ivy_base.specs.Naming.{name}
 use Rattle.ring_model.specs.Circle.{number}
-use Rattle.ring_model.specs.Gets.{AreAsks, AreFirsts, IsPut, IsAcknowledged, answered_in, nodes}
+use Rattle.ring_model.specs.Gets.{AreAsks, AreFirsts, IsPut, answered_in, nodes}
 use Rattle.ring_model.specs.Gets.AreFirsts.{none as no_more, again as seen_again, new as not_seen}
 use Rattle.ring_model.specs.Lookup.{AreNames, IsFate, IsLookup}
 use Rattle.ring_model.specs.Lookup.IsLookup.{over, spent, known as asked_before, silent as was_silent, answered as has_answered}
-use Rattle.ring_model.specs.Members.{IsAmong, first, from_place, owners}
+use Rattle.ring_model.specs.Members.{IsAmong, from_place, owners}
 use Rattle.ring_model.specs.Ring.{Links}
 use Rattle.ring_model.specs.Route.{Route}
 use Rattle.ring_model.proofs.Lists.{all-among, all-both, all-left, all-right, among_take, cons_head, cons_tail, filter_all, nil_cons, some_same}
 use Rattle.ring_model.proofs.Members.{from_place_live}
 use Rattle.ring_model.proofs.Rounds.{lookup_right}
 use Rattle.log_heads.specs.Signed.{hss_judged}
-use Rattle.log_model.proofs.Lists.{each}
-use Rattle.dht_ids.specs.Asked.{IsForData, route_in, routes, told}
+use Rattle.dht_ids.specs.Asked.{route_in, routes}
 use Rattle.dht_ids.specs.Peers.{place}
 use Rattle.dht_ids.specs.declared.ask.Answer.{Answer}
-use Rattle.dht_ids.specs.declared.ask.Answer.TheVariants as answer
-use Rattle.dht_ids.specs.declared.ask.Ask.{Ask}
 use Rattle.dht_ids.specs.declared.ask.Ask.TheVariants as ask
 use Rattle.dht_ids.specs.declared.ask.AskKind.{AskKind}
 use Rattle.dht_ids.specs.declared.ask.AskKind.TheVariants as kind
 use Rattle.dht_ids.specs.declared.ask.Heard.{Heard}
 use Rattle.dht_ids.specs.declared.peer.Peer.{Peer}
 use Rattle.dht_ids.specs.declared.post.Post.{Post}
-use Rattle.dhash_client.specs.Course.{IsCourse, Told, told_all}
+use Rattle.dhash_client.specs.Course.{Told, told_all}
 use Rattle.dhash_client.specs.Course.IsCourse.{no_route, of_owners}
 use Rattle.dhash_client.specs.Machine.{outcome}
-use Rattle.dhash_client.specs.Puts.{EndsPut, holds, is_of_put}
+use Rattle.dhash_client.specs.Puts.{holds, is_of_put}
 use Rattle.dhash_client.specs.declared.miss.Miss.{Miss}
-use Rattle.dhash_client.specs.declared.miss.Miss.TheVariants as miss
 use Rattle.agent_model.specs.Agent.{is_head}
 use Rattle.node_store.specs.Stores.{Block}
 use Rattle.node_store.specs.declared.kind.Kind.{Kind}
@@ -45,7 +41,7 @@ use Rattle.world_model.specs.World.{World, with_numbered}
 use Rattle.world_model.specs.Rounds.{question_as}
 use Rattle.round_laws.specs.Holding.{rank}
 use Rattle.round_laws.proofs.Nodes.{Shape, lives_by, made_by, order_by}
-use Rattle.round_laws.proofs.Order.{among_fold, lives_made}
+use Rattle.round_laws.proofs.Order.{lives_made}
 use Rattle.round_laws.proofs.Standing.{node_made, stands}
 use Rattle.round_laws.proofs.Owning.{AreDistinct, distinct_from_place, distinct_take}
 use Rattle.world_laws.proofs.CalmNodes.{AllMade, HeldStays, IsHeld, IsMadeRing, IsRing, IsRouted, base_to, made_lives}

@@ -1,7 +1,6 @@
 -- Calm runs with rounds, stops and joins: the ring is settled after each round, and covered at each later line but between a join and its round.
-use Rattle.std.proofs.Common.{◌≡◌, ◌⊎◌, inl, inr, ⊎_elim, ℕ, zero, suc, ◌+◌, ◌<◌, ◌≤◌, Bool, true, false, cond, not, nat_le, nat_lt, List, [], ◌∷◌, ◌++◌, length, map, filter, find, Option, Some, None, refl, sym, ap, ◌∙◌, subst, arith, Contains}
+use Rattle.std.proofs.Common.{◌≡◌, inl, inr, ⊎_elim, ℕ, suc, ◌+◌, ◌<◌, ◌≤◌, Bool, true, false, cond, not, nat_lt, List, [], ◌∷◌, length, map, filter, Option, Some, None, refl, sym, ap, ◌∙◌, subst, arith, Contains}
 use Rattle.std.specs.Prelude.{fold}
-use Rattle.std.specs.List.{AllByRecursion}
 use Rattle.std.proofs.lemmas.Bool.{leb-false}
 use Rattle.std.proofs.lemmas.List.{length-append, length-map}
 use Rattle.ring_model.specs.Change.{AreFewStops, IsJoin}
@@ -19,8 +18,6 @@ use Rattle.dht_ids.specs.declared.peer.Peer.{Peer}
 use Rattle.chord_core.specs.State.{alone_node}
 use Rattle.script_driver.specs.Run.{Outcome, Goes, Ends, Refuses, Exceeds}
 use Rattle.script_model.specs.declared.command.Command.{Command}
-use Rattle.script_model.specs.declared.command.Command.TheVariants as command
-use Rattle.script_model.specs.declared.command.NodeWord.{NodeWord}
 use Rattle.script_model.specs.Lines.{command_of}
 use Rattle.world_model.specs.Nodes.{Node}
 use Rattle.world_model.specs.World.{World, empty_world, live_peers, peer_of, with_node}
@@ -30,7 +27,7 @@ use Rattle.world_model.specs.Fates.FateOf.{lost as was_lost, stopped as was_stop
 use Rattle.world_model.specs.Fates.Fates.{none as fates_end, more as fates_on}
 use Rattle.world_model.specs.Faults.{node_named}
 use Rattle.world_model.specs.Logs.{Played, beside}
-use Rattle.world_model.specs.Ring.{JoinLine, RingLine, empty_node, in_ring_order, joined_node, live_in_order, peer_numbered, stop_line, with_peer}
+use Rattle.world_model.specs.Ring.{JoinLine, RingLine, empty_node, joined_node, live_in_order, peer_numbered, stop_line, with_peer}
 use Rattle.world_model.specs.Ring.JoinLine.{before_ring as join_before_ring, known as join_known, exceeds as join_exceeds, alone as join_alone, joins as join_joins, fails as join_fails}
 use Rattle.world_model.specs.Rounds.{IsRoundOf, RoundLine}
 use Rattle.world_model.specs.Rounds.RoundLine.{before_ring as round_before_ring, goes as round_goes}
@@ -45,13 +42,13 @@ use Rattle.round_laws.proofs.Rounding.{base_of, in_order, leaves_the_rest, leave
 use Rattle.round_laws.proofs.Settling.{settled_by}
 use Rattle.round_laws.proofs.Standing.{peer_or_not}
 use Rattle.round_laws.proofs.Stopping.{round_mends_since, stop_line_stops}
-use Rattle.world_laws.specs.Calm.{AreAny, Calmly, IsCalm, IsCalmAt, IsQuiet, Joined, RingStays, Since, Stopped}
+use Rattle.world_laws.specs.Calm.{AreAny, Calmly, IsCalm, IsCalmAt, Joined, RingStays, Since, Stopped}
 use Rattle.world_laws.specs.Calm.Calmly.{none as calmly_none, more as calmly_more}
 use Rattle.world_laws.specs.Calm.IsCalm.{rounds, joins, stops, other}
 use Rattle.world_laws.proofs.AllLines.{does_line}
 use Rattle.world_laws.proofs.Lines.{named_among}
-use Rattle.world_laws.proofs.CalmNodes.{AreKnown, IsMadeRing, IsRing, KeepsRings, base_from}
-use Rattle.world_laws.proofs.CalmRuns.{IsFirst, first_of, some_command}
+use Rattle.world_laws.proofs.CalmNodes.{AreKnown, IsMadeRing, KeepsRings, base_from}
+use Rattle.world_laws.proofs.CalmRuns.{first_of, some_command}
 use Rattle.world_laws.proofs.CalmCommands.{command_goes}
 
 -- ---- lists

@@ -1,65 +1,28 @@
--- Runs in which the ring stays: from the line that made it on, it is settled, and what was acknowledged is held.
-use Rattle.std.proofs.Common.{◌≡◌, ◌⊎◌, inl, inr, ⊎_elim, ℕ, ◌+◌, ◌*◌, ◌^◌, ◌<◌, ◌≤◌, Bool, true, false, cond, not, ◌&&◌, List, [], ◌∷◌, ◌++◌, length, map, filter, take, Option, Some, None, IfSome, refl, sym, ap, ◌∙◌, subst, arith, nat_lt, Contains, append_assoc, is_some, option_map}
+-- The ring of the line that makes it, and how worlds go on from there in calm runs in which it stays.
+use Rattle.std.proofs.Common.{◌≡◌, ℕ, true, List, [], map, Some, IfSome, refl, ap, ◌∙◌, subst, arith}
 use Rattle.std.specs.List.{AllByRecursion}
-use Rattle.std.specs.Option.{option_map_or}
-use Rattle.std.proofs.lemmas.Bool.{lt-ltb}
-use Rattle.ivy_base.specs.declared.key.Key.{Key}
-use Rattle.ivy_base.specs.declared.key.PubKey.{PubKey}
 use Rattle.ivy_base.specs.declared.operation.Moment.{Moment}
-use Rattle.ivy_base.specs.Naming.{NamesTellApart, head_key_of, name}
-use Rattle.ring_model.specs.Blocks.{IsAtLeast}
-use Rattle.ring_model.specs.Circle.{number}
-use Rattle.ring_model.specs.Members.{IsAmong, following, owners}
-use Rattle.ring_model.specs.Ring.{IsCoveredRing, IsSettledRing, Links}
-use Rattle.ring_model.proofs.Lists.{all-among, all_from, filter_all, filter_none, some_same}
-use Rattle.ring_model.proofs.Settled.{few_stops_covered}
-use Rattle.log_heads.specs.Signed.{IsSignedHead, hss_judged}
-use Rattle.log_heads.proofs.SignedHeads.{signed_heads}
-use Rattle.log_model.proofs.Lists.{both, each}
-use Rattle.log_model.specs.Spelling.{IsMoment, head_block}
-use Rattle.log_model.specs.Vector.{Stamp}
-use Rattle.wire_model.specs.Xdr.{opaque, word}
-use Rattle.wire_model.proofs.OneReading.{same_fronts}
-use Rattle.hss_keys.specs.Signer.{Signer, hss_key_of, owner_of}
-use Rattle.dht_ids.specs.Peers.{place}
-use Rattle.dht_ids.specs.declared.judge.Judged.{Judged}
+use Rattle.ring_model.specs.Ring.{Links}
 use Rattle.dht_ids.specs.declared.peer.Peer.{Peer}
-use Rattle.dht_ids.specs.declared.post.Post.{Post}
-use Rattle.agent_model.specs.Agent.{is_head}
-use Rattle.node_store.specs.Stores.{Block}
-use Rattle.node_store.specs.declared.kind.Kind.{Kind}
-use Rattle.node_store.specs.declared.kind.Kind.TheVariants.{Content, Head}
 use Rattle.script_driver.specs.Run.{Outcome, Goes}
 use Rattle.script_model.specs.declared.command.Command.{Command}
-use Rattle.script_model.specs.declared.command.Command.TheVariants as command
 use Rattle.script_model.specs.Lines.{command_of}
-use Rattle.world_model.specs.Agents.{Agent, Kept, own}
 use Rattle.world_model.specs.Nodes.{Node}
-use Rattle.world_model.specs.World.{Participant, World, empty_world, named_bytes, node_at, participant}
-use Rattle.world_model.specs.Story.{Story, empty_story}
-use Rattle.world_model.specs.Logs.{Played, goes_if}
-use Rattle.world_model.specs.Ring.{AreSettled, RingLine, empty_node, first_peers, in_ring_order, live_in_order}
+use Rattle.world_model.specs.World.{World, empty_world}
+use Rattle.world_model.specs.Story.{empty_story}
+use Rattle.world_model.specs.Logs.{Played}
+use Rattle.world_model.specs.Ring.{AreSettled, RingLine}
 use Rattle.world_model.specs.Ring.AreSettled.{none as nobody, more as one_more}
 use Rattle.world_model.specs.Ring.RingLine.{refused as ring_refused, exceeds as ring_exceeds, makes as ring_makes}
-use Rattle.world_model.specs.Step.{IvyStep}
-use Rattle.round_laws.specs.RingOf.{IsCoveredIn, IsSettledIn, links_in, lives_in}
-use Rattle.round_laws.specs.Holding.{held_in, rank}
-use Rattle.round_laws.proofs.Nodes.{Shape, at_among, lives_by, lives_shape, made_by, made_shape, order_by, order_shape, shape}
+use Rattle.round_laws.specs.RingOf.{links_in}
+use Rattle.round_laws.proofs.Nodes.{Shape, lives_by, lives_shape, order_by, order_shape, shape}
 use Rattle.round_laws.proofs.Ringing.{ring_line_settles}
 use Rattle.round_laws.proofs.Rounding.{base_of, shapes_of, within_of}
 use Rattle.round_laws.proofs.Settling.{length_made, settled_by}
-use Rattle.world_laws.specs.Calm.{AckedIsHeld, Calmly, HasSameRing, IsCalmAt, IsQuiet, RingStays, Since, Stopped, post_rank, rank_in}
+use Rattle.world_laws.specs.Calm.{Calmly, HasSameRing, IsCalmAt, IsQuiet, Since, Stopped}
 use Rattle.world_laws.specs.Calm.Calmly.{none as calmly_none, more as calmly_more}
-use Rattle.world_laws.specs.Keeps.{Keeps, SignsOnce, sealed_with}
-use Rattle.world_laws.specs.Laws.{LinesKeep}
 use Rattle.world_laws.proofs.AllLines.{does_line}
-use Rattle.world_laws.proofs.Bringing.{found_named}
-use Rattle.world_laws.proofs.FirstWorld.{empty_keeps}
-use Rattle.world_laws.proofs.PublicKeys.{owner_is_key}
-use Rattle.world_laws.proofs.SignedHeads.{from_map}
-use Rattle.world_laws.proofs.CalmNodes.{AreKnown, IsMadeRing, IsRing, KeepsRings, kept_ring}
-use Rattle.world_laws.proofs.CalmPuts.{IsAckHeld, block_of, kind_of}
-use Rattle.world_laws.proofs.CalmStates.{AreApart, IsGood, IsLeft, IsUpTo, OfContent, OfHeads}
+use Rattle.world_laws.proofs.CalmNodes.{IsMadeRing, IsRing, kept_ring}
 use Rattle.world_laws.proofs.CalmLines.{LineGoes, goes_nowhere, goes_then}
 use Rattle.world_laws.proofs.CalmCommands.{command_goes}
 
@@ -130,27 +93,6 @@ module _ (r : ℕ) (base : List Shape) (links : Peer → Links Peer) (start : �
       let one = command_goes r base links start ring Met Left v mid done.0 output h.replicas (subst (λ o. IfSome o IsQuiet) done.1 same.0) done.2 in
       goes_then r base links start ring Met Left v.0 mid.0 next.0 v.1 mid.1 next.1 one (runs_so rest same.1 (kept_ring r base links start ring v.0 mid.0 one.still h))
 
-  pub settled_so : (w : World) → IsRing r base links start w → IsSettledIn w r
-  settled_so w h =
-      subst (λ l. IsSettledRing place r 160 (live_in_order w) (lives_in w) l) (sym h.linked)
-      (subst (λ l. IsSettledRing place r 160 (live_in_order w) l links) (sym (lives_shape w ∙ ap lives_by h.within.shapes))
-      (subst (λ l. IsSettledRing place r 160 l (lives_by base) links) (sym (order_shape w ∙ ap order_by h.within.shapes)) ring.settled))
-
-pub covered_so : (w : World) (r : ℕ) → IsSettledIn w r → IsCoveredIn w r
-covered_so w r s = subst (λ l. IsCoveredRing place r l (lives_in w) (links_in w)) all (few_stops_covered place r 160 (live_in_order w) (lives_in w) (links_in w) (record { lived = lives_in w; settled = s; members = s.living; few = few }))
-  where
-    living : AllByRecursion (λ m. lives_in w m ≡ true) (live_in_order w)
-    living = all_from (λ m. lives_in w m ≡ true) (live_in_order w) s.lives_all
-
-    all : filter (lives_in w) (live_in_order w) ≡ live_in_order w
-    all = filter_all (lives_in w) (live_in_order w) living
-
-    none_stopped : filter (λ m. not (lives_in w m)) (live_in_order w) ≡ []
-    none_stopped = filter_none (λ m. not (lives_in w m)) (live_in_order w) (all_from (λ m. not (lives_in w m) ≡ false) (live_in_order w) (λ m i. ap not (s.lives_all m i)))
-
-    few : length (filter (λ m. not (lives_in w m)) (live_in_order w)) < r
-    few = let size = ap length none_stopped in let pos = s.positive in omega (arith, size, pos)
-
 -- a calm run in which the ring stays: its ring, and how the world goes on from there
 pub record IsStillRun (r : ℕ) (w : Played) (Met Left : List ℕ → Type 0) : Type 0 where
   pub made : World
@@ -167,9 +109,3 @@ run_of r w since lines Met Left same calm =
       first = first;
       goes = runs_so r (shapes_of calm.made) (links_in calm.made) calm.made.asked first.ring Met Left (subst (λ (v : Played). Calmly r (calm.made, v.1) (Stopped 0) lines w since) calm.fresh.2 calm.calmly) same first.still;
     }
-
-pub ring_stays : RingStays HasSameRing
-ring_stays r w count lines same calm =
-    let run = run_of r w (Stopped count) lines (λ b. Unit {0}) (λ b. Unit {0}) same calm in
-    let settled = settled_so r (shapes_of run.made) (links_in run.made) run.made.asked run.first.ring (λ b. Unit {0}) (λ b. Unit {0}) w.0 (kept_ring r (shapes_of run.made) (links_in run.made) run.made.asked run.first.ring run.made w.0 run.goes.still run.first.still) in
-    (covered_so w.0 r settled, λ none. settled)

@@ -1,5 +1,5 @@
 -- Scenes go on so, step by step.
-use Rattle.std.proofs.Common.{◌≡◌, ◌⊎◌, ℕ, ◌≤◌, Bool, true, false, cond, List, [], ◌∷◌, ◌++◌, length, map, filter, Option, Some, None, refl, sym, ap, ◌∙◌, subst, Contains, not}
+use Rattle.std.proofs.Common.{◌≡◌, ℕ, Bool, List, ◌++◌, map, filter, Option, Some, refl, ap, ◌∙◌, subst, not}
 use Rattle.std.specs.List.{AllByRecursion, list_any}
 use Rattle.ivy_base.specs.declared.operation.Moment.{Moment}
 use Rattle.ring_model.specs.Members.{first}
@@ -12,17 +12,16 @@ use Rattle.dht_ids.specs.declared.ask.Ask.{Ask}
 use Rattle.dht_ids.specs.declared.peer.Peer.{Peer}
 use Rattle.dht_ids.specs.declared.post.Post.{Post}
 use Rattle.agent_model.specs.Others.{is_of}
-use Rattle.agent_model.specs.Turning.{Answered, TurnEnd}
+use Rattle.agent_model.specs.Turning.{TurnEnd}
 use Rattle.session_model.specs.Courses.{Fails, LacksMemory, Settles, TakesTurn}
 use Rattle.session_model.specs.Courses.Settles.{settles as settles_all}
 use Rattle.session_model.specs.Courses.TakesTurn.{answers as turn_answers, begins_anew, gives_up}
-use Rattle.session_model.specs.Sessions.{Cache, Hears, Over, Publishing, Refreshing, Said, Session, Stage, TakesAll, TakesSome, in_publishing_order}
+use Rattle.session_model.specs.Sessions.{Cache, Hears, Session, in_publishing_order}
 use Rattle.world_model.specs.Agents.{Agent, Kept, hss}
-use Rattle.world_model.specs.Keepers.{asked_to_save, fails_next}
-use Rattle.world_model.specs.World.{World, Participant, participant, with_participant}
-use Rattle.world_model.specs.Story.{Story}
+use Rattle.world_model.specs.Keepers.{asked_to_save}
+use Rattle.world_model.specs.World.{World, Participant, participant}
 use Rattle.world_model.specs.Fates.{FateOf}
-use Rattle.world_model.specs.Steps.{Acts, RunsOut, Scene, Steps, StepsOn, acked_by, after_turn, having_made, heads_by, met_by, turn_told, with_cache, world_after}
+use Rattle.world_model.specs.Steps.{Acts, RunsOut, Scene, Steps, StepsOn, acked_by, after_turn, met_by, turn_told, with_cache}
 use Rattle.world_model.specs.Steps.Acts.{asks, asks_in_vain, turns, is_refused, settles}
 use Rattle.world_model.specs.Steps.Steps.{acts, lacks_memory}
 use Rattle.world_model.specs.Steps.RunsOut.{is_over as runs_over, more as runs_more}
@@ -31,9 +30,9 @@ use Rattle.round_laws.proofs.Nodes.{Shape}
 use Rattle.world_laws.proofs.NodeFates.{fate_rest}
 use Rattle.world_laws.proofs.SignedAmong.{met_stays}
 use Rattle.world_laws.proofs.WholePublishing.{each_published}
-use Rattle.world_laws.proofs.CalmNodes.{IsMadeRing, IsRing, asked_rings}
+use Rattle.world_laws.proofs.CalmNodes.{IsMadeRing, asked_rings}
 use Rattle.world_laws.proofs.CalmPuts.{AreTrue, IsAckHeld}
-use Rattle.world_laws.proofs.CalmStates.{ArePending, InStep, IsMore, IsOwnPost, SceneGoes, asked_more, asked_pending, found_placed, good_later, less_up_to, made_left, made_own, more_posts, no_puts_true, posts_at, scene_stays, scene_then, still_acked, still_in_step}
+use Rattle.world_laws.proofs.CalmStates.{InStep, IsOwnPost, SceneGoes, asked_more, asked_pending, found_placed, good_later, less_up_to, made_left, made_own, more_posts, no_puts_true, posts_at, scene_stays, scene_then, still_acked, still_in_step}
 use Rattle.world_laws.proofs.CalmSteps.{answered_so, fails_step, hears_data, lacks_step, place_goes, takes_all_step, takes_some_step}
 
 module _ (r : ℕ) (base : List Shape) (links : Peer → Links Peer) (start : ℕ) (ring : IsMadeRing r base links) (Met Left : List ℕ → Type 0) where

@@ -1,15 +1,12 @@
 -- Steps of sessions while the ring stays: what nodes hold stays, what is answered is true, and where a put is acknowledged an owner holds its post.
-use Rattle.std.proofs.Common.{◌≡◌, ◌⊎◌, inl, inr, ⊎_elim, ℕ, zero, suc, ◌≤◌, Bool, true, false, cond, List, [], ◌∷◌, ◌++◌, length, map, filter, Option, Some, None, Result, Ok, Err, refl, sym, ap, ◌∙◌, subst, nat_lt, le_refl, Contains, not}
+use Rattle.std.proofs.Common.{◌≡◌, ◌⊎◌, ⊎_elim, ℕ, Bool, true, false, cond, List, [], ◌∷◌, ◌++◌, length, filter, Option, Some, refl, sym, ◌∙◌, subst, nat_lt, le_refl, Contains, not}
 use Rattle.std.proofs.lemmas.Bool.{le-ltb}
-use Rattle.std.specs.Prelude.{IfSome}
-use Rattle.std.specs.List.{AllByRecursion, list_any}
+use Rattle.std.specs.List.{AllByRecursion}
 use Rattle.ivy_base.specs.declared.key.Key.{Key}
-use Rattle.ivy_base.specs.declared.operation.Moment.{Moment}
 use Rattle.ring_model.specs.Members.{IsAmong, first}
 use Rattle.ring_model.specs.Ring.{Links}
 use Rattle.log_heads.specs.Signed.{hss_judged}
 use Rattle.log_model.proofs.Lists.{each, each_append, each_from, from_filter}
-use Rattle.log_model.specs.View.{View}
 use Rattle.dht_ids.specs.Asked.{IsForData, told}
 use Rattle.dht_ids.specs.declared.ask.Answer.{Answer}
 use Rattle.dht_ids.specs.declared.ask.Ask.{Ask}
@@ -19,42 +16,24 @@ use Rattle.dht_ids.specs.declared.peer.Peer.{Peer}
 use Rattle.dht_ids.specs.declared.post.Ack.{Ack}
 use Rattle.dht_ids.specs.declared.post.Post.{Post}
 use Rattle.dhash_client.specs.Puts.{holds, is_of_put}
-use Rattle.dhash_client.specs.declared.miss.Miss.{Miss}
 use Rattle.agent_model.specs.Agent.{is_head}
-use Rattle.agent_model.specs.Others.{is_of}
-use Rattle.agent_model.specs.Turning.{TurnEnd}
-use Rattle.session_model.specs.Asking.{AsksNext}
-use Rattle.session_model.specs.Courses.{Fails, LacksMemory, Settles, TakesTurn}
+use Rattle.session_model.specs.Courses.{Fails, LacksMemory}
 use Rattle.session_model.specs.Courses.Fails.{fails, goes_on}
 use Rattle.session_model.specs.Courses.LacksMemory.{lacks}
-use Rattle.session_model.specs.Courses.Settles.{settles as settles_all}
-use Rattle.session_model.specs.Courses.TakesTurn.{answers as turn_answers, begins_anew, gives_up}
-use Rattle.session_model.specs.Sessions.{Cache, Hears, IsPutOfPost, Over, Publishing, Refreshing, Said, Session, Stage, Takes, TakesAll, TakesSome, acknowledged, after_put, held_back, in_publishing_order, is_log, put_question, wanted_key}
+use Rattle.session_model.specs.Sessions.{Cache, Hears, IsPutOfPost, Over, Publishing, Refreshing, Said, Session, Stage, Takes, TakesAll, TakesSome, acknowledged, after_put, held_back, is_log, put_question, wanted_key}
 use Rattle.session_model.specs.Sessions.Hears.{gets_on, got, puts_on, puts}
 use Rattle.session_model.specs.Sessions.Takes.{posted, cached}
 use Rattle.session_model.specs.Sessions.TakesAll.{none as takes_none, more as takes_more}
 use Rattle.session_model.specs.Sessions.TakesSome.{none as some_none, more as some_more}
-use Rattle.world_model.specs.Agents.{Agent, Kept, hss}
-use Rattle.world_model.specs.Keepers.{asked_to_save, fails_next}
 use Rattle.world_model.specs.World.{World, Participant, participant, with_participant}
 use Rattle.world_model.specs.Story.{Began, Story}
 use Rattle.world_model.specs.Fates.{FateOf}
-use Rattle.world_model.specs.Rounds.{question_as}
-use Rattle.world_model.specs.Steps.{Acts, RunsOut, Scene, Steps, StepsOn, acked_by, after_turn, having_made, met_by, with_cache, world_after}
-use Rattle.world_model.specs.Steps.Acts.{asks, asks_in_vain, turns, is_refused, settles}
-use Rattle.world_model.specs.Steps.Steps.{acts, lacks_memory}
-use Rattle.world_model.specs.Steps.RunsOut.{is_over as runs_over, more as runs_more}
-use Rattle.world_model.specs.Steps.StepsOn.{none as steps_none, is_over as steps_over, more as steps_more}
-use Rattle.ivy_base.specs.Naming.{name}
+use Rattle.world_model.specs.Steps.{Scene, acked_by}
 use Rattle.node_store.specs.declared.kind.Kind.TheVariants.{Content, Head}
-use Rattle.round_laws.specs.Holding.{rank}
 use Rattle.round_laws.proofs.Nodes.{Shape, made_by}
-use Rattle.world_laws.proofs.SignedAmong.{met_stays}
-use Rattle.world_laws.proofs.WholePublishing.{each_published}
-use Rattle.world_laws.proofs.NodeFates.{fate_rest}
-use Rattle.world_laws.proofs.CalmNodes.{Fits, HeldStays, HoldKinds, IsHeld, IsMadeRing, IsOfKind, IsRing, KeepsRings, is_routed, put_is_held, same_rings}
-use Rattle.world_laws.proofs.CalmPuts.{AreTrue, IsAckHeld, IsHeldFor, IsTrueAt, block_of, entries_by, kind_of, put_ends, question_is}
-use Rattle.world_laws.proofs.CalmStates.{ArePending, AreApart, AskGoes, InStep, IsGood, IsLeft, IsMore, IsOwnPost, IsUpTo, OfContent, OfHeads, SceneGoes, ask_goes, asked_more, asked_pending, found_placed, good_later, less_up_to, made_left, made_own, more_heard, more_posts, more_then, placed, placed_more, placed_pending, post_fits, posts_at, same_more, scene_stays, scene_then, still_acked, still_in_step}
+use Rattle.world_laws.proofs.CalmNodes.{Fits, HeldStays, HoldKinds, IsMadeRing, IsOfKind, IsRing, KeepsRings, is_routed, put_is_held, same_rings}
+use Rattle.world_laws.proofs.CalmPuts.{AreTrue, IsAckHeld, IsHeldFor, IsTrueAt, kind_of, put_ends, question_is}
+use Rattle.world_laws.proofs.CalmStates.{ArePending, AreApart, AskGoes, InStep, IsGood, IsMore, IsOwnPost, IsUpTo, OfContent, OfHeads, SceneGoes, ask_goes, asked_more, found_placed, good_later, more_heard, more_posts, placed, placed_more, placed_pending, post_fits, posts_at, still_acked, still_in_step}
 
 never_less : (n : ℕ) → nat_lt n n ≡ false
 never_less n = le-ltb n n (le_refl n)

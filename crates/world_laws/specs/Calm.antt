@@ -1,4 +1,5 @@
--- Scripts whose ring changes little, and what they may rely on: what was put stays (CFS, SOSP 2001, section 5.1).
+-- Scripts whose ring changes little, and what they may rely on: what was put stays (CFS, SOSP 2001, section 5.1). Of calm scripts it is proved that the ring stays; of those
+-- with the same ring, that what was acknowledged is held and given. The other laws are stated alone.
 use Rattle.std.specs.Prelude.{◌≡◌, ◌≢◌, if◌then◌else◌, ℕ, ◌+◌, ◌<◌, ◌≤◌, true, false, List, [], ◌∷◌, ◌++◌, length, is_some, IfSome, ◌↔◌, Contains, Option, Some, None, Result, Ok}
 use Rattle.std.specs.List.{AllByRecursion}
 use Rattle.std.specs.Option.{option_map_or}

@@ -19,7 +19,9 @@
 //! view's members is closed), `proofs/KnownHeads.antt` (the heads that left are over what is known), `proofs/SignatureBytes.antt`
 //! (signatures are bytes, and few), `proofs/OpenSessions.antt` (an open session is in hand; other open sessions that are stand in
 //! their place), `proofs/SessionLinesSteps.antt` (what many steps of a session leave, and what they leave as it was),
-//! `proofs/HeadlineOfPublishing.antt` (publishing alone has no turn), `proofs/LineKeys.antt` (the key of a log that a line begins
+//! `proofs/HeadlineOfPublishing.antt` (publishing alone has no turn), `proofs/CalmNodes.antt`, `CalmPuts.antt`, `CalmGets.antt` (a
+//! ring that stays: what its nodes hold, and what puts and gets come to in it), `proofs/CalmStates.antt` and those up to
+//! `CalmCommands.antt` (each step and each line keeps that), `proofs/CalmRounds.antt` (stops, joins and rounds), `proofs/LineKeys.antt` (the key of a log that a line begins
 //! can be saved). Nothing here runs, so there are no costs.
 #![tactic(auto)]
 
