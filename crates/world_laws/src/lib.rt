@@ -33,9 +33,13 @@
 //! `proofs/TurnsKnown.antt` (what an agent knows after a turn), `proofs/TurnsSets.antt` (the set that a turn leaves),
 //! `proofs/TurnsFloors.antt` (a floor with a front joined into it), `proofs/TurnsTaken.antt` (a turn's candidates are one
 //! list), `proofs/TurnsRefresh.antt` (a refresh ends in one way, whatever names tell), `proofs/AnsweredTurns.antt` and
-//! `proofs/RefusedTurns.antt` (turns keep the world). Nothing here runs, so there are no costs.
+//! `proofs/RefusedTurns.antt` (turns keep the world), `proofs/CalmNodes.antt`, `CalmPuts.antt`, `CalmGets.antt` (a ring that
+//! stays: what its nodes hold, and what puts and gets come to in it), `proofs/CalmStates.antt` and those up to
+//! `CalmCommands.antt` (each step and each line keeps that), `proofs/CalmRounds.antt` (stops, joins and rounds),
+//! `proofs/LineKeys.antt` (the key of a log that a line begins can be saved). Nothing here runs, so there are no costs.
 #![tactic(auto)]
 
+ghost use Rattle.world_laws.specs.Calm.{AckedIsHeld, AreAny, BlocksAreGiven, HasSameRing, HeadsAreGiven, RingStays};
 ghost use Rattle.world_laws.specs.Frames.{DamageLinesKeep, EachReplyBySteps, HeadlineOfRuns, JoinLinesKeep, KeeperLinesKeep, LinesKeepByThese, LogLinesKeep, MildChangesKeep, MoreBlocksKeep, RestartLinesKeep, RingLinesKeep, RoundLinesKeep, StillLinesKeep, StopLinesKeep, UseLinesKeep, ViewLinesKeep};
 ghost use Rattle.world_laws.specs.Kinds.{LineHasOneKind};
 ghost use Rattle.world_laws.specs.Laws.{AlikeTurnsAnswerAlike, AllStepsKeep, AnsweredTurnsKeep, CallLinesKeep, CallsBegin, ClashIsDecided, EachLineDoesSomething, EachReplyIsOnReplay, EachScriptHasARun, EachSessionEnds, EachStepKeeps, EmptyKeeps, FewerStayApart, FreshTurnsAreAnswered, GetsBringKeep, GetsGoOnKeep, HeadlineBySteps, HeadlineHolds, HeadsAreSavedFirst, HeldIsSpelled, KeptOnce, KnownIsOne, LackingKeeps, LackingStepsKeep, LeafSignsOnce, LinesKeep, LinesKeepBySteps, ManyStepsKeep, MetGrows, NoSnapshotComes, OneTruth, OpenLineKeeps, OtherLogsDontCount, OthersHaveNoTurn, PublishingKeeps, PutsKeep, ReceivingKeeps, RefreshBrings, RefreshEndsInTurn, RefreshMayTurn, RefusedTurnsKeep, ScriptsBySteps, SecondTurnIsAnswered, SettlingKeeps, SnapLinesKeep, StepsKeep, StepsKeepByTurns, StillLinesChangeNothing, TakingKeeps, TurnsAreSaved, UpperLeavesSignOnce, VainAsksKeep, WholePublishingKeeps};
@@ -277,4 +281,23 @@ pub fn headline_holds()
     ensures headline { HeadlineHolds }
     ensures lines { LinesKeep }
     ensures runs { EachReplyIsOnReplay }
+{}
+
+/// A law and no code: in a calm script the ring is settled after the line that makes it and after each round, and it is covered at
+/// each later line but between a join and its round.
+pub fn rings_stay()
+    ensures { RingStays AreAny }
+{}
+
+/// A law and no code: in a calm script in which no node joins or stops and no round is made an owner of its key holds each post of
+/// which a put was acknowledged, or a newer head.
+pub fn acknowledged_is_held()
+    ensures { AckedIsHeld HasSameRing }
+{}
+
+/// Laws and no code: in such a script a get of a block of which a put was acknowledged gives it, and a get of a head gives one of
+/// its number or a greater one.
+pub fn acknowledged_is_given()
+    ensures blocks { BlocksAreGiven HasSameRing }
+    ensures heads { HeadsAreGiven HasSameRing }
 {}
