@@ -224,7 +224,7 @@ EachLineDoesSomething = (w : World) (line : List ℕ) → IfSome (command_of lin
 
 -- So each script that makes no snapshot has a run, where lines leave worlds that keep what they should.
 abbrev pub EachScriptHasARun : Type 0
-EachScriptHasARun = LinesKeep → (w : World) (number : ℕ) (lines : List (List ℕ)) → AllByRecursion (λ line. (log : List ℕ) → command_of (shown line) ≢ Some (command.Snap log)) lines → HasStory Keeps w
+EachScriptHasARun = (w : World) (number : ℕ) (lines : List (List ℕ)) → AllByRecursion (λ line. (log : List ℕ) → command_of (shown line) ≢ Some (command.Snap log)) lines → HasStory Keeps w
     → (ran : Ran) × Runs (SeenStep Keeps IvyStep) w number lines ran
 
 -- ---- one run

@@ -249,8 +249,8 @@ pub fn headline_by_steps()
 {}
 
 /// Laws and no code: from a world that some story fits each open session can be brought to its end, and each line has an outcome,
-/// one and the same whichever story fits; of a line that makes a snapshot that asks that what is to be published can be saved. So,
-/// where each line leaves such a world, each script that makes no snapshot has a run.
+/// one and the same whichever story fits; of a line that makes a snapshot that asks that what is to be published can be saved. So each
+/// script that makes no snapshot has a run.
 pub fn each_line_does_something()
     ensures sessions { EachSessionEnds }
     ensures lines { EachLineDoesSomething }
