@@ -222,7 +222,7 @@ CanBeDone w _ = Unit {0}
 abbrev pub EachLineDoesSomething : Type 0
 EachLineDoesSomething = (w : World) (line : List ℕ) → IfSome (command_of line) (CanBeDone w) → HasStory Keeps w → (outcome : Outcome World) × SeenStep Keeps IvyStep w line outcome
 
--- So each script that makes no snapshot has a run, where lines leave worlds that keep what they should.
+-- So each script that makes no snapshot has a run.
 abbrev pub EachScriptHasARun : Type 0
 EachScriptHasARun = (w : World) (number : ℕ) (lines : List (List ℕ)) → AllByRecursion (λ line. (log : List ℕ) → command_of (shown line) ≢ Some (command.Snap log)) lines → HasStory Keeps w
     → (ran : Ran) × Runs (SeenStep Keeps IvyStep) w number lines ran
