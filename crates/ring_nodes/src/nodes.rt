@@ -46,7 +46,7 @@ impl RingNodes {
     ghost use Rattle.ring_model.specs.Members.{first};
     ghost use Rattle.ring_nodes.specs.Joining.{IsNewNode, with_node_more};
     ghost use Rattle.ring_nodes.specs.Upkeep.{Changes, HasNode, fingered, forgotten, renewed_by};
-    ghost use Rattle.ring_nodes.specs.NodesState.{BringsOnly, IsNodesOf, IsPeerOf, NamesOnly, held_by, made_peers, no_nodes, node_of, with_nodes};
+    ghost use Rattle.ring_nodes.specs.NodesState.{AreSound, BringsOnly, IsNodesOf, IsPeerOf, NamesOnly, held_by, made_peers, no_nodes, node_of, with_nodes};
 
     /// No node. It takes no memory.
     pub fn new(alloc: Global) -> RingNodes
@@ -130,6 +130,13 @@ impl RingNodes {
             return Ok(Answer::Silent);
         }
         node.answer(alloc, judge, question)
+    }
+
+    /// What holds of the nodes at all times: `AreSound` in `specs/NodesState.antt`. It does nothing.
+    pub fn are_sound(&self)
+        ensures { AreSound self.now.nodes }
+    {
+        let _ = &self.nodes;
     }
 
     /// How many nodes were made.
@@ -264,7 +271,7 @@ impl RingNodes {
     }
 
     /// The live peers in the order of their places. The error is want of memory.
-    fn live_in_order(&self, alloc: Global) -> Result<Vec<Peer>, Memory>
+    pub fn live_in_order(&self, alloc: Global) -> Result<Vec<Peer>, Memory>
         ensures { IfOk result (λ peers. peers.items ≡ in_ring_order (map peer_of (filter (λ n. n.is_live) self.now.nodes))) }
     {
         let mut peers = Vec::with_capacity(alloc, self.nodes.len())?;

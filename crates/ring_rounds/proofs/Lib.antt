@@ -1,0 +1,4 @@
+pub mod Parts
+pub mod Forgotten
+pub mod Renewing
+pub mod Fixing
