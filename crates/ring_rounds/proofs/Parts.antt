@@ -1,6 +1,7 @@
 -- The parts of nodes, one after the other.
-use Rattle.std.proofs.Common.{◌≡◌, ℕ, zero, suc, ◌+◌, ◌<◌, List, [], ◌∷◌, ◌++◌, length, take, get_or, map, refl, sym, ap, ◌∙◌, subst, Some, arith}
+use Rattle.std.proofs.Common.{◌≡◌, ℕ, zero, suc, ◌+◌, ◌<◌, ◌≤◌, List, [], ◌∷◌, ◌++◌, length, take, get_or, map, refl, sym, ap, ◌∙◌, subst, Some, arith}
 use Rattle.std.proofs.Math.Seq.{take-suc}
+use Rattle.std.proofs.lemmas.List.{take_all}
 use Rattle.ivy_base.specs.declared.key.Key.{Key}
 use Rattle.ring_model.specs.Members.{IsAmong}
 use Rattle.ring_model.proofs.Lists.{all-among, index_among}
@@ -51,6 +52,15 @@ turn_made start now ps read i d p all still same within is =
     subst (IsAmong p) (sym still)
     (subst (λ q. IsAmong q (made_peers start)) (sym is) (all-among (λ q. IsAmong q (made_peers start)) (get_or read i d) read (subst (AreAllAmong (made_peers start)) (sym same) all) (index_among read i d within)))
 
+-- the same of the place where the walk is
+pub done_next : (Does : World → Peer → World → Type 0) (start now after : NodesState) (ps : List Peer) (i : ℕ) (d : Peer) → HasDone Does start now (take i ps) → ((w : World) → IsNodesOf w now → Does w (get_or ps i d) (with_nodes w after)) → made_peers after ≡ made_peers now → i < length ps
+    → HasDone Does start after (take (i + 1) ps)
+done_next Does start now after ps i d h does still within = done_more Does start now after ps ps i d (get_or ps i d) h does still refl within refl
+
+-- at the end of the walk
+pub done_all : (Does : World → Peer → World → Type 0) (start now : NodesState) (ps : List Peer) (i : ℕ) → HasDone Does start now (take i ps) → length ps ≤ i → (w : World) → IsNodesOf w start → EachDoes Does w ps (with_nodes w now)
+done_all Does start now ps i h past w is = subst (λ l. EachDoes Does w l (with_nodes w now)) (take_all i ps past) (h.does w is)
+
 -- so many times
 pub record HasPassed (Does : World → List Peer → World → Type 0) (start now : NodesState) (ps : List Peer) (k : ℕ) : Type 0 where
   pub does : (w : World) → IsNodesOf w start → ManyDo Does ps k w (with_nodes w now)
@@ -65,6 +75,9 @@ passed_more Does start now after ps k h does still = record {
   does = λ w of. let one : suc k ≡ k + 1 = omega arith in subst (λ n. ManyDo Does ps n w (with_nodes w after)) one (many_more Does (h.does w of) (with_nodes w after) (does (with_nodes w now) (refl, refl, refl)));
   made = still ∙ h.made;
 }
+
+pub passed_all : (Does : World → List Peer → World → Type 0) (start now : NodesState) (ps : List Peer) (k n : ℕ) → HasPassed Does start now ps k → k ≡ suc n → (w : World) → IsNodesOf w start → ManyDo Does ps (suc n) w (with_nodes w now)
+passed_all Does start now ps k n h is w of = subst (λ i. ManyDo Does ps i w (with_nodes w now)) is (h.does w of)
 
 -- ---- a node in its own place
 

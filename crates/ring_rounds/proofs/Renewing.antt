@@ -1,8 +1,9 @@
 -- A list that is renewed.
-use Rattle.std.proofs.Common.{◌≡◌, ℕ, suc, ◌<◌, List, [], ◌∷◌, length, map, refl, sym, ap, ◌∙◌, subst, Option, Some, None, arith}
+use Rattle.std.proofs.Common.{◌≡◌, ℕ, suc, ◌<◌, ◌≤◌, List, [], ◌∷◌, length, map, refl, sym, ap, ◌∙◌, subst, Option, Some, None, Result, Ok, Err, IfOk, arith}
 use Rattle.std.specs.Prelude.{◌≢◌}
 use Rattle.std.specs.Option.{option_map_or}
 use Rattle.ivy_base.specs.declared.key.Key.{Key}
+use Rattle.ivy_base.specs.declared.memory.Memory.{Memory}
 use Rattle.ring_model.specs.Members.{first}
 use Rattle.ring_model.proofs.Lists.{none_some, some_same}
 use Rattle.dht_ids.specs.declared.ask.Answer.{Answer}
@@ -81,6 +82,9 @@ module _ (judged : Key → List ℕ → Option Judged) (p : Peer) (s : NodesStat
 
 -- ---- the list
 
+pub less_suc : (a b : ℕ) → a < b → suc a ≤ b
+less_suc a b l = omega (arith, l)
+
 -- how long the list of the node of that identifier is
 abbrev pub list_left : NodesState → Key → ℕ
 list_left s id = option_map_or (λ n. length n.ring.links.list) (node_of s id) 0
@@ -99,9 +103,6 @@ module _ (judged : Key → List ℕ → Option Judged) (p : Peer) (start : Nodes
     ends_alone none w is = l.goes w is (with_nodes w now) (alone h.0 h.1 (no_first h.0.ring.links.list (sym none ∙ h.2)))
 
     module _ (f : Peer) (some : o ≡ Some f) (apart : AreApart (made_peers now)) (mid next : NodesState) (given : Answer) (fate : (w : World) → IsNodesOf w now → FateOf judged w f ask.Near given (with_nodes w mid)) (c : Changes (renewed_by given) p.id mid next) where
-      rest : List Peer
-      rest = (first_rest h.0.ring.links.list f (sym some ∙ h.2)).0
-
       listed : h.0.ring.links.list ≡ f ∷ (first_rest h.0.ring.links.list f (sym some ∙ h.2)).0
       listed = (first_rest h.0.ring.links.list f (sym some ∙ h.2)).1
 
@@ -156,3 +157,8 @@ module _ (judged : Key → List ℕ → Option Judged) (p : Peer) (start : Nodes
           (hears h.0 c.node f (first_rest h.0.ring.links.list f (sym some ∙ h.2)).0 given (with_nodes w mid) h.1 listed (fate_of w) heard c.at
           (subst (λ v. Notifies judged p v (stabilised c.node.ring (f ∷ (first_rest h.0.ring.links.list f (sym some ∙ h.2)).0) given) (with_nodes w last)) (world_then w)
           (subst (λ ps. Notifies judged p (with_nodes w next) ps (with_nodes w last)) listing n.2)))
+
+      -- the same by what a call gives
+      pub ends_call : (last : NodesState) (result : Result Unit Memory) → given ≢ answer.Silent → IfOk result (λ _. (w : World) → IsNodesOf w next → NotifiesFirst judged p w (with_nodes w last)) → IfOk result (λ _. (w : World) → IsNodesOf w start → Stabilises judged p w (with_nodes w last))
+      ends_call last (Err e) heard notice = tt
+      ends_call last (Ok done) heard notice = ends_heard last heard notice
