@@ -1,5 +1,5 @@
 -- A finger that is fixed.
-use Rattle.std.proofs.Common.{◌≡◌, ℕ, zero, suc, ◌+◌, List, [], ◌∷◌, map, set, refl, sym, ap, ◌∙◌, subst, Option, Some, None, Result, arith}
+use Rattle.std.proofs.Common.{◌≡◌, ℕ, suc, ◌+◌, List, [], ◌∷◌, set, refl, sym, ap, ◌∙◌, subst, Option, Some, None, Result, arith}
 use Rattle.ivy_base.specs.declared.key.Key.{Key}
 use Rattle.log_model.specs.Spelling.{IsKey}
 use Rattle.ring_model.specs.Circle.{number}
@@ -16,7 +16,7 @@ use Rattle.chord_core.specs.State.{with_links}
 use Rattle.world_model.specs.Nodes.{Node}
 use Rattle.world_model.specs.Rounds.{FixesFinger, FixesFrom}
 use Rattle.world_model.specs.Rounds.FixesFrom.{done as no_more, next as then_fixes}
-use Rattle.world_model.specs.World.{World, node_at, with_node}
+use Rattle.world_model.specs.World.{World, with_node}
 use Rattle.round_laws.proofs.Nodes.{at_made}
 use Rattle.ring_nodes.specs.Joining.{Finds}
 use Rattle.ring_nodes.specs.NodesState.{AreSound, IsNodesOf, NodesState, made_peers, with_nodes}

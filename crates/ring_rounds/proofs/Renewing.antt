@@ -19,7 +19,7 @@ use Rattle.world_model.specs.Fates.FateOf.{lost as was_lost, stopped as was_stop
 use Rattle.world_model.specs.Rounds.{Notifies, Stabilises, listing_now}
 use Rattle.world_model.specs.Rounds.Notifies.{nobody, notifies}
 use Rattle.world_model.specs.Rounds.Stabilises.{alone, drops, hears}
-use Rattle.world_model.specs.World.{World, empty_world, node_at, peer_of, with_node}
+use Rattle.world_model.specs.World.{World, empty_world, peer_of, with_node}
 use Rattle.round_laws.specs.RingOf.{AreApart}
 use Rattle.round_laws.proofs.Nodes.{at, at_id, at_same, replaced}
 use Rattle.ring_nodes.specs.NodesState.{IsNodesOf, NodesState, made_peers, node_of, with_nodes}

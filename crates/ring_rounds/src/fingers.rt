@@ -11,8 +11,8 @@ ghost use Rattle.world_model.specs.World.{World};
 ghost use Rattle.ring_nodes.specs.NodesState.{AreAllAmong, IsNodesOf, made_peers, with_nodes};
 ghost use Rattle.ring_rounds.specs.Parts.{first_found};
 
-use dht_ids::{Judge, Peer, Peers, finger_start};
 use dhash_client::Miss;
+use dht_ids::{Judge, Peer, Peers, finger_start};
 use ivy_base::{Key, Memory};
 use ring_nodes::RingNodes;
 use std::alloc::Global;

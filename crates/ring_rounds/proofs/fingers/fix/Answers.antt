@@ -1,4 +1,4 @@
-use Rattle.std.proofs.Common.{◌≡◌, sym, ◌∙◌, subst, Option, Some, None, rules}
+use Rattle.std.proofs.Common.{sym, ◌∙◌, subst}
 use Rattle.world_model.specs.Rounds.{FixesFinger}
 use Rattle.world_model.specs.World.{World}
 use Rattle.ring_model.specs.Members.{IsAmong}

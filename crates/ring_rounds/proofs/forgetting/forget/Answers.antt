@@ -1,4 +1,4 @@
-use Rattle.std.proofs.Common.{◌≡◌, true, false, sym, ◌∙◌, subst, MatchBool}
+use Rattle.std.proofs.Common.{◌≡◌, sym, subst, MatchBool}
 use Rattle.std.specs.Prelude.{◌≢◌}
 use Rattle.dht_ids.specs.declared.ask.Answer.TheVariants as answer
 use Rattle.world_model.specs.Rounds.{Forgets}
