@@ -14,8 +14,13 @@
 mod fingers;
 mod forgetting;
 mod heard;
+mod owners;
+mod repairing;
 mod stabilising;
+mod whole_round;
 
 pub use fingers::fix_fingers;
 pub use forgetting::forget_silent;
+pub use repairing::move_blocks;
 pub use stabilising::renew_lists;
+pub use whole_round::round;
