@@ -1,19 +1,18 @@
 -- A block that is put at its owners.
-use Rattle.std.proofs.Common.{◌≡◌, ◌⊎◌, inl, inr, ⊎_elim, ℕ, zero, suc, ◌+◌, ◌<◌, ◌≤◌, Bool, true, false, cond, not, ◌&&◌, List, [], ◌∷◌, ◌++◌, length, map, reverse, take, get_or, refl, sym, ap, ◌∙◌, subst, Option, Some, None, Result, Ok, Err, MatchBool, arith}
+use Rattle.std.proofs.Common.{◌≡◌, ◌⊎◌, inl, inr, ⊎_elim, ℕ, zero, suc, ◌+◌, ◌<◌, ◌≤◌, Bool, true, false, cond, not, ◌&&◌, List, [], ◌∷◌, ◌++◌, length, map, reverse, take, get_or, refl, sym, ap, ◌∙◌, subst, Option, Some, None, Ok, Err, MatchBool, arith}
 use Rattle.std.proofs.lemmas.List.{length-map, take_all, take_more}
 use Rattle.ivy_base.specs.declared.key.Key.{Key}
-use Rattle.ring_model.specs.Gets.{AreFirsts, IsAcknowledged, IsPut, answered_in, nodes}
+use Rattle.ring_model.specs.Gets.{AreFirsts, IsAcknowledged}
+use Rattle.ring_model.specs.Gets.AreFirsts.{none as no_firsts, again as first_again, new as first_new}
 use Rattle.ring_model.specs.Members.{IsAmong}
 use Rattle.dht_ids.specs.declared.ask.Ask.{Ask}
 use Rattle.dht_ids.specs.declared.ask.Ask.TheVariants as ask
 use Rattle.dht_ids.specs.declared.judge.Judged.{Judged}
 use Rattle.dht_ids.specs.declared.peer.Peer.{Peer}
 use Rattle.dht_ids.specs.declared.post.Post.{Post}
-use Rattle.dht_ids.specs.declared.post.PostKind.{PostKind}
 use Rattle.dht_ids.specs.declared.post.PostKind.TheVariants as post
-use Rattle.dhash_client.specs.Course.{Told}
 use Rattle.dhash_client.specs.Machine.{outcome}
-use Rattle.dhash_client.specs.Puts.{holds, is_of_put}
+use Rattle.dhash_client.specs.Puts.{holds}
 use Rattle.dhash_client.specs.declared.miss.Miss.{Miss}
 use Rattle.dhash_client.proofs.Asks.{among_reverse, among_reversed}
 use Rattle.node_store.specs.Stores.{Block, Blocks, content, post_kind, post_of}
@@ -26,7 +25,7 @@ use Rattle.world_model.specs.Rounds.PutsAround.{no_route, puts}
 use Rattle.world_model.specs.Rounds.PutsAll.{done as all_put, keeps as keeps_one, drops as drops_one}
 use Rattle.world_model.specs.World.{World}
 use Rattle.ring_nodes.specs.Joining.{Finds}
-use Rattle.ring_nodes.specs.NodesState.{IsNodesOf, NodesState, made_peers, with_nodes}
+use Rattle.ring_nodes.specs.NodesState.{AreAllAmong, IsNodesOf, NodesState, made_peers, with_nodes}
 use Rattle.ring_nodes.specs.Upkeep.{Changes, HasNode, without_blocks}
 use Rattle.ring_nodes.proofs.Joins.{nobody_found}
 use Rattle.ring_nodes.proofs.Reaching.{same_world}
@@ -52,9 +51,10 @@ asks_block p bytes kind same key block is = by block.kind (⊎_elim (λ e. inl (
 
 -- ---- whether the block goes
 
-pub decides : (tally : Tally) (r : ℕ) (owners : List Peer) (p : Peer) (acknowledged among drops : Bool) → MatchBool acknowledged (AreHolders tally r (length owners)) (AreHolders tally r (length owners) → ⊥)
-    → MatchBool among (IsAmong p (reverse (take tally.asked owners))) (IsAmong p (reverse (take tally.asked owners)) → ⊥) → drops ≡ (acknowledged && not among) → DecidesDrop tally r owners p drops
-decides tally r owners p acknowledged among drops acks is result trail order sized held = (acknowledged, by acknowledged acks, goes acknowledged among is result)
+pub decides : (tally : Tally) (r : ℕ) (owners read : List Peer) (p : Peer) (acknowledged among drops : Bool) → MatchBool acknowledged (AreHolders tally r (length owners)) (AreHolders tally r (length owners) → ⊥)
+    → MatchBool among (IsAmong p (reverse read)) (IsAmong p (reverse read) → ⊥) → read ≡ take tally.asked owners → drops ≡ (acknowledged && not among) → DecidesDrop tally r owners p drops
+decides tally r owners read p acknowledged among drops acks is same result trail order sized held =
+    (acknowledged, by acknowledged acks, goes acknowledged among (subst (λ l. MatchBool among (IsAmong p (reverse l)) (IsAmong p (reverse l) → ⊥)) same is) result)
   where
     to : AreHolders tally r (length owners) → IsAcknowledged holds r owners trail
     to (inl h) = inl (subst (λ n. r ≤ n) held h)
@@ -74,6 +74,12 @@ decides tally r owners p acknowledged among drops acks is result trail order siz
     goes false b h e = subst (IsDropped p trail false) (sym e) (λ t. absurd cc)
 
 -- ---- one block
+
+-- owners that stand once each were made where all were
+pub firsts_made : (made : List Peer) {seen ps qs : List Peer} → AreFirsts seen ps qs → AreAllAmong made ps → AreAllAmong made qs
+firsts_made made no_firsts all = tt
+firsts_made made (first_again i rest) all = firsts_made made rest all.1
+firsts_made made (first_new d rest) all = (all.0, firsts_made made rest all.1)
 
 record Somebody (found : Option (List Peer)) (owners : List Peer) : Type 0 where
   first : Peer
@@ -143,6 +149,13 @@ module _ (judged : Key → List ℕ → Option Judged) (p : Peer) (r : ℕ) wher
           (subst (λ k. PutsAll judged p r (take i blocks ++ x ∷ []) w k (with_nodes w next)) (sym (gone ∙ ap (λ (q : Post). cond goes (dropped ++ q.key ∷ []) dropped) here))
           (puts_more (h.puts blocks e w is) (with_nodes w next) x.0 x.1 goes (does (with_nodes w now) (refl, refl, refl) x.0 x.1 here)))
 
+  -- the same by the post that a walk gives
+  pub put_next : (start now next : NodesState) (posts : List Post) (i : ℕ) (d posted : Post) (dropped after : List Key) (goes : Bool) → HasPut start now posts i dropped → i < length posts → posted ≡ get_or posts i d
+      → ((w : World) → IsNodesOf w now → PutsPost judged p r posted goes w (with_nodes w next)) → after ≡ cond goes (dropped ++ posted.key ∷ []) dropped → made_peers next ≡ made_peers now
+      → HasPut start next posts (i + 1) after
+  put_next start now next posts i d posted dropped after goes h within is does gone still =
+      put_one start now next posts i d dropped after goes h within (subst (λ q. (w : World) → IsNodesOf w now → PutsPost judged p r q goes w (with_nodes w next)) is does) (gone ∙ ap (λ (q : Post). cond goes (dropped ++ q.key ∷ []) dropped) is) still
+
   pub put_all : (start now : NodesState) (posts : List Post) (i : ℕ) (dropped : List Key) → HasPut start now posts i dropped → length posts ≤ i
       → (blocks : Blocks) → posts ≡ map post_of blocks → (w : World) → IsNodesOf w start → PutsAll judged p r blocks w dropped (with_nodes w now)
   put_all start now posts i dropped h past blocks e w is =
@@ -154,14 +167,14 @@ module _ (judged : Key → List ℕ → Option Judged) (p : Peer) (r : ℕ) wher
   pub repairs : (s mid next : NodesState) (posts : List Post) (dropped : List Key) → HasNode (λ n. posts ≡ map post_of n.blocks) s p.id
       → ((blocks : Blocks) → posts ≡ map post_of blocks → (w : World) → IsNodesOf w s → PutsAll judged p r blocks w dropped (with_nodes w mid)) → Changes (without_blocks dropped) p.id mid next
       → (w : World) → IsNodesOf w s → Repairs judged r w p (with_nodes w next)
-  repairs s mid next posts dropped h puts c w is =
+  repairs s mid next posts dropped h each c w is =
       subst (λ v. Repairs judged r v p (with_nodes w next)) (sym (same_world w s is)) (record {
         before = h.0;
         after = c.node;
         dropped = dropped;
         mid = with_nodes w mid;
         is_before = h.1;
-        puts = puts h.0.blocks h.2 (with_nodes w s) (refl, refl, refl);
+        puts = each h.0.blocks h.2 (with_nodes w s) (refl, refl, refl);
         is_after = c.at;
         drops = c.is (with_nodes w mid) (refl, refl, refl);
       })

@@ -1,7 +1,8 @@
 -- A whole round.
-use Rattle.std.proofs.Common.{◌≡◌, inl, inr, ℕ, suc, ◌*◌, Bool, true, false, cond, List, [], ◌∷◌, map, filter, fold, refl, sym, ap, ◌∙◌, subst, Option, nat_lt}
+use Rattle.std.proofs.Common.{◌≡◌, inl, inr, ℕ, suc, ◌*◌, Bool, true, false, cond, List, [], ◌∷◌, map, filter, fold, refl, sym, ap, ◌∙◌, subst, Option, Result, Ok, Err, IfOk, nat_lt}
 use Rattle.std.specs.List.{AllByRecursion}
 use Rattle.ivy_base.specs.declared.key.Key.{Key}
+use Rattle.ivy_base.specs.declared.memory.Memory.{Memory}
 use Rattle.ring_model.specs.Members.{IsAmong}
 use Rattle.ring_model.proofs.Lists.{all_from}
 use Rattle.dht_ids.specs.Peers.{place}
@@ -44,19 +45,29 @@ pub still_made : (made next live : List Peer) → next ≡ made → AreAllAmong 
 still_made made next live same all = subst (λ m. AreAllAmong m live) (sym same) all
 
 -- the four parts are a round
-pub is_round : (judged : Key → List ℕ → Option Judged) (r : ℕ) (s one two three next : NodesState) (live : List Peer) → live ≡ in_ring_order (map peer_of (filter (λ n. n.is_live) s.nodes))
-    → ((w : World) → IsNodesOf w s → EachDoes (Forgets judged) w live (with_nodes w one))
-    → ((w : World) → IsNodesOf w one → ManyDo (EachDoes (λ v p. Stabilises judged p v)) live (suc (2 * r)) w (with_nodes w two))
-    → ((w : World) → IsNodesOf w two → EachDoes (λ v p. FixesFrom judged p 0 160 v) w live (with_nodes w three))
-    → ((w : World) → IsNodesOf w three → EachDoes (Repairs judged r) w live (with_nodes w next))
-    → (w : World) → IsNodesOf w s → IsRoundOf judged r w (with_nodes w next)
-is_round judged r s one two three next live are forgets passes fingers repairs w is =
-    let same : live ≡ live_in_order w = are ∙ ap (λ ns. in_ring_order (map peer_of (filter (λ n. n.is_live) ns))) (sym is.0) in record {
-      one = with_nodes w one;
-      two = with_nodes w two;
-      three = with_nodes w three;
-      forgets = subst (λ l. EachDoes (Forgets judged) w l (with_nodes w one)) same (forgets w is);
-      passes = subst (λ l. ManyDo (EachDoes (λ v p. Stabilises judged p v)) l (suc (2 * r)) (with_nodes w one) (with_nodes w two)) same (passes (with_nodes w one) (refl, refl, refl));
-      fingers = subst (λ l. EachDoes (λ v p. FixesFrom judged p 0 160 v) (with_nodes w two) l (with_nodes w three)) same (fingers (with_nodes w two) (refl, refl, refl));
-      repairs = subst (λ l. EachDoes (Repairs judged r) (with_nodes w three) l (with_nodes w next)) same (repairs (with_nodes w three) (refl, refl, refl));
-    }
+module _ (judged : Key → List ℕ → Option Judged) (r : ℕ) (s one two three next : NodesState) (a b c d : List Peer) (result : Result Unit Memory) where
+  abbrev IsOrder : List Peer → Type 0
+  IsOrder live = live ≡ in_ring_order (map peer_of (filter (λ n. n.is_live) s.nodes))
+
+  pub is_round : IsOrder a → IsOrder b → IsOrder c → IsOrder d
+      → ((w : World) → IsNodesOf w s → EachDoes (Forgets judged) w a (with_nodes w one))
+      → ((w : World) → IsNodesOf w one → ManyDo (EachDoes (λ v p. Stabilises judged p v)) b (suc (2 * r)) w (with_nodes w two))
+      → ((w : World) → IsNodesOf w two → EachDoes (λ v p. FixesFrom judged p 0 160 v) w c (with_nodes w three))
+      → IfOk result (λ _. (w : World) → IsNodesOf w three → EachDoes (Repairs judged r) w d (with_nodes w next))
+      → IfOk result (λ _. (w : World) → IsNodesOf w s → IsRoundOf judged r w (with_nodes w next))
+  is_round oa ob oc od forgets passes fingers repairs = by result repairs
+    where
+      in_world : (live : List Peer) → IsOrder live → (w : World) → IsNodesOf w s → live ≡ live_in_order w
+      in_world live are w is = are ∙ ap (λ ns. in_ring_order (map peer_of (filter (λ n. n.is_live) ns))) (sym is.0)
+
+      by : (result : Result Unit Memory) → IfOk result (λ _. (w : World) → IsNodesOf w three → EachDoes (Repairs judged r) w d (with_nodes w next)) → IfOk result (λ _. (w : World) → IsNodesOf w s → IsRoundOf judged r w (with_nodes w next))
+      by (Err e) repairs = tt
+      by (Ok done) repairs = λ w is. record {
+        one = with_nodes w one;
+        two = with_nodes w two;
+        three = with_nodes w three;
+        forgets = subst (λ l. EachDoes (Forgets judged) w l (with_nodes w one)) (in_world a oa w is) (forgets w is);
+        passes = subst (λ l. ManyDo (EachDoes (λ v p. Stabilises judged p v)) l (suc (2 * r)) (with_nodes w one) (with_nodes w two)) (in_world b ob w is) (passes (with_nodes w one) (refl, refl, refl));
+        fingers = subst (λ l. EachDoes (λ v p. FixesFrom judged p 0 160 v) (with_nodes w two) l (with_nodes w three)) (in_world c oc w is) (fingers (with_nodes w two) (refl, refl, refl));
+        repairs = subst (λ l. EachDoes (Repairs judged r) (with_nodes w three) l (with_nodes w next)) (in_world d od w is) (repairs (with_nodes w three) (refl, refl, refl));
+      }

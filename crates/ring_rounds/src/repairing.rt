@@ -1,6 +1,7 @@
 //! The fourth part of a round: each block is put at its owners, and dropped where it isn't the node's to hold.
 
 ghost use Rattle.std.specs.Prelude.{◌≡◌, ◌≤◌, length, map, IfOk, MatchBool};
+ghost use Rattle.dht_ids.specs.Asked.{IsForData};
 ghost use Rattle.ring_model.specs.Members.{IsAmong};
 ghost use Rattle.node_store.specs.Stores.{Blocks, post_of};
 ghost use Rattle.world_model.specs.Rounds.{EachDoes, PutsAll, Repairs};
@@ -97,7 +98,8 @@ fn put_around<J: Judge>(
 
 /// What owners of its key are asked for a block. The error is want of memory.
 fn question_of(alloc: Global, post: &Post) -> Result<Ask, Memory>
-    ensures { IfOk result (IsQuestionOf post.now) }
+    ensures asks { IfOk result (IsQuestionOf post.now) }
+    ensures put { IfOk result IsForData }
 {
     let bytes = post.bytes.copy(alloc)?;
     Ok(match post.kind {
