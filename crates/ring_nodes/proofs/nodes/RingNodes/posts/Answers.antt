@@ -1,4 +1,4 @@
-use Rattle.std.proofs.Common.{◌≡◌, get_or, map, subst, IfOk}
+use Rattle.std.proofs.Common.{◌≡◌, get_or, map, subst}
 use Rattle.node_store.specs.Stores.{post_of}
 use Rattle.ring_nodes.specs.NodesState.{NodesState}
 use Rattle.ring_nodes.proofs.Changing.{call_has_node}
