@@ -3,8 +3,6 @@ use Rattle.std.proofs.Common.{◌≡◌, ℕ, suc, ◌+◌, ◌<◌, ◌≤◌, 
 use Rattle.std.proofs.Math.Seq.{take-suc}
 use Rattle.std.proofs.lemmas.List.{take_all}
 use Rattle.ivy_base.specs.declared.key.Key.{Key}
-use Rattle.ring_model.specs.Members.{IsAmong}
-use Rattle.ring_model.proofs.Lists.{all-among, index_among}
 use Rattle.dht_ids.specs.declared.peer.Peer.{Peer}
 use Rattle.world_model.specs.Nodes.{Node}
 use Rattle.world_model.specs.World.{World, peer_of}
@@ -13,7 +11,7 @@ use Rattle.world_model.specs.Rounds.EachDoes.{done, next as then_does}
 use Rattle.world_model.specs.Rounds.ManyDo.{none as not_once, again as once_more}
 use Rattle.round_laws.specs.RingOf.{AreApart}
 use Rattle.round_laws.proofs.Nodes.{at, at_id, mapped_kept, replaced}
-use Rattle.ring_nodes.specs.NodesState.{AreAllAmong, IsNodesOf, NodesState, made_peers, with_nodes}
+use Rattle.ring_nodes.specs.NodesState.{IsNodesOf, NodesState, made_peers, with_nodes}
 use Rattle.ring_nodes.proofs.Reaching.{same_world}
 
 -- ---- one after the other
@@ -45,12 +43,6 @@ done_more Does start now after ps read i d p h does still same within is = recor
     taken =
         let one : i + 1 ≡ suc i = omega arith in
         ap (λ l. take (i + 1) l) (sym same) ∙ ap (λ k. take k read) one ∙ take-suc read i d within ∙ ap (λ x. take i read ++ x ∷ []) (sym is) ∙ ap (λ l. take i l ++ p ∷ []) same
-
--- whose turn it is was made
-pub turn_made : (start now : NodesState) (ps read : List Peer) (i : ℕ) (d p : Peer) → AreAllAmong (made_peers start) ps → made_peers now ≡ made_peers start → read ≡ ps → i < length read → p ≡ get_or read i d → IsAmong p (made_peers now)
-turn_made start now ps read i d p all still same within is =
-    subst (IsAmong p) (sym still)
-    (subst (λ q. IsAmong q (made_peers start)) (sym is) (all-among (λ q. IsAmong q (made_peers start)) (get_or read i d) read (subst (AreAllAmong (made_peers start)) (sym same) all) (index_among read i d within)))
 
 -- the same of the place where the walk is
 pub done_next : (Does : World → Peer → World → Type 0) (start now after : NodesState) (ps : List Peer) (i : ℕ) (d : Peer) → HasDone Does start now (take i ps) → ((w : World) → IsNodesOf w now → Does w (get_or ps i d) (with_nodes w after)) → made_peers after ≡ made_peers now → i < length ps

@@ -1,8 +1,11 @@
 use Rattle.std.proofs.Common.{◌≡◌, true, false, ◌∙◌, subst, rules, MatchBool}
 use Rattle.std.specs.Prelude.{◌≢◌}
 use Rattle.dht_ids.specs.declared.ask.Answer.TheVariants as answer
-use Rattle.ring_rounds.proofs.Renewing.{answer_near, drops_left, drops_one, ends_alone, ends_call, less_suc}
+use Rattle.ring_rounds.proofs.Renewing.{answer_near, drops_left, drops_one, ends_alone, ends_call, less_suc, stabilises_first}
 use Rattle.ring_rounds.proofs.stabilising.stabilise.Goals as goal
+
+pub silent-init : goal.silent-init
+silent-init g c = stabilises_first (g.J.Judge.judges c.args.judge.now) c.args.peer.now c.args.nodes.now
 
 pub renew-requires-clause-near : goal.renew-requires-clause-near
 renew-requires-clause-near g c = answer_near (g.J.Judge.judges c.args.judge.now) c.silent.nodes c.ask.new.self c.in-Some.first c.in_ok-heard.heard c.in_ok-heard.ensures.fate
