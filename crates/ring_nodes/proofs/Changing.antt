@@ -1,7 +1,8 @@
 -- A node that a round changes in its place.
-use Rattle.std.proofs.Common.{◌≡◌, ℕ, zero, suc, ◌<◌, List, [], ◌∷◌, length, map, set, get_or, sym, ap, ◌∙◌, subst, Some, IfSome, Result, Ok, Err}
+use Rattle.std.proofs.Common.{◌≡◌, refl, ℕ, zero, suc, ◌<◌, List, [], ◌∷◌, length, map, set, get_or, sym, ap, ◌∙◌, subst, Some, IfSome, Result, Ok, Err, IfOk, ◌++◌, ◌+◌, fold, take}
 use Rattle.std.specs.Prelude.{OnErr, OnOk}
 use Rattle.std.specs.List.{position}
+use Rattle.std.proofs.lemmas.List.{take_more}
 use Rattle.ivy_base.specs.declared.key.Key.{Key}
 use Rattle.ivy_base.specs.declared.memory.Memory.{Memory}
 use Rattle.ring_model.specs.Members.{IsAmong, first}
@@ -57,10 +58,23 @@ knows_at s nodes id i old same found is sound =
     let within : i < length nodes = subst (λ l. i < length l) (sym same) (found_within (has_id id) s.nodes i found) in
     subst (λ l. KnowsOnly (map peer_of l) old) same (old_knows nodes i old sound within is)
 
+-- ---- a walk that folds
+
+fold_behind : {X Y : Type 0} (f : Y → X → Y) (z : Y) (xs : List X) (x : X) → fold f z (xs ++ x ∷ []) ≡ f (fold f z xs) x
+fold_behind f z [] x = refl
+fold_behind f z (y ∷ xs) x = fold_behind f (f z y) xs x
+
+pub fold_step : {X Y : Type 0} (f : Y → X → Y) (z : Y) (xs : List X) (i : ℕ) (d : X) → i < length xs → fold f z (take (i + 1) xs) ≡ f (fold f z (take i xs)) (get_or xs i d)
+fold_step f z xs i d within = ap (fold f z) (take_more xs i d within) ∙ fold_behind f z (take i xs) (get_or xs i d)
+
 -- ---- the nodes then
 
 pub has_node : (Is : Node → Type 0) (s : NodesState) (id : Key) (i : ℕ) (old : Node) → position (has_id id) s.nodes ≡ Some i → old ≡ get_or s.nodes i old → Is old → HasNode Is s id
 has_node Is s id i old found is h = (old, found_at (has_id id) s.nodes i old found ∙ ap (λ (n : Node). Some n) (sym is), h)
+
+pub call_has_node : {T : Type 0} (Is : T → Node → Type 0) (s : NodesState) (id : Key) (i : ℕ) (old : Node) (result : Result T Memory) → position (has_id id) s.nodes ≡ Some i → old ≡ get_or s.nodes i old → IfOk result (λ t. Is t old) → IfOk result (λ t. HasNode (Is t) s id)
+call_has_node Is s id i old (Err e) found is h = tt
+call_has_node Is s id i old (Ok t) found is h = has_node (Is t) s id i old found is h
 
 pub changed : (change : Node → Node) (s next : NodesState) (id : Key) (i : ℕ) (old new : Node) → AreApart (made_peers s) → position (has_id id) s.nodes ≡ Some i → old ≡ get_or s.nodes i old → new ≡ change old → peer_of (change old) ≡ peer_of old
     → next.nodes ≡ set s.nodes i new → next.asked ≡ s.asked → next.lost ≡ s.lost → Changes change id s next

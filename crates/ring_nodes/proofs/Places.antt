@@ -1,5 +1,5 @@
 -- Where a node is among nodes that stand apart.
-use Rattle.std.proofs.Common.{◌≡◌, ℕ, zero, suc, ◌<◌, Bool, true, false, cond, List, [], ◌∷◌, length, map, find, set, get_or, refl, sym, ap, ◌∙◌, subst, Option, Some, None, arith}
+use Rattle.std.proofs.Common.{◌≡◌, ℕ, zero, suc, ◌<◌, Bool, true, false, cond, List, [], ◌∷◌, length, map, find, set, get_or, refl, sym, ap, ◌∙◌, Option, Some, None, arith}
 use Rattle.std.specs.Prelude.{nat_lt}
 use Rattle.std.specs.List.{AllByRecursion, position, position_or_len}
 use Rattle.std.specs.Ordering.{eq_by_cmp}
@@ -79,7 +79,3 @@ set_replaces (m ∷ nodes) (suc i) n d apart within same =
 
 pub peers_set : (nodes : List Node) (i : ℕ) (n old : Node) → old ≡ get_or nodes i old → peer_of n ≡ peer_of old → map peer_of (set nodes i n) ≡ map peer_of nodes
 peers_set nodes i n old is same = map-set_same peer_of nodes i n old (same ∙ ap peer_of is)
-
--- nodes stand apart also where one was exchanged that is the same peer
-pub apart_set : (nodes : List Node) (i : ℕ) (n old : Node) → AreApart (map peer_of nodes) → old ≡ get_or nodes i old → peer_of n ≡ peer_of old → AreApart (map peer_of (set nodes i n))
-apart_set nodes i n old apart is same = subst AreApart (sym (peers_set nodes i n old is same)) apart

@@ -11,7 +11,6 @@ use Rattle.dht_ids.specs.Peers.{place}
 use Rattle.chord_core.specs.State.{State}
 use Rattle.chord_core.specs.Settled.{IsSettledNode}
 use Rattle.world_model.specs.Nodes.{Node}
-use Rattle.world_model.specs.World.{peer_of}
 use Rattle.world_model.specs.Ring.{AreSettled, empty_node, first_peers, in_ring_order, is_known_id, peer_numbered}
 use Rattle.world_model.specs.Ring.AreSettled.{none as nobody, more as one_more}
 use Rattle.round_laws.specs.RingOf.{AreApart}
@@ -66,10 +65,6 @@ first_apart (suc n) = by (is_known_id (first_peers n) (peer_numbered n)) refl (f
 pub settled_more : (live : List Peer) (r : ℕ) (ps : List Peer) (ns : List Node) (p : Peer) (state : State) → AreSettled live r ps ns → IsSettledNode live p r state → AreSettled live r (ps ++ p ∷ []) (ns ++ empty_node state ∷ [])
 settled_more live r [] ns p state nobody s = one_more state s nobody
 settled_more live r (q ∷ ps) all p state (one_more {nodes = ns} first f rest) s = one_more first f (settled_more live r ps ns p state rest s)
-
-pub settled_peers : (live : List Peer) (r : ℕ) (ps : List Peer) (ns : List Node) → AreSettled live r ps ns → map peer_of ns ≡ ps
-settled_peers live r [] ns nobody = refl
-settled_peers live r (p ∷ ps) all (one_more {nodes = ns} state s rest) = λ i. s.itself i ∷ settled_peers live r ps ns rest i
 
 -- a step of a loop over the peers
 pub settled_step : (live : List Peer) (r : ℕ) (ps : List Peer) (ns after : List Node) (i : ℕ) (p : Peer) (n : Node) → AreSettled live r (take i ps) ns → IsSettledNode live p r n.ring × (n ≡ empty_node n.ring)

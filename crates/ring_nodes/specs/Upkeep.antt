@@ -1,9 +1,10 @@
 -- What a round reads of a node, and what it changes of it.
-use Rattle.std.specs.Prelude.{◌≡◌, ℕ, set, Some, None}
+use Rattle.std.specs.Prelude.{◌≡◌, ℕ, List, fold, set, Some, None}
 use Rattle.ivy_base.specs.declared.key.Key.{Key}
 use Rattle.dht_ids.specs.declared.ask.Answer.{Answer}
 use Rattle.dht_ids.specs.declared.peer.Peer.{Peer}
 use Rattle.chord_core.specs.State.{stabilised, with_links}
+use Rattle.node_store.specs.Stores.{without}
 use Rattle.world_model.specs.Nodes.{Node}
 use Rattle.world_model.specs.Rounds.{listing_now}
 use Rattle.world_model.specs.World.{World, with_node}
@@ -30,3 +31,7 @@ renewed_by heard n = listing_now n (stabilised n.ring n.ring.links.list heard)
 -- with that finger, counted from 0
 abbrev pub fingered : ℕ → Peer → Node → Node
 fingered k f n = record n { ring = with_links n.ring (record n.ring.links { fingers = set n.ring.links.fingers k f }) }
+
+-- without the blocks of these keys
+abbrev pub without_blocks : List Key → Node → Node
+without_blocks keys n = record n { blocks = fold (λ blocks key. without key blocks) n.blocks keys }

@@ -8,8 +8,9 @@
 //! ([`RingNodes::ask`]), [`RingNodes::settle`] makes the nodes of a settled ring, and [`RingNodes::join`],
 //! [`RingNodes::stop`], [`RingNodes::lose`], [`RingNodes::damage`] and [`RingNodes::held`] are what the lines of these names
 //! do and show. [`RingNodes::look_up`] looks a key up through one node, and [`RingNodes::put_block`] puts a content block at
-//! the owners of its key, ask by ask. [`RingNodes::before`], [`RingNodes::first`], [`RingNodes::forget`],
-//! [`RingNodes::renew`] and [`RingNodes::fix_finger`] are what a round reads of one node and changes of it.
+//! the owners of its key, ask by ask. [`RingNodes::live_in_order`], [`RingNodes::before`], [`RingNodes::first`],
+//! [`RingNodes::posts`], [`RingNodes::forget`], [`RingNodes::renew`], [`RingNodes::fix_finger`] and
+//! [`RingNodes::drop_blocks`] are what a round reads and changes.
 //! A session begins its look-ups at [`RingNodes::entries`]; [`RingNodes::numbered`] and [`RingNodes::owner_of`] give the
 //! peer that a script names. Each node has the identifier of its number, no two stand at one place, and each knows of nodes
 //! alone that were made. No call but `settle` and `join` changes which peers there are, and each error leaves everything as
@@ -18,7 +19,7 @@
 //! `specs/Nodes.antt`, `specs/Fates.antt`, `specs/Ring.antt`, `specs/Rounds.antt` and `specs/Faults.antt`.
 //!
 //! Costs: a node is found by a walk over the nodes, and the entries are put in order for each call (256 nodes at most). An
-//! answer to a get copies the block once, as a put does; damage copies it once. `held` copies all blocks of a node.
+//! answer to a get copies the block once, as a put does; damage copies it once. `held` and `posts` copy all blocks of a node.
 #![tactic(auto)]
 
 mod joining;

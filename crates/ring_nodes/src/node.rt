@@ -1,6 +1,7 @@
 //! A node in memory.
 
-ghost use Rattle.std.specs.Prelude.{◌≡◌, ◌<◌, false, Some, IfOk, OnOk, OnErr};
+ghost use Rattle.std.specs.Prelude.{◌≡◌, ◌<◌, false, fold, map, Some, IfOk, OnOk, OnErr};
+ghost use Rattle.node_store.specs.Stores.{without};
 ghost use Rattle.std.specs.Ordering.{eq_by_cmp};
 ghost use Rattle.ivy_base.specs.Naming.{key_cmp};
 ghost use Rattle.ring_nodes.specs.Puts.{Told};
@@ -42,7 +43,7 @@ impl Model for RingNode {
 impl RingNode {
     ghost use Rattle.std.specs.Option.{option_map_or};
     ghost use Rattle.dht_ids.specs.declared.ask.Answer.TheVariants as answer;
-    ghost use Rattle.node_store.specs.Stores.{bytes_at};
+    ghost use Rattle.node_store.specs.Stores.{bytes_at, post_of};
     ghost use Rattle.world_model.specs.Nodes.{answered};
     ghost use Rattle.world_model.specs.World.{peer_of};
     ghost use Rattle.world_model.specs.Ring.{empty_node};
@@ -50,7 +51,7 @@ impl RingNode {
     ghost use Rattle.chord_core.specs.State.{IsOfNear};
     ghost use Rattle.ring_model.specs.Members.{first};
     ghost use Rattle.ring_nodes.specs.Spoiling.{IsSpoiled};
-    ghost use Rattle.ring_nodes.specs.Upkeep.{fingered, forgotten, renewed_by};
+    ghost use Rattle.ring_nodes.specs.Upkeep.{fingered, forgotten, renewed_by, without_blocks};
 
     /// A live node that holds nothing.
     pub(crate) fn empty(alloc: Global, peer: Peer, ring: Node) -> RingNode
@@ -188,6 +189,20 @@ impl RingNode {
         self.ring.fix_finger(index + 1, owner);
     }
 
+    /// Copies of the blocks that the node holds, whether or not it lives, their keys ascending. The error is want of memory.
+    pub(crate) fn posts(&self, alloc: Global) -> Result<Posts, Memory>
+        ensures { IfOk result (λ posts. posts ≡ map post_of self.now.blocks) }
+    {
+        self.store.held(alloc)
+    }
+
+    /// Drops the blocks of these keys.
+    pub(crate) fn drop_blocks(&mut self, keys: &[Key])
+        ensures { self.new ≡ without_blocks keys.now self.old }
+    {
+        drop_all(&mut self.store, keys);
+    }
+
     /// What the node answers to a get. The error is want of memory.
     fn found(&self, alloc: Global, key: &Key) -> Result<Answer, Memory>
         ensures { IfOk result (λ given. given ≡ option_map_or (λ bytes. answer.Found bytes) (bytes_at key.now self.now.blocks) answer.Nothing) }
@@ -196,6 +211,15 @@ impl RingNode {
             Some(bytes) => Answer::Found(Bytes::copy_of(alloc, bytes)?),
             None => Answer::Nothing,
         })
+    }
+}
+
+/// Drops the blocks of these keys.
+fn drop_all(store: &mut Store, keys: &[Key])
+    ensures { store.new ≡ fold (λ blocks key. without key blocks) store.old keys.now }
+{
+    'keys: for key in keys {
+        store.drop_block(key);
     }
 }
 

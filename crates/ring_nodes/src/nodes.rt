@@ -45,8 +45,9 @@ impl RingNodes {
     ghost use Rattle.chord_core.specs.State.{IsOfNear};
     ghost use Rattle.ring_model.specs.Members.{first};
     ghost use Rattle.ring_nodes.specs.Joining.{IsNewNode, with_node_more};
-    ghost use Rattle.ring_nodes.specs.Upkeep.{Changes, HasNode, fingered, forgotten, renewed_by};
-    ghost use Rattle.ring_nodes.specs.NodesState.{BringsOnly, IsNodesOf, IsPeerOf, NamesOnly, held_by, made_peers, no_nodes, node_of, with_nodes};
+    ghost use Rattle.ring_nodes.specs.Upkeep.{Changes, HasNode, fingered, forgotten, renewed_by, without_blocks};
+    ghost use Rattle.node_store.specs.Stores.{post_of};
+    ghost use Rattle.ring_nodes.specs.NodesState.{AreSound, BringsOnly, IsNodesOf, IsPeerOf, NamesOnly, held_by, made_peers, no_nodes, node_of, with_nodes};
 
     /// No node. It takes no memory.
     pub fn new(alloc: Global) -> RingNodes
@@ -130,6 +131,13 @@ impl RingNodes {
             return Ok(Answer::Silent);
         }
         node.answer(alloc, judge, question)
+    }
+
+    /// What holds of the nodes at all times: `AreSound` in `specs/NodesState.antt`. It does nothing.
+    pub fn are_sound(&self)
+        ensures { AreSound self.now.nodes }
+    {
+        let _ = &self.nodes;
     }
 
     /// How many nodes were made.
@@ -264,7 +272,7 @@ impl RingNodes {
     }
 
     /// The live peers in the order of their places. The error is want of memory.
-    fn live_in_order(&self, alloc: Global) -> Result<Vec<Peer>, Memory>
+    pub fn live_in_order(&self, alloc: Global) -> Result<Vec<Peer>, Memory>
         ensures { IfOk result (λ peers. peers.items ≡ in_ring_order (map peer_of (filter (λ n. n.is_live) self.now.nodes))) }
     {
         let mut peers = Vec::with_capacity(alloc, self.nodes.len())?;
@@ -328,6 +336,24 @@ impl RingNodes {
     {
         let place = self.place(peer);
         self.nodes[place].fix_finger(index, *owner);
+    }
+
+    /// Copies of the blocks that the node of a peer holds, their keys ascending. The error is want of memory.
+    pub fn posts(&self, alloc: Global, peer: &Peer) -> Result<Posts, Memory>
+        requires { IsAmong peer.now (made_peers self.now) }
+        ensures { IfOk result (λ posts. HasNode (λ n. posts ≡ map post_of n.blocks) self.now peer.now.id) }
+    {
+        self.nodes[self.place(peer)].posts(alloc)
+    }
+
+    /// The node of a peer drops the blocks of these keys.
+    pub fn drop_blocks(&mut self, peer: &Peer, keys: &[Key])
+        requires { IsAmong peer.now (made_peers self.old) }
+        ensures changes { Changes (without_blocks keys.now) peer.now.id self.old self.new }
+        ensures made { made_peers self.new ≡ made_peers self.old }
+    {
+        let place = self.place(peer);
+        self.nodes[place].drop_blocks(keys);
     }
 
     /// Where the node of a peer is that was made.

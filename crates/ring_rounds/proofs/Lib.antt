@@ -1,0 +1,7 @@
+pub mod Parts
+pub mod Forgotten
+pub mod Renewing
+pub mod Fixing
+pub mod Tallying
+pub mod Around
+pub mod Whole
