@@ -83,3 +83,4 @@ pub mod Existing
 pub mod ExistingRounds
 pub mod ExistingRepairs
 pub mod ExistingSnaps
+pub mod OneCourse

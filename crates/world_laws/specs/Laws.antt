@@ -1,5 +1,5 @@
 -- Laws of the world's steps and of its runs. Each is stated here, and proved by the crates above.
-use Rattle.std.specs.Prelude.{◌≡◌, ◌≢◌, ◌⊎◌, ◌↔◌, ℕ, ◌+◌, ◌<◌, List, [], ◌∷◌, ◌++◌, map, take, Contains, Option, Some, IfSome}
+use Rattle.std.specs.Prelude.{◌≡◌, ◌≢◌, ◌⊎◌, ◌↔◌, ℕ, ◌+◌, ◌<◌, List, [], ◌∷◌, ◌++◌, map, take, Contains, Option, Some, IfSome, Result}
 use Rattle.std.specs.List.{AllByRecursion}
 use Rattle.ivy_base.specs.declared.key.Key.{Key}
 use Rattle.ivy_base.specs.declared.key.PubKey.{PubKey}
@@ -20,6 +20,9 @@ use Rattle.dht_ids.specs.declared.ask.Answer.{Answer}
 use Rattle.dht_ids.specs.declared.ask.Ask.{Ask}
 use Rattle.dht_ids.specs.declared.judge.Judged.{Judged}
 use Rattle.dht_ids.specs.declared.peer.Peer.{Peer}
+use Rattle.dht_ids.specs.declared.ask.Heard.{Heard}
+use Rattle.dhash_client.specs.declared.miss.Miss.{Miss}
+use Rattle.dhash_client.specs.GetBlock.{IsGetOfBlock}
 use Rattle.hash_signature_model.specs.declared.keys.PrivateKey.{PrivateKey}
 use Rattle.hash_signature_model.specs.declared.set.Set.{Set}
 use Rattle.hss_keys.specs.Signer.{Signer, leaf_used, leaves_used, left_of, lower_key, signed_lower}
@@ -235,6 +238,9 @@ pub record HasMemoryIn (w next : World) (line output : List ℕ) : Type 0 where
 abbrev pub StepsAreOne : Type 0
 StepsAreOne = (w one other : Played) (line text words : List ℕ) → Keeps w → NamesTellApart (named_bytes one.0) → NamesTellApart (named_bytes other.0)
     → IvyStep w line (Goes one text) → IvyStep w line (Goes other words) → HasMemoryIn w.0 one.0 line text → HasMemoryIn w.0 other.0 line words → (one ≡ other) × (text ≡ words)
+
+abbrev pub OneGet : Type 0
+OneGet = (key : Key) (r : ℕ) (entries : List Peer) (trail : List Heard) (one other : Result (List ℕ) Miss) → IsGetOfBlock key r entries trail one → IsGetOfBlock key r entries trail other → one ≡ other
 
 -- ---- leaving out
 
