@@ -84,3 +84,4 @@ pub mod ExistingRounds
 pub mod ExistingRepairs
 pub mod ExistingSnaps
 pub mod OneCourse
+pub mod OneHeard

@@ -1,5 +1,5 @@
-use Rattle.world_laws.proofs.OneCourse.{one_get_of_block}
+use Rattle.world_laws.proofs.OneHeard.{one_failure}
 use Rattle.world_laws.proofs.sessions_step_once.Goals as goal
 
 pub returns : goal.returns
-returns c = one_get_of_block
+returns c = record { blocks = one_failure }
