@@ -85,3 +85,4 @@ pub mod ExistingRepairs
 pub mod ExistingSnaps
 pub mod OneCourse
 pub mod OneHeard
+pub mod OneTurns
