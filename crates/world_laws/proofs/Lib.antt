@@ -86,3 +86,4 @@ pub mod ExistingSnaps
 pub mod OneCourse
 pub mod OneHeard
 pub mod OneTurns
+pub mod OneSteps

@@ -79,7 +79,7 @@ none_or_some o b none some = cc (sym none ∙ some)
 abbrev block_part : Session → Key → List ℕ → Session
 block_part s key bytes = with_part s (BlockOf key (Ok bytes)) []
 
-not_putting : (s : Session) (said : Option Said) (posts : List Post) (acks : List Ack) → s.stage ≡ Refreshing → s.stage ≡ Publishing said posts acks → ⊥
+pub not_putting : (s : Session) (said : Option Said) (posts : List Post) (acks : List Ack) → s.stage ≡ Refreshing → s.stage ≡ Publishing said posts acks → ⊥
 not_putting s said posts acks is at = cc (sym is ∙ at)
 
 first_post : (a b : Option Said) (p q : Post) (ps qs : List Post) (f g : List Ack) → Publishing a (p ∷ ps) f ≡ Publishing b (q ∷ qs) g → p ≡ q
@@ -127,11 +127,11 @@ module _ (judged : Key → List ℕ → Option Judged) (r : ℕ) where
   -- ---- what is asked
 
   -- a get or a put asks that of that node
-  data AsksIt (s : Session) (node : Peer) (question : Ask) : Type 0 where
+  pub data AsksIt (s : Session) (node : Peer) (question : Ask) : Type 0 where
     of_get : (want : Want) → Wants judged r s want → AsksNext (wanted_key want) (ask.Get (wanted_key want)) (IsGet judged r s.entries want) s.current node question → AsksIt s node question
     of_put : (said : Option Said) (p : Post) (posts : List Post) (acks : List Ack) → s.stage ≡ Publishing said (p ∷ posts) acks → AsksNext p.key (put_question p) (IsPut judged r s p) s.current node question → AsksIt s node question
 
-  is_asking : {s : Session} {cache after : Cache} {node : Peer} {question : Ask} {answer : Answer} {heard : Session} → Hears judged r s cache node question answer heard after → AsksIt s node question
+  pub is_asking : {s : Session} {cache after : Cache} {node : Peer} {question : Ask} {answer : Answer} {heard : Session} → Hears judged r s cache node question answer heard after → AsksIt s node question
   is_asking (gets_on want wants next part) = of_get want wants next
   is_asking (got want brought wants next gets) = of_get want wants next
   is_asking (puts_on said p posts acks at next part) = of_put said p posts acks at next

@@ -1,5 +1,5 @@
 -- Laws of the world's steps and of its runs. Each is stated here, and proved by the crates above.
-use Rattle.std.specs.Prelude.{◌≡◌, ◌≢◌, ◌⊎◌, ◌↔◌, ℕ, ◌+◌, ◌<◌, List, [], ◌∷◌, ◌++◌, map, take, Contains, Option, Some, IfSome, Result}
+use Rattle.std.specs.Prelude.{◌≡◌, ◌≢◌, ◌⊎◌, ◌↔◌, ℕ, ◌+◌, ◌<◌, List, [], ◌∷◌, ◌++◌, map, take, Contains, Option, Some, IfSome}
 use Rattle.std.specs.List.{AllByRecursion}
 use Rattle.ivy_base.specs.declared.key.Key.{Key}
 use Rattle.ivy_base.specs.declared.key.PubKey.{PubKey}
@@ -20,9 +20,6 @@ use Rattle.dht_ids.specs.declared.ask.Answer.{Answer}
 use Rattle.dht_ids.specs.declared.ask.Ask.{Ask}
 use Rattle.dht_ids.specs.declared.judge.Judged.{Judged}
 use Rattle.dht_ids.specs.declared.peer.Peer.{Peer}
-use Rattle.dht_ids.specs.declared.ask.Heard.{Heard}
-use Rattle.dhash_client.specs.declared.miss.Miss.{Miss}
-use Rattle.dhash_client.specs.GetBlock.{IsGetOfBlock}
 use Rattle.hash_signature_model.specs.declared.keys.PrivateKey.{PrivateKey}
 use Rattle.hash_signature_model.specs.declared.set.Set.{Set}
 use Rattle.hss_keys.specs.Signer.{Signer, leaf_used, leaves_used, left_of, lower_key, signed_lower}
@@ -239,8 +236,26 @@ abbrev pub StepsAreOne : Type 0
 StepsAreOne = (w one other : Played) (line text words : List ℕ) → Keeps w → NamesTellApart (named_bytes one.0) → NamesTellApart (named_bytes other.0)
     → IvyStep w line (Goes one text) → IvyStep w line (Goes other words) → HasMemoryIn w.0 one.0 line text → HasMemoryIn w.0 other.0 line words → (one ≡ other) × (text ≡ words)
 
-abbrev pub OneGet : Type 0
-OneGet = (key : Key) (r : ℕ) (entries : List Peer) (trail : List Heard) (one other : Result (List ℕ) Miss) → IsGetOfBlock key r entries trail one → IsGetOfBlock key r entries trail other → one ≡ other
+-- the session isn't over for want of memory
+abbrev pub HasMemoryAt : Session → Type 0
+HasMemoryAt s = (xid : ℕ) → s.stage ≢ Over (Some (said_no_memory xid))
+
+-- So are the scenes that a step of a session in hand leads to, and many steps, and all up to the end. That of any blocks it can be told whether they are a snapshot is premised, as for each step.
+abbrev pub SessionsStepOnce : Type 0
+SessionsStepOnce = SnapshotsAreDecided → (c one other : Scene) (r : ℕ) → Keeps (c.world, c.story) → IsInHand c r → c.world.replicas ≡ Some r → NamesTellApart (named_bytes c.world)
+    → Steps hss_judged r c.session.by c one → Steps hss_judged r c.session.by c other → HasMemoryAt one.session → HasMemoryAt other.session → one ≡ other
+
+abbrev pub ManyStepsAreOne : Type 0
+ManyStepsAreOne = SnapshotsAreDecided → (c one other : Scene) (r count : ℕ) → Keeps (c.world, c.story) → IsInHand c r → c.world.replicas ≡ Some r → NamesTellApart (named_bytes one.world)
+    → StepsOn hss_judged r c.session.by count c one → StepsOn hss_judged r c.session.by count c other → HasMemoryAt one.session → HasMemoryAt other.session → one ≡ other
+
+abbrev pub SessionsEndOnce : Type 0
+SessionsEndOnce = SnapshotsAreDecided → (c one other : Scene) (r : ℕ) → Keeps (c.world, c.story) → IsInHand c r → c.world.replicas ≡ Some r → NamesTellApart (named_bytes one.world)
+    → RunsOut hss_judged r c.session.by c one → RunsOut hss_judged r c.session.by c other → HasMemoryAt one.session → HasMemoryAt other.session → one ≡ other
+
+-- A session that only publishes needs no such premise.
+abbrev pub PublishingIsOne : Type 0
+PublishingIsOne = (r : ℕ) (w : Played) (p : Participant) (one other : Played) → Publishes hss_judged r w p one → Publishes hss_judged r w p other → one ≡ other
 
 -- ---- leaving out
 
