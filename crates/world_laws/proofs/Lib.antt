@@ -87,3 +87,5 @@ pub mod OneCourse
 pub mod OneHeard
 pub mod OneTurns
 pub mod OneSteps
+pub mod OneMessages
+pub mod OneCalls

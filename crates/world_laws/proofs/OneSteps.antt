@@ -344,14 +344,14 @@ step_names r c keeps (lacks_memory p taken t cache is_p takes lacking) = same_na
 -- ---- one step after the other
 
 module _ (decided : SnapshotsAreDecided) (r : ℕ) where
-  steps_keep : StepsKeep
+  pub steps_keep : StepsKeep
   steps_keep = steps_keep_by_turns decided answered_turns_keep refused_turns_keep
 
   -- a scene from which steps go on
-  record GoesWell (c : Scene) : Type 0 where
-    keeps : Keeps (c.world, c.story)
-    hand : IsInHand c r
-    ringed : c.world.replicas ≡ Some r
+  pub record GoesWell (c : Scene) : Type 0 where
+    pub keeps : Keeps (c.world, c.story)
+    pub hand : IsInHand c r
+    pub ringed : c.world.replicas ≡ Some r
 
   well_then : {c next : Scene} → GoesWell c → Steps hss_judged r c.session.by c next → GoesWell next × (next.session.by ≡ c.session.by)
   well_then {c} {next} w step =
@@ -372,7 +372,7 @@ module _ (decided : SnapshotsAreDecided) (r : ℕ) where
   runs_names (runs_more {c = c} step rest) named w b h =
       let then_it = well_then w (its_step named step) in runs_names rest (then_it.1 ∙ named) then_it.0 b (step_names r c w.keeps (its_step named step) b h)
 
-  steps_one : {name : List ℕ} {count : ℕ} {c one other : Scene} → StepsOn hss_judged r name count c one → StepsOn hss_judged r name count c other → c.session.by ≡ name → GoesWell c → NamesTellApart (named_bytes one.world)
+  pub steps_one : {name : List ℕ} {count : ℕ} {c one other : Scene} → StepsOn hss_judged r name count c one → StepsOn hss_judged r name count c other → c.session.by ≡ name → GoesWell c → NamesTellApart (named_bytes one.world)
       → HasMemoryAt one.session → HasMemoryAt other.session → one ≡ other
   steps_one steps_none steps_none named w apart m n = refl
   steps_one (steps_over said over) (steps_over word is) named w apart m n = refl
@@ -386,7 +386,7 @@ module _ (decided : SnapshotsAreDecided) (r : ℕ) where
       let same : between ≡ mid = step_one r c (λ at. (decided, w.keeps, w.hand, apart_now)) first (its_step named also) (steps_memory r rest m) (steps_memory r others n) in
       steps_one rest (subst (λ (x : Scene). StepsOn hss_judged r name count x other) (sym same) others) (then_it.1 ∙ named) then_it.0 apart m n
 
-  runs_one : {name : List ℕ} {c one other : Scene} → RunsOut hss_judged r name c one → RunsOut hss_judged r name c other → c.session.by ≡ name → GoesWell c → NamesTellApart (named_bytes one.world)
+  pub runs_one : {name : List ℕ} {c one other : Scene} → RunsOut hss_judged r name c one → RunsOut hss_judged r name c other → c.session.by ≡ name → GoesWell c → NamesTellApart (named_bytes one.world)
       → HasMemoryAt one.session → HasMemoryAt other.session → one ≡ other
   runs_one (runs_over said over) (runs_over word is) named w apart m n = refl
   runs_one (runs_over said over) (runs_more step rest) named w apart m n = absurd (over_steps r step said over)

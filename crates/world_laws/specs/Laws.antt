@@ -428,3 +428,10 @@ HeadlineBySteps = StepsKeep → HeadlineHolds
 abbrev pub ScriptsBySteps : Type 0
 ScriptsBySteps = StepsKeep → (w : Played) (number : ℕ) (lines : List (List ℕ)) (ran : Ran) → AllByRecursion (λ line. MakesNoSnapshot (shown line)) lines → Keeps w → Runs IvyStep w number lines ran
     → Runs (WithLaw IvyStep Headline) w number lines ran
+
+-- ---- one run, by kinds of lines
+
+-- These lead to one world and show one thing, where memory was there and names tell apart what was met, if of any blocks it can be told whether they are a snapshot.
+abbrev pub CallLinesAreOne : Type 0
+CallLinesAreOne = SnapshotsAreDecided → (c : Command) (w one other : Played) (line text words : List ℕ) → command_of line ≡ Some c → IsCall c → Keeps w → NamesTellApart (named_bytes one.0)
+    → Does hss_judged w c (Goes one text) → Does hss_judged w c (Goes other words) → HasMemoryIn w.0 one.0 line text → HasMemoryIn w.0 other.0 line words → (one ≡ other) × (text ≡ words)
