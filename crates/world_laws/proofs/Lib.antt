@@ -89,3 +89,5 @@ pub mod OneTurns
 pub mod OneSteps
 pub mod OneMessages
 pub mod OneCalls
+pub mod OneAsks
+pub mod OneRing
