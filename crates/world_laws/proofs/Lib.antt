@@ -91,3 +91,4 @@ pub mod OneMessages
 pub mod OneCalls
 pub mod OneAsks
 pub mod OneRing
+pub mod OneLines

@@ -435,3 +435,6 @@ ScriptsBySteps = StepsKeep → (w : Played) (number : ℕ) (lines : List (List �
 abbrev pub CallLinesAreOne : Type 0
 CallLinesAreOne = SnapshotsAreDecided → (c : Command) (w one other : Played) (line text words : List ℕ) → command_of line ≡ Some c → IsCall c → Keeps w → NamesTellApart (named_bytes one.0)
     → Does hss_judged w c (Goes one text) → Does hss_judged w c (Goes other words) → HasMemoryIn w.0 one.0 line text → HasMemoryIn w.0 other.0 line words → (one ≡ other) × (text ≡ words)
+
+abbrev pub StepsAreOneSo : Type 0
+StepsAreOneSo = SnapshotsAreDecided → StepsAreOne
