@@ -29,7 +29,7 @@ use Rattle.world_model.specs.Steps.{RunsOut, Scene, StepsOn}
 use Rattle.world_model.specs.Steps.RunsOut.{is_over as runs_over, more as runs_more}
 use Rattle.world_model.specs.Steps.StepsOn.{none as steps_none, is_over as steps_over, more as steps_more}
 use Rattle.world_laws.specs.Keeps.{IsInHand, Keeps}
-use Rattle.world_laws.specs.Laws.{CallLinesAreOne, HasMemoryIn}
+use Rattle.world_laws.specs.Laws.{HasMemoryIn}
 use Rattle.world_laws.proofs.Beginning.{calls_begin}
 use Rattle.world_laws.proofs.Bringing.{found_named}
 use Rattle.world_laws.proofs.Frames.{one_named}
@@ -251,27 +251,3 @@ pub open_one : (w : Played) (name : List ℕ) (o : Option Sending) (one other : 
 open_one w name _ _ _ _ _ (opens s t closed begins) (opens whose u shut beginning_too) =
     let same : t ≡ u = one_beginning s.by.name s.message _ _ t u begins beginning_too in
     (λ i. (record w.0 { sessions = w.0.sessions ++ record { name = name; session = same i } ∷ [] }, record (having_begun w.1) { sessions = w.1.sessions ++ (name, beginning w.1 s.by.name) ∷ [] }), refl)
-
-pub call_lines_are_one : CallLinesAreOne
-call_lines_are_one decided (command.As log pieces) w one other line text words is call keeps apart does doing m n = as_one decided w keeps line log pieces is (sending_of w.0 log pieces) refl one other text words does doing apart m n
-call_lines_are_one decided (command.Step name count) w one other line text words is call keeps apart does doing m n = step_line_one decided w keeps line name count (session_named w.0 name) refl one other text words does doing apart m n
-call_lines_are_one decided (command.Finish name) w one other line text words is call keeps apart does doing m n = finish_one decided w keeps line name is (session_named w.0 name) refl one other text words does doing apart m n
-call_lines_are_one decided (command.Ring nodes replicas) w one other line text words is call keeps apart does doing m n = absurd call
-call_lines_are_one decided (command.Log log id seed sets) w one other line text words is call keeps apart does doing m n = absurd call
-call_lines_are_one decided (command.View view members former) w one other line text words is call keeps apart does doing m n = absurd call
-call_lines_are_one decided (command.Use log view) w one other line text words is call keeps apart does doing m n = absurd call
-call_lines_are_one decided (command.At sec nsec) w one other line text words is call keeps apart does doing m n = absurd call
-call_lines_are_one decided (command.Open session log pieces) w one other line text words is call keeps apart does doing m n = absurd call
-call_lines_are_one decided (command.Join number) w one other line text words is call keeps apart does doing m n = absurd call
-call_lines_are_one decided (command.Stop node) w one other line text words is call keeps apart does doing m n = absurd call
-call_lines_are_one decided command.Round w one other line text words is call keeps apart does doing m n = absurd call
-call_lines_are_one decided (command.Lose count) w one other line text words is call keeps apart does doing m n = absurd call
-call_lines_are_one decided (command.Damage node key offset byte) w one other line text words is call keeps apart does doing m n = absurd call
-call_lines_are_one decided (command.Snap log) w one other line text words is call keeps apart does doing m n = absurd call
-call_lines_are_one decided (command.Restart log) w one other line text words is call keeps apart does doing m n = absurd call
-call_lines_are_one decided (command.Keep log count new) w one other line text words is call keeps apart does doing m n = absurd call
-call_lines_are_one decided (command.Holds node) w one other line text words is call keeps apart does doing m n = absurd call
-call_lines_are_one decided (command.Order log) w one other line text words is call keeps apart does doing m n = absurd call
-call_lines_are_one decided (command.Work log) w one other line text words is call keeps apart does doing m n = absurd call
-call_lines_are_one decided command.Nothing w one other line text words is call keeps apart does doing m n = absurd call
-call_lines_are_one decided command.End w one other line text words is call keeps apart does doing m n = absurd call

@@ -13,7 +13,7 @@ use Rattle.dht_ids.specs.declared.ask.Ask.TheVariants as ask
 use Rattle.dhash_client.specs.declared.put.PutKind.TheVariants as put
 use Rattle.session_laws.specs.Going.{SnapshotsAreDecided}
 use Rattle.script_driver.specs.Run.{Ends, Exceeds, Goes, Outcome, Ran, Refuses, Runs, WithLaw}
-use Rattle.script_driver.proofs.RunLaws.{one_run}
+use Rattle.script_driver.proofs.RunLaws.{single_run_kept}
 use Rattle.script_model.specs.declared.command.Command.{Command}
 use Rattle.script_model.specs.declared.command.Command.TheVariants as command
 use Rattle.script_model.specs.Lines.{command_of}
@@ -36,10 +36,12 @@ use Rattle.world_model.specs.Calls.{sending_of}
 use Rattle.world_model.specs.Step.{Does, IvyStep, MayDoFirst, Untold, WithinLimit, most_bytes}
 use Rattle.world_model.specs.Steps.{met_by}
 use Rattle.world_laws.specs.Keeps.{IsKeptSo, IsSavedWell, Keeps}
-use Rattle.world_laws.specs.Laws.{HasMemoryIn, StepsAreOne, StepsAreOneSo}
+use Rattle.world_laws.specs.Kinds.{Ending, Going, Limited, Refused, kind}
+use Rattle.world_laws.specs.Laws.{FullRunsAreOne, HadMemory, HasMemoryIn, StepsAreOneSo}
 use Rattle.world_laws.proofs.Bringing.{found_named}
 use Rattle.world_laws.proofs.Frames.{nodes_of_ring}
 use Rattle.world_laws.proofs.KeptBytes.{kept_once}
+use Rattle.world_laws.proofs.LineKinds.{line_has_one_kind}
 use Rattle.world_laws.proofs.OneAsks.{puts_one}
 use Rattle.world_laws.proofs.OneCalls.{AreSame, as_one, finish_one, open_one, step_line_one}
 use Rattle.world_laws.proofs.OneKnown.{known_is_one}
@@ -238,3 +240,47 @@ module _ (decided : SnapshotsAreDecided) (w : Played) (keeps : Keeps w) (line : 
 
 pub steps_are_one : StepsAreOneSo
 steps_are_one decided w one other line text words keeps apart apart_too does doing m n = line_one decided w keeps line one other text words apart m n (command_of line) refl does doing
+
+-- ---- runs
+
+going_or_ending : Going ≡ Ending → ⊥
+going_or_ending e = cc e
+
+going_or_refused : Going ≡ Refused → ⊥
+going_or_refused e = cc e
+
+going_or_limited : Going ≡ Limited → ⊥
+going_or_limited e = cc e
+
+ending_or_refused : Ending ≡ Refused → ⊥
+ending_or_refused e = cc e
+
+ending_or_limited : Ending ≡ Limited → ⊥
+ending_or_limited e = cc e
+
+refused_or_limited : Refused ≡ Limited → ⊥
+refused_or_limited e = cc e
+
+module _ (decided : SnapshotsAreDecided) (w : Played) (line : List ℕ) (keeps : Keeps w) where
+  outcomes_alike : (first second : Outcome Played) → kind first ≡ kind second → IvyStep w line first → IvyStep w line second → HadMemory w line first → HadMemory w line second → first ≡ second
+  outcomes_alike (Goes one text) (Goes other words) same does doing m n =
+      let both = steps_are_one decided w one other line text words keeps m.1 n.1 does doing m.0 n.0 in λ i. Goes (both.0 i) (both.1 i)
+  outcomes_alike (Goes one text) Ends same does doing m n = absurd (going_or_ending same)
+  outcomes_alike (Goes one text) Refuses same does doing m n = absurd (going_or_refused same)
+  outcomes_alike (Goes one text) Exceeds same does doing m n = absurd (going_or_limited same)
+  outcomes_alike Ends (Goes other words) same does doing m n = absurd (going_or_ending (sym same))
+  outcomes_alike Ends Ends same does doing m n = refl
+  outcomes_alike Ends Refuses same does doing m n = absurd (ending_or_refused same)
+  outcomes_alike Ends Exceeds same does doing m n = absurd (ending_or_limited same)
+  outcomes_alike Refuses (Goes other words) same does doing m n = absurd (going_or_refused (sym same))
+  outcomes_alike Refuses Ends same does doing m n = absurd (ending_or_refused (sym same))
+  outcomes_alike Refuses Refuses same does doing m n = refl
+  outcomes_alike Refuses Exceeds same does doing m n = absurd (refused_or_limited same)
+  outcomes_alike Exceeds (Goes other words) same does doing m n = absurd (going_or_limited (sym same))
+  outcomes_alike Exceeds Ends same does doing m n = absurd (ending_or_limited (sym same))
+  outcomes_alike Exceeds Refuses same does doing m n = absurd (refused_or_limited (sym same))
+  outcomes_alike Exceeds Exceeds same does doing m n = refl
+
+pub full_runs_are_one : FullRunsAreOne
+full_runs_are_one decided lines_keep = single_run_kept Keeps (WithLaw IvyStep HadMemory) (λ w next line output keeps step. lines_keep w next line output keeps step.0)
+    (λ w line first second keeps a b. outcomes_alike decided w line keeps first second (line_has_one_kind w line first a.0 ∙ sym (line_has_one_kind w line second b.0)) a.0 b.0 a.1 b.1)

@@ -34,7 +34,7 @@ use Rattle.session_model.specs.Sessions.{Cache, Hears, Said, TakesSome, Session,
 use Rattle.session_model.specs.Courses.{Fails, HasRefreshed, IsRefusal, LacksMemory, Settles}
 use Rattle.session_model.specs.Replies.{said_no_memory}
 use Rattle.session_laws.specs.Going.{SnapshotsAreDecided}
-use Rattle.script_driver.specs.Run.{Outcome, Goes, Ran, Runs, WithLaw, HasPiece, shown}
+use Rattle.script_driver.specs.Run.{Outcome, Goes, Ends, Refuses, Exceeds, Ran, Runs, WithLaw, HasPiece, shown}
 use Rattle.script_driver.specs.Seen.{HasStory, SeenStep}
 use Rattle.script_model.specs.declared.command.Command.{Command}
 use Rattle.script_model.specs.declared.command.Command.TheVariants as command
@@ -429,12 +429,20 @@ abbrev pub ScriptsBySteps : Type 0
 ScriptsBySteps = StepsKeep → (w : Played) (number : ℕ) (lines : List (List ℕ)) (ran : Ran) → AllByRecursion (λ line. MakesNoSnapshot (shown line)) lines → Keeps w → Runs IvyStep w number lines ran
     → Runs (WithLaw IvyStep Headline) w number lines ran
 
--- ---- one run, by kinds of lines
+-- ---- one run, where memory was there
 
--- These lead to one world and show one thing, where memory was there and names tell apart what was met, if of any blocks it can be told whether they are a snapshot.
-abbrev pub CallLinesAreOne : Type 0
-CallLinesAreOne = SnapshotsAreDecided → (c : Command) (w one other : Played) (line text words : List ℕ) → command_of line ≡ Some c → IsCall c → Keeps w → NamesTellApart (named_bytes one.0)
-    → Does hss_judged w c (Goes one text) → Does hss_judged w c (Goes other words) → HasMemoryIn w.0 one.0 line text → HasMemoryIn w.0 other.0 line words → (one ≡ other) × (text ≡ words)
-
+-- What `StepsAreOne` says holds if of any blocks it can be told whether they are a snapshot, as each step of a session leaves what it should if that is so.
 abbrev pub StepsAreOneSo : Type 0
 StepsAreOneSo = SnapshotsAreDecided → StepsAreOne
+
+-- where a line goes on, memory was there, and names tell apart what was met then
+abbrev pub HadMemory : Played → List ℕ → Outcome Played → Type 0
+HadMemory w line (Goes next output) = HasMemoryIn w.0 next.0 line output × NamesTellApart (named_bytes next.0)
+HadMemory w line Ends = Unit {0}
+HadMemory w line Refuses = Unit {0}
+HadMemory w line Exceeds = Unit {0}
+
+-- So each script has one run at most of which that holds all along, where lines leave worlds that keep what they should.
+abbrev pub FullRunsAreOne : Type 0
+FullRunsAreOne = SnapshotsAreDecided → LinesKeep → (w : Played) (number : ℕ) (lines : List (List ℕ)) (first second : Ran) → Keeps w → Runs (WithLaw IvyStep HadMemory) w number lines first
+    → Runs (WithLaw IvyStep HadMemory) w number lines second → first ≡ second
