@@ -1,5 +1,5 @@
 -- Asks one after the other: look-ups and puts that go by what the world's nodes answer are one.
-use Rattle.std.proofs.Common.{◌≡◌, ◌⊎◌, ⊎_elim, inl, inr, ℕ, ◌<◌, ◌≤◌, Bool, true, false, cond, List, [], ◌∷◌, ◌++◌, filter, length, Option, Some, None, Result, Ok, Err, refl, sym, ap, ◌∙◌, subst, arith, Contains}
+use Rattle.std.proofs.Common.{◌≡◌, ◌⊎◌, ⊎_elim, inl, inr, ℕ, ◌≤◌, Bool, true, false, cond, List, [], ◌∷◌, ◌++◌, filter, Option, Some, None, Result, Ok, Err, refl, sym, ap, ◌∙◌, subst, arith}
 use Rattle.std.proofs.lemmas.List.{append-nil}
 use Rattle.ring_model.proofs.Lists.{cons_head, cons_tail, nil_cons}
 use Rattle.ring_model.specs.Gets.{AreAsks, answered_in}
@@ -19,19 +19,18 @@ use Rattle.dht_ids.specs.declared.peer.Peer.{Peer}
 use Rattle.dhash_client.specs.Course.{IsCourse, Told, told_all}
 use Rattle.dhash_client.specs.Course.IsCourse.{no_route, of_owners}
 use Rattle.dhash_client.specs.Machine.{outcome}
-use Rattle.dhash_client.specs.Puts.{EndsPut, holds, is_of_put, question_of}
+use Rattle.dhash_client.specs.Puts.{EndsPut, is_of_put, question_of}
 use Rattle.dhash_client.specs.declared.miss.Miss.{Miss}
 use Rattle.dhash_client.specs.declared.miss.Miss.TheVariants as miss
 use Rattle.dhash_client.specs.declared.put.PutKind.{PutKind}
 use Rattle.ask_laws.proofs.AskedLookups.{firsts_same}
 use Rattle.ask_laws.proofs.AskedOwners.{AreAsked, entries_of, from_asks, told_owners}
-use Rattle.ask_laws.proofs.AskedPlans.{Entries, entry}
 use Rattle.ask_laws.proofs.AskedPuts.{put_entries, told_put}
-use Rattle.world_model.specs.Fates.{FateOf, Fates, Puts, asking}
+use Rattle.world_model.specs.Fates.{Fates, Puts, asking}
 use Rattle.world_model.specs.Fates.Fates.{none as fates_none, more as fates_more}
 use Rattle.world_model.specs.Ring.{LooksUp}
 use Rattle.world_model.specs.World.{World, entries}
-use Rattle.world_laws.proofs.OneCourse.{one_acknowledged, one_lookup, one_put_of, one_split}
+use Rattle.world_laws.proofs.OneCourse.{one_lookup, one_put_of, one_split}
 use Rattle.world_laws.proofs.OneHeard.{one_fate}
 
 abbrev Asks : Type 0

@@ -1,7 +1,7 @@
 -- Lines of calls lead to one world and show one thing, where memory is there and names tell the blocks apart.
-use Rattle.std.proofs.Common.{◌≡◌, ◌⊎◌, ⊎_elim, ℕ, Bool, true, false, cond, List, [], ◌∷◌, ◌++◌, map, codes, Option, Some, None, refl, sym, ap, ◌∙◌, subst, append_assoc, Contains}
+use Rattle.std.proofs.Common.{◌≡◌, ⊎_elim, ℕ, Bool, true, false, cond, List, [], ◌∷◌, ◌++◌, map, Option, Some, refl, sym, ap, ◌∙◌, subst, append_assoc, Contains}
 use Rattle.std.specs.Prelude.{is_some, option_map}
-use Rattle.std.specs.List.{AllByRecursion, find, flat_map}
+use Rattle.std.specs.List.{find, flat_map}
 use Rattle.std.specs.Str.{bytes_eq}
 use Rattle.std.proofs.lemmas.Slice.Eq.{bytes_eq-Decides}
 use Rattle.ivy_base.specs.Naming.{NamesTellApart}
@@ -10,25 +10,24 @@ use Rattle.log_heads.specs.Signed.{hss_judged}
 use Rattle.log_model.proofs.Lists.{each, here, in_cons, in_nothing, there}
 use Rattle.session_model.specs.Courses.Begins.{alone as begins_alone, refreshes as begins_refreshing}
 use Rattle.session_model.specs.Replies.{said_no_memory}
-use Rattle.session_model.specs.Sessions.{Over, Said, Session, Stage}
+use Rattle.session_model.specs.Sessions.{Over, Said, Session}
 use Rattle.session_laws.specs.Going.{SnapshotsAreDecided}
-use Rattle.script_driver.specs.Run.{Goes, HasPiece, Outcome}
-use Rattle.script_model.specs.declared.command.Command.{Command}
+use Rattle.script_driver.specs.Run.{Goes, HasPiece}
 use Rattle.script_model.specs.declared.command.Command.TheVariants as command
 use Rattle.script_model.specs.declared.command.Piece.{Piece}
 use Rattle.script_model.specs.Lines.{command_of}
 use Rattle.world_model.specs.World.{NamedSession, World, named_bytes, participant, session_named, with_session, without_session}
 use Rattle.world_model.specs.Story.{began_of, beginning, having_begun, with_began, without_began}
 use Rattle.world_model.specs.Logs.{Played}
-use Rattle.world_model.specs.Calls.{AsLine, BeginsWith, FinishLine, OpenLine, Sending, StepLine, replied, reply_line, scene_of, sending_of, shown_end, shown_message, shown_miss, shown_note}
-use Rattle.world_model.specs.Calls.AsLine.{sends_nothing, calls}
-use Rattle.world_model.specs.Calls.OpenLine.{sends_nothing as opens_nothing, is_open, opens}
-use Rattle.world_model.specs.Calls.StepLine.{not_open as none_to_step, out_of_range, steps}
-use Rattle.world_model.specs.Calls.FinishLine.{not_open as none_to_end, ends}
+use Rattle.world_model.specs.Calls.{AsLine, BeginsWith, FinishLine, OpenLine, Sending, StepLine, replied, reply_line, scene_of, sending_of, shown_end, shown_miss, shown_note}
+use Rattle.world_model.specs.Calls.AsLine.{calls}
+use Rattle.world_model.specs.Calls.OpenLine.{opens}
+use Rattle.world_model.specs.Calls.StepLine.{steps}
+use Rattle.world_model.specs.Calls.FinishLine.{ends}
 use Rattle.world_model.specs.Steps.{RunsOut, Scene, StepsOn}
 use Rattle.world_model.specs.Steps.RunsOut.{is_over as runs_over, more as runs_more}
 use Rattle.world_model.specs.Steps.StepsOn.{none as steps_none, is_over as steps_over, more as steps_more}
-use Rattle.world_laws.specs.Keeps.{IsInHand, Keeps}
+use Rattle.world_laws.specs.Keeps.{Keeps}
 use Rattle.world_laws.specs.Laws.{HasMemoryIn}
 use Rattle.world_laws.proofs.Beginning.{calls_begin}
 use Rattle.world_laws.proofs.Bringing.{found_named}

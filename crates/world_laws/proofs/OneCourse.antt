@@ -1,10 +1,10 @@
 -- What a whole get or put brings is told by its trail, and so is whom a look-up finds.
-use Rattle.std.proofs.Common.{◌≡◌, ◌⊎◌, ⊎_elim, inl, inr, ℕ, zero, suc, ◌<◌, Bool, true, false, List, [], ◌∷◌, ◌++◌, length, Option, Some, None, Result, Ok, Err, refl, sym, ap, ◌∙◌, subst, arith}
-use Rattle.std.specs.Prelude.{MatchBool, filter_map, option_map, take, if◌then◌else◌}
+use Rattle.std.proofs.Common.{◌≡◌, ◌⊎◌, ⊎_elim, inl, inr, ℕ, suc, ◌<◌, Bool, true, false, List, [], ◌∷◌, ◌++◌, length, Option, Some, None, Result, Ok, Err, refl, sym, ap, ◌∙◌, subst, arith}
+use Rattle.std.specs.Prelude.{MatchBool, option_map, take}
 use Rattle.std.specs.List.{cons_option}
 use Rattle.std.proofs.lemmas.List.{append-nil}
 use Rattle.ring_model.proofs.Lists.{cons_head, cons_tail, nil_cons}
-use Rattle.ring_model.specs.Gets.{AreFirsts, Got, Right, Damaged, Missing, EndsBlock, EndsHeads, HasBlock, IsAcknowledged, IsGiven, IsPut, first_giver, given, judged, nodes}
+use Rattle.ring_model.specs.Gets.{Got, Right, Damaged, Missing, EndsBlock, EndsHeads, HasBlock, IsAcknowledged, IsPut, given}
 use Rattle.ring_model.specs.Lookup.{IsLookup}
 use Rattle.ring_model.specs.Lookup.IsLookup.{over, spent, known, silent, answered}
 use Rattle.ring_model.specs.Members.{IsAmong}
@@ -21,7 +21,7 @@ use Rattle.dht_ids.specs.declared.peer.Peer.{Peer}
 use Rattle.dht_ids.specs.declared.post.Post.{Post}
 use Rattle.dhash_client.specs.Course.{IsCourse, Told, result_of, told_all}
 use Rattle.dhash_client.specs.Course.IsCourse.{no_route, of_owners}
-use Rattle.dhash_client.specs.GetBlock.{EndsGet, IsGetOfBlock, block_in, is_of_get}
+use Rattle.dhash_client.specs.GetBlock.{EndsGet, IsGetOfBlock, block_in}
 use Rattle.dhash_client.specs.GetHead.{EndsHeadGet, IsGetOfHead}
 use Rattle.dhash_client.specs.Machine.{outcome}
 use Rattle.dhash_client.specs.Puts.{EndsPut, holds, is_of_put, question_of}
@@ -29,7 +29,7 @@ use Rattle.dhash_client.specs.declared.miss.Miss.{Miss}
 use Rattle.dhash_client.specs.declared.miss.Miss.TheVariants as miss
 use Rattle.dhash_client.specs.declared.put.PutKind.{PutKind}
 use Rattle.agent_model.specs.Agent.{is_head}
-use Rattle.session_model.specs.Sessions.{IsPutOfPost, put_question}
+use Rattle.session_model.specs.Sessions.{IsPutOfPost}
 use Rattle.ask_laws.proofs.AskedGets.{get_entries}
 use Rattle.ask_laws.proofs.AskedLookups.{firsts_same}
 use Rattle.ask_laws.proofs.AskedOwners.{entries_of, told_owners}

@@ -1,12 +1,9 @@
 -- An ask has one fate, a session asks one thing, and what it is then is told by the answer; what is at hand is taken in one way; and a session fails, lacks memory and settles in one way.
-use Rattle.std.proofs.Common.{◌≡◌, ◌⊎◌, ⊎_elim, inl, inr, ℕ, Bool, true, false, List, [], ◌∷◌, ◌++◌, Option, Some, None, Result, Ok, Err, refl, sym, ap, ◌∙◌, subst}
+use Rattle.std.proofs.Common.{◌≡◌, ℕ, true, false, List, [], ◌∷◌, ◌++◌, Option, Some, None, Result, Ok, refl, sym, ap, ◌∙◌, subst}
 use Rattle.ivy_base.specs.declared.key.Key.{Key}
-use Rattle.ivy_base.specs.declared.key.PubKey.{PubKey}
 use Rattle.ivy_base.specs.Naming.{head_key_of}
-use Rattle.turn_model.specs.Turn.{Asked}
 use Rattle.block_cache.specs.Blocks.{block_of, moved_to_front}
 use Rattle.dht_ids.specs.declared.ask.Answer.{Answer}
-use Rattle.dht_ids.specs.declared.ask.Answer.TheVariants.{Silent}
 use Rattle.dht_ids.specs.declared.ask.Ask.{Ask}
 use Rattle.dht_ids.specs.declared.ask.Ask.TheVariants as ask
 use Rattle.dht_ids.specs.declared.ask.Heard.{Heard}
@@ -17,18 +14,17 @@ use Rattle.dht_ids.specs.declared.post.Post.{Post}
 use Rattle.dht_ids.specs.Asked.{told}
 use Rattle.dhash_client.specs.declared.miss.Miss.{Miss}
 use Rattle.agent_model.specs.Others.{settled}
-use Rattle.agent_model.specs.Standing.{Refresh}
 use Rattle.ask_laws.proofs.AskedGets.{gets_are_one}
 use Rattle.ask_laws.proofs.AskedPuts.{puts_are_one}
 use Rattle.session_model.specs.Asking.{AsksNext}
-use Rattle.session_model.specs.Brought.{Brought, HeadsOf, BlockOf, Want, Heads, Content, brought_in}
+use Rattle.session_model.specs.Brought.{Brought, HeadsOf, BlockOf, Want, Content, brought_in}
 use Rattle.session_model.specs.Courses.{Fails, LacksMemory, Settles, ended}
 use Rattle.session_model.specs.Courses.Fails.{fails, goes_on}
 use Rattle.session_model.specs.Courses.LacksMemory.{lacks}
 use Rattle.session_model.specs.Courses.Settles.{settles as settles_all}
-use Rattle.session_model.specs.Refreshing.{Done, FailsBy, Needs, Note, RefreshEnd, Refreshes}
-use Rattle.session_model.specs.Replies.{Asks, missed_reply, said_no_memory, said_of}
-use Rattle.session_model.specs.Sessions.{Cache, Gets, Hears, IsGet, IsPut, IsPutOfPost, Over, Publishing, Refreshing, Said, Session, Stage, Takes, TakesAll, Wants, acknowledged, after_put, keeping, pending_block, put_question, wanted_key, with_part}
+use Rattle.session_model.specs.Refreshing.{FailsBy, Needs}
+use Rattle.session_model.specs.Replies.{missed_reply, said_no_memory, said_of}
+use Rattle.session_model.specs.Sessions.{Cache, Gets, Hears, IsGet, IsPut, IsPutOfPost, Over, Publishing, Refreshing, Said, Session, Takes, TakesAll, Wants, acknowledged, after_put, keeping, pending_block, put_question, wanted_key, with_part}
 use Rattle.session_model.specs.Sessions.Gets.{heads as got_heads, content as got_content}
 use Rattle.session_model.specs.Sessions.Hears.{gets_on, got, puts_on, puts}
 use Rattle.session_model.specs.Sessions.Takes.{posted, cached}

@@ -1,5 +1,5 @@
 -- A line leads to one world and shows one thing, where memory was there and names tell apart what was met; so a script has one run at most in which that is so.
-use Rattle.std.proofs.Common.{◌≡◌, ℕ, ◌+◌, Bool, true, false, List, [], ◌∷◌, ◌++◌, map, Option, Some, None, refl, sym, ap, ◌∙◌, subst, Contains}
+use Rattle.std.proofs.Common.{◌≡◌, ℕ, Bool, true, false, List, [], ◌++◌, map, Option, Some, None, refl, sym, ap, ◌∙◌, subst}
 use Rattle.std.specs.Prelude.{MatchBool, is_some, length, nat_lt, sum_by}
 use Rattle.std.proofs.lemmas.List.Elements.{Contains-append_left}
 use Rattle.ivy_base.specs.declared.key.PubKey.{PubKey}
@@ -7,27 +7,25 @@ use Rattle.ivy_base.specs.Naming.{NamesTellApart}
 use Rattle.hash_signature_model.specs.declared.set.Set.{Set}
 use Rattle.log_heads.specs.Signed.{hss_judged}
 use Rattle.log_model.proofs.Lists.{each}
-use Rattle.log_model.specs.Record.{Record}
 use Rattle.log_model.specs.View.{View, view_block, view_name}
 use Rattle.dht_ids.specs.declared.ask.Ask.TheVariants as ask
 use Rattle.dhash_client.specs.declared.put.PutKind.TheVariants as put
 use Rattle.session_laws.specs.Going.{SnapshotsAreDecided}
-use Rattle.script_driver.specs.Run.{Ends, Exceeds, Goes, Outcome, Ran, Refuses, Runs, WithLaw}
+use Rattle.script_driver.specs.Run.{Ends, Exceeds, Goes, Outcome, Refuses, WithLaw}
 use Rattle.script_driver.proofs.RunLaws.{single_run_kept}
 use Rattle.script_model.specs.declared.command.Command.{Command}
 use Rattle.script_model.specs.declared.command.Command.TheVariants as command
 use Rattle.script_model.specs.Lines.{command_of}
 use Rattle.snapshot_model.specs.Spelling.{root_name}
 use Rattle.agent_model.specs.Others.{basis_of}
-use Rattle.world_model.specs.Agents.{IsKept, Kept, kept_bytes, own}
+use Rattle.world_model.specs.Agents.{Kept, kept_bytes, own}
 use Rattle.world_model.specs.Fates.{Puts}
-use Rattle.world_model.specs.Story.{known_of}
-use Rattle.world_model.specs.World.{Participant, World, named_bytes, participant, session_named, view_named, with_participant}
+use Rattle.world_model.specs.World.{Participant, World, named_bytes, participant, session_named, with_participant}
 use Rattle.world_model.specs.Faults.{damage_line, holds_line, lose_line, node_named, order_line, work_line}
 use Rattle.world_model.specs.Ring.{JoinLine, RingLine, stop_line}
 use Rattle.world_model.specs.Rounds.{RoundLine}
 use Rattle.world_model.specs.Rounds.RoundLine.{goes as round_goes}
-use Rattle.world_model.specs.Logs.{IsKnownAgain, LogLine, Played, Publishes, RestartLine, SnapLine, ViewLine, acked_view, afresh_told, at_line, beside, failed_text, having_snapped, having_tried, keep_line, keys_of, restarted, snap_text, snapping_in, use_line, with_newcomer, with_view}
+use Rattle.world_model.specs.Logs.{IsKnownAgain, LogLine, Played, Publishes, RestartLine, SnapLine, ViewLine, acked_view, afresh_told, at_line, beside, having_snapped, having_tried, keep_line, keys_of, restarted, snap_text, snapping_in, use_line, with_newcomer, with_view}
 use Rattle.world_model.specs.Logs.LogLine.{begins as log_begins}
 use Rattle.world_model.specs.Logs.ViewLine.{makes as view_makes}
 use Rattle.world_model.specs.Logs.RestartLine.{starts as restart_starts}

@@ -1,7 +1,7 @@
 -- A message has one reply by itself, or asks one thing of a turn; so a session begins with it in one way.
-use Rattle.std.proofs.Common.{◌≡◌, ◌≢◌, ◌⊎◌, inl, inr, ℕ, ◌<◌, ◌≤◌, List, [], Option, Some, None, refl, sym, ap, ◌∙◌, subst, arith}
+use Rattle.std.proofs.Common.{◌≡◌, ◌≢◌, ◌⊎◌, inl, inr, ℕ, ◌<◌, ◌≤◌, List, Option, Some, None, refl, sym, ap, ◌∙◌, subst, arith}
 use Rattle.wire_model.specs.Rpc.{CallMessage, IsCall, IsOtherVersion, IsCaller, Identity, Success, ProgramUnavailable, ProgramMismatch, ProcedureUnavailable, GarbageArguments, RpcMismatch, BadCredential, reply}
-use Rattle.wire_model.proofs.OneReading.{one_call, one_caller, no_other_version, one_other_version}
+use Rattle.wire_model.proofs.OneReading.{one_call, no_other_version, one_other_version}
 use Rattle.nfs_model.specs.declared.arguments.Args.{Args}
 use Rattle.nfs_model.specs.declared.replies.Reply.{Reply}
 use Rattle.nfs_model.specs.Arguments.{AreArguments}

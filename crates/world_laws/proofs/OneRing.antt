@@ -1,6 +1,6 @@
 -- Lines of the ring lead to one world: a ring is made in one way, a node joins in one way, and a round of maintenance is one, whatever is lost.
-use Rattle.std.proofs.Common.{◌≡◌, ◌≢◌, ◌⊎◌, ⊎_elim, inl, inr, ℕ, zero, suc, ◌+◌, ◌*◌, ◌<◌, ◌≤◌, Bool, true, false, List, [], ◌∷◌, ◌++◌, length, map, fold, filter, not, Option, Some, None, Result, refl, sym, ap, ◌∙◌, subst, arith, Contains}
-use Rattle.std.specs.Prelude.{get_or, nat_lt, ◌^◌, ◌&&◌, IsTrue}
+use Rattle.std.proofs.Common.{◌≡◌, ⊎_elim, inl, inr, ℕ, zero, suc, ◌+◌, ◌*◌, ◌<◌, ◌≤◌, Bool, true, false, List, [], ◌∷◌, length, fold, not, Option, Some, None, refl, sym, ap, ◌∙◌, subst, arith, Contains}
+use Rattle.std.specs.Prelude.{get_or, nat_lt, ◌^◌, ◌&&◌}
 use Rattle.std.proofs.lemmas.Bool.{cases_lt, ltb-true}
 use Rattle.std.proofs.Math.Nat.{add-mul, mul-le-mul_right}
 use Rattle.std.specs.List.{AllByRecursion, list_all}
@@ -20,29 +20,26 @@ use Rattle.round_laws.proofs.Standing.{IsBase, IsWithin}
 use Rattle.ivy_base.specs.declared.key.Key.{Key}
 use Rattle.log_model.specs.Spelling.{IsKey}
 use Rattle.ring_model.specs.Circle.{be_number, number}
-use Rattle.ring_model.specs.Members.{IsAmong, first, from_place}
-use Rattle.ring_model.specs.Ring.{Links, start}
+use Rattle.ring_model.specs.Members.{IsAmong}
 use Rattle.ring_model.specs.Round.{with_finger}
 use Rattle.dht_ids.proofs.Numbers.{AreBytes, be_number_below}
-use Rattle.dht_ids.specs.Peers.{place}
 use Rattle.dht_ids.specs.declared.ask.Answer.{Answer}
 use Rattle.dht_ids.specs.declared.ask.Answer.TheVariants as answer
 use Rattle.dht_ids.specs.declared.ask.Ask.{Ask}
-use Rattle.dht_ids.specs.declared.ask.Ask.TheVariants as ask
 use Rattle.dht_ids.specs.declared.judge.Judged.{Judged}
 use Rattle.dht_ids.specs.declared.peer.Peer.{Peer}
 use Rattle.dhash_client.specs.Course.{Told}
-use Rattle.chord_core.specs.Settled.{AreFingers, IsSettledNode}
+use Rattle.chord_core.specs.Settled.{IsSettledNode}
 use Rattle.chord_core.specs.State.{State, stabilised, with_links}
 use Rattle.node_store.specs.Stores.{Block, Blocks, without}
-use Rattle.script_driver.specs.Run.{Goes, Outcome}
+use Rattle.script_driver.specs.Run.{Goes}
 use Rattle.world_model.specs.Fates.{FateOf, Fates}
 use Rattle.world_model.specs.Nodes.{Node}
-use Rattle.world_model.specs.Ring.{AreSettled, FindsNobody, JoinLine, LooksUp, RingLine, empty_node, failed_join_text, joined_node, live_in_order, peer_numbered, with_new_node}
+use Rattle.world_model.specs.Ring.{AreSettled, FindsNobody, JoinLine, LooksUp, RingLine, empty_node, joined_node, live_in_order, peer_numbered, with_new_node}
 use Rattle.world_model.specs.Ring.AreSettled.{none as none_settled, more as more_settled}
-use Rattle.world_model.specs.Ring.JoinLine.{before_ring as join_before, known as join_known, exceeds as join_exceeds, alone as joins_alone, joins, fails}
-use Rattle.world_model.specs.Ring.RingLine.{refused, exceeds, makes}
-use Rattle.world_model.specs.Rounds.{EachDoes, FixesFinger, FixesFrom, Forgets, IsDropped, IsRoundOf, ManyDo, Notifies, PutsAll, PutsAround, Repairs, RoundLine, Stabilises, asks_of_others, is_other_peer, listing_now, question_as}
+use Rattle.world_model.specs.Ring.JoinLine.{alone as joins_alone, joins, fails}
+use Rattle.world_model.specs.Ring.RingLine.{makes}
+use Rattle.world_model.specs.Rounds.{EachDoes, FixesFinger, FixesFrom, Forgets, IsDropped, IsRoundOf, ManyDo, Notifies, PutsAll, PutsAround, Repairs, Stabilises, asks_of_others, is_other_peer, listing_now, question_as}
 use Rattle.world_model.specs.Rounds.EachDoes.{done as each_done, next as each_next}
 use Rattle.world_model.specs.Rounds.ManyDo.{none as many_none, again as many_again}
 use Rattle.world_model.specs.Rounds.Forgets.{has_none, keeps, forgets}
@@ -51,8 +48,7 @@ use Rattle.world_model.specs.Rounds.Stabilises.{alone as stabilises_alone, drops
 use Rattle.world_model.specs.Rounds.FixesFrom.{done as fixes_done, next as fixes_next}
 use Rattle.world_model.specs.Rounds.PutsAround.{no_route, puts as puts_around}
 use Rattle.world_model.specs.Rounds.PutsAll.{done as all_done, keeps as all_keeps, drops as all_drops}
-use Rattle.world_model.specs.Rounds.RoundLine.{before_ring as round_before, goes as round_goes}
-use Rattle.world_model.specs.World.{World, live_peers, node_at, with_node}
+use Rattle.world_model.specs.World.{World, node_at, with_node}
 use Rattle.world_laws.proofs.OneAsks.{looks_one, owners_one}
 use Rattle.world_laws.proofs.OneCourse.{one_acknowledged}
 use Rattle.world_laws.proofs.OneHeard.{one_fate, one_node}

@@ -1,20 +1,17 @@
 -- A step of a session leads to one scene, where memory is there and names tell the blocks apart; so do many steps, and all up to the end.
-use Rattle.std.proofs.Common.{◌≡◌, ℕ, Bool, true, false, List, [], ◌∷◌, ◌++◌, map, Option, Some, None, Result, refl, sym, ap, ◌∙◌, subst, Contains}
-use Rattle.std.proofs.lemmas.List.Elements.{Contains-append_left}
+use Rattle.std.proofs.Common.{◌≡◌, ℕ, Bool, true, false, List, [], ◌∷◌, ◌++◌, map, Option, Some, None, refl, sym, ap, ◌∙◌, subst, Contains}
 use Rattle.ivy_base.specs.declared.operation.Moment.{Moment}
 use Rattle.ivy_base.specs.Naming.{NamesTellApart}
 use Rattle.log_heads.specs.Signed.{hss_judged}
 use Rattle.log_model.proofs.Lists.{each}
 use Rattle.log_model.specs.View.{View}
 use Rattle.nfs_model.specs.declared.replies.Reply.{Reply}
-use Rattle.ring_model.proofs.Lists.{nil_cons}
 use Rattle.turn_model.specs.Turn.{Asked, Turned}
 use Rattle.dht_ids.specs.declared.ask.Answer.{Answer}
 use Rattle.dht_ids.specs.declared.ask.Ask.{Ask}
 use Rattle.dht_ids.specs.declared.peer.Peer.{Peer}
 use Rattle.dht_ids.specs.declared.post.Ack.{Ack}
 use Rattle.dht_ids.specs.declared.post.Post.{Post}
-use Rattle.dhash_client.specs.declared.miss.Miss.{Miss}
 use Rattle.agent_model.specs.Standing.{Refresh}
 use Rattle.agent_model.specs.Turning.{Answered, TurnEnd, Turns}
 use Rattle.agent_model.specs.Turning.Becomes.{reads, saves, loses}
@@ -26,7 +23,7 @@ use Rattle.session_model.specs.Courses.LacksMemory.{lacks}
 use Rattle.session_model.specs.Courses.Settles.{settles as settles_all}
 use Rattle.session_model.specs.Courses.TakesTurn.{answers, begins_anew, gives_up}
 use Rattle.session_model.specs.Refreshing.{Done, Needs, Note}
-use Rattle.session_model.specs.Sessions.{Cache, Hears, Over, Publishing, Refreshing, Said, Session, Stage, TakesAll, TakesSome, Wants, acknowledged, after_put, in_publishing_order}
+use Rattle.session_model.specs.Sessions.{Cache, Hears, Over, Publishing, Refreshing, Said, Session, Stage, TakesAll, TakesSome, acknowledged, after_put}
 use Rattle.session_model.specs.Sessions.Hears.{gets_on, got, puts_on, puts}
 use Rattle.session_model.specs.Sessions.Takes.{posted, cached}
 use Rattle.session_model.specs.Sessions.TakesAll.{none as takes_none, more as takes_more}
@@ -38,7 +35,6 @@ use Rattle.world_model.specs.Fates.FateOf.{lost, stopped, answers as node_answer
 use Rattle.world_model.specs.Keepers.{fails_next}
 use Rattle.world_model.specs.World.{World, Participant, named_bytes, participant, with_participant}
 use Rattle.world_model.specs.Story.{known_of}
-use Rattle.world_model.specs.Logs.{Played, Publishes}
 use Rattle.world_model.specs.Steps.{Acts, RunsOut, Scene, Steps, StepsOn, after_turn, ask_told, met_by, with_cache}
 use Rattle.world_model.specs.Steps.Acts.{asks, asks_in_vain, turns, is_refused, settles}
 use Rattle.world_model.specs.Steps.Steps.{acts, lacks_memory}

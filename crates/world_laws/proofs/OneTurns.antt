@@ -1,5 +1,5 @@
 -- A session has one turn at most, where names tell the blocks apart: what was brought to it, what it takes, what is written, and what becomes of its agent.
-use Rattle.std.proofs.Common.{◌≡◌, ⊎_elim, ℕ, ◌+◌, ◌≤◌, ◌<◌, Bool, true, false, List, [], ◌∷◌, ◌++◌, length, Option, Some, None, refl, sym, ap, ◌∙◌, subst, arith, Contains}
+use Rattle.std.proofs.Common.{◌≡◌, ℕ, ◌+◌, ◌≤◌, Bool, true, false, List, [], ◌∷◌, ◌++◌, length, Option, Some, None, refl, sym, ap, ◌∙◌, subst, arith, Contains}
 use Rattle.std.proofs.lemmas.List.{append_cancel_left}
 use Rattle.std.specs.List.{AllByRecursion}
 use Rattle.ivy_base.specs.declared.operation.Moment.{Moment}
@@ -13,13 +13,13 @@ use Rattle.log_model.specs.Vector.{Vector, seq_of}
 use Rattle.log_model.specs.View.{View, IsView}
 use Rattle.ring_model.proofs.Lists.{cons_head, cons_tail, nil_cons}
 use Rattle.turn_laws.proofs.Starts.{front_dominates}
-use Rattle.turn_model.specs.Basis.{Basis, Holding, HoldsAll, IsAboveTide, nothing_held}
+use Rattle.turn_model.specs.Basis.{Basis, Holding, HoldsAll, IsAboveTide}
 use Rattle.turn_model.specs.Turn.{Asked, Candidate, IsAtHand, Turned, turn_on}
 use Rattle.turn_model.specs.Work.{applied_between}
 use Rattle.nfs_model.specs.declared.replies.Reply.{Reply}
-use Rattle.agent_model.specs.Agent.{failed, kept_of}
+use Rattle.agent_model.specs.Agent.{kept_of}
 use Rattle.agent_model.specs.Standing.{Refresh, anew_in, going_on}
-use Rattle.agent_model.specs.Turning.{Answered, BelowTide, Becomes, Behind, IsByDefinition, TurnEnd, Turns, inputs_before, taking, written_by}
+use Rattle.agent_model.specs.Turning.{Answered, Becomes, IsByDefinition, TurnEnd, Turns, inputs_before, written_by}
 use Rattle.agent_model.specs.Turning.Becomes.{reads, saves, loses}
 use Rattle.agent_model.specs.Turning.Turns.{behind, below, answers as turn_answers}
 use Rattle.session_model.specs.Brought.{brought_in, heads_at}
@@ -37,7 +37,7 @@ use Rattle.world_model.specs.Steps.{Scene, after_turn, turn_told, world_after}
 use Rattle.world_laws.specs.Keeps.{IsInHand, Keeps}
 use Rattle.world_laws.proofs.Bringing.{are_named, in_a_view, its_view}
 use Rattle.world_laws.proofs.TurnsFloors.{own_number}
-use Rattle.world_laws.proofs.TurnsKnown.{are_candidates, largest, taken_known, turned_is, writes}
+use Rattle.world_laws.proofs.TurnsKnown.{are_candidates, taken_known, turned_is, writes}
 use Rattle.world_laws.proofs.TurnsRefresh.{one_asked, one_xid}
 use Rattle.world_laws.proofs.TurnsTaken.{one_candidates, one_taken}
 
