@@ -1,6 +1,7 @@
 -- What else is done with an agent: its posts are settled, and a snapshot is made of what it holds.
 use Rattle.std.specs.Prelude.{ℕ, Bool, true, false, ◌&&◌, not, List, ◌++◌, map, filter, Option, Some, None, if◌then◌else◌}
 use Rattle.std.specs.List.{list_any, last_or}
+use Rattle.std.specs.Str.{bytes_eq}
 use Rattle.ivy_base.specs.declared.key.Key.{Key}
 use Rattle.ivy_base.specs.Naming.{name}
 use Rattle.tree_model.specs.Tree.{same_key}
@@ -36,8 +37,9 @@ is_block kind.Head = false
 abbrev pub block_post : List ℕ → Post
 block_post bytes = record { key = name bytes; bytes = bytes; kind = kind.Block }
 
+-- by its bytes: another block that has its name would stand in its place
 abbrev pub is_pending_block : List Post → List ℕ → Bool
-is_pending_block pending bytes = list_any (λ p. same_key p.key (name bytes) && is_block p.kind) pending
+is_pending_block pending bytes = list_any (λ p. bytes_eq p.bytes bytes && is_block p.kind) pending
 
 -- the agent with the blocks of a snapshot of that name to be published: those that aren't pending already
 abbrev pub snapped : {S : Type 0} → Agent S → Key → List (List ℕ) → Agent S

@@ -1,6 +1,7 @@
 //! Agents.
 
-ghost use Rattle.std.specs.Prelude.{◌≡◌, ◌≤◌, ◌+◌, length, Option, None, false, IfOk, OnOk, OnErr, IfSome, IsSomeAnd};
+ghost use Rattle.std.specs.Prelude.{◌≡◌, ◌≤◌, ◌+◌, length, Option, None, false, IfOk, OnOk, OnErr, IfSome, IsSomeAnd, option_map};
+ghost use Rattle.ivy_io.specs.Keepers.{with_plan};
 ghost use Rattle.log_records.specs.Records.{records_of};
 ghost use Rattle.turn_model.specs.Basis.{Basis, kept_tree};
 ghost use Rattle.agent_model.specs.Others.{settled};
@@ -28,8 +29,8 @@ use crate::taking::{Refusal, turn_on};
 use dht_ids::{Acks, Posts};
 use fs_tree::Tree;
 use hss_keys::Signs;
-use ivy_base::{Key, Memory, Moment, Steps};
-use ivy_io::Keeper;
+use ivy_base::{Key, Memory, Moment, PubKey, Steps};
+use ivy_io::{Keeper, Leave, MemKeeper};
 use log_fetch::{Asked, Refresh, Standing, TurnFault, Turned};
 use log_records::{Batch, Record};
 use replay_engine::Engine;
@@ -259,6 +260,20 @@ impl<K: Keeper, S: Signs> Agent<K, S> {
         &self.kept.pending
     }
 
+    /// The public key of the agent's log.
+    pub fn owner(&self) -> PubKey
+        ensures { result ≡ own (signing S.key S.remaining S.signature S.next S.saved) self.now.agent }
+    {
+        self.kept.signer.owner()
+    }
+
+    /// The view that the agent is in.
+    pub fn view(&self) -> Option<&View>
+        ensures { option_map (λ v. v.now) result ≡ self.now.agent.view }
+    {
+        self.kept.view.as_ref()
+    }
+
     /// The records that are held above the basis, ascending by rank.
     pub fn order(&self) -> &[Record]
         ensures { records_of result.now ≡ self.now.agent.holding.held }
@@ -271,6 +286,16 @@ impl<K: Keeper, S: Signs> Agent<K, S> {
         ensures { result.now ≡ kept_tree self.now.agent.holding }
     {
         self.engine.tree()
+    }
+}
+
+impl<S: Signs> Agent<MemKeeper, S> {
+    /// Has a later save fail, as [`MemKeeper::plan`] has it. The error is want of memory, and then nothing has changed.
+    pub fn plan_fault(&mut self, leave: Leave) -> Result<(), Memory>
+        ensures ok { OnOk result (self.new ≡ record self.old { keeper = with_plan self.old.keeper leave.call leave.new }) }
+        ensures err { OnErr result (self.new ≡ self.old) }
+    {
+        self.keeper.plan(leave)
     }
 }
 

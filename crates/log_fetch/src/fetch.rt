@@ -43,13 +43,25 @@ pub(crate) enum State<J: Judge> {
 
 /// The fetch of all logs of a view: of each member in its order the heads before the blocks, of the own log blocks alone.
 /// Contracts see by which judge, from how many owners and from which nodes on it gets, and how far it is.
-#[derive(Drop)]
 pub struct Fetch<J: Judge> {
     alloc: Global,
     judge: J,
     replicas: u32,
     entries: Peers,
     state: State<J>,
+}
+
+/// One function, so that whatever drops a fetch calls it and isn't proved over all of its parts once more.
+impl<J: Judge> Drop for Fetch<J> {
+    fn drop(self) {
+        let Fetch {
+            alloc: _,
+            judge: _,
+            replicas: _,
+            entries: _,
+            state: _,
+        } = self;
+    }
 }
 
 impl<J: Judge> Model for Fetch<J> {
@@ -113,18 +125,17 @@ impl<J: Judge> Fetch<J> {
     }
 
     /// Takes the block that is to be got next, which was at hand: its bytes are not tested here. The error is want of memory;
-    /// then the fetch is over.
+    /// the fetch isn't used then any more.
     pub fn give(&mut self, bytes: &[u8]) -> Result<(), Memory>
         requires { fetch_wanted self.old ≢ None }
         ensures given { IfOk result (λ _. FetchWasGiven J.judges self.old self.new bytes.now) }
         ensures free { IfOk result (λ _. (fetch_awaited self.new ≡ None) × (is_failed self.new ≡ false)) }
         ensures left { IfOk result (λ _. fetch_left self.new < fetch_left self.old) }
     {
-        let State::Free(mut gather) = mem::replace(&mut self.state, State::Over) else {
+        let State::Free(gather) = &mut self.state else {
             unreachable!()
         };
         gather.take_block(self.alloc, bytes)?;
-        self.state = State::Free(gather);
         Ok(())
     }
 
@@ -136,7 +147,7 @@ impl<J: Judge> Fetch<J> {
     {
         let state = mem::replace(&mut self.state, State::Over);
         let (state, want) = self.go_on(state)?;
-        self.state = state;
+        come_to(&mut self.state, state);
         Ok(want)
     }
 
@@ -149,7 +160,7 @@ impl<J: Judge> Fetch<J> {
     {
         let state = mem::replace(&mut self.state, State::Over);
         let (state, block) = self.hear(state, answer)?;
-        self.state = state;
+        come_to(&mut self.state, state);
         Ok(block)
     }
 
@@ -190,10 +201,31 @@ impl<J: Judge> Fetch<J> {
     fn begin(&self, gather: Gather) -> Result<(State<J>, Want<Fetched>), Memory>
         ensures { IfOk result (WantsNext J.judges self.now (State.Free gather)) }
     {
-        match self.first(&gather)? {
+        let first = self.first(&gather)?;
+        self.begin_with(gather, first)
+    }
+
+    /// Goes on with the get of what is wanted, or gives the result where nothing is. The error is want of memory.
+    fn begin_with(
+        &self,
+        gather: Gather,
+        first: Option<Progress<J>>,
+    ) -> Result<(State<J>, Want<Fetched>), Memory>
+        requires { BeginsFor J.judges self.now.judge self.now.replicas self.now.entries gather.stage first }
+        ensures { IfOk result (WantsNext J.judges self.now (State.Free gather)) }
+    {
+        match first {
             Some(progress) => self.begun(gather, progress),
-            None => Ok((State::Over, Want::Done(finish(gather)?))),
+            None => self.done(gather),
         }
+    }
+
+    /// The result, where nothing more is wanted. The error is want of memory.
+    fn done(&self, gather: Gather) -> Result<(State<J>, Want<Fetched>), Memory>
+        requires { gather.stage ≡ Stage.Through }
+        ensures { IfOk result (WantsNext J.judges self.now (State.Free gather)) }
+    {
+        Ok((State::Over, Want::Done(finish(gather)?)))
     }
 
     /// Asks the first ask of a get, or ends the fetch where there is none. The error is want of memory.
@@ -237,6 +269,13 @@ impl<J: Judge> Fetch<J> {
             None => Ok(None),
         }
     }
+}
+
+/// Puts that state in the place of another.
+fn come_to<J: Judge>(place: &mut State<J>, state: State<J>)
+    ensures { place.new ≡ state }
+{
+    *place = state;
 }
 
 /// Has the node of that ask asked.

@@ -51,11 +51,21 @@ pub(crate) struct Passed {
 }
 
 /// The fetch of all members, in their order.
-#[derive(Drop)]
 pub(crate) struct Gather {
     known: Known,
     passed: Passed,
     stage: Stage,
+}
+
+/// One function, so that whatever drops it calls this and isn't proved over all of its parts once more.
+impl Drop for Gather {
+    fn drop(self) {
+        let Gather {
+            known: _,
+            passed: _,
+            stage: _,
+        } = self;
+    }
 }
 
 impl Model for Gather {

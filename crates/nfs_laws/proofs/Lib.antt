@@ -10,6 +10,6 @@ mod Fields
 mod PageForms
 mod AnswerForms
 mod PlanForms
-mod Counts
-mod Replays
+pub mod Counts
+pub mod Replays
 mod PageEntries

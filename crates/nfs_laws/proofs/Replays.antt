@@ -58,8 +58,8 @@ count_where test (e ∷ es) = by (test e.0) (count_where test es)
     by false again = omega (arith, again)
 
 -- there are at most so many names
-record NamesUpTo (n : ℕ) (t : Tree) : Type 0 where
-  most : length t.names ≤ n
+pub record NamesUpTo (n : ℕ) (t : Tree) : Type 0 where
+  pub most : length t.names ≤ n
 
 count_if : (n : ℕ) (b : Bool) (x y : Tree) → NamesUpTo n x → NamesUpTo n y → NamesUpTo n (cond b x y)
 count_if n true x y h g = h
@@ -98,7 +98,7 @@ count_apply n t now (op.Cancel seq) h = one_more n t h
 count_apply n t now (op.SetAttrs number change) h = count_if (n + 1) _ t _ (one_more n t h) (count_at_inode (n + 1) t number _ (one_more n t h))
 count_apply n t now op.End h = one_more n t h
 
-count_apply_all : (n : ℕ) (t : Tree) (ops : List (Moment × Op)) → NamesUpTo n t → NamesUpTo (n + length ops) (apply_all t ops)
+pub count_apply_all : (n : ℕ) (t : Tree) (ops : List (Moment × Op)) → NamesUpTo n t → NamesUpTo (n + length ops) (apply_all t ops)
 count_apply_all n t [] h = record { most = omega (arith, h.most) }
 count_apply_all n t (o ∷ ops) h = record { most = let all = (count_apply_all (n + 1) (apply t o.0 o.1) ops (count_apply n t o.0 o.1 h)).most in omega (arith, all) }
 
@@ -112,10 +112,10 @@ few_target Reg target fits = let none : target ≡ [] = fits in rw none (omega a
 few_target Dir target fits = let none : target ≡ [] = fits in rw none (omega arith)
 few_target Lnk target fits = omega (arith, fits.1)
 
-length-resized : (size : ℕ) (bytes : List ℕ) → length (resized size bytes) ≡ size
+pub length-resized : (size : ℕ) (bytes : List ℕ) → length (resized size bytes) ≡ size
 length-resized size bytes = omega (arith, length-append (take size bytes) (replicate (size - length bytes) 0), length-take size bytes, length-replicate {A = ℕ} (size - length bytes) 0)
 
-few_overwritten : (bytes : List ℕ) (offset : ℕ) (part : List ℕ) → length bytes ≤ 16777216 → offset + length part ≤ 16777216 → length (overwritten bytes offset part) ≤ 16777216
+pub few_overwritten : (bytes : List ℕ) (offset : ℕ) (part : List ℕ) → length bytes ≤ 16777216 → offset + length part ≤ 16777216 → length (overwritten bytes offset part) ≤ 16777216
 few_overwritten bytes offset part few fits = omega (
   arith,
   few,
@@ -230,11 +230,11 @@ records_make_trees ops all few =
 
 -- ---- and those of closed sets
 
-effects_fit : (s : List Record) → AllByRecursion (λ r. IsMoment r.moment × OperationFits r.op) s → AllByRecursion (λ o. IsMoment o.0 × OperationFits o.1) (map effect s)
+pub effects_fit : (s : List Record) → AllByRecursion (λ r. IsMoment r.moment × OperationFits r.op) s → AllByRecursion (λ o. IsMoment o.0 × OperationFits o.1) (map effect s)
 effects_fit [] all = tt
 effects_fit (r ∷ s) all = (all.0, effects_fit s all.1)
 
-as_many : (s : List Record) → length (map effect s) ≡ length s
+pub as_many : (s : List Record) → length (map effect s) ≡ length s
 as_many [] = refl
 as_many (r ∷ s) = omega (arith, as_many s)
 

@@ -18,7 +18,6 @@ use std::mem;
 
 /// Posts that are put one after the other: records, then blocks of snapshots, then heads, which are put only where every
 /// record was acknowledged.
-#[derive(Drop)]
 pub struct Publishing {
     alloc: Global,
     replicas: u32,
@@ -26,6 +25,20 @@ pub struct Publishing {
     put: Option<Asking>,
     left: VecDeque<Post>,
     acks: Vec<Ack>,
+}
+
+/// One function, so that whatever drops it calls this and isn't proved over all of its parts once more.
+impl Drop for Publishing {
+    fn drop(self) {
+        let Publishing {
+            alloc: _,
+            replicas: _,
+            entries: _,
+            put: _,
+            left: _,
+            acks: _,
+        } = self;
+    }
 }
 
 impl Model for Publishing {

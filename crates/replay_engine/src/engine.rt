@@ -25,13 +25,25 @@ use std::sync::ledger::Ledger;
 use version_vectors::{Rank, Vector};
 
 /// Records above a basis, in order, and the tree that they make of the basis's.
-#[derive(Drop)]
 pub struct Engine {
     front: Vector,
     tide: Option<Rank>,
     state: State,
     last: Option<Replaced>,
     before: Option<Replaced>,
+}
+
+/// One function, so that whatever drops an engine calls it and isn't proved over all of its parts once more.
+impl Drop for Engine {
+    fn drop(self) {
+        let Engine {
+            front: _,
+            tide: _,
+            state: _,
+            last: _,
+            before: _,
+        } = self;
+    }
 }
 
 impl Model for Engine {

@@ -9,3 +9,9 @@ pub mod Spoiling
 pub mod Behind
 pub mod Finding
 pub mod Losing
+pub mod Knowing
+pub mod Sound
+pub mod Looking
+pub mod Joins
+pub mod WholePuts
+pub mod Changing

@@ -1,11 +1,18 @@
 -- Nodes in memory, as contracts see them, and the worlds whose nodes they are.
-use Rattle.std.specs.Prelude.{◌≡◌, ℕ, List, [], map, find, Option, Some, None, if◌then◌else◌}
+use Rattle.std.specs.Prelude.{◌≡◌, ℕ, List, [], map, find, Option, Some, None, IfSome, if◌then◌else◌}
+use Rattle.std.specs.List.{AllByRecursion}
 use Rattle.std.specs.Ordering.{eq_by_cmp}
 use Rattle.ivy_base.specs.declared.key.Key.{Key}
 use Rattle.ivy_base.specs.Naming.{key_cmp}
+use Rattle.ring_model.specs.Members.{IsAmong}
+use Rattle.dht_ids.specs.declared.ask.Answer.{Answer}
+use Rattle.dht_ids.specs.declared.ask.Answer.TheVariants as answer
+use Rattle.dht_ids.specs.declared.ask.Ask.{Ask}
+use Rattle.dht_ids.specs.declared.ask.Ask.TheVariants as ask
 use Rattle.dht_ids.specs.declared.peer.Peer.{Peer}
 use Rattle.dht_ids.specs.declared.post.Post.{Post}
 use Rattle.node_store.specs.Stores.{post_of}
+use Rattle.round_laws.specs.RingOf.{AreApart, AreNamed, KnowsOnly}
 use Rattle.world_model.specs.Nodes.{Node}
 use Rattle.world_model.specs.World.{World, peer_of}
 
@@ -29,6 +36,26 @@ with_nodes w s = record w { nodes = s.nodes; asked = s.asked; lost = s.lost }
 -- the peers that were made
 abbrev pub made_peers : NodesState → List Peer
 made_peers s = map peer_of s.nodes
+
+-- each has the identifier of its number, no two stand at one place, and each knows of peers alone that were made
+pub record AreSound (nodes : List Node) : Type 0 where
+  pub named : AreNamed (map peer_of nodes)
+  pub apart : AreApart (map peer_of nodes)
+  pub known : AllByRecursion (KnowsOnly (map peer_of nodes)) nodes
+
+-- a notice is of one of these peers
+abbrev pub BringsOnly : List Peer → Ask → Type 0
+BringsOnly made (ask.Notify peer) = IsAmong peer made
+BringsOnly made _ = Unit {0}
+
+abbrev pub AreAllAmong : List Peer → List Peer → Type 0
+AreAllAmong made = AllByRecursion (λ q. IsAmong q made)
+
+-- the answer names these peers alone
+abbrev pub NamesOnly : List Peer → Answer → Type 0
+NamesOnly made (answer.Route nearer owners) = AreAllAmong made nearer × AreAllAmong made owners
+NamesOnly made (answer.Near before list) = IfSome before (λ q. IsAmong q made) × AreAllAmong made list
+NamesOnly made _ = Unit {0}
 
 -- the node of that identifier
 abbrev pub node_of : NodesState → Key → Option Node

@@ -1,6 +1,6 @@
 //! A node in memory.
 
-ghost use Rattle.std.specs.Prelude.{◌≡◌, false, Some, IfOk, OnOk, OnErr};
+ghost use Rattle.std.specs.Prelude.{◌≡◌, ◌<◌, false, Some, IfOk, OnOk, OnErr};
 ghost use Rattle.std.specs.Ordering.{eq_by_cmp};
 ghost use Rattle.ivy_base.specs.Naming.{key_cmp};
 ghost use Rattle.ring_nodes.specs.Puts.{Told};
@@ -47,7 +47,10 @@ impl RingNode {
     ghost use Rattle.world_model.specs.World.{peer_of};
     ghost use Rattle.world_model.specs.Ring.{empty_node};
     ghost use Rattle.ring_nodes.specs.NodesState.{held_by};
+    ghost use Rattle.chord_core.specs.State.{IsOfNear};
+    ghost use Rattle.ring_model.specs.Members.{first};
     ghost use Rattle.ring_nodes.specs.Spoiling.{IsSpoiled};
+    ghost use Rattle.ring_nodes.specs.Upkeep.{fingered, forgotten, renewed_by};
 
     /// A live node that holds nothing.
     pub(crate) fn empty(alloc: Global, peer: Peer, ring: Node) -> RingNode
@@ -123,7 +126,7 @@ impl RingNode {
     ) -> Result<Option<Bytes>, Memory>
         ensures spoiled { IfOk result (IsSpoiled key.now offset byte self.old self.new) }
         ensures unchanged { OnErr result (self.new ≡ self.old) }
-        ensures peer { peer_of self.new ≡ peer_of self.old }
+        ensures ring { self.new.ring ≡ self.old.ring }
     {
         let Some(block) = self.store.get(key) else {
             return Ok(None);
@@ -144,6 +147,45 @@ impl RingNode {
             return Ok(None);
         }
         Ok(Some(self.store.held(alloc)?))
+    }
+
+    /// The predecessor that the node knows.
+    pub(crate) fn before(&self) -> Option<Peer>
+        ensures { result ≡ self.now.ring.links.before }
+    {
+        self.ring.before()
+    }
+
+    /// The first entry of the node's list.
+    pub(crate) fn first(&self) -> Option<Peer>
+        ensures { result ≡ first self.now.ring.links.list }
+    {
+        self.ring.list().as_slice().first().copied()
+    }
+
+    /// Forgets the predecessor.
+    pub(crate) fn forget(&mut self)
+        ensures { self.new ≡ forgotten self.old }
+    {
+        self.ring.forget();
+    }
+
+    /// Renews the list by what its first entry answered to Near. The error is want of memory, and the node is as before
+    /// then.
+    pub(crate) fn renew(&mut self, alloc: Global, heard: &Answer) -> Result<(), Memory>
+        requires { IsOfNear heard.now }
+        ensures renewed { OnOk result (self.new ≡ renewed_by heard.now self.old) }
+        ensures unchanged { OnErr result (self.new ≡ self.old) }
+    {
+        self.ring.stabilise(alloc, heard)
+    }
+
+    /// Makes a peer the finger of that index, 0 to 159.
+    pub(crate) fn fix_finger(&mut self, index: u32, owner: Peer)
+        requires { index < 160 }
+        ensures { self.new ≡ fingered index owner self.old }
+    {
+        self.ring.fix_finger(index + 1, owner);
     }
 
     /// What the node answers to a get. The error is want of memory.

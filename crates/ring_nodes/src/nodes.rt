@@ -1,22 +1,23 @@
 //! All nodes of a ring.
 
-ghost use Rattle.std.specs.Prelude.{◌≡◌, ◌+◌, ◌≤◌, [], ◌∷◌, ◌==◌, filter, find, map, nat_lt, option_map, position, Some, None, IfOk, OnOk, OnErr, if◌then◌else◌};
+ghost use Rattle.std.specs.Prelude.{◌≡◌, ◌+◌, ◌<◌, ◌≤◌, [], ◌∷◌, ◌++◌, ◌==◌, filter, find, length, map, nat_lt, option_map, position, Some, None, IfOk, IfSome, OnOk, OnErr, if◌then◌else◌};
 ghost use Rattle.std.specs.Bool.{OnFalse};
+ghost use Rattle.std.specs.List.{list_any};
 ghost use Rattle.std.specs.Ordering.{eq_by_cmp};
 ghost use Rattle.ivy_base.specs.Naming.{key_cmp};
 ghost use Rattle.ring_model.specs.Members.{IsAmong};
 ghost use Rattle.world_model.specs.World.{World, entries, peer_of, with_numbered};
 
 use crate::node::{RingNode, is_id};
-use crate::order::{from_key, put_in_order};
+use crate::order::{from_key, lesser, put_in_order};
 use crate::settle;
 use dht_ids::{Answer, Ask, Judge, Peer, Peers, Posts};
 use ivy_base::{Bytes, Key, Memory};
 use std::alloc::Global;
 use std::marker::Model;
 
-/// The nodes of a ring in the order in which they were made, no two at one place, how many asks were made, and which asks
-/// are lost.
+/// The nodes of a ring in the order in which they were made, how many asks were made, and which asks are lost. Each node has
+/// the identifier of its number, no two stand at one place, and each knows of nodes alone that were made.
 #[derive(Drop)]
 pub struct RingNodes {
     nodes: Vec<RingNode>,
@@ -26,25 +27,26 @@ pub struct RingNodes {
 }
 
 impl Model for RingNodes {
-    ghost use Rattle.std.specs.Prelude.{map};
-    ghost use Rattle.world_model.specs.World.{peer_of};
-    ghost use Rattle.round_laws.specs.RingOf.{AreApart};
-    ghost use Rattle.ring_nodes.specs.NodesState.{NodesState};
+    ghost use Rattle.ring_nodes.specs.NodesState.{AreSound, NodesState};
 
     ghost Value = { NodesState };
 
     ghost view = { λ n. record { nodes = n.nodes.items; asked = n.asked; lost = n.lost.items } };
 
-    ghost invariant = { λ n. AreApart (map peer_of n.nodes.items) };
+    ghost invariant = { λ n. AreSound n.nodes.items };
 }
 
 impl RingNodes {
     ghost use Rattle.script_driver.specs.Run.{Goes, Refuses};
-    ghost use Rattle.world_model.specs.Ring.{AreSettled, first_peers, in_ring_order, stop_line};
+    ghost use Rattle.world_model.specs.Ring.{AreSettled, first_peers, in_ring_order, least, stop_line};
     ghost use Rattle.world_model.specs.Faults.{damage_by, owner_of_key};
     ghost use Rattle.ring_nodes.specs.Spoiling.{damaged_world};
     ghost use Rattle.world_model.specs.Fates.{FateOf, IsLost, counted};
-    ghost use Rattle.ring_nodes.specs.NodesState.{IsNodesOf, IsPeerOf, held_by, made_peers, no_nodes, node_of, with_nodes};
+    ghost use Rattle.chord_core.specs.State.{IsOfNear};
+    ghost use Rattle.ring_model.specs.Members.{first};
+    ghost use Rattle.ring_nodes.specs.Joining.{IsNewNode, with_node_more};
+    ghost use Rattle.ring_nodes.specs.Upkeep.{Changes, HasNode, fingered, forgotten, renewed_by};
+    ghost use Rattle.ring_nodes.specs.NodesState.{BringsOnly, IsNodesOf, IsPeerOf, NamesOnly, held_by, made_peers, no_nodes, node_of, with_nodes};
 
     /// No node. It takes no memory.
     pub fn new(alloc: Global) -> RingNodes
@@ -75,8 +77,8 @@ impl RingNodes {
     }
 
     /// What becomes of one ask of a node that was made: silence where the ask is lost or the node is stopped, and else what
-    /// the node answers by what it keeps. The error is want of memory, or 2^64 asks; all is as before then, the count of
-    /// asks too.
+    /// the node answers by what it keeps, which names nodes alone that were made. A notice is of one of these too. The error
+    /// is want of memory, or 2^64 asks; all is as before then, the count of asks too.
     pub fn ask<J: Judge>(
         &mut self,
         alloc: Global,
@@ -84,8 +86,10 @@ impl RingNodes {
         to: &Peer,
         question: &Ask,
     ) -> Result<Answer, Memory>
-        requires { IsAmong to.now (made_peers self.old) }
+        requires made { IsAmong to.now (made_peers self.old) }
+        requires brings { BringsOnly (made_peers self.old) question.now }
         ensures fate { IfOk result (λ answer. (w : World) → IsNodesOf w self.old → FateOf (J.judges judge.now) w to.now question.now answer (with_nodes w self.new)) }
+        ensures named { IfOk result (NamesOnly (made_peers self.old)) }
         ensures unchanged { OnErr result (self.new ≡ self.old) }
         ensures made { made_peers self.new ≡ made_peers self.old }
     {
@@ -109,7 +113,9 @@ impl RingNodes {
         to: &Peer,
         question: &Ask,
     ) -> Result<Answer, Memory>
-        requires { IsAmong to.now (made_peers self.old) }
+        requires made { IsAmong to.now (made_peers self.old) }
+        requires brings { BringsOnly (made_peers self.old) question.now }
+        ensures named { IfOk result (NamesOnly (made_peers self.old)) }
         ensures fate { IfOk result (λ answer. (w : World) → IsNodesOf w self.old → (IsLost w → ⊥) → FateOf (J.judges judge.now) w to.now question.now answer (counted (with_nodes w self.new))) }
         ensures unchanged { OnErr result (self.new ≡ self.old) }
         ensures made { made_peers self.new ≡ made_peers self.old }
@@ -124,6 +130,43 @@ impl RingNodes {
             return Ok(Answer::Silent);
         }
         node.answer(alloc, judge, question)
+    }
+
+    /// How many nodes were made.
+    pub fn count(&self) -> usize
+        ensures { result ≡ length self.now.nodes }
+    {
+        self.nodes.len()
+    }
+
+    /// Whether a node of that identifier was made.
+    pub(crate) fn is_made(&self, id: &Key) -> bool
+        ensures { result ≡ list_any (λ q. eq_by_cmp key_cmp q.id id.now) (made_peers self.now) }
+    {
+        has_node(&self.nodes, id)
+    }
+
+    /// Of the live nodes the one of the least number; the first where several have it.
+    pub(crate) fn least_live(&self) -> Option<Peer>
+        ensures { result ≡ least (map peer_of (filter (λ n. n.is_live) self.now.nodes)) }
+    {
+        let mut found = None;
+        'live: for node in &self.nodes {
+            if node.is_live() {
+                found = Some(lesser(found, node.peer()));
+            }
+        }
+        found
+    }
+
+    /// Makes one node more. The error is want of memory, and nothing is changed then.
+    pub(crate) fn add(&mut self, node: RingNode) -> Result<(), Memory>
+        requires { IsNewNode self.old node }
+        ensures added { OnOk result (self.new ≡ with_node_more self.old node) }
+        ensures unchanged { OnErr result (self.new ≡ self.old) }
+    {
+        self.nodes.push(node)?;
+        Ok(())
     }
 
     /// Where the node of the identifier is.
@@ -233,6 +276,72 @@ impl RingNodes {
         Ok(peers)
     }
 
+    /// The predecessor that the node of a peer knows, which was made too.
+    pub fn before(&self, peer: &Peer) -> Option<Peer>
+        requires { IsAmong peer.now (made_peers self.now) }
+        ensures before { HasNode (λ n. result ≡ n.ring.links.before) self.now peer.now.id }
+        ensures made { IfSome result (λ q. IsAmong q (made_peers self.now)) }
+    {
+        self.nodes[self.place(peer)].before()
+    }
+
+    /// The first entry of the list of a peer's node, which was made too.
+    pub fn first(&self, peer: &Peer) -> Option<Peer>
+        requires { IsAmong peer.now (made_peers self.now) }
+        ensures first { HasNode (λ n. result ≡ first n.ring.links.list) self.now peer.now.id }
+        ensures made { IfSome result (λ q. IsAmong q (made_peers self.now)) }
+    {
+        self.nodes[self.place(peer)].first()
+    }
+
+    /// The node of a peer forgets its predecessor.
+    pub fn forget(&mut self, peer: &Peer)
+        requires { IsAmong peer.now (made_peers self.old) }
+        ensures changes { Changes forgotten peer.now.id self.old self.new }
+        ensures made { made_peers self.new ≡ made_peers self.old }
+    {
+        let place = self.place(peer);
+        self.nodes[place].forget();
+    }
+
+    /// The node of a peer renews its list by what the first entry answered to Near, which names nodes alone that were made.
+    /// The error is want of memory, and nothing is changed then.
+    pub fn renew(&mut self, alloc: Global, peer: &Peer, heard: &Answer) -> Result<(), Memory>
+        requires peer { IsAmong peer.now (made_peers self.old) }
+        requires near { IsOfNear heard.now }
+        requires named { NamesOnly (made_peers self.old) heard.now }
+        ensures changes { OnOk result (Changes (renewed_by heard.now) peer.now.id self.old self.new) }
+        ensures unchanged { OnErr result (self.new ≡ self.old) }
+        ensures made { made_peers self.new ≡ made_peers self.old }
+    {
+        let place = self.place(peer);
+        self.nodes[place].renew(alloc, heard)
+    }
+
+    /// A peer that was made becomes that finger, 0 to 159, of the node of another.
+    pub fn fix_finger(&mut self, peer: &Peer, index: u32, owner: &Peer)
+        requires peer { IsAmong peer.now (made_peers self.old) }
+        requires index { index < 160 }
+        requires owner { IsAmong owner.now (made_peers self.old) }
+        ensures changes { Changes (fingered index owner.now) peer.now.id self.old self.new }
+        ensures made { made_peers self.new ≡ made_peers self.old }
+    {
+        let place = self.place(peer);
+        self.nodes[place].fix_finger(index, *owner);
+    }
+
+    /// Where the node of a peer is that was made.
+    fn place(&self, peer: &Peer) -> usize
+        requires { IsAmong peer.now (made_peers self.now) }
+        ensures { position (λ n. eq_by_cmp key_cmp (peer_of n).id peer.now.id) self.now.nodes ≡ Some result }
+    {
+        let _ = &self.nodes;
+        let Some(place) = self.place_of(&peer.id) else {
+            unreachable!();
+        };
+        place
+    }
+
     /// Copies of the blocks that the node of the identifier holds, their keys ascending; None where there is no such node,
     /// or it is stopped. The error is want of memory.
     pub fn held(&self, alloc: Global, id: &Key) -> Result<Option<Posts>, Memory>
@@ -243,6 +352,13 @@ impl RingNodes {
         };
         self.nodes[place].held(alloc)
     }
+}
+
+/// Whether a node has that identifier.
+fn has_node(nodes: &[RingNode], id: &Key) -> bool
+    ensures { result ≡ list_any (λ n. eq_by_cmp key_cmp (peer_of n).id id.now) nodes.now }
+{
+    nodes.iter().any(|node| is_id(&node.peer().id, id))
 }
 
 /// The node of that number.

@@ -1,6 +1,7 @@
-//! Live peers in the order of their places.
+//! Live peers in the order of their places and of their numbers.
 
 ghost use Rattle.std.specs.Prelude.{◌≡◌, ◌++◌, filter, nat_le, nat_lt, position, IfOk, OnOk};
+ghost use Rattle.ring_nodes.specs.Joining.{lesser_of};
 ghost use Rattle.dht_ids.specs.Peers.{place};
 ghost use Rattle.ring_model.specs.Circle.{number};
 ghost use Rattle.ring_model.specs.Members.{from_place};
@@ -50,4 +51,14 @@ pub(crate) fn from_key(alloc: Global, live: &[Peer], key: &Key) -> Result<Vec<Pe
         }
     }
     Ok(peers)
+}
+
+/// Of two peers the one of the lesser number, and of two of one number the first.
+pub(crate) fn lesser(first: Option<Peer>, second: Peer) -> Peer
+    ensures { result ≡ lesser_of first second }
+{
+    match first {
+        Some(peer) if peer.number <= second.number => peer,
+        _ => second,
+    }
 }

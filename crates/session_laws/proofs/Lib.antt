@@ -18,3 +18,4 @@ mod GoingCourse
 mod GoingHeads
 pub mod Going
 pub mod Missing
+pub mod DecidedSnapshots

@@ -17,11 +17,11 @@
 //! over `proofs/WholeTrees.antt` (trees that operations make have the facts of a snapshot's tree) and `proofs/MadeBlocks.antt`;
 //! `proofs/SortedEntries.antt`; `proofs/OneRefresh.antt` over `proofs/OneCourse.antt` (walks, and the heads of one log);
 //! `proofs/Going.antt` over `proofs/GoingCourse.antt`, `proofs/GoingChains.antt` (whether records are sound and onward is known)
-//! and `proofs/GoingHeads.antt` (heads can be put in order).
+//! and `proofs/GoingHeads.antt` (heads can be put in order); `proofs/DecidedSnapshots.antt`.
 #![tactic(auto)]
 
 ghost use Rattle.session_laws.specs.Bringing.{FetchedIsBrought, FloorIsBrought, RefreshedIsBrought, FloorIsReached, DoneIsNotBehind};
-ghost use Rattle.session_laws.specs.Going.{FailsByTheLast, RefreshBegins, RefreshGoesOn};
+ghost use Rattle.session_laws.specs.Going.{FailsByTheLast, RefreshBegins, RefreshGoesOn, SnapshotsAreDecided};
 ghost use Rattle.session_laws.specs.Loading.{LoadedIsMade, BasisIsKnown};
 ghost use Rattle.session_laws.specs.Once.{FetchIsOne, RefreshIsOne};
 ghost use Rattle.session_laws.specs.Starting.{StartIsKnown, StartIsSorted};
@@ -80,4 +80,12 @@ pub fn refreshes_go_on()
     ensures begins { RefreshBegins }
     ensures goes_on { RefreshGoesOn }
     ensures fails { FailsByTheLast }
+{}
+
+/// A law and no code.
+///
+/// Of any bytes it is known whether they are a part of a snapshot and which blocks they name, and of any blocks whether they are
+/// a whole one and of which basis. What a block can say has bounds, so all of it can be searched through.
+pub fn snapshots_are_decided()
+    ensures { SnapshotsAreDecided }
 {}

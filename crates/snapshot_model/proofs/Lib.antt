@@ -5,3 +5,7 @@ pub mod MadeLists
 pub mod MadeInodes
 pub mod SameNames
 pub mod Loaded
+pub mod Decided
+pub mod DecidedForms
+pub mod DecidedParts
+pub mod DecidedWhole

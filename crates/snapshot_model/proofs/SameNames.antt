@@ -34,7 +34,7 @@ abbrev listed : Names → Key → List (List ℕ × Key)
 listed names d = filter_map (λ e. if same_key d e.0.0 then Some (e.0.1, e.1) else None) names
 
 -- a name of the directory stands in its listing
-has_listed : (names : Names) (d : Key) (n : List ℕ) (x : Key) → Has names ((d, n), x) → Has (listed names d) (n, x)
+pub has_listed : (names : Names) (d : Key) (n : List ℕ) (x : Key) → Has names ((d, n), x) → Has (listed names d) (n, x)
 has_listed [] d n x h = h
 has_listed (e ∷ names) d n x h = by (same_key d e.0.0) refl (has_listed names d n x) h
   where
@@ -67,17 +67,17 @@ listed_fit (e ∷ names) d h = by (same_key d e.0.0) (listed_fit names d h.1)
 
 -- ---- directories
 
-record IsDirectoryOf (inodes : List (Key × Inode)) (d : Key) : Type 0 where
-  inode : Inode
-  has : Has inodes (d, inode)
-  kind : inode.kind ≡ Dir
+pub record IsDirectoryOf (inodes : List (Key × Inode)) (d : Key) : Type 0 where
+  pub inode : Inode
+  pub has : Has inodes (d, inode)
+  pub kind : inode.kind ≡ Dir
 
 is_dir : (kind : Kind) → directory_kind kind ≡ true → kind ≡ Dir
 is_dir Reg h = cc
 is_dir Dir h = refl
 is_dir Lnk h = cc
 
-directory_of : (inodes : List (Key × Inode)) (d : Key) → is_directory (value_at key_cmp d inodes) ≡ true → IsDirectoryOf inodes d
+pub directory_of : (inodes : List (Key × Inode)) (d : Key) → is_directory (value_at key_cmp d inodes) ≡ true → IsDirectoryOf inodes d
 directory_of [] d h = cc
 directory_of (e ∷ inodes) d h = by (eq_by_cmp key_cmp d e.0) refl (directory_of inodes d) h
   where

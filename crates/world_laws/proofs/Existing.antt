@@ -111,7 +111,7 @@ can_without w None other = tt
 can_without w (Some (command.Snap log)) other = absurd (other log refl)
 can_without w (Some c) other = tt
 
-pub each_script_has_a_run : EachScriptHasARun
+pub each_script_has_a_run : LinesKeep → EachScriptHasARun
 unfolding Runs
 each_script_has_a_run keep w number [] can story = (refused number, refl)
 each_script_has_a_run keep w number (line ∷ lines) can story =

@@ -92,3 +92,23 @@ pub mod OneCalls
 pub mod OneAsks
 pub mod OneRing
 pub mod OneLines
+mod NoSnapshotSaved
+mod NoSnapshotTurns
+mod NoSnapshotSteps
+mod NoSnapshotLines
+pub mod SnapBounds
+pub mod SnapSpelled
+mod SnapLines
+mod SnapWhole
+pub mod CalmNodes
+pub mod CalmPuts
+pub mod CalmStates
+pub mod CalmSteps
+pub mod CalmScenes
+pub mod CalmLines
+pub mod CalmCommands
+pub mod CalmRuns
+pub mod CalmHeld
+pub mod CalmGets
+pub mod CalmGiven
+pub mod CalmRounds

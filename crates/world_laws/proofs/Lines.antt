@@ -153,7 +153,7 @@ binds : {A B : Type 0} (o : Option A) (f : A → Option B) (b : B) → (o >>= f)
 binds None f b e = cc e
 binds (Some a) f b e = (a, e)
 
-named_among : (w : World) (word : NodeWord) (n : Node) → node_named w word ≡ Some n → IsAmong n w.nodes
+pub named_among : (w : World) (word : NodeWord) (n : Node) → node_named w word ≡ Some n → IsAmong n w.nodes
 named_among w (node.Numbered number) n is = found_among (λ m. (peer_of m).number == number) w.nodes n is
 named_among w (node.OwnerOf count word) n is =
     let ringed = binds w.replicas (λ r. key_named w word >>= λ k. owner_of_key w r count k >>= λ p. node_at w p.id) n is in

@@ -89,7 +89,7 @@ module _ (s : Signer) (whole : IsSigner s) (unused : s.made ≡ 0) (now : Moment
     );
   }
 
-  kept_whole : IsKept k
+  pub kept_whole : IsKept k
   kept_whole = record {
     signer = signer_then;
     some = omega (arith, own_far);

@@ -10,6 +10,7 @@ use Rattle.log_model.proofs.Lists.{each}
 use Rattle.log_model.specs.View.{View, view_block, view_name}
 use Rattle.dht_ids.specs.declared.ask.Ask.TheVariants as ask
 use Rattle.dhash_client.specs.declared.put.PutKind.TheVariants as put
+use Rattle.session_laws.proofs.DecidedSnapshots.{snapshots_are_decided}
 use Rattle.session_laws.specs.Going.{SnapshotsAreDecided}
 use Rattle.script_driver.specs.Run.{Ends, Exceeds, Goes, Outcome, Refuses, WithLaw}
 use Rattle.script_driver.proofs.RunLaws.{single_run_kept}
@@ -35,7 +36,7 @@ use Rattle.world_model.specs.Step.{Does, IvyStep, MayDoFirst, Untold, WithinLimi
 use Rattle.world_model.specs.Steps.{met_by}
 use Rattle.world_laws.specs.Keeps.{IsKeptSo, IsSavedWell, Keeps}
 use Rattle.world_laws.specs.Kinds.{Ending, Going, Limited, Refused, kind}
-use Rattle.world_laws.specs.Laws.{FullRunsAreOne, HadMemory, HasMemoryIn, StepsAreOneSo}
+use Rattle.world_laws.specs.Laws.{FullRunsAreOne, HadMemory, HasMemoryIn, StepsAreOne}
 use Rattle.world_laws.proofs.Bringing.{found_named}
 use Rattle.world_laws.proofs.Frames.{nodes_of_ring}
 use Rattle.world_laws.proofs.KeptBytes.{kept_once}
@@ -47,6 +48,7 @@ use Rattle.world_laws.proofs.OneRing.{join_one, ring_one, round_one}
 use Rattle.world_laws.proofs.OneSteps.{publishing_is_one}
 use Rattle.world_laws.proofs.SecondTurns.{one_view}
 use Rattle.world_laws.proofs.SignedHeads.{so_of}
+use Rattle.world_laws.proofs.SnapWhole.{each_line_keeps}
 
 -- ---- outcomes
 
@@ -236,8 +238,8 @@ module _ (decided : SnapshotsAreDecided) (w : Played) (keeps : Keeps w) (line : 
   line_one None is does doing = absurd (none_obeyed w one text does)
   line_one (Some c) is does doing = command_one c is (obeyed w c one text does) (obeyed w c other words doing)
 
-pub steps_are_one : StepsAreOneSo
-steps_are_one decided w one other line text words keeps apart apart_too does doing m n = line_one decided w keeps line one other text words apart m n (command_of line) refl does doing
+pub steps_are_one : StepsAreOne
+steps_are_one w one other line text words keeps apart apart_too does doing m n = line_one snapshots_are_decided w keeps line one other text words apart m n (command_of line) refl does doing
 
 -- ---- runs
 
@@ -259,10 +261,10 @@ ending_or_limited e = cc e
 refused_or_limited : Refused ≡ Limited → ⊥
 refused_or_limited e = cc e
 
-module _ (decided : SnapshotsAreDecided) (w : Played) (line : List ℕ) (keeps : Keeps w) where
+module _ (w : Played) (line : List ℕ) (keeps : Keeps w) where
   outcomes_alike : (first second : Outcome Played) → kind first ≡ kind second → IvyStep w line first → IvyStep w line second → HadMemory w line first → HadMemory w line second → first ≡ second
   outcomes_alike (Goes one text) (Goes other words) same does doing m n =
-      let both = steps_are_one decided w one other line text words keeps m.1 n.1 does doing m.0 n.0 in λ i. Goes (both.0 i) (both.1 i)
+      let both = steps_are_one w one other line text words keeps m.1 n.1 does doing m.0 n.0 in λ i. Goes (both.0 i) (both.1 i)
   outcomes_alike (Goes one text) Ends same does doing m n = absurd (going_or_ending same)
   outcomes_alike (Goes one text) Refuses same does doing m n = absurd (going_or_refused same)
   outcomes_alike (Goes one text) Exceeds same does doing m n = absurd (going_or_limited same)
@@ -280,5 +282,5 @@ module _ (decided : SnapshotsAreDecided) (w : Played) (line : List ℕ) (keeps :
   outcomes_alike Exceeds Exceeds same does doing m n = refl
 
 pub full_runs_are_one : FullRunsAreOne
-full_runs_are_one decided lines_keep = single_run_kept Keeps (WithLaw IvyStep HadMemory) (λ w next line output keeps step. lines_keep w next line output keeps step.0)
-    (λ w line first second keeps a b. outcomes_alike decided w line keeps first second (line_has_one_kind w line first a.0 ∙ sym (line_has_one_kind w line second b.0)) a.0 b.0 a.1 b.1)
+full_runs_are_one = single_run_kept Keeps (WithLaw IvyStep HadMemory) (λ w next line output keeps step. each_line_keeps w next line output keeps step.0)
+    (λ w line first second keeps a b. outcomes_alike w line keeps first second (line_has_one_kind w line first a.0 ∙ sym (line_has_one_kind w line second b.0)) a.0 b.0 a.1 b.1)

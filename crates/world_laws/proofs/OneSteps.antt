@@ -28,6 +28,7 @@ use Rattle.session_model.specs.Sessions.Hears.{gets_on, got, puts_on, puts}
 use Rattle.session_model.specs.Sessions.Takes.{posted, cached}
 use Rattle.session_model.specs.Sessions.TakesAll.{none as takes_none, more as takes_more}
 use Rattle.session_model.specs.Sessions.TakesSome.{none as some_none, more as some_more}
+use Rattle.session_laws.proofs.DecidedSnapshots.{snapshots_are_decided}
 use Rattle.session_laws.specs.Going.{SnapshotsAreDecided}
 use Rattle.world_model.specs.Agents.{Agent, IsTurnIn, Kept, TakesTurn, hss, own}
 use Rattle.world_model.specs.Fates.{FateOf}
@@ -396,13 +397,13 @@ module _ (decided : SnapshotsAreDecided) (r : ℕ) where
       runs_one rest (subst (λ (x : Scene). RunsOut hss_judged r name x other) (sym same) others) (then_it.1 ∙ named) then_it.0 apart m n
 
 pub sessions_step_once : SessionsStepOnce
-sessions_step_once decided c one other r keeps hand ringed apart step also m n = step_one r c (λ at. (decided, keeps, hand, apart)) step also m n
+sessions_step_once c one other r keeps hand ringed apart step also m n = step_one r c (λ at. (snapshots_are_decided, keeps, hand, apart)) step also m n
 
 pub many_steps_are_one : ManyStepsAreOne
-many_steps_are_one decided c one other r count keeps hand ringed apart steps also m n = steps_one decided r steps also refl (record { keeps = keeps; hand = hand; ringed = ringed }) apart m n
+many_steps_are_one c one other r count keeps hand ringed apart steps also m n = steps_one snapshots_are_decided r steps also refl (record { keeps = keeps; hand = hand; ringed = ringed }) apart m n
 
 pub sessions_end_once : SessionsEndOnce
-sessions_end_once decided c one other r keeps hand ringed apart runs also m n = runs_one decided r runs also refl (record { keeps = keeps; hand = hand; ringed = ringed }) apart m n
+sessions_end_once c one other r keeps hand ringed apart runs also m n = runs_one snapshots_are_decided r runs also refl (record { keeps = keeps; hand = hand; ringed = ringed }) apart m n
 
 -- ---- a session that only publishes
 

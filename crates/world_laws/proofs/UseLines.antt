@@ -186,7 +186,7 @@ module _ (w : Played) (keeps : Keeps w) (p : Participant) (is_p : participant w.
   saved : IsSavedWell p k
   saved = so_of IsSavedWell p k (each (IsKeptSo IsSavedWell) w.0.participants p keeps.saved among) so.1 so.2
 
-  whole : IsKept l
+  pub whole : IsKept l
   whole = record {
     signer = saved.agent.signer;
     some = saved.agent.some;
@@ -419,7 +419,7 @@ module _ (w : Played) (keeps : Keeps w) (p : Participant) (is_p : participant w.
 
 -- ---- the line
 
-view_in : (vs : List NamedView) (name : List ℕ) (view : View) → option_map (λ (v : NamedView). v.view) (find (λ (v : NamedView). bytes_eq v.name name) vs) ≡ Some view → (v : NamedView) × Contains vs v × (v.view ≡ view)
+pub view_in : (vs : List NamedView) (name : List ℕ) (view : View) → option_map (λ (v : NamedView). v.view) (find (λ (v : NamedView). bytes_eq v.name name) vs) ≡ Some view → (v : NamedView) × Contains vs v × (v.view ≡ view)
 view_in vs name view is = by (find (λ (v : NamedView). bytes_eq v.name name) vs) refl is
   where
     same : (x y : View) → Some x ≡ Some y → x ≡ y

@@ -1,8 +1,10 @@
--- Scripts whose ring changes little, and what they may rely on: what was put stays (CFS, SOSP 2001, section 5.1).
-use Rattle.std.specs.Prelude.{◌≡◌, ◌≢◌, if◌then◌else◌, ℕ, ◌+◌, ◌<◌, ◌≤◌, true, false, List, [], ◌∷◌, ◌++◌, length, is_some, ◌↔◌, Contains, Option, Some, None, Result, Ok}
+-- Scripts whose ring changes little, and what they may rely on: what was put stays (CFS, SOSP 2001, section 5.1). Of calm scripts it is proved that the ring stays; of those
+-- with the same ring, that what was acknowledged is held and given. The other laws are stated alone.
+use Rattle.std.specs.Prelude.{◌≡◌, ◌≢◌, if◌then◌else◌, ℕ, ◌+◌, ◌<◌, ◌≤◌, true, false, List, [], ◌∷◌, ◌++◌, length, is_some, IfSome, ◌↔◌, Contains, Option, Some, None, Result, Ok}
 use Rattle.std.specs.List.{AllByRecursion}
 use Rattle.std.specs.Option.{option_map_or}
 use Rattle.ivy_base.specs.declared.key.Key.{Key}
+use Rattle.ivy_base.specs.declared.operation.Moment.{Moment}
 use Rattle.ivy_base.specs.Naming.{NamesTellApart}
 use Rattle.ring_model.specs.Circle.{number}
 use Rattle.ring_model.specs.Blocks.{IsAtLeast}
@@ -23,6 +25,7 @@ use Rattle.script_model.specs.declared.command.Command.TheVariants as command
 use Rattle.script_model.specs.declared.command.NodeWord.{NodeWord}
 use Rattle.script_model.specs.Lines.{command_of}
 use Rattle.script_model.specs.declared.command.Piece.{Piece}
+use Rattle.log_model.specs.Spelling.{IsMoment}
 use Rattle.log_model.specs.Closed.{log_of}
 use Rattle.log_model.specs.Record.{Record}
 use Rattle.log_model.specs.View.{View}
@@ -31,7 +34,7 @@ use Rattle.world_model.specs.Agents.{own}
 use Rattle.session_model.specs.Sessions.{Said, Session}
 use Rattle.world_model.specs.Calls.{shown_end}
 use Rattle.world_model.specs.Rounds.{IsRoundOf}
-use Rattle.world_model.specs.World.{World, Participant, entries, participant, named_bytes, view_named}
+use Rattle.world_model.specs.World.{World, Participant, empty_world, entries, participant, named_bytes, view_named}
 use Rattle.world_model.specs.Story.{HadTurn, empty_story, known_of}
 use Rattle.world_model.specs.Logs.{Played}
 use Rattle.round_laws.specs.Holding.{rank_in as rank_by}
@@ -79,44 +82,52 @@ pub data Calmly (r : ℕ) : Played → Since → List (List ℕ) → Played → 
 abbrev pub rank_in : World → Key → Peer → Option ℕ
 rank_in w key p = rank_by hss_judged w key p
 
--- the world was reached calmly from the line that made its ring; and no block that was met is a public key
+-- The world was reached calmly from the line that made its ring, before which nothing was but a moment; and no block that was met is a public key.
 pub record IsCalmAt (r : ℕ) (w : Played) (since : Since) (lines : List (List ℕ)) : Type 0 where
   pub before : Played
   pub count : ℕ
   pub made : World
-  pub fresh : (before.0.participants ≡ []) × (before.0.views ≡ []) × (before.0.sessions ≡ []) × (before.0.lost ≡ []) × (before.0.met ≡ []) × (before.1 ≡ empty_story)
+  pub fresh : (now : Moment) × IsMoment now × (before ≡ (record empty_world { now = now }, empty_story))
   pub rings : RingLine before.0 count r (Goes made [])
   pub calmly : Calmly r (made, before.1) (Stopped 0) lines w since
   pub apart : NamesTellApart (named_bytes w.0)
   pub no_key : (p : Participant) → Contains w.0.participants p → Contains w.0.met (own p.agent).0 → ⊥
 
+-- no node joins or stops, and no round is made
+abbrev pub HasSameRing : List (List ℕ) → Type 0
+HasSameRing lines = AllByRecursion (λ line. IfSome (command_of line) IsQuiet) lines
+
+-- The laws are stated of calm scripts whose lines are so: of those with the same ring, and of any.
+abbrev pub AreAny : List (List ℕ) → Type 0
+AreAny lines = Unit {0}
+
 -- the ring is settled after each round, and covered at each later line but between a join and its round
-abbrev pub RingStays : Type 0
-RingStays = (r : ℕ) (w : Played) (count : ℕ) (lines : List (List ℕ)) → IsCalmAt r w (Stopped count) lines → IsCoveredIn w.0 r × (count ≡ 0 → IsSettledIn w.0 r)
+abbrev pub RingStays : (List (List ℕ) → Type 0) → Type 0
+RingStays AreSo = (r : ℕ) (w : Played) (count : ℕ) (lines : List (List ℕ)) → AreSo lines → IsCalmAt r w (Stopped count) lines → IsCoveredIn w.0 r × (count ≡ 0 → IsSettledIn w.0 r)
 
 -- the rank of a post
 abbrev pub post_rank : Post → ℕ
 post_rank p = if is_head p.kind then option_map_or (λ j. j.seq) (hss_judged p.key p.bytes) 0 else 0
 
 -- of each post of which a put was acknowledged an owner of its key holds it, or a newer head
-abbrev pub AckedIsHeld : Type 0
-AckedIsHeld = (r : ℕ) (w : Played) (count : ℕ) (lines : List (List ℕ)) (p : Post) → IsCalmAt r w (Stopped count) lines → Contains w.1.acked p
+abbrev pub AckedIsHeld : (List (List ℕ) → Type 0) → Type 0
+AckedIsHeld AreSo = (r : ℕ) (w : Played) (count : ℕ) (lines : List (List ℕ)) (p : Post) → AreSo lines → IsCalmAt r w (Stopped count) lines → Contains w.1.acked p
     → (m : Peer) × IsAmong m (owners place r (live_in_order w.0) (number p.key)) × IsAtLeast (post_rank p) (rank_in w.0 p.key m)
 
 -- so a get of a block gives it
-abbrev pub BlocksAreGiven : Type 0
-BlocksAreGiven = (r : ℕ) (w : Played) (next : World) (count : ℕ) (lines : List (List ℕ)) (p : Post) (looks asks : Told) (came : Result (List ℕ) Miss) → IsCalmAt r w (Stopped count) lines → Contains w.1.acked p → is_head p.kind ≡ false
+abbrev pub BlocksAreGiven : (List (List ℕ) → Type 0) → Type 0
+BlocksAreGiven AreSo = (r : ℕ) (w : Played) (next : World) (count : ℕ) (lines : List (List ℕ)) (p : Post) (looks asks : Told) (came : Result (List ℕ) Miss) → AreSo lines → IsCalmAt r w (Stopped count) lines → Contains w.1.acked p → is_head p.kind ≡ false
     → Fates hss_judged w.0 (asking (ask.Route p.key) looks ++ asking (ask.Get p.key) asks) next → IsGetOfBlock p.key r (entries w.0) (told_all (ask.Route p.key) looks ++ told_all (ask.Get p.key) asks) came → came ≡ Ok p.bytes
 
 -- and a get of a head one of its number or a greater one
-abbrev pub HeadsAreGiven : Type 0
-HeadsAreGiven = (r : ℕ) (w : Played) (next : World) (count : ℕ) (lines : List (List ℕ)) (p : Post) (looks asks : Told) (came : Result (List Judged) Miss) → IsCalmAt r w (Stopped count) lines → Contains w.1.acked p → is_head p.kind ≡ true
+abbrev pub HeadsAreGiven : (List (List ℕ) → Type 0) → Type 0
+HeadsAreGiven AreSo = (r : ℕ) (w : Played) (next : World) (count : ℕ) (lines : List (List ℕ)) (p : Post) (looks asks : Told) (came : Result (List Judged) Miss) → AreSo lines → IsCalmAt r w (Stopped count) lines → Contains w.1.acked p → is_head p.kind ≡ true
     → Fates hss_judged w.0 (asking (ask.Route p.key) looks ++ asking (ask.Get p.key) asks) next → IsGetOfHead (hss_judged p.key) p.key r (entries w.0) (told_all (ask.Route p.key) looks ++ told_all (ask.Get p.key) asks) came
     → (heads : List Judged) × (j : Judged) × (came ≡ Ok heads) × Contains heads j × (post_rank p ≤ j.seq)
 
 -- right after a round, be it that of a join, a live node holds exactly the blocks that a live node held before it and of which it is an owner
-abbrev pub RoundMovesBlocks : Type 0
-RoundMovesBlocks = (r : ℕ) (w : Played) (next : World) (since : Since) (lines : List (List ℕ)) (m : Peer) (key : Key) → IsCalmAt r w since lines → w.0.sessions ≡ [] → IsRoundOf hss_judged r w.0 next → lives_in next m ≡ true
+abbrev pub RoundMovesBlocks : (List (List ℕ) → Type 0) → Type 0
+RoundMovesBlocks AreSo = (r : ℕ) (w : Played) (next : World) (since : Since) (lines : List (List ℕ)) (m : Peer) (key : Key) → AreSo lines → IsCalmAt r w since lines → w.0.sessions ≡ [] → IsRoundOf hss_judged r w.0 next → lives_in next m ≡ true
     → (is_some (rank_in next key m) ≡ true) ↔ (IsAmong m (owners place r (live_in_order w.0) (number key)) × (p : Peer) × (lives_in w.0 p ≡ true) × (is_some (rank_in w.0 key p) ≡ true))
 
 -- ---- completeness
@@ -144,8 +155,8 @@ abbrev pub IsWritten : Played → View → Record → Type 0
 IsWritten w view one = (q : Participant) × Contains w.0.participants q × Contains view.members (own q.agent) × Contains (log_of (own q.agent) (known_of w.1 q.name)) one
 
 -- In such a script no whole call fails for want of a block. While no session is open the set that its turn takes is all records that the members have written so far.
-abbrev pub CallsAreServed : Type 0
-CallsAreServed = (r : ℕ) (w next : Played) (count : ℕ) (lines : List (List ℕ)) (line name output : List ℕ) (pieces : List Piece) → (calm : IsCalmAt r w (Stopped count) lines) → Tidily (calm.made, calm.before.1) lines w → IsTidy w.0 lines name
+abbrev pub CallsAreServed : (List (List ℕ) → Type 0) → Type 0
+CallsAreServed AreSo = (r : ℕ) (w next : Played) (count : ℕ) (lines : List (List ℕ)) (line name output : List ℕ) (pieces : List Piece) → AreSo lines → (calm : IsCalmAt r w (Stopped count) lines) → Tidily (calm.made, calm.before.1) lines w → IsTidy w.0 lines name
     → command_of line ≡ Some (command.As name pieces) → IvyStep w line (Goes next output)
     → ((session : Session) (said : Said) → output ≡ shown_end session said → session.missed ≡ None)
     × ((h : HadTurn) (turn : IsOnReplay h) (one : Record) → w.0.sessions ≡ [] → next.1.turns ≡ w.1.turns ++ h ∷ [] → Contains turn.taken one ↔ IsWritten w h.view one)

@@ -1,5 +1,5 @@
 -- Laws of the world's steps and of its runs. Each is stated here, and proved by the crates above.
-use Rattle.std.specs.Prelude.{◌≡◌, ◌≢◌, ◌⊎◌, ◌↔◌, ℕ, ◌+◌, ◌<◌, List, [], ◌∷◌, ◌++◌, map, take, Contains, Option, Some, IfSome}
+use Rattle.std.specs.Prelude.{◌≡◌, ◌≢◌, ◌⊎◌, ◌↔◌, ℕ, ◌+◌, ◌<◌, Bool, List, [], ◌∷◌, ◌++◌, map, take, Contains, Option, Some, IfSome}
 use Rattle.std.specs.List.{AllByRecursion}
 use Rattle.ivy_base.specs.declared.key.Key.{Key}
 use Rattle.ivy_base.specs.declared.key.PubKey.{PubKey}
@@ -11,9 +11,10 @@ use Rattle.log_model.specs.Closed.{log_of}
 use Rattle.log_model.specs.Spelling.{HasSpelling, no_name, record_block}
 use Rattle.log_model.specs.Standing.{Stand}
 use Rattle.log_model.specs.Vector.{Entry, Stamp, Vector, stamp_at}
-use Rattle.log_model.specs.View.{View}
+use Rattle.log_model.specs.View.{View, IsView}
+use Rattle.view_blocks.specs.Faults.{HasKeys}
 use Rattle.nfs_model.specs.declared.replies.Reply.{Reply}
-use Rattle.turn_model.specs.Basis.{Knows}
+use Rattle.turn_model.specs.Basis.{Holding, Knows}
 use Rattle.turn_model.specs.Known.{EndsAt, IsKnown}
 use Rattle.turn_model.specs.Turn.{Candidate, IsPrefixOf, Turned}
 use Rattle.dht_ids.specs.declared.ask.Answer.{Answer}
@@ -24,15 +25,18 @@ use Rattle.hash_signature_model.specs.declared.keys.PrivateKey.{PrivateKey}
 use Rattle.hash_signature_model.specs.declared.set.Set.{Set}
 use Rattle.hss_keys.specs.Signer.{Signer, leaf_used, leaves_used, left_of, lower_key, signed_lower}
 use Rattle.log_heads.specs.Signed.{hss_judged}
+use Rattle.agent_model.specs.Agent.{kept_of}
+use Rattle.agent_model.specs.Others.{basis_of}
 use Rattle.agent_model.specs.SavedBytes.{ArePostsSpelled}
 use Rattle.agent_model.specs.Candidates.{AreCandidatesOf, Brings, MayTurn}
-use Rattle.agent_model.specs.Turning.{Answered, TurnEnd}
+use Rattle.agent_model.specs.Turning.{Answered, Becomes, MayTake, TurnEnd}
 use Rattle.agent_model.specs.Standing.{Refresh, Standing}
 use Rattle.session_model.specs.Brought.{brought_in, heads_at}
 use Rattle.session_model.specs.Refreshing.{Note}
 use Rattle.session_model.specs.Sessions.{Cache, Hears, Said, TakesSome, Session, Refreshing, Over}
 use Rattle.session_model.specs.Courses.{Fails, HasRefreshed, IsRefusal, LacksMemory, Settles}
 use Rattle.session_model.specs.Replies.{said_no_memory}
+use Rattle.snapshot_model.specs.Reading.{IsBasisSpelled}
 use Rattle.session_laws.specs.Going.{SnapshotsAreDecided}
 use Rattle.script_driver.specs.Run.{Outcome, Goes, Ends, Refuses, Exceeds, Ran, Runs, WithLaw, HasPiece, shown}
 use Rattle.script_driver.specs.Seen.{HasStory, SeenStep}
@@ -40,7 +44,7 @@ use Rattle.script_model.specs.declared.command.Command.{Command}
 use Rattle.script_model.specs.declared.command.Command.TheVariants as command
 use Rattle.script_model.specs.declared.command.Piece.{Piece}
 use Rattle.script_model.specs.Lines.{command_of}
-use Rattle.world_model.specs.Agents.{Agent, IsKept, IsTurnIn, Kept, TakesTurn, kept_bytes, own}
+use Rattle.world_model.specs.Agents.{Agent, IsKept, IsTurnIn, Kept, TakesTurn, hss, kept_bytes, own}
 use Rattle.world_model.specs.Keepers.{fails_next}
 use Rattle.world_model.specs.World.{World, NamedSession, Participant, empty_world, named_bytes, participant, with_participant}
 use Rattle.world_model.specs.Fates.{FateOf}
@@ -218,9 +222,9 @@ CanBeDone w _ = Unit {0}
 abbrev pub EachLineDoesSomething : Type 0
 EachLineDoesSomething = (w : World) (line : List ℕ) → IfSome (command_of line) (CanBeDone w) → HasStory Keeps w → (outcome : Outcome World) × SeenStep Keeps IvyStep w line outcome
 
--- So each script that makes no snapshot has a run, where lines leave worlds that keep what they should.
+-- So each script that makes no snapshot has a run.
 abbrev pub EachScriptHasARun : Type 0
-EachScriptHasARun = LinesKeep → (w : World) (number : ℕ) (lines : List (List ℕ)) → AllByRecursion (λ line. (log : List ℕ) → command_of (shown line) ≢ Some (command.Snap log)) lines → HasStory Keeps w
+EachScriptHasARun = (w : World) (number : ℕ) (lines : List (List ℕ)) → AllByRecursion (λ line. (log : List ℕ) → command_of (shown line) ≢ Some (command.Snap log)) lines → HasStory Keeps w
     → (ran : Ran) × Runs (SeenStep Keeps IvyStep) w number lines ran
 
 -- ---- one run
@@ -240,20 +244,20 @@ StepsAreOne = (w one other : Played) (line text words : List ℕ) → Keeps w �
 abbrev pub HasMemoryAt : Session → Type 0
 HasMemoryAt s = (xid : ℕ) → s.stage ≢ Over (Some (said_no_memory xid))
 
--- So are the scenes that a step of a session in hand leads to, and many steps, and all up to the end. That of any blocks it can be told whether they are a snapshot is premised, as for each step.
+-- So are the scenes that a step of a session in hand leads to, and many steps, and all up to the end.
 abbrev pub SessionsStepOnce : Type 0
-SessionsStepOnce = SnapshotsAreDecided → (c one other : Scene) (r : ℕ) → Keeps (c.world, c.story) → IsInHand c r → c.world.replicas ≡ Some r → NamesTellApart (named_bytes c.world)
+SessionsStepOnce = (c one other : Scene) (r : ℕ) → Keeps (c.world, c.story) → IsInHand c r → c.world.replicas ≡ Some r → NamesTellApart (named_bytes c.world)
     → Steps hss_judged r c.session.by c one → Steps hss_judged r c.session.by c other → HasMemoryAt one.session → HasMemoryAt other.session → one ≡ other
 
 abbrev pub ManyStepsAreOne : Type 0
-ManyStepsAreOne = SnapshotsAreDecided → (c one other : Scene) (r count : ℕ) → Keeps (c.world, c.story) → IsInHand c r → c.world.replicas ≡ Some r → NamesTellApart (named_bytes one.world)
+ManyStepsAreOne = (c one other : Scene) (r count : ℕ) → Keeps (c.world, c.story) → IsInHand c r → c.world.replicas ≡ Some r → NamesTellApart (named_bytes one.world)
     → StepsOn hss_judged r c.session.by count c one → StepsOn hss_judged r c.session.by count c other → HasMemoryAt one.session → HasMemoryAt other.session → one ≡ other
 
 abbrev pub SessionsEndOnce : Type 0
-SessionsEndOnce = SnapshotsAreDecided → (c one other : Scene) (r : ℕ) → Keeps (c.world, c.story) → IsInHand c r → c.world.replicas ≡ Some r → NamesTellApart (named_bytes one.world)
+SessionsEndOnce = (c one other : Scene) (r : ℕ) → Keeps (c.world, c.story) → IsInHand c r → c.world.replicas ≡ Some r → NamesTellApart (named_bytes one.world)
     → RunsOut hss_judged r c.session.by c one → RunsOut hss_judged r c.session.by c other → HasMemoryAt one.session → HasMemoryAt other.session → one ≡ other
 
--- A session that only publishes needs no such premise.
+-- What is published alone leads to one world in any case.
 abbrev pub PublishingIsOne : Type 0
 PublishingIsOne = (r : ℕ) (w : Played) (p : Participant) (one other : Played) → Publishes hss_judged r w p one → Publishes hss_judged r w p other → one ≡ other
 
@@ -429,11 +433,24 @@ abbrev pub ScriptsBySteps : Type 0
 ScriptsBySteps = StepsKeep → (w : Played) (number : ℕ) (lines : List (List ℕ)) (ran : Ran) → AllByRecursion (λ line. MakesNoSnapshot (shown line)) lines → Keeps w → Runs IvyStep w number lines ran
     → Runs (WithLaw IvyStep Headline) w number lines ran
 
--- ---- one run, where memory was there
+-- ---- what turns save
 
--- What `StepsAreOne` says holds if of any blocks it can be told whether they are a snapshot, as each step of a session leaves what it should if that is so.
-abbrev pub StepsAreOneSo : Type 0
-StepsAreOneSo = SnapshotsAreDecided → StepsAreOne
+-- What may be saved of an agent may be of what a turn makes of it, and what is then saved may be.
+abbrev pub TurnsAreSaved : Type 0
+TurnsAreSaved = (view : View) (a after : Agent) (h : Holding) (fails : Bool) (written : List Record) (saving : Option Kept) → a.view ≡ Some view → IsKept (kept_of a) → MayTake hss view a h
+    → Becomes hss view a h fails written after saving → IsKept (kept_of after) × IfSome saving IsKept
+
+-- ---- snapshots that are made
+
+-- What an agent holds of a closed set has a spelling as a snapshot.
+abbrev pub HeldIsSpelled : Type 0
+HeldIsSpelled = (view : View) (floor : Vector) (h : Holding) (known : List Record) → IsView view → HasKeys view → Knows view floor h known → IsBasisSpelled (basis_of h)
+
+-- The line that makes a snapshot leaves such a world.
+abbrev pub SnapLinesKeep : Type 0
+SnapLinesKeep = (log : List ℕ) (w next : Played) (output : List ℕ) → Keeps w → Does hss_judged w (command.Snap log) (Goes next output) → Keeps next
+
+-- ---- one run, where memory was there
 
 -- where a line goes on, memory was there, and names tell apart what was met then
 abbrev pub HadMemory : Played → List ℕ → Outcome Played → Type 0
@@ -442,7 +459,7 @@ HadMemory w line Ends = Unit {0}
 HadMemory w line Refuses = Unit {0}
 HadMemory w line Exceeds = Unit {0}
 
--- So each script has one run at most of which that holds all along, where lines leave worlds that keep what they should.
+-- So each script has one run at most of which that holds all along.
 abbrev pub FullRunsAreOne : Type 0
-FullRunsAreOne = SnapshotsAreDecided → LinesKeep → (w : Played) (number : ℕ) (lines : List (List ℕ)) (first second : Ran) → Keeps w → Runs (WithLaw IvyStep HadMemory) w number lines first
+FullRunsAreOne = (w : Played) (number : ℕ) (lines : List (List ℕ)) (first second : Ran) → Keeps w → Runs (WithLaw IvyStep HadMemory) w number lines first
     → Runs (WithLaw IvyStep HadMemory) w number lines second → first ≡ second

@@ -28,16 +28,26 @@
 //! a put asks), `proofs/ExistingFates.antt` (an ask has a fate), `proofs/ExistingPuts.antt` and
 //! `proofs/ExistingSessions.antt` (sessions to their end), `proofs/ExistingAsks.antt` (look-ups and whole puts),
 //! `proofs/ExistingRounds.antt` and `proofs/ExistingRepairs.antt` (rounds), `proofs/ExistingMessages.antt` (what becomes of a
-//! message). That there is one: `proofs/OneCourse.antt` (a trail tells what comes of a get or a put), `proofs/OneHeard.antt` (an ask
+//! message), `proofs/SnapBounds.antt` and `proofs/SnapSpelled.antt` (what a closed set stands for, and what an agent holds,
+//! has a spelling as a snapshot), `proofs/TurnsWorld.antt` (a participant that changes by a turn, whose open sessions stay),
+//! `proofs/TurnsKnown.antt` (what an agent knows after a turn), `proofs/TurnsSets.antt` (the set that a turn leaves),
+//! `proofs/TurnsFloors.antt` (a floor with a front joined into it), `proofs/TurnsTaken.antt` (a turn's candidates are one
+//! list), `proofs/TurnsRefresh.antt` (a refresh ends in one way, whatever names tell), `proofs/AnsweredTurns.antt` and
+//! `proofs/RefusedTurns.antt` (turns keep the world), `proofs/CalmNodes.antt`, `CalmPuts.antt`, `CalmGets.antt` (a ring that
+//! stays: what its nodes hold, and what puts and gets come to in it), `proofs/CalmStates.antt` and those up to
+//! `CalmCommands.antt` (each step and each line keeps that), `proofs/CalmRounds.antt` (stops, joins and rounds),
+//! `proofs/LineKeys.antt` (the key of a log that a line begins can be saved).
+//! That there is one: `proofs/OneCourse.antt` (a trail tells what comes of a get or a put), `proofs/OneHeard.antt` (an ask
 //! has one fate, and one thing is heard of it), `proofs/OneTurns.antt` (turns), `proofs/OneSteps.antt` (steps of sessions),
 //! `proofs/OneMessages.antt` (what becomes of a message), `proofs/OneCalls.antt` (lines of calls), `proofs/OneAsks.antt` (look-ups
 //! and whole puts), `proofs/OneRing.antt` (rings, joins and rounds) and `proofs/OneLines.antt` (lines and runs). Nothing here
 //! runs, so there are no costs.
 #![tactic(auto)]
 
+ghost use Rattle.world_laws.specs.Calm.{AckedIsHeld, AreAny, BlocksAreGiven, HasSameRing, HeadsAreGiven, RingStays};
 ghost use Rattle.world_laws.specs.Frames.{DamageLinesKeep, EachReplyBySteps, HeadlineOfRuns, JoinLinesKeep, KeeperLinesKeep, LinesKeepByThese, LogLinesKeep, MildChangesKeep, MoreBlocksKeep, RestartLinesKeep, RingLinesKeep, RoundLinesKeep, StillLinesKeep, StopLinesKeep, UseLinesKeep, ViewLinesKeep};
 ghost use Rattle.world_laws.specs.Kinds.{LineHasOneKind};
-ghost use Rattle.world_laws.specs.Laws.{AlikeTurnsAnswerAlike, AllStepsKeep, AnsweredTurnsKeep, CallLinesKeep, CallsBegin, ClashIsDecided, EachLineDoesSomething, EachScriptHasARun, EachSessionEnds, EachStepKeeps, EmptyKeeps, FewerStayApart, FreshTurnsAreAnswered, FullRunsAreOne, GetsBringKeep, GetsGoOnKeep, HeadlineBySteps, HeadsAreSavedFirst, KeptOnce, KnownIsOne, LackingKeeps, LackingStepsKeep, LeafSignsOnce, LinesKeepBySteps, ManyStepsAreOne, ManyStepsKeep, MetGrows, OneTruth, OpenLineKeeps, OtherLogsDontCount, OthersHaveNoTurn, PublishingIsOne, PublishingKeeps, PutsKeep, ReceivingKeeps, RefreshBrings, RefreshEndsInTurn, RefreshMayTurn, RefusedTurnsKeep, ScriptsBySteps, SecondTurnIsAnswered, SessionsEndOnce, SessionsStepOnce, SettlingKeeps, StepsAreOneSo, StepsKeepByTurns, StillLinesChangeNothing, TakingKeeps, UpperLeavesSignOnce, VainAsksKeep, WholePublishingKeeps};
+ghost use Rattle.world_laws.specs.Laws.{AlikeTurnsAnswerAlike, AllStepsKeep, AnsweredTurnsKeep, CallLinesKeep, CallsBegin, ClashIsDecided, EachLineDoesSomething, EachReplyIsOnReplay, EachScriptHasARun, EachSessionEnds, EachStepKeeps, EmptyKeeps, FewerStayApart, FreshTurnsAreAnswered, FullRunsAreOne, GetsBringKeep, GetsGoOnKeep, HeadlineBySteps, HeadlineHolds, HeadsAreSavedFirst, HeldIsSpelled, KeptOnce, KnownIsOne, LackingKeeps, LackingStepsKeep, LeafSignsOnce, LinesKeep, LinesKeepBySteps, ManyStepsAreOne, ManyStepsKeep, MetGrows, NoSnapshotComes, OneTruth, OpenLineKeeps, OtherLogsDontCount, OthersHaveNoTurn, PublishingIsOne, PublishingKeeps, PutsKeep, ReceivingKeeps, RefreshBrings, RefreshEndsInTurn, RefreshMayTurn, RefusedTurnsKeep, ScriptsBySteps, SecondTurnIsAnswered, SessionsEndOnce, SessionsStepOnce, SettlingKeeps, SnapLinesKeep, StepsAreOne, StepsKeep, StepsKeepByTurns, StillLinesChangeNothing, TakingKeeps, TurnsAreSaved, UpperLeavesSignOnce, VainAsksKeep, WholePublishingKeeps};
 
 /// A law and no code: of any blocks, names tell them apart, or two of them clash.
 pub fn clashes_are_decided()
@@ -244,17 +254,61 @@ pub fn headline_by_steps()
 {}
 
 /// Laws and no code: from a world that some story fits each open session can be brought to its end, and each line has an outcome,
-/// one and the same whichever story fits; of a line that makes a snapshot that asks that what is to be published can be saved. So,
-/// where each line leaves such a world, each script that makes no snapshot has a run.
+/// one and the same whichever story fits; of a line that makes a snapshot that asks that what is to be published can be saved. So each
+/// script that makes no snapshot has a run.
 pub fn each_line_does_something()
     ensures sessions { EachSessionEnds }
     ensures lines { EachLineDoesSomething }
     ensures scripts { EachScriptHasARun }
 {}
 
+/// Laws and no code: what a turn makes of an agent that may be saved may be saved, and what it saves; and a line that makes no
+/// snapshot leaves a world without one so.
+pub fn no_snapshot_comes()
+    ensures saved { TurnsAreSaved }
+    ensures lines { NoSnapshotComes }
+{}
+
+/// A law and no code: what an agent holds has a spelling as a snapshot, where what it knows is closed.
+pub fn held_is_spelled()
+    ensures { HeldIsSpelled }
+{}
+
+/// A law and no code: the line that makes a snapshot leaves a world that keeps what it should.
+pub fn snap_lines_keep()
+    ensures { SnapLinesKeep }
+{}
+
+/// Laws and no code: each step leaves a world that keeps what it should and such a session, and a turn in it is on the replay;
+/// each line leaves such a world; and the headline holds of each line in such a world, and of each line of a run from it.
+pub fn headline_holds()
+    ensures steps { StepsKeep }
+    ensures headline { HeadlineHolds }
+    ensures lines { LinesKeep }
+    ensures runs { EachReplyIsOnReplay }
+{}
+
+/// A law and no code: in a calm script the ring is settled after the line that makes it and after each round, and it is covered at
+/// each later line but between a join and its round.
+pub fn rings_stay()
+    ensures { RingStays AreAny }
+{}
+
+/// A law and no code: in a calm script in which no node joins or stops and no round is made an owner of its key holds each post of
+/// which a put was acknowledged, or a newer head.
+pub fn acknowledged_is_held()
+    ensures { AckedIsHeld HasSameRing }
+{}
+
+/// Laws and no code: in such a script a get of a block of which a put was acknowledged gives it, and a get of a head gives one of
+/// its number or a greater one.
+pub fn acknowledged_is_given()
+    ensures blocks { BlocksAreGiven HasSameRing }
+    ensures heads { HeadsAreGiven HasSameRing }
+{}
+
 /// Laws and no code: where memory is there and names tell the blocks apart, a step of a session in hand leads to one world, story
-/// and session; so do many steps, and all up to the end, if of any blocks it can be told whether they are a snapshot. What a
-/// participant publishes alone leads to one world in any case.
+/// and session; so do many steps, and all up to the end. What a participant publishes alone leads to one world in any case.
 pub fn sessions_step_once()
     ensures step { SessionsStepOnce }
     ensures many { ManyStepsAreOne }
@@ -263,9 +317,8 @@ pub fn sessions_step_once()
 {}
 
 /// Laws and no code: where memory was there and names tell apart what was met, a line leads to one world with one story and shows
-/// one thing, if of any blocks it can be told whether they are a snapshot; so each script has one run at most in which that is so,
-/// where lines leave worlds that keep what they should.
+/// one thing; so each script has one run at most in which that is so.
 pub fn lines_are_one()
-    ensures lines { StepsAreOneSo }
+    ensures lines { StepsAreOne }
     ensures runs { FullRunsAreOne }
 {}

@@ -1,5 +1,6 @@
 use Rattle.world_laws.proofs.Existing.{each_line_does_something, each_script_has_a_run}
 use Rattle.world_laws.proofs.ExistingSessions.{each_session_ends}
+use Rattle.world_laws.proofs.SnapWhole.{each_line_keeps}
 use Rattle.world_laws.proofs.each_line_does_something.Goals as goal
 
 pub returns-clause-sessions : goal.returns-clause-sessions
@@ -9,4 +10,4 @@ pub returns-clause-lines : goal.returns-clause-lines
 returns-clause-lines c = each_line_does_something
 
 pub returns-clause-scripts : goal.returns-clause-scripts
-returns-clause-scripts c = each_script_has_a_run
+returns-clause-scripts c = each_script_has_a_run each_line_keeps

@@ -9,11 +9,13 @@ go_on-requires g c = let i = c.self.inside in subst (IsSound i.judge i.replicas)
 pub returns-clause-wanted : goal.returns-clause-wanted
 returns-clause-wanted g c =
     let i = c.self.inside in
-    subst (λ (f : Fetching g.row.J.Denot). FetchIsWanted g.J.Judge.judges f (record { judge = i.judge; replicas = i.replicas; entries = i.entries; state = c.in_ok-state.state }) c.in_ok-state.want)
-    (ap (λ (st : State g.row.J.Denot). record { judge = i.judge; replicas = i.replicas; entries = i.entries; state = st }) c.replace-state.ensures.value ∙ c.self.view_is) c.in_ok-state.ensures.0
+    subst (λ (st : State g.row.J.Denot). FetchIsWanted g.J.Judge.judges c.args.self.now (record { judge = i.judge; replicas = i.replicas; entries = i.entries; state = st }) c.in_ok-state.want) (sym c.come_to.ensures)
+    (subst (λ (f : Fetching g.row.J.Denot). FetchIsWanted g.J.Judge.judges f (record { judge = i.judge; replicas = i.replicas; entries = i.entries; state = c.in_ok-state.state }) c.in_ok-state.want)
+    (ap (λ (st : State g.row.J.Denot). record { judge = i.judge; replicas = i.replicas; entries = i.entries; state = st }) c.replace-state.ensures.value ∙ c.self.view_is) c.in_ok-state.ensures.0)
 
 pub returns-clause-left : goal.returns-clause-left
 returns-clause-left g c =
     let i = c.self.inside in
-    subst (λ (f : Fetching g.row.J.Denot). left_in c.in_ok-state.state ≤ fetch_left f)
-    (ap (λ (st : State g.row.J.Denot). record { judge = i.judge; replicas = i.replicas; entries = i.entries; state = st }) c.replace-state.ensures.value ∙ c.self.view_is) c.in_ok-state.ensures.2
+    subst (λ (st : State g.row.J.Denot). left_in st ≤ fetch_left c.args.self.now) (sym c.come_to.ensures)
+    (subst (λ (f : Fetching g.row.J.Denot). left_in c.in_ok-state.state ≤ fetch_left f)
+    (ap (λ (st : State g.row.J.Denot). record { judge = i.judge; replicas = i.replicas; entries = i.entries; state = st }) c.replace-state.ensures.value ∙ c.self.view_is) c.in_ok-state.ensures.2)

@@ -1,7 +1,7 @@
 use Rattle.std.proofs.Common.{◌≡◌, ◌+◌, sym, ap, ◌∙◌, subst, rules}
 use Rattle.world_model.specs.World.{World}
 use Rattle.world_model.specs.Fates.{FateOf}
-use Rattle.ring_nodes.specs.NodesState.{NodesState, IsNodesOf, with_nodes}
+use Rattle.ring_nodes.specs.NodesState.{NamesOnly, NodesState, IsNodesOf, made_peers, with_nodes}
 use Rattle.ring_nodes.proofs.Losing.{is_kept, is_lost}
 use Rattle.ring_nodes.proofs.Reaching.{kept_fate, lost_fate}
 use Rattle.ring_nodes.proofs.nodes.RingNodes.ask.Goals as goal
@@ -25,4 +25,11 @@ returns-clause-fate g c =
           (is_kept c.args.self.now.lost c.deref.result.now c.in-Some.number (c.args.self.now.asked + 1) c.contains.result c.contains.ensures.value losses counts w.if-contains.false)
           w.in_ok-answer.ensures.fate w.reach.ensures.asked w.reach.ensures.lost
           (ap (λ (s : NodesState). s.nodes) (c.self-2.view_is ∙ w.self-is)) counts (ap (λ (s : NodesState). s.lost) (c.self-2.view_is ∙ w.self-is)))
+    ]
+
+pub returns-clause-named : goal.returns-clause-named
+returns-clause-named g c =
+    elim c.if-contains.branch [
+      | then-contains w ↦ subst (NamesOnly (made_peers c.args.self.now)) (sym w.answer-is) tt
+      | else-contains+in_ok-answer w ↦ subst (NamesOnly (made_peers c.args.self.now)) (sym w.answer-is) w.in_ok-answer.ensures.named
     ]

@@ -13,5 +13,5 @@ returns-in_err-node c =
 pub returns : goal.returns
 returns c =
     subst (λ p. IsPeerOf c.args.self.now (find (λ n. (peer_of n).number == c.args.number) c.args.self.now.nodes) (Some p)) (sym c.peer.ensures)
-    (peer_found c.args.self.now (λ n. (peer_of n).number == c.args.number) c.in_ok-node.node.now (subst (λ (s : NodesState). AreApart (map peer_of s.nodes)) c.self.view_is c.self.invariant)
+    (peer_found c.args.self.now (λ n. (peer_of n).number == c.args.number) c.in_ok-node.node.now (subst (λ (s : NodesState). AreApart (map peer_of s.nodes)) c.self.view_is c.self.invariant.apart)
     (subst (λ l. find (λ n. (peer_of n).number == c.args.number) l ≡ Some c.in_ok-node.node.now) (c.deref.ensures.value ∙ ap (λ (s : NodesState). s.nodes) c.self.view_is) (sym c.in_ok-node.ensures)))

@@ -1,8 +1,10 @@
 use Rattle.std.proofs.Common.{◌≡◌, map, get_or, set, sym, ap, ◌∙◌, subst}
+use Rattle.world_model.specs.Nodes.{Node}
 use Rattle.world_model.specs.World.{peer_of}
 use Rattle.round_laws.specs.RingOf.{AreApart}
 use Rattle.ring_nodes.specs.NodesState.{NodesState}
-use Rattle.ring_nodes.proofs.Places.{apart_set, peers_set}
+use Rattle.ring_nodes.proofs.Places.{peers_set}
+use Rattle.ring_nodes.proofs.Sound.{exchanged, same_ring}
 use Rattle.ring_nodes.proofs.Stopping.{none_stops, stops_by}
 use Rattle.ring_nodes.proofs.nodes.RingNodes.stop.Goals as goal
 
@@ -10,12 +12,14 @@ pub returns-in_default-clause-line : goal.returns-in_default-clause-line
 returns-in_default-clause-line c = λ w is. none_stops c.args.self.now c.args.id.now w (sym c.place_of.ensures ∙ c.in_default.is)
 
 pub invariant_of-self : goal.invariant_of-self
-invariant_of-self c = apart_set c.self.inside.nodes.items c.in-Some.place c.stop.new.self c.index_mut.result.now c.self.invariant c.index_mut.ensures.value (ap peer_of c.stop.ensures.stopped)
+invariant_of-self c =
+    exchanged c.self.inside.nodes.items c.args.self.now c.args.id.now c.in-Some.place c.index_mut.result.now c.stop.new.self (ap (λ (s : NodesState). s.nodes) c.self.view_is) (sym c.place_of.ensures ∙ c.in-Some.is) c.index_mut.ensures.value c.self.invariant
+    (ap peer_of c.stop.ensures.stopped) (λ h me. same_ring (map peer_of c.self.inside.nodes.items) c.index_mut.result.now c.stop.new.self (ap (λ (n : Node). n.ring) c.stop.ensures.stopped) h)
 
 pub returns-clause-line : goal.returns-clause-line
 returns-clause-line c =
     stops_by c.args.self.now (record { nodes = set c.self.inside.nodes.items c.in-Some.place c.stop.new.self; asked = c.self.inside.asked; lost = c.self.inside.lost.items }) c.args.id.now c.in-Some.place c.index_mut.result.now c.stop.new.self c.stop.result
-    (subst (λ (s : NodesState). AreApart (map peer_of s.nodes)) c.self.view_is c.self.invariant)
+    (subst (λ (s : NodesState). AreApart (map peer_of s.nodes)) c.self.view_is c.self.invariant.apart)
     (sym c.place_of.ensures ∙ c.in-Some.is) (subst (λ (s : NodesState). c.index_mut.result.now ≡ get_or s.nodes c.in-Some.place c.index_mut.result.now) c.self.view_is c.index_mut.ensures.value)
     c.stop.ensures.lived c.stop.ensures.stopped
     (ap (λ (s : NodesState). set s.nodes c.in-Some.place c.stop.new.self) c.self.view_is) (ap (λ (s : NodesState). s.asked) c.self.view_is) (ap (λ (s : NodesState). s.lost) c.self.view_is)

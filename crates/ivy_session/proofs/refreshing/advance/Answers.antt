@@ -1,0 +1,9 @@
+use Rattle.std.proofs.lemmas.Result.{err_from_is_err_and}
+use Rattle.ivy_session.proofs.Advancing.{advances}
+use Rattle.ivy_session.proofs.refreshing.advance.Goals as goal
+
+pub returns-in_err-take_all : goal.returns-in_err-take_all
+returns-in_err-take_all g c = let p = err_from_is_err_and c.from_residual.result c.from_residual.ensures.1 in rw p.1 c.in_err-take_all.ensures
+
+pub returns : goal.returns
+returns g c = advances g.J.Judge.judges c.args.posts.now c.args.fetch.now c.take_all.new.fetch c.next.new.self c.args.cache.now c.take_all.new.cache c.in_ok-take_all.ensures c.next.result c.next.ensures.wanted

@@ -1,0 +1,30 @@
+use Rattle.std.proofs.Common.{◌≡◌, Err, Some, None, true, sym, subst}
+use Rattle.log_fetch.specs.declared.turned.TurnFault.TheVariants as fault
+use Rattle.ivy_session.specs.States.{SessionState, is_turning}
+use Rattle.ivy_session.specs.Stepping.{IsTurned}
+use Rattle.ivy_session.specs.Ending.{BeginsAnew}
+use Rattle.ivy_session.proofs.TurnsInPlace.{end_anew, refresh_anew, turning_call}
+use Rattle.ivy_session.proofs.session.Session.begin_anew.Goals as goal
+
+pub take_call-call-requires : goal.take_call-call-requires
+take_call-call-requires g c = turning_call c.self.inside.stage (subst (λ (x : SessionState g.row.J.Denot). is_turning x.stage ≡ true) (sym c.self.view_is) c.requires.turning)
+
+pub returns-in-Some : goal.returns-in-Some
+returns-in-Some g c =
+    let i = c.self.inside in
+    let m = c.self-2.inside in
+    let st : SessionState g.row.J.Denot = record { judge = i.judge; replicas = i.replicas; entries = i.entries; pending = i.pending; starts = i.starts; notes = i.notes; is_cut = i.is_cut; stage = i.stage } in
+    let mid : SessionState g.row.J.Denot = record { judge = m.judge; replicas = m.replicas; entries = m.entries; pending = m.pending; starts = m.starts; notes = m.notes; is_cut = m.is_cut; stage = m.stage } in
+    let begun = subst (λ (x : SessionState g.row.J.Denot). BeginsAnew g.J.Judge.judges (record st { stage = c.take_call-call.new.stage }) x c.args.standing (Some c.in-Some.fetch)) (sym c.self-2.view_is) c.in-Some.ensures in
+    subst (λ (x : SessionState g.row.J.Denot). IsTurned g.J.Judge.judges x (record mid { stage = c.go_to.new.stage }) (Err (fault.Behind c.args.standing))) c.self.view_is
+    (refresh_anew g.J.Judge.judges st i.stage c.take_call-call.result (subst (λ (x : SessionState g.row.J.Denot). is_turning x.stage ≡ true) (sym c.self.view_is) c.requires.turning) c.take_call-call.ensures.call c.take_call-call.new.stage c.args.standing mid c.in-Some.fetch c.go_to.new.stage c.requires.none begun c.go_to.ensures)
+
+pub returns-in-None : goal.returns-in-None
+returns-in-None g c =
+    let i = c.self.inside in
+    let m = c.self-2.inside in
+    let st : SessionState g.row.J.Denot = record { judge = i.judge; replicas = i.replicas; entries = i.entries; pending = i.pending; starts = i.starts; notes = i.notes; is_cut = i.is_cut; stage = i.stage } in
+    let mid : SessionState g.row.J.Denot = record { judge = m.judge; replicas = m.replicas; entries = m.entries; pending = m.pending; starts = m.starts; notes = m.notes; is_cut = m.is_cut; stage = m.stage } in
+    let begun = subst (λ (x : SessionState g.row.J.Denot). BeginsAnew g.J.Judge.judges (record st { stage = c.take_call-call.new.stage }) x c.args.standing None) (sym c.self-2.view_is) c.in-None.ensures in
+    subst (λ (x : SessionState g.row.J.Denot). IsTurned g.J.Judge.judges x (record mid { stage = c.go_to-in-None.new.stage }) (Err (fault.Behind c.args.standing))) c.self.view_is
+    (end_anew g.J.Judge.judges st i.stage c.take_call-call.result (subst (λ (x : SessionState g.row.J.Denot). is_turning x.stage ≡ true) (sym c.self.view_is) c.requires.turning) c.take_call-call.ensures.call c.take_call-call.new.stage c.args.standing mid c.no_memory.result c.go_to-in-None.new.stage c.requires.none begun c.no_memory.ensures c.go_to-in-None.ensures)

@@ -1,0 +1,195 @@
+-- What was acknowledged is held by an owner, in calm runs in which the ring stays.
+use Rattle.std.proofs.Common.{◌≡◌, ℕ, suc, Bool, true, false, cond, ◌&&◌, List, [], ◌∷◌, ◌++◌, length, map, Option, Some, None, refl, sym, ap, ◌∙◌, subst, nat_lt, Contains, append_assoc, is_some, option_map}
+use Rattle.std.specs.List.{AllByRecursion}
+use Rattle.std.specs.Option.{option_map_or}
+use Rattle.std.proofs.lemmas.Bool.{lt-ltb}
+use Rattle.std.proofs.lemmas.List.Elements.{Contains-append_left, Contains-append_right}
+use Rattle.ivy_base.specs.declared.key.Key.{Key}
+use Rattle.ivy_base.specs.declared.key.PubKey.{PubKey}
+use Rattle.ivy_base.specs.declared.operation.Moment.{Moment}
+use Rattle.ivy_base.specs.Naming.{NamesTellApart, head_key_of}
+use Rattle.ring_model.specs.Blocks.{IsAtLeast}
+use Rattle.ring_model.specs.Circle.{number}
+use Rattle.ring_model.specs.Members.{IsAmong, owners}
+use Rattle.ring_model.proofs.Lists.{all-among}
+use Rattle.log_heads.specs.Signed.{IsSignedHead, hss_judged}
+use Rattle.log_heads.proofs.SignedHeads.{signed_heads}
+use Rattle.log_model.proofs.Lists.{both, each}
+use Rattle.log_model.specs.Spelling.{IsMoment, head_block}
+use Rattle.log_model.specs.Vector.{Stamp}
+use Rattle.wire_model.specs.Xdr.{opaque, word}
+use Rattle.wire_model.proofs.OneReading.{same_fronts}
+use Rattle.hss_keys.specs.Signer.{Signer, hss_key_of, owner_of}
+use Rattle.dht_ids.specs.Peers.{place}
+use Rattle.dht_ids.specs.declared.judge.Judged.{Judged}
+use Rattle.dht_ids.specs.declared.peer.Peer.{Peer}
+use Rattle.dht_ids.specs.declared.post.Post.{Post}
+use Rattle.agent_model.specs.Agent.{is_head}
+use Rattle.node_store.specs.Stores.{Block}
+use Rattle.node_store.specs.declared.kind.Kind.TheVariants.{Content, Head}
+use Rattle.script_driver.specs.Run.{Goes}
+use Rattle.script_model.specs.declared.command.Command.TheVariants as command
+use Rattle.world_model.specs.Agents.{own}
+use Rattle.world_model.specs.Nodes.{Node}
+use Rattle.world_model.specs.World.{Participant, World, empty_world, named_bytes, participant}
+use Rattle.world_model.specs.Story.{empty_story}
+use Rattle.world_model.specs.Logs.{Played, beside, goes_if}
+use Rattle.world_model.specs.Ring.{RingLine, live_in_order}
+use Rattle.round_laws.specs.RingOf.{links_in}
+use Rattle.round_laws.specs.Holding.{rank}
+use Rattle.round_laws.proofs.Nodes.{Shape, at_among, order_by, order_shape}
+use Rattle.round_laws.proofs.Rounding.{shapes_of}
+use Rattle.std.specs.FinMap.Entries.{find as value_at}
+use Rattle.ivy_base.specs.Naming.{key_cmp}
+use Rattle.node_store.specs.Stores.{Blocks}
+use Rattle.world_laws.specs.Calm.{AckedIsHeld, Calmly, HasSameRing, IsCalmAt, Since, Stopped, post_rank, rank_in}
+use Rattle.world_laws.specs.Calm.Calmly.{none as calmly_none, more as calmly_more}
+use Rattle.world_laws.specs.Keeps.{IsKeptSo, Keeps, SignsOnce, sealed_with}
+use Rattle.world_laws.specs.Laws.{LinesKeep}
+use Rattle.world_laws.proofs.Bringing.{found_named}
+use Rattle.world_laws.proofs.FirstWorld.{empty_keeps}
+use Rattle.world_laws.proofs.Frames.{into_map}
+use Rattle.world_laws.proofs.PublicKeys.{owner_is_key}
+use Rattle.world_laws.proofs.RingLines.{ring_lines_keep}
+use Rattle.world_laws.proofs.Lines.{still_lines_keep}
+use Rattle.world_laws.proofs.SignedHeads.{from_map}
+use Rattle.world_laws.proofs.CalmNodes.{IsHeld, IsMadeRing, IsRing, kept_ring}
+use Rattle.world_laws.proofs.CalmPuts.{IsAckHeld, block_of, kind_of}
+use Rattle.world_laws.proofs.CalmStates.{AreApart, IsGood, IsLeft}
+use Rattle.world_laws.proofs.CalmRuns.{IsFirst, IsStillRun, run_of}
+
+-- ---- the world keeps what it should
+
+fits_clock : (now : Moment) → IsMoment now → (nat_lt now.sec 4294967296 && nat_lt now.nsec 1000000000) ≡ true
+fits_clock now h = both (nat_lt now.sec 4294967296) (nat_lt now.nsec 1000000000) (lt-ltb now.sec 4294967296 h.sec) (lt-ltb now.nsec 1000000000 h.nsec)
+
+-- before its ring is made
+pub moment_keeps : (now : Moment) → IsMoment now → Keeps (record empty_world { now = now }, empty_story)
+moment_keeps now h =
+    let next : Played = (record empty_world { now = now }, empty_story) in
+    still_lines_keep (command.At now.sec now.nsec) tt (empty_world, empty_story) next [] empty_keeps
+    (sym (ap (λ b. beside empty_story (goes_if b (record empty_world { now = now }))) (fits_clock now h)))
+
+calm_keeps : {r : ℕ} {v w : Played} {since after : Since} {lines : List (List ℕ)} → LinesKeep → Calmly r v since lines w after → Keeps v → Keeps w
+calm_keeps lines_keep calmly_none keeps = keeps
+calm_keeps lines_keep (calmly_more {w = v} {mid = mid} {line = line} c output is calm step rest) keeps = calm_keeps lines_keep rest (lines_keep v mid line output keeps step)
+
+pub calmly_keeps : LinesKeep → (r : ℕ) (w : Played) (since : Since) (lines : List (List ℕ)) → IsCalmAt r w since lines → Keeps w
+calmly_keeps lines_keep r w since lines calm =
+    let before : Played = (record empty_world { now = calm.fresh.0 }, empty_story) in
+    let rings : RingLine before.0 calm.count r (Goes calm.made []) = subst (λ (v : Played). RingLine v.0 calm.count r (Goes calm.made [])) calm.fresh.2 calm.rings in
+    let calmly : Calmly r (calm.made, empty_story) (Stopped 0) lines w since = subst (λ (v : Played). Calmly r (calm.made, v.1) (Stopped 0) lines w since) calm.fresh.2 calm.calmly in
+    calm_keeps lines_keep calmly (ring_lines_keep calm.count r before (calm.made, empty_story) [] (moment_keeps calm.fresh.0 calm.fresh.1) (Goes calm.made [], rings, refl))
+
+-- ---- content and heads have keys of their own
+
+same_key : (s t : Signer) → (s.id ≡ t.id) × (s.seed ≡ t.seed) × (s.sets ≡ t.sets) → owner_of s ≡ owner_of t
+same_key s t e = λ i. hss_key_of (e.0 i) (e.1 i) (e.2 i)
+
+tail_of : (a b : List ℕ) → 73 ∷ 86 ∷ 72 ∷ 49 ∷ a ≡ 73 ∷ 86 ∷ 72 ∷ 49 ∷ b → a ≡ b
+tail_of a b e = cc e
+
+-- a head tells its owner
+owner_told : (o u : PubKey) (s t : Stamp) (a b : List ℕ) → length o.0 ≡ 60 → length u.0 ≡ 60 → head_block o s a ≡ head_block u t b → o.0 ≡ u.0
+owner_told o u s t a b size other same = tail_of o.0 u.0 (same_fronts (tagged o) (tagged u) (word s.seq ++ (s.name.0 ++ opaque a)) (word t.seq ++ (t.name.0 ++ opaque b)) lengths (sym (whole o s a) ∙ same ∙ whole u t b)).0
+  where
+    tagged : PubKey → List ℕ
+    tagged p = 73 ∷ 86 ∷ 72 ∷ 49 ∷ p.0
+
+    lengths : length (tagged o) ≡ length (tagged u)
+    lengths = ap (λ n. suc (suc (suc (suc n)))) (size ∙ sym other)
+
+    whole : (p : PubKey) (x : Stamp) (c : List ℕ) → head_block p x c ≡ tagged p ++ (word x.seq ++ (x.name.0 ++ opaque c))
+    whole p x c = append_assoc (tagged p ++ word x.seq) x.name.0 (opaque c) ∙ append_assoc (tagged p) (word x.seq) (x.name.0 ++ opaque c)
+
+-- a head that left a participant is under its key alone
+left_under : (w : Played) (p : Participant) (h : List ℕ) (key : Key) → Keeps w → Contains w.0.participants p → Contains p.left h → is_some (hss_judged key h) ≡ true → key ≡ head_key_of (own p.agent)
+left_under w p h key keeps p_in among judged = by (hss_judged key h) refl judged
+  where
+    so : IsKeptSo SignsOnce p
+    so = each (IsKeptSo SignsOnce) w.0.participants p keeps.signs p_in
+
+    by : (o : Option Judged) → hss_judged key h ≡ o → is_some o ≡ true → key ≡ head_key_of (own p.agent)
+    by None e some = absurd cc
+    by (Some j) e some =
+        let signed : IsSignedHead key h j = (signed_heads key h j).0 e in
+        let found = from_map (sealed_with so.0.signer) so.3.left.signed h (subst (λ l. Contains l h) so.3.left.spelled among) in
+        let key_size = owner_is_key so.0.signer so.1.signer in
+        let owned : signed.owner.0 ≡ owner_of so.0.signer = owner_told signed.owner (record { 0 = owner_of so.0.signer }) _ found.0.1 _ _ signed.head.owner_is_key.size key_size.size (sym signed.head.spelled ∙ found.2) in
+        signed.key_is ∙ (λ i. head_key_of (record { 0 = owned i })) ∙ (λ i. head_key_of (record { 0 = same_key so.0.signer p.agent.signer so.3.same i }))
+
+pub apart_of : (r : ℕ) (w : Played) (base : List Shape) (links : _) (start : ℕ) (ring : IsMadeRing r base links) → Keeps w → NamesTellApart (named_bytes w.0) → ((p : Participant) → Contains w.0.participants p → Contains w.0.met (own p.agent).0 → ⊥)
+    → AreApart r base links start ring (Contains w.0.met) (IsLeft w.0)
+apart_of r w base links start ring keeps names no_key key b c content heads =
+    let p_in = (found_named w.0.participants heads.0.0 heads.0.1 heads.0.2).0 in
+    let is : key ≡ head_key_of (own heads.0.1.agent) = left_under w heads.0.1 c key keeps p_in heads.0.3 heads.1 in
+    let keys : List (List ℕ) = map (λ (p : Participant). (own p.agent).0) w.0.participants in
+    let same : b ≡ (own heads.0.1.agent).0 = names b (own heads.0.1.agent).0 (Contains-append_left w.0.met keys b content.0)
+    (Contains-append_right w.0.met keys (own heads.0.1.agent).0 (into_map (λ (p : Participant). (own p.agent).0) w.0.participants heads.0.1 p_in)) (content.1 ∙ is) in
+    no_key heads.0.1 p_in (subst (Contains w.0.met) same content.0)
+
+-- ---- the whole
+
+first_good : (r : ℕ) (w made : World) (first : IsFirst r w made) (Met Left : List ℕ → Type 0) → w.participants ≡ [] → w.sessions ≡ [] → IsGood r (shapes_of made) (links_in made) made.asked first.ring Met Left made empty_story
+first_good r w made first Met Left none no_sessions = record {
+  kinds = λ id n e key c f. absurd (nothing_under key n.blocks c (all-among (λ (m : Node). m.blocks ≡ []) n made.nodes first.empty (at_among made.nodes id n e)) f);
+  acked = tt;
+  pending = λ n q is. absurd (nobody n q (ap (λ (v : World). v.participants) first.rest ∙ none) is);
+  sessions = subst (AllByRecursion _) (sym (ap (λ (v : World). v.sessions) first.rest ∙ no_sessions)) tt;
+}
+  where
+    nothing_under : (key : Key) (blocks : Blocks) (c : Block) → blocks ≡ [] → value_at key_cmp key blocks ≡ Some c → ⊥
+    nothing_under key blocks c e f = let g : value_at key_cmp key [] ≡ Some c = subst (λ (bs : Blocks). value_at key_cmp key bs ≡ Some c) e f in cc g
+
+    nobody : (n : List ℕ) (q : Participant) → made.participants ≡ [] → participant made n ≡ Some q → ⊥
+    nobody n q e f = let g : participant (record made { participants = [] }) n ≡ Some q = subst (λ ps. participant (record made { participants = ps }) n ≡ Some q) e f in cc g
+
+-- the world of such a run is good, up to what was met and what left in it
+pub record IsStillWorld (r : ℕ) (w : Played) : Type 0 where
+  pub run : IsStillRun r w (Contains w.0.met) (IsLeft w.0)
+  pub keeps : Keeps w
+  pub still : IsRing r (shapes_of run.made) (links_in run.made) run.made.asked w.0
+  pub apart : AreApart r (shapes_of run.made) (links_in run.made) run.made.asked run.first.ring (Contains w.0.met) (IsLeft w.0)
+  pub good : IsGood r (shapes_of run.made) (links_in run.made) run.made.asked run.first.ring (Contains w.0.met) (IsLeft w.0) w.0 w.1
+
+pub still_world : LinesKeep → (r : ℕ) (w : Played) (since : Since) (lines : List (List ℕ)) → HasSameRing lines → IsCalmAt r w since lines → IsStillWorld r w
+still_world lines_keep r w since lines same calm =
+    let run = run_of r w since lines (Contains w.0.met) (IsLeft w.0) same calm in
+    let keeps = calmly_keeps lines_keep r w since lines calm in
+    let apart = apart_of r w (shapes_of run.made) (links_in run.made) run.made.asked run.first.ring keeps calm.apart calm.no_key in
+    record {
+      run = run;
+      keeps = keeps;
+      still = kept_ring r (shapes_of run.made) (links_in run.made) run.made.asked run.first.ring run.made w.0 run.goes.still run.first.still;
+      apart = apart;
+      good = run.goes.good apart (record { met = λ b h. h; left = λ b h. h }) run.first.still (first_good r (record empty_world { now = run.now }) run.made run.first (Contains w.0.met) (IsLeft w.0) refl refl);
+    }
+
+-- the rank of a post is that of its block
+pub post_rank_is : (p : Post) → post_rank p ≡ rank hss_judged p.key (block_of p)
+post_rank_is p = by (is_head p.kind) (hss_judged p.key p.bytes) refl
+  where
+    by : (b : Bool) (o : Option Judged) → hss_judged p.key p.bytes ≡ o → cond b (option_map_or (λ (j : Judged). j.seq) (hss_judged p.key p.bytes) 0) 0 ≡ rank hss_judged p.key (record { kind = cond b Head Content; bytes = p.bytes })
+    by false o e = refl
+    by true o e = head_rank (hss_judged p.key p.bytes)
+      where
+        head_rank : (o : Option Judged) → option_map_or (λ (j : Judged). j.seq) o 0 ≡ option_map_or (λ (seq : ℕ). seq) (option_map (λ (j : Judged). j.seq) o) 0
+        head_rank None = refl
+        head_rank (Some j) = refl
+
+pub owners_are : (r : ℕ) (base : List Shape) (links : _) (start : ℕ) (w : World) → IsRing r base links start w → live_in_order w ≡ order_by base
+owners_are r base links start w h = order_shape w ∙ ap order_by h.within.shapes
+
+pub acked_is_held : LinesKeep → AckedIsHeld HasSameRing
+acked_is_held lines_keep r w count lines p same calm acked =
+    let world = still_world lines_keep r w (Stopped count) lines same calm in
+    let made = world.run.made in
+    let held = each (IsAckHeld r (shapes_of made) (links_in made) made.asked world.run.first.ring w.0) w.1.acked p world.good.acked acked in
+    let order = owners_are r (shapes_of made) (links_in made) made.asked w.0 world.still in (
+      held.0,
+      subst (λ l. IsAmong held.0 (owners place r l (number p.key))) (sym order) held.1,
+      subst (λ v. IsAtLeast v (rank_in w.0 p.key held.0)) (sym (post_rank_is p)) (at_least held.0 _ held.2.held),
+    )
+  where
+    at_least : (m : Peer) (v : ℕ) → IsHeld w.0 p.key (kind_of p) v m → IsAtLeast v (rank_in w.0 p.key m)
+    at_least m v h = subst (λ o. IsAtLeast v (option_map (rank hss_judged p.key) o)) (sym h.1) h.3
