@@ -168,7 +168,7 @@ module _ (judged : Key → List ℕ → Option Judged) where
     owners_step left before [] [] w v x a b own_l own_m f g = (refl, no_asks f ∙ sym (no_asks g))
     owners_step left before [] (y ∷ m) w v x a b own_l own_m f g = absurd (⊎_elim (λ enough. b.0 enough) (λ none. nil_cons y.0 b.1 (sym none ∙ b.2)) a)
     owners_step left before (y ∷ l) [] w v x a b own_l own_m f g = absurd (⊎_elim (λ enough. a.0 enough) (λ none. nil_cons y.0 a.1 (sym none ∙ a.2)) b)
-    owners_step left before (y ∷ l) (z ∷ m) w v x a b own_l own_m f g = 
+    owners_step left before (y ∷ l) (z ∷ m) w v x a b own_l own_m f g =
         by (λ begun then_asked h k. owners_step a.1 (before ++ y ∷ []) l m begun v x a.3 then_asked (λ s among. own_l s (inr among)) (λ s among. own_m s (inr among)) h k)
         (test y.0) refl f (subst (λ (n : Peer). Fates judged w (asking question (cond (test n) (z ∷ filter (λ s. test s.0) m) (filter (λ s. test s.0) m))) x) (sym node) g)
       where
@@ -262,8 +262,10 @@ module _ (judged : Key → List ℕ → Option Judged) where
 
         asks_and_world : ((f.asks ≡ []) × (outcome key one.found ≡ Err (miss.NoRoute key))) ⊎ ((owners : List Peer) × (outcome key one.found ≡ Ok owners) × EndsPut r owners f.asks f.came)
             → ((g.asks ≡ []) × (outcome key two.found ≡ Err (miss.NoRoute key))) ⊎ ((owners : List Peer) × (outcome key two.found ≡ Ok owners) × EndsPut r owners g.asks g.came) → (f.asks ≡ g.asks) × (next ≡ after)
-        asks_and_world (inl a) (inl b) = (a.0 ∙ sym b.0,
-            no_asks (subst (λ (l : Told). Fates judged s.mid (asking question l) next) a.0 s.first) ∙ sym (no_asks (subst (λ (l : Told). Fates judged s.mid (asking question l) after) b.0 s.second)))
+        asks_and_world (inl a) (inl b) = (
+          a.0 ∙ sym b.0,
+          no_asks (subst (λ (l : Told). Fates judged s.mid (asking question l) next) a.0 s.first) ∙ sym (no_asks (subst (λ (l : Told). Fates judged s.mid (asking question l) after) b.0 s.second)),
+        )
         asks_and_world (inl a) (inr b) = absurd (ok_or_err (outcome key one.found) b.0 (miss.NoRoute key) a.1 (ap (outcome key) found ∙ b.1))
         asks_and_world (inr a) (inl b) = absurd (ok_or_err (outcome key two.found) a.0 (miss.NoRoute key) b.1 (ap (outcome key) (sym found) ∙ a.1))
         asks_and_world (inr a) (inr b) =

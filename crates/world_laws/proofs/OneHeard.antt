@@ -183,11 +183,13 @@ module _ (judged : Key → List ℕ → Option Judged) (r : ℕ) where
     one_heard _ _ _ _ (puts said p posts acks came at next put) (puts word q others held brought as_well then_it putting) =
         let is : Publishing said (p ∷ posts) acks ≡ Publishing word (q ∷ others) held = sym at ∙ as_well in
         let same : p ≡ q = first_post said word p q posts others acks held is in
-        let result : came ≡ brought = one_put_of_post r s.entries q whole_trail came brought (subst (λ (x : Post). IsPutOfPost r s.entries x whole_trail came) same put) putting in
-        (λ i. record s {
-          stage = after_put (post_said said word p q posts others acks held is i) (same i) (post_rest said word p q posts others acks held is i) (post_acks said word p q posts others acks held is i) (acknowledged (result i));
-          current = [];
-        }, refl)
+        let result : came ≡ brought = one_put_of_post r s.entries q whole_trail came brought (subst (λ (x : Post). IsPutOfPost r s.entries x whole_trail came) same put) putting in (
+          λ i. record s {
+            stage = after_put (post_said said word p q posts others acks held is i) (same i) (post_rest said word p q posts others acks held is i) (post_acks said word p q posts others acks held is i) (acknowledged (result i));
+            current = [];
+          },
+          refl,
+        )
 
   -- one fate, and one thing that is heard of it
   pub one_answer : {w u v : World} {s heard said : Session} {cache after then_so : Cache} {node other : Peer} {question another : Ask} {answer given : Answer} → FateOf judged w node question answer u → FateOf judged w other another given v

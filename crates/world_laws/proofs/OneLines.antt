@@ -106,9 +106,11 @@ round_line_one w keeps _ ringed _ _ _ _ (round_goes r next round) (round_goes s 
 log_one : (w : Played) (name id seed : List ℕ) (sets : List Set) (one other : Played) (text words : List ℕ) → LogLine hss_judged w name id seed sets (Goes one text) → LogLine hss_judged w name id seed sets (Goes other words) → AreSame one text other words
 log_one w name id seed sets _ _ _ _ (log_begins r p next ringed new is published) (log_begins s q after ringing newer also publishing) =
     let ring : s ≡ r = some_number s r (sym ringing ∙ ringed) in
-    let whose : q ≡ p = also ∙ sym is in
-    (publishing_is_one r (with_newcomer w p) p next after published
-    (subst (λ (x : Participant). Publishes hss_judged r (with_newcomer w x) x after) whose (subst (λ (k : ℕ). Publishes hss_judged k (with_newcomer w q) q after) ring publishing)), refl)
+    let whose : q ≡ p = also ∙ sym is in (
+      publishing_is_one r (with_newcomer w p) p next after published
+          (subst (λ (x : Participant). Publishes hss_judged r (with_newcomer w x) x after) whose (subst (λ (k : ℕ). Publishes hss_judged k (with_newcomer w q) q after) ring publishing)),
+      refl,
+    )
 
 -- ---- a view that is made
 
@@ -165,11 +167,12 @@ snap_one w _ _ _ _ _ (snap_makes p made view r next in_view tried ringed is spel
 snap_one w _ _ _ _ _ (snap_makes p made view r next in_view tried ringed is spelled published) (snap_makes q also look s after within trying ringing such spelling publishing) =
     let same : view ≡ look = one_view view look (sym in_view ∙ within) in
     let whose : also ≡ made = such ∙ ap (having_snapped p) (sym same) ∙ sym is in
-    let ring : s ≡ r = some_number s r (sym ringing ∙ ringed) in
-    (publishing_is_one r (record (with_participant w.0 made) { met = met_by w.0.met made.agent.pending }, w.1) made next after published
-    (subst (λ (x : Participant). Publishes hss_judged r (record (with_participant w.0 x) { met = met_by w.0.met x.agent.pending }, w.1) x after) whose
-    (subst (λ (n : ℕ). Publishes hss_judged n (record (with_participant w.0 also) { met = met_by w.0.met also.agent.pending }, w.1) also after) ring publishing)),
-    (λ i. snap_text p.name (root_name (same i) (basis_of p.agent.holding))))
+    let ring : s ≡ r = some_number s r (sym ringing ∙ ringed) in (
+      publishing_is_one r (record (with_participant w.0 made) { met = met_by w.0.met made.agent.pending }, w.1) made next after published
+          (subst (λ (x : Participant). Publishes hss_judged r (record (with_participant w.0 x) { met = met_by w.0.met x.agent.pending }, w.1) x after) whose
+          (subst (λ (n : ℕ). Publishes hss_judged n (record (with_participant w.0 also) { met = met_by w.0.met also.agent.pending }, w.1) also after) ring publishing)),
+      (λ i. snap_text p.name (root_name (same i) (basis_of p.agent.holding))),
+    )
 
 -- ---- commands
 

@@ -101,9 +101,10 @@ one_becoming view a h fails _ _ _ _ _ _ same reads reads = (refl, refl)
 one_becoming view a h fails _ _ _ _ _ _ same reads (saves before last may fine) = absurd (nothing_written before last same)
 one_becoming view a h fails _ _ _ _ _ _ same reads (loses before last may lost) = absurd (nothing_written before last same)
 one_becoming view a h fails _ _ _ _ _ _ same (saves before last may fine) reads = absurd (nothing_written before last (sym same))
-one_becoming view a h fails _ _ _ _ _ _ same (saves before last may fine) (saves others final might well) =
-    (λ i. written_by hss a h (same_before before others last final same i) (same_last before others last final same i),
-        λ i. Some (kept_of (written_by hss a h (same_before before others last final same i) (same_last before others last final same i))))
+one_becoming view a h fails _ _ _ _ _ _ same (saves before last may fine) (saves others final might well) = (
+  λ i. written_by hss a h (same_before before others last final same i) (same_last before others last final same i),
+  λ i. Some (kept_of (written_by hss a h (same_before before others last final same i) (same_last before others last final same i))),
+)
 one_becoming view a h fails _ _ _ _ _ _ same (saves before last may fine) (loses others final might lost) = absurd (true_or_false fails lost fine)
 one_becoming view a h fails _ _ _ _ _ _ same (loses before last may lost) reads = absurd (nothing_written before last (sym same))
 one_becoming view a h fails _ _ _ _ _ _ same (loses before last may lost) (saves others final might fine) = absurd (true_or_false fails lost fine)
