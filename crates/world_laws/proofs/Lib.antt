@@ -83,6 +83,15 @@ pub mod Existing
 pub mod ExistingRounds
 pub mod ExistingRepairs
 pub mod ExistingSnaps
+pub mod OneCourse
+pub mod OneHeard
+pub mod OneTurns
+pub mod OneSteps
+pub mod OneMessages
+pub mod OneCalls
+pub mod OneAsks
+pub mod OneRing
+pub mod OneLines
 mod NoSnapshotSaved
 mod NoSnapshotTurns
 mod NoSnapshotSteps

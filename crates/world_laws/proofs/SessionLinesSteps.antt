@@ -163,7 +163,7 @@ leads_on c between next r one other = record {
 }
 
 module _ (steps_keep : StepsKeep) (r : ℕ) where
-  step_leads : (name : List ℕ) (c next : Scene) → c.session.by ≡ name → Keeps (c.world, c.story) → IsInHand c r → c.world.replicas ≡ Some r → Steps hss_judged r name c next → Leads c next r
+  pub step_leads : (name : List ℕ) (c next : Scene) → c.session.by ≡ name → Keeps (c.world, c.story) → IsInHand c r → c.world.replicas ≡ Some r → Steps hss_judged r name c next → Leads c next r
   step_leads name c next named keeps hand ringed step =
       let its : Steps hss_judged r c.session.by c next = subst (λ n. Steps hss_judged r n c next) (sym named) step in
       record {

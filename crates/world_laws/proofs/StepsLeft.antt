@@ -40,11 +40,11 @@ use Rattle.world_laws.proofs.TakingOn.{taking_keeps}
 without_turns : (c next : Scene) (r : ℕ) → Keeps (next.world, next.story) × IsInHand next r → next.story.turns ≡ c.story.turns → StepLeaves c next r
 without_turns c next r h same = (h.0, h.1, [], same ∙ sym (append-nil c.story.turns), λ turn among. absurd (in_nothing turn among))
 
-all_some : {r : ℕ} {s t : Session} {cache after : Cache} → TakesAll hss_judged r s cache t after → TakesSome hss_judged r s cache t after
+pub all_some : {r : ℕ} {s t : Session} {cache after : Cache} → TakesAll hss_judged r s cache t after → TakesSome hss_judged r s cache t after
 all_some (takes_none none) = some_none
 all_some (takes_more first rest) = some_more first (all_some rest)
 
-decided_for : SnapshotsAreDecided → (o : Option Key) → IfSome o (λ root. SnapshotsAreDecided)
+pub decided_for : SnapshotsAreDecided → (o : Option Key) → IfSome o (λ root. SnapshotsAreDecided)
 decided_for decided None = tt
 decided_for decided (Some root) = decided
 

@@ -121,19 +121,24 @@ starts_by s (Some b) = by (dominates s.floor b.front)
     by false = refl
 
 module _ (s : Standing) where
-  end_one : {b c : List Brought} {ns os : List Note} {given also : Refresh} {e f : RefreshEnd} → Refreshes s b ns given e → Refreshes s c os also f → b ≡ c → e ≡ f
+  end_one : {b c : List Brought} {ns os : List Note} {given also : Refresh} {e f : RefreshEnd} → Refreshes s b ns given e → Refreshes s c os also f → b ≡ c → (ns ≡ os) × (e ≡ f)
   end_one (loading {brought = b} {key = key} loads) (loading {brought = c} {key = other} its) same =
-      ap (λ (k : Key). Needs (Content k)) (root_one [] [] loads its refl refl (append-nil b ∙ same ∙ sym (append-nil c))).0
+      (refl, ap (λ (k : Key). Needs (Content k)) (root_one [] [] loads its refl refl (append-nil b ∙ same ∙ sym (append-nil c))).0)
   end_one (loading {brought = b} {key = key} loads) (fetching {loaded = c} {brought = d} basis its fetches) same = absurd (root_one [] d loads its refl tt (append-nil b ∙ same)).0
   end_one (fetching {loaded = b} {brought = d} basis loads fetches) (loading {brought = c} {key = key} its) same = absurd (root_one d [] loads its tt refl (same ∙ sym (append-nil c))).0
   end_one (fetching {loaded = b} {brought = d} {notes = ns} {chains = cs} {end = e} basis loads fetches) (fetching {loaded = c} {brought = x} {notes = os} {chains = ds} {end = f} other its others) same =
       let w = root_one d x loads its tt tt same in
       let start : start_of s (counting s.floor basis) ≡ start_of s (counting s.floor other) = starts_by s basis ∙ ap (start_by s) w.0 ∙ sym (starts_by s other) in
-      (fetch_is_one s (start_of s (counting s.floor basis)) s.view.members d ns os cs ds e f fetches
-      (subst (λ (v : Vector). FetchesAll s v s.view.members d os ds f) (sym start) (subst (λ (y : List Brought). FetchesAll s (start_of s (counting s.floor other)) s.view.members y os ds f) (sym w.1) others))).2
+      let one = fetch_is_one s (start_of s (counting s.floor basis)) s.view.members d ns os cs ds e f fetches
+      (subst (λ (v : Vector). FetchesAll s v s.view.members d os ds f) (sym start) (subst (λ (y : List Brought). FetchesAll s (start_of s (counting s.floor other)) s.view.members y os ds f) (sym w.1) others)) in
+      (one.0, one.2)
 
 pub end_is_one : (s : Standing) (brought : List Brought) (notes others : List Note) (given also : Refresh) (end stand : RefreshEnd) → Refreshes s brought notes given end → Refreshes s brought others also stand → end ≡ stand
-end_is_one s brought notes others given also end stand refreshed again = end_one s refreshed again refl
+end_is_one s brought notes others given also end stand refreshed again = (end_one s refreshed again refl).1
+
+-- so do its notes
+pub notes_are_one : (s : Standing) (brought : List Brought) (notes others : List Note) (given also : Refresh) (end stand : RefreshEnd) → Refreshes s brought notes given end → Refreshes s brought others also stand → notes ≡ others
+notes_are_one s brought notes others given also end stand refreshed again = (end_one s refreshed again refl).0
 
 -- ---- the message
 
@@ -144,6 +149,9 @@ one_asked view message xid other_xid asked other a b =
     let args : asked.args ≡ other.args = one_arguments a.call.program a.call.procedure a.call.arguments asked.args other.args a.arguments
     (subst (λ (c : CallMessage). AreArguments c.program c.procedure c.arguments other.args) call b.arguments) in
     λ i. record { caller = who i; args = args i }
+
+pub one_xid : (view : View) (message : List ℕ) (xid other_xid : ℕ) (asked other : Asked) → Asks view message xid asked → Asks view message other_xid other → xid ≡ other_xid
+one_xid view message xid other_xid asked other a b = sym a.xid_is ∙ ap (λ (c : CallMessage). c.xid) (one_call message a.call b.call a.is_call b.is_call) ∙ b.xid_is
 
 pub caller_is_identity : {a : Auth} {who : Identity} → IsCaller a who → IsIdentity who
 caller_is_identity no_credential = record { uid = omega arith; gid = omega arith; few = omega arith; groups = tt }

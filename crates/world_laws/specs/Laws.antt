@@ -38,7 +38,7 @@ use Rattle.session_model.specs.Courses.{Fails, HasRefreshed, IsRefusal, LacksMem
 use Rattle.session_model.specs.Replies.{said_no_memory}
 use Rattle.snapshot_model.specs.Reading.{IsBasisSpelled}
 use Rattle.session_laws.specs.Going.{SnapshotsAreDecided}
-use Rattle.script_driver.specs.Run.{Outcome, Goes, Ran, Runs, WithLaw, HasPiece, shown}
+use Rattle.script_driver.specs.Run.{Outcome, Goes, Ends, Refuses, Exceeds, Ran, Runs, WithLaw, HasPiece, shown}
 use Rattle.script_driver.specs.Seen.{HasStory, SeenStep}
 use Rattle.script_model.specs.declared.command.Command.{Command}
 use Rattle.script_model.specs.declared.command.Command.TheVariants as command
@@ -240,6 +240,27 @@ abbrev pub StepsAreOne : Type 0
 StepsAreOne = (w one other : Played) (line text words : List ℕ) → Keeps w → NamesTellApart (named_bytes one.0) → NamesTellApart (named_bytes other.0)
     → IvyStep w line (Goes one text) → IvyStep w line (Goes other words) → HasMemoryIn w.0 one.0 line text → HasMemoryIn w.0 other.0 line words → (one ≡ other) × (text ≡ words)
 
+-- the session isn't over for want of memory
+abbrev pub HasMemoryAt : Session → Type 0
+HasMemoryAt s = (xid : ℕ) → s.stage ≢ Over (Some (said_no_memory xid))
+
+-- So are the scenes that a step of a session in hand leads to, and many steps, and all up to the end.
+abbrev pub SessionsStepOnce : Type 0
+SessionsStepOnce = (c one other : Scene) (r : ℕ) → Keeps (c.world, c.story) → IsInHand c r → c.world.replicas ≡ Some r → NamesTellApart (named_bytes c.world)
+    → Steps hss_judged r c.session.by c one → Steps hss_judged r c.session.by c other → HasMemoryAt one.session → HasMemoryAt other.session → one ≡ other
+
+abbrev pub ManyStepsAreOne : Type 0
+ManyStepsAreOne = (c one other : Scene) (r count : ℕ) → Keeps (c.world, c.story) → IsInHand c r → c.world.replicas ≡ Some r → NamesTellApart (named_bytes one.world)
+    → StepsOn hss_judged r c.session.by count c one → StepsOn hss_judged r c.session.by count c other → HasMemoryAt one.session → HasMemoryAt other.session → one ≡ other
+
+abbrev pub SessionsEndOnce : Type 0
+SessionsEndOnce = (c one other : Scene) (r : ℕ) → Keeps (c.world, c.story) → IsInHand c r → c.world.replicas ≡ Some r → NamesTellApart (named_bytes one.world)
+    → RunsOut hss_judged r c.session.by c one → RunsOut hss_judged r c.session.by c other → HasMemoryAt one.session → HasMemoryAt other.session → one ≡ other
+
+-- What is published alone leads to one world in any case.
+abbrev pub PublishingIsOne : Type 0
+PublishingIsOne = (r : ℕ) (w : Played) (p : Participant) (one other : Played) → Publishes hss_judged r w p one → Publishes hss_judged r w p other → one ≡ other
+
 -- ---- leaving out
 
 -- of the view's members both have the same heads, and the same records' blocks
@@ -428,3 +449,17 @@ HeldIsSpelled = (view : View) (floor : Vector) (h : Holding) (known : List Recor
 -- The line that makes a snapshot leaves such a world.
 abbrev pub SnapLinesKeep : Type 0
 SnapLinesKeep = (log : List ℕ) (w next : Played) (output : List ℕ) → Keeps w → Does hss_judged w (command.Snap log) (Goes next output) → Keeps next
+
+-- ---- one run, where memory was there
+
+-- where a line goes on, memory was there, and names tell apart what was met then
+abbrev pub HadMemory : Played → List ℕ → Outcome Played → Type 0
+HadMemory w line (Goes next output) = HasMemoryIn w.0 next.0 line output × NamesTellApart (named_bytes next.0)
+HadMemory w line Ends = Unit {0}
+HadMemory w line Refuses = Unit {0}
+HadMemory w line Exceeds = Unit {0}
+
+-- So each script has one run at most of which that holds all along.
+abbrev pub FullRunsAreOne : Type 0
+FullRunsAreOne = (w : Played) (number : ℕ) (lines : List (List ℕ)) (first second : Ran) → Keeps w → Runs (WithLaw IvyStep HadMemory) w number lines first
+    → Runs (WithLaw IvyStep HadMemory) w number lines second → first ≡ second
