@@ -1,0 +1,7 @@
+pub mod Opened
+pub mod Entered
+pub mod Turned
+pub mod Numbers
+pub mod Shown
+pub mod Named
+pub mod Places
