@@ -1,5 +1,5 @@
 -- Entering a view, by the keeper's plan.
-use Rattle.std.proofs.Common.{◌≡◌, ◌⊎◌, inl, inr, ℕ, Bool, true, false, cond, List, [], Option, Some, None, Ok, Err, Result, IfOk, refl, sym, ap, subst, ◌∙◌}
+use Rattle.std.proofs.Common.{◌≡◌, ◌⊎◌, inl, inr, Bool, true, false, cond, [], Option, Some, None, Ok, Err, Result, IfOk, refl, sym, ap, ◌∙◌}
 use Rattle.std.specs.Prelude.{OnErr, option_map}
 use Rattle.ivy_base.specs.declared.key.Key.{Key}
 use Rattle.ivy_base.specs.declared.memory.Memory.{Memory}

@@ -1,5 +1,5 @@
 -- The number of a record, by the bytes of its block.
-use Rattle.std.proofs.Common.{◌≡◌, ℕ, ◌<◌, ◌+◌, List, [], ◌∷◌, take, drop, get_or, arith, sym, ap, ◌∙◌}
+use Rattle.std.proofs.Common.{◌≡◌, ℕ, ◌<◌, ◌+◌, List, [], ◌∷◌, take, drop, get_or, arith, sym, ◌∙◌}
 use Rattle.std.specs.Int.{w32, from_be_bytes}
 use Rattle.std.proofs.lemmas.List.{get_or-take, get_or-drop}
 use Rattle.world_model.specs.Steps.{number_in}

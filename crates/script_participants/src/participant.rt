@@ -59,12 +59,7 @@ impl Participant {
 
     /// A participant whose agent opens its log at that moment and is saved; its first posts count as made. The error is want of
     /// memory; the signer is dropped then.
-    pub fn open(
-        alloc: Global,
-        name: Bytes,
-        signer: Hss,
-        now: Moment,
-    ) -> Result<Participant, Memory>
+    pub fn open(alloc: Global, name: Bytes, signer: Hss, now: Moment) -> Result<Participant, Memory>
         requires { left_of signer ≢ 0 }
         ensures { IfOk result (λ p. p ≡ state_of (newcomer name (opened signer now))) }
     {
@@ -216,11 +211,7 @@ impl Participant {
 }
 
 /// An agent that opens its log at that moment, and is saved in memory. The error is want of memory.
-fn agent_of(
-    alloc: Global,
-    signer: Hss,
-    now: Moment,
-) -> Result<Agent<MemKeeper, Hss>, Memory>
+fn agent_of(alloc: Global, signer: Hss, now: Moment) -> Result<Agent<MemKeeper, Hss>, Memory>
     requires { left_of signer ≢ 0 }
     ensures { IfOk result (λ a. IsOpened signer now a.agent a.keeper) }
 {
