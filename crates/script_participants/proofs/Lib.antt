@@ -1,5 +1,4 @@
 pub mod Opened
-pub mod Entered
 pub mod Turned
 pub mod Numbers
 pub mod Shown

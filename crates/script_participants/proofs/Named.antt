@@ -1,20 +1,17 @@
 -- Participants by their names, and the keys of logs.
-use Rattle.std.proofs.Common.{◌≡◌, ℕ, Bool, true, false, cond, List, [], ◌∷◌, ◌++◌, map, find, Option, Some, None, refl, sym, ap, subst, ◌∙◌, append_assoc}
+use Rattle.std.proofs.Common.{◌≡◌, ℕ, Bool, true, false, cond, List, [], ◌∷◌, ◌++◌, map, find, Option, Some, refl, sym, ap, subst, ◌∙◌}
 use Rattle.std.specs.Prelude.{option_map, nat_eq}
 use Rattle.std.specs.Ordering.{eq_by_cmp}
 use Rattle.std.specs.Str.{bytes_eq}
 use Rattle.std.proofs.lemmas.Bool.Decides.{Decides-eqb}
-use Rattle.std.proofs.lemmas.List.{append-nil}
 use Rattle.std.proofs.lemmas.Slice.Eq.{slice_eq-Decides}
 use lib.Pointwise.{pointwise}
 use Rattle.ivy_base.specs.declared.key.PubKey.{PubKey}
 use Rattle.ivy_base.specs.Naming.{owner_cmp}
 use Rattle.log_model.proofs.Opening.{same_owner}
 use Rattle.log_model.proofs.Owners.{owner_itself}
-use Rattle.script_model.specs.Words.{◌>>=◌}
-use Rattle.world_model.specs.Agents.{own}
 use Rattle.world_model.specs.Logs.{keys_of}
-use Rattle.world_model.specs.World.{World, Participant, participant}
+use Rattle.world_model.specs.World.{World, participant}
 use Rattle.script_participants.specs.ParticipantState.{ParticipantState, HasParticipants, state_of}
 
 -- ---- keys
@@ -51,40 +48,6 @@ named_in w ps read name o has is same =
 
 -- ---- the keys of logs
 
-seen_some : (o : Option Participant) (s : ParticipantState) → option_map state_of o ≡ Some s → (p : Participant) × (o ≡ Some p) × (state_of p ≡ s)
-seen_some None s e = absurd cc
-seen_some (Some p) s e = (p, refl, cc)
-
-seen_none : (o : Option Participant) → option_map state_of o ≡ None → o ≡ None
-seen_none None e = refl
-seen_none (Some p) e = absurd cc
-
 -- the keys so far and those of the names that are left
 abbrev pub with_left : World → List PubKey → List (List ℕ) → Option (List PubKey)
 with_left w keys names = option_map (λ (more : List PubKey). keys ++ more) (keys_of w names)
-
-pub none_yet : (w : World) (names : List (List ℕ)) → with_left w [] names ≡ keys_of w names
-none_yet w names = by (keys_of w names)
-  where
-    by : (o : Option (List PubKey)) → option_map (λ (more : List PubKey). [] ++ more) o ≡ o
-    by None = refl
-    by (Some keys) = refl
-
-module _ (w : World) (keys : List PubKey) (name : List ℕ) (names : List (List ℕ)) where
-  pub one_more : (s : ParticipantState) → option_map state_of (participant w name) ≡ Some s → with_left w (keys ++ own s.agent ∷ []) names ≡ with_left w keys (name ∷ names)
-  one_more s e =
-      let found = seen_some (participant w name) s e in
-      ap (λ (k : PubKey). with_left w (keys ++ k ∷ []) names) (ap (λ (t : ParticipantState). own t.agent) (sym found.2))
-      ∙ by found.0 (keys_of w names)
-      ∙ ap (λ (o : Option Participant). option_map (λ (more : List PubKey). keys ++ more) (o >>= λ p. keys_of w names >>= λ ks. Some (own p.agent ∷ ks))) (sym found.1)
-    where
-      by : (p : Participant) (o : Option (List PubKey))
-          → option_map (λ (more : List PubKey). (keys ++ own p.agent ∷ []) ++ more) o ≡ option_map (λ (more : List PubKey). keys ++ more) (o >>= λ ks. Some (own p.agent ∷ ks))
-      by p None = refl
-      by p (Some ks) = ap (λ l. Some l) (append_assoc keys (own p.agent ∷ []) ks)
-
-  pub nobody : option_map state_of (participant w name) ≡ None → with_left w keys (name ∷ names) ≡ None
-  nobody e = ap (λ (o : Option Participant). option_map (λ (more : List PubKey). keys ++ more) (o >>= λ p. keys_of w names >>= λ ks. Some (own p.agent ∷ ks))) (seen_none (participant w name) e)
-
-pub all_there : (w : World) (keys : List PubKey) → with_left w keys [] ≡ Some keys
-all_there w keys = ap (λ l. Some l) (append-nil keys)

@@ -18,8 +18,11 @@ use Rattle.world_model.specs.Agents.{Kept, hss, kept_bytes}
 use Rattle.world_model.specs.Keepers.{Keeper, asked_to_save, fails_next}
 use Rattle.script_participants.specs.ParticipantState.{ParticipantState}
 use Rattle.script_participants.specs.Turning.{HasTurn, TakesTurn, work_after}
-use Rattle.script_participants.proofs.Entered.{holder}
 use Rattle.script_participants.proofs.Opened.{saves}
+
+-- an agent with its keeper
+abbrev pub holder : ParticipantState → Holder Keeper Signer
+holder p = record { agent = p.agent; keeper = p.keeper }
 
 module _ (brought : Refresh) (asked : Asked) (now : Moment) (p : ParticipantState) (after : Holder Keeper Signer) where
   -- the participant then, by how many records its last turn applied
