@@ -1,0 +1,6 @@
+pub mod Opened
+pub mod Turned
+pub mod Numbers
+pub mod Shown
+pub mod Named
+pub mod Places

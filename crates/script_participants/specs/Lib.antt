@@ -1,0 +1,7 @@
+pub mod ParticipantState
+pub mod Opening
+pub mod Ends
+pub mod InView
+pub mod Turning
+pub mod RecordLines
+pub mod Lending
