@@ -1,0 +1,16 @@
+mod Reaching
+mod Fetches
+mod Asking
+mod Bringing
+mod Nobody
+mod Begun
+mod Taken
+mod Hears
+mod Failing
+mod Advancing
+mod Calls
+mod Puts
+mod Begins
+mod Turns
+mod InPlace
+mod Refreshed

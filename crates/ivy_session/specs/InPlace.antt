@@ -1,0 +1,88 @@
+-- Stages of a session that are changed in place.
+use Rattle.std.specs.Prelude.{◌≡◌, Bool, true, false, List, Option, Some, None, Result, Ok, Err, IfSome}
+use Rattle.ivy_base.specs.declared.memory.Memory.{Memory}
+use Rattle.dht_ids.specs.declared.ask.Answer.{Answer}
+use Rattle.dht_ids.specs.declared.ask.Want.{Want}
+use Rattle.dht_ids.specs.declared.post.Ack.{Ack}
+use Rattle.dht_ids.specs.declared.post.Post.{Post}
+use Rattle.dhash_client.specs.declared.miss.Miss.{Miss}
+use Rattle.dhash_client.specs.GetHead.{Judges}
+use Rattle.session_model.specs.Sessions.{Cache}
+use Rattle.log_fetch.specs.declared.fetch.Fetched.{Fetched}
+use Rattle.log_fetch.specs.declared.note.Note.{Note as Noted}
+use Rattle.log_fetch.specs.Fetching.{Fetching}
+use Rattle.post_publishing.specs.Publishing.{PublishingState, PublishingIsWanted}
+use Rattle.ivy_session.specs.declared.served.Call.{Call}
+use Rattle.ivy_session.specs.declared.served.Served.{Served}
+use Rattle.ivy_session.specs.declared.session.Stage.{Stage}
+use Rattle.ivy_session.specs.declared.session.Stage.TheVariants as stage
+use Rattle.ivy_session.specs.States.{SessionState}
+use Rattle.ivy_session.specs.Taking.{Advances, FetchHears, IsFailure}
+use Rattle.ivy_session.specs.Ending.{EndsAs, PutHears, TellsMiss, lacking}
+
+-- its refresh is on its way
+abbrev pub is_refreshing : {J : Type 0} → Stage J → Bool
+is_refreshing (stage.Refreshing c f) = true
+is_refreshing (stage.Turning c) = false
+is_refreshing (stage.Publishing told p) = false
+is_refreshing (stage.Over told) = false
+is_refreshing stage.Told = false
+
+-- it publishes
+abbrev pub is_publishing : {J : Type 0} → Stage J → Bool
+is_publishing (stage.Refreshing c f) = false
+is_publishing (stage.Turning c) = false
+is_publishing (stage.Publishing told p) = true
+is_publishing (stage.Over told) = false
+is_publishing stage.Told = false
+
+-- the call, until it is answered
+abbrev pub call_at : {J : Type 0} → Stage J → Option Call
+call_at (stage.Refreshing c f) = Some c
+call_at (stage.Turning c) = Some c
+call_at (stage.Publishing told p) = None
+call_at (stage.Over told) = None
+call_at stage.Told = None
+
+-- what is told in the end, once it is known
+abbrev pub told_at : {J : Type 0} → Stage J → Option Served
+told_at (stage.Refreshing c f) = None
+told_at (stage.Turning c) = None
+told_at (stage.Publishing told p) = Some told
+told_at (stage.Over told) = Some told
+told_at stage.Told = None
+
+-- what publishes says what it wants
+abbrev pub PutWants : {J : Type 0} → Stage J → Stage J → Result (Want (List Ack)) Memory → Type 0
+PutWants (stage.Publishing told p) now (Ok want) = (q : PublishingState) × (now ≡ stage.Publishing told q) × PublishingIsWanted p q want
+PutWants (stage.Publishing told p) now (Err lacks) = (q : PublishingState) × (now ≡ stage.Publishing told q)
+PutWants _ now result = ⊥
+
+-- what publishes hears an answer
+abbrev pub PutHeard : {J : Type 0} → Stage J → Stage J → Result Answer Memory → Result (Unit {0}) Memory → Type 0
+PutHeard (stage.Publishing told p) now given result = (q : PublishingState) × (now ≡ stage.Publishing told q) × PutHears p q given result
+PutHeard _ now given result = ⊥
+
+-- the fetch takes what is at hand, and says what it wants then
+abbrev pub FetchWants : {J : Type 0} → Judges J → List Post → Stage J → Stage J → Cache → Cache → Result (Want Fetched) Memory → Type 0
+FetchWants {J} judges posts (stage.Refreshing c f) now before after result = (g : Fetching J) × (now ≡ stage.Refreshing c g) × Advances judges posts f g before after result
+FetchWants judges posts _ now before after result = ⊥
+
+-- the fetch hears an answer
+abbrev pub FetchHeard : {J : Type 0} → Judges J → Stage J → Stage J → Cache → Cache → Result Answer Memory → Result Bool Memory → Type 0
+FetchHeard {J} judges (stage.Refreshing c f) now before after given result = (g : Fetching J) × (now ≡ stage.Refreshing c g) × ((posts : List Post) → FetchHears judges posts f g before after given result)
+FetchHeard judges _ now before after given result = ⊥
+
+-- the fetch says why it failed
+abbrev pub FailureAt : {J : Type 0} → Judges J → Stage J → Stage J → Option (Miss × List Noted) → Type 0
+FailureAt {J} judges (stage.Refreshing c f) now why = (g : Fetching J) × (now ≡ stage.Refreshing c g) × IfSome why (IsFailure judges f)
+FailureAt judges _ now why = ⊥
+
+-- it is told why; or that memory is wanting, and nothing is noted
+abbrev pub TellsWhy : {J : Type 0} → SessionState J → SessionState J → Call → Option (Miss × List Noted) → Served → Type 0
+TellsWhy old new c None told = (told ≡ lacking c) × (new ≡ old)
+TellsWhy old new c (Some why) told = TellsMiss old new c why.0 why.1 told
+
+-- its refresh has failed, and it is over: it is told why
+abbrev pub EndsRefresh : {J : Type 0} → Judges J → SessionState J → SessionState J → Type 0
+EndsRefresh {J} judges old new = ((c : Call) (f : Fetching J) → old.stage ≡ stage.Refreshing c f → (mid : SessionState J) × (told : Served) × EndsAs judges (record old { stage = stage.Told }) mid c f told × (new ≡ record mid { stage = stage.Over told }))

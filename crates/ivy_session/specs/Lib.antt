@@ -1,0 +1,5 @@
+pub mod States
+pub mod Stepping
+pub mod Taking
+pub mod Ending
+pub mod InPlace

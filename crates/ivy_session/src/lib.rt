@@ -1,0 +1,27 @@
+//! Sessions: one call of a participant, or the publishing of its posts alone.
+//!
+//! Layer: over `log_fetch` (the refresh, and what a turn gives), `post_publishing` (the puts), `call_messages` (messages) and
+//! `block_cache`. Below a server and a world, which carry its asks to nodes and its turns to an agent.
+//! For the layers above: a [`Session`] is driven by [`Session::next`]: it asks a node, and is told the answer
+//! ([`Session::heard`]); it wants its agent's turn, and is told what came of it ([`Session::turned`]); it wants its agent to drop
+//! posts that were acknowledged; then it is done. Each of these is a step of the session of `session_model`
+//! (`specs/Stepping.antt`: `NextIs`, `HeardIs`, `TurnedIs`), whichever session of the definitions it may be (`specs/States.antt`:
+//! `IsSession`). Want of memory before the turn is answered by SYSTEM_ERR, for which the memory was taken first; after the turn it
+//! changes no reply, and [`Session::is_cut`] tells that posts are left.
+//! Definitions: `specs/States.antt`, `specs/Stepping.antt`; within, `specs/Taking.antt` (what a refresh takes of what is at hand,
+//! hears, and comes to) and `specs/Ending.antt`. Lemmas, each file on those before it: `proofs/Fetches.antt` (how a fetch
+//! stands, which is one), `proofs/Asking.antt`, `proofs/Bringing.antt`, `proofs/Nobody.antt` (where no node is known),
+//! `proofs/Begun.antt`, `proofs/Taken.antt`, `proofs/Hears.antt`, `proofs/Advancing.antt`, and over them `proofs/Calls.antt`,
+//! `proofs/Puts.antt`, `proofs/Turns.antt`.
+//!
+//! Costs: a block that a get brought is hashed once more, for its name in the cache. The entry nodes are copied for each fetch
+//! and for what publishes.
+#![tactic(auto)]
+
+mod hand;
+mod refreshing;
+pub mod served;
+pub mod session;
+
+pub use served::Served;
+pub use session::{Next, Session};

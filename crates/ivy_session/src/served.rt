@@ -1,0 +1,46 @@
+//! How sessions end, and what a call's reply is made of.
+
+ghost use Rattle.std.specs.Prelude.{◌≡◌, ◌≤◌, length};
+ghost use Rattle.ivy_session.specs.Ending.{lacking, replying};
+
+use call_messages::ReplyRoom;
+use ivy_base::Bytes;
+use log_fetch::Asked;
+
+/// How a session ends.
+#[derive(Drop)]
+pub enum Served {
+    /// This is the reply.
+    Reply(Bytes),
+    /// The message is no call, and has no reply.
+    NotACall,
+    /// The posts were published, for no call.
+    Published,
+}
+
+/// A call that asks for a turn, and room for its reply.
+#[derive(Drop)]
+pub(crate) struct Call {
+    pub xid: u32,
+    pub asked: Asked,
+    pub room: ReplyRoom,
+}
+
+/// Tells that memory is wanting. It takes none.
+pub(crate) fn no_memory(call: Call) -> Served
+    ensures { result ≡ lacking call }
+{
+    let Call { xid, asked, room } = call;
+    drop(asked);
+    Served::Reply(room.system_error(xid))
+}
+
+/// Tells what the call's turn gave, from its status on. It takes no memory.
+pub(crate) fn reply_of(call: Call, bytes: &[u8]) -> Served
+    requires { length bytes.now ≤ 32772 }
+    ensures { result ≡ replying call bytes.now }
+{
+    let Call { xid, asked, room } = call;
+    drop(asked);
+    Served::Reply(room.success(xid, bytes))
+}

@@ -1,0 +1,502 @@
+//! The machine of a session.
+
+ghost use Rattle.std.specs.Prelude.{◌≡◌, ◌≢◌, ℕ, ◌≤◌, List, [], true, false, length, Some, None, IfOk, IfErr, IfSome, option_map};
+ghost use Rattle.agent_model.specs.Standing.{Standing as ModelStanding};
+ghost use Rattle.session_model.specs.Courses.{publishing_session};
+ghost use Rattle.log_fetch.specs.Standings.{standing_of};
+ghost use Rattle.ivy_session.specs.States.{BeginsAs, IsSession, asked_at, awaited_at, begun, is_told, is_turning, session_awaited};
+ghost use Rattle.ivy_session.specs.Stepping.{IsAnewFor, IsHeard, IsNext, IsTurned};
+ghost use Rattle.ivy_session.specs.Ending.{BeginsAnew, ConcludesAs, PutHears, TellsMiss, lacking};
+ghost use Rattle.ivy_session.specs.InPlace.{EndsRefresh, FailureAt, FetchHeard, FetchWants, PutHeard, PutWants, TellsWhy, call_at, is_publishing, is_refreshing, told_at};
+ghost use Rattle.session_model.specs.Sessions.{Cache};
+ghost use Rattle.wire_model.specs.Rpc.{SystemError, reply};
+ghost use Rattle.log_fetch.specs.Fetching.{FetchIsAfter, fetch_awaited};
+ghost use Rattle.post_publishing.specs.Publishing.{publishing_awaited, publishing_begun};
+
+use crate::refreshing::{advance, failure, first_stage, hear};
+use crate::served::{Call, Served, no_memory, reply_of};
+use block_cache::BlockCache;
+use call_messages::missed;
+use dhash_client::Miss;
+use dht_ids::{Acks, Answer, Ask, Judge, Peer, Peers, Posts, Want};
+use ivy_base::Memory;
+use log_fetch::{Asked, Fetch, Fetched, Notes, Refresh, Standing, TurnFault, Turned};
+use post_publishing::Publishing;
+use std::alloc::Global;
+use std::marker::Model;
+use std::mem;
+
+/// What a session wants next.
+#[derive(Drop)]
+pub enum Next {
+    /// To ask that node; its answer is to be told to [`Session::heard`].
+    Ask(Peer, Ask),
+    /// Its agent's turn, with what the refresh brought, on [`Session::asked`]; what comes of it is to be told to
+    /// [`Session::turned`].
+    Turn(Refresh),
+    /// That its agent drops these posts.
+    Settle(Acks),
+    /// Nothing more.
+    Done(Served),
+}
+
+/// How far a session has come.
+#[derive(Drop)]
+pub(crate) enum Stage<J: Judge> {
+    /// Its refresh is on its way.
+    Refreshing(Call, Fetch<J>),
+    /// Its agent's turn is awaited.
+    Turning(Call),
+    /// It publishes; this is told in the end.
+    Publishing(Served, Publishing),
+    /// This is to be told.
+    Over(Served),
+    /// It was told.
+    Told,
+}
+
+/// One call of a participant, or the publishing of its posts alone. Contracts see by which judge, from how many owners and at
+/// which nodes it asks, what is at hand, and how far it is (`specs/States.antt`).
+#[derive(Drop)]
+pub struct Session<J: Judge> {
+    alloc: Global,
+    judge: J,
+    replicas: u32,
+    entries: Peers,
+    pending: Posts,
+    starts: u32,
+    notes: Notes,
+    is_cut: bool,
+    stage: Stage<J>,
+}
+
+impl<J: Judge> Model for Session<J> {
+    ghost use Rattle.ivy_session.specs.States.{SessionState};
+
+    ghost Value = { SessionState J };
+
+    ghost view = { λ s. record { judge = s.judge; replicas = s.replicas; entries = s.entries; pending = s.pending; starts = s.starts; notes = s.notes; is_cut = s.is_cut; stage = s.stage } };
+}
+
+/// How often a session begins anew at most.
+const MOST_STARTS: u32 = 2;
+
+impl<J: Judge> Session<J> {
+    /// A session that answers this message for the agent of that standing; it asks these nodes first, and is content with
+    /// that many answers. The error is want of memory.
+    pub fn begin(
+        alloc: Global,
+        judge: J,
+        replicas: u32,
+        entries: Peers,
+        standing: Standing,
+        message: &[u8],
+    ) -> Result<Session<J>, Memory>
+        requires { standing.basis ≡ None }
+        ensures by { IfOk result (λ st. (st.judge ≡ judge) × (st.replicas ≡ replicas) × (st.entries ≡ entries)) }
+        ensures begun { IfOk result (BeginsAs J.judges message.now (standing_of standing)) }
+    {
+        let stage = first_stage(alloc, judge, replicas, &entries, &standing, message)?;
+        Ok(Session {
+            alloc,
+            judge,
+            replicas,
+            entries,
+            pending: standing.pending,
+            starts: 0,
+            notes: Notes::of(Vec::new(alloc)),
+            is_cut: false,
+            stage,
+        })
+    }
+
+    /// A session that publishes these posts alone, likewise. The error is want of memory.
+    pub fn publish(
+        alloc: Global,
+        judge: J,
+        replicas: u32,
+        entries: Peers,
+        pending: &Posts,
+    ) -> Result<Session<J>, Memory>
+        ensures by { IfOk result (λ st. (st.judge ≡ judge) × (st.replicas ≡ replicas) × (st.entries ≡ entries)) }
+        ensures begun { IfOk result (λ st. (by : List ℕ) (standing : ModelStanding) → IsSession J.judges (publishing_session by st.entries standing pending.now) st) }
+    {
+        let publishing = Publishing::start(alloc, replicas, entries.copy(alloc)?, pending)?;
+        Ok(Session {
+            alloc,
+            judge,
+            replicas,
+            entries,
+            pending: Posts::of(Vec::new(alloc)),
+            starts: 0,
+            notes: Notes::of(Vec::new(alloc)),
+            is_cut: false,
+            stage: Stage::Publishing(Served::Published, publishing),
+        })
+    }
+
+    /// What the session's message asks for, until its turn is over.
+    pub fn asked(&self) -> Option<&Asked>
+        ensures { option_map (λ asked. asked.now) result ≡ asked_at self.now.stage }
+    {
+        match &self.stage {
+            Stage::Refreshing(call, _) => Some(&call.asked),
+            Stage::Turning(call) => Some(&call.asked),
+            _ => None,
+        }
+    }
+
+    /// What it wants next. A block that it wants and that is pending or in the cache is taken first. An ask that wasn't yet
+    /// heard is wanted again. It isn't called while a turn is awaited, nor once it is done.
+    pub fn next(&mut self, cache: &mut BlockCache) -> Next
+        requires turning { is_turning self.old.stage ≡ false }
+        requires told { is_told self.old.stage ≡ false }
+        ensures { IsNext J.judges self.old self.new cache.old cache.new result }
+    {
+        match &self.stage {
+            Stage::Refreshing(..) => self.refresh(cache),
+            Stage::Publishing(..) => self.put(),
+            _ => Next::Done(take_told(&mut self.stage)),
+        }
+    }
+
+    /// Hears what the node answered that was asked last, or that there was no memory for it. It is called once after each
+    /// ask. A block that a get gave right is kept in the cache.
+    pub fn heard(&mut self, cache: &mut BlockCache, answer: Result<Answer, Memory>)
+        requires { session_awaited self.old ≢ None }
+        ensures { IsHeard J.judges self.old self.new cache.old cache.new answer }
+    {
+        match &self.stage {
+            Stage::Refreshing(..) => self.hear_get(cache, answer),
+            _ => self.hear_put(answer),
+        }
+    }
+
+    /// Is told what came of its agent's turn. It is called once after each `Turn`. A reply has at most 32,772 bytes.
+    pub fn turned(&mut self, turned: Result<Turned, TurnFault>)
+        requires turning { is_turning self.old.stage ≡ true }
+        requires short { IfOk turned (λ t. length t.reply ≤ 32772) }
+        requires anew { IfErr turned IsAnewFor }
+        ensures { IsTurned J.judges self.old self.new turned }
+    {
+        match turned {
+            Ok(turned) => self.answer(&turned),
+            Err(TurnFault::Memory) => lack(&mut self.stage),
+            Err(TurnFault::Behind(standing)) => self.begin_anew(standing),
+            Err(TurnFault::BelowTide(standing)) => self.begin_anew(standing),
+        }
+    }
+
+    /// What is noted of the logs, once the session publishes or is over.
+    pub fn notes(&self) -> &Notes
+        ensures { result.now ≡ self.now.notes }
+    {
+        &self.notes
+    }
+
+    /// Whether its publishing ended before all puts were made, for want of memory.
+    pub fn is_cut(&self) -> bool
+        ensures { result ≡ self.now.is_cut }
+    {
+        self.is_cut
+    }
+
+    /// Goes on with the refresh: a node is asked, or its agent's turn is wanted.
+    fn refresh(&mut self, cache: &mut BlockCache) -> Next
+        requires { is_refreshing self.old.stage ≡ true }
+        ensures { IsNext J.judges self.old self.new cache.old cache.new result }
+    {
+        match fetch_wants(&mut self.stage, &self.pending, cache) {
+            Ok(Want::Ask(node, question)) => Next::Ask(node, question),
+            Ok(Want::Done(fetched)) => {
+                let call = take_call(&mut self.stage);
+                self.conclude(call, fetched)
+            }
+            Err(Memory) => Next::Done(no_memory(take_call(&mut self.stage))),
+        }
+    }
+
+    /// Concludes the refresh, which brought this: its agent's turn is wanted, or it has failed.
+    fn conclude(&mut self, call: Call, fetched: Fetched) -> Next
+        ensures { ConcludesAs self.old self.new call fetched result }
+    {
+        let Fetched { result, notes } = fetched;
+        match result {
+            Ok(batch) => {
+                self.notes = notes;
+                self.stage = Stage::Turning(call);
+                Next::Turn(Refresh { batch, basis: None })
+            }
+            Err(miss) => Next::Done(self.fail(call, &miss, notes)),
+        }
+    }
+
+    /// Tells that the refresh failed by that miss, and notes this. Where memory is wanting that is told, and nothing is
+    /// noted.
+    fn fail(&mut self, call: Call, miss: &Miss, notes: Notes) -> Served
+        ensures { TellsMiss self.old self.new call miss.now notes result }
+    {
+        match missed(self.alloc, call.xid, &call.asked, miss) {
+            Ok(reply) => {
+                self.notes = notes;
+                Served::Reply(reply)
+            }
+            Err(Memory) => no_memory(call),
+        }
+    }
+
+    /// Goes on to publish: a node is asked, or its agent is to drop what was acknowledged.
+    fn put(&mut self) -> Next
+        requires { is_publishing self.old.stage ≡ true }
+        ensures { (cache : Cache) → IsNext J.judges self.old self.new cache cache result }
+    {
+        match put_wants(&mut self.stage) {
+            Ok(Want::Ask(node, question)) => Next::Ask(node, question),
+            Ok(Want::Done(acks)) => {
+                end(&mut self.stage);
+                Next::Settle(acks)
+            }
+            Err(Memory) => {
+                self.is_cut = true;
+                Next::Done(take_told(&mut self.stage))
+            }
+        }
+    }
+
+    /// The refresh hears an answer, or that there was no memory for it.
+    fn hear_get(&mut self, cache: &mut BlockCache, answer: Result<Answer, Memory>)
+        requires refreshing { is_refreshing self.old.stage ≡ true }
+        requires awaited { session_awaited self.old ≢ None }
+        ensures { IsHeard J.judges self.old self.new cache.old cache.new answer }
+    {
+        match fetch_heard(&mut self.stage, cache, answer) {
+            Ok(false) => {}
+            Ok(true) => self.end_refresh(),
+            Err(Memory) => lack(&mut self.stage),
+        }
+    }
+
+    /// Ends the refresh, which has failed.
+    fn end_refresh(&mut self)
+        requires { is_refreshing self.old.stage ≡ true }
+        ensures { EndsRefresh J.judges self.old self.new }
+    {
+        let why = failure_at(&mut self.stage);
+        let call = take_call(&mut self.stage);
+        let told = self.tell(call, why);
+        self.stage = Stage::Over(told);
+    }
+
+    /// Tells why the refresh failed. None is want of memory.
+    fn tell(&mut self, call: Call, why: Option<(Miss, Notes)>) -> Served
+        ensures { TellsWhy self.old self.new call why result }
+    {
+        match why {
+            Some((miss, notes)) => self.fail(call, &miss, notes),
+            None => no_memory(call),
+        }
+    }
+
+    /// What publishes hears an answer, or that there was no memory for it.
+    fn hear_put(&mut self, answer: Result<Answer, Memory>)
+        requires publishing { is_publishing self.old.stage ≡ true }
+        requires awaited { session_awaited self.old ≢ None }
+        ensures { (cache : Cache) → IsHeard J.judges self.old self.new cache cache answer }
+    {
+        if let Err(Memory) = put_heard(&mut self.stage, answer) {
+            self.is_cut = true;
+            end(&mut self.stage);
+        }
+    }
+
+    /// Answers the call by what its turn gave, and begins to publish.
+    fn answer(&mut self, turned: &Turned)
+        requires turning { is_turning self.old.stage ≡ true }
+        requires short { length turned.now.reply ≤ 32772 }
+        ensures { IsTurned J.judges self.old self.new (Ok turned.now) }
+    {
+        let call = take_call(&mut self.stage);
+        let told = reply_of(call, turned.reply.as_slice());
+        match self.publishing_of(&turned.posts) {
+            Ok(publishing) => self.stage = Stage::Publishing(told, publishing),
+            Err(Memory) => {
+                self.is_cut = true;
+                self.stage = Stage::Over(told);
+            }
+        }
+    }
+
+    /// What publishes these posts. The error is want of memory.
+    fn publishing_of(&self, posts: &Posts) -> Result<Publishing, Memory>
+        ensures { IfOk result (λ publishing. publishing ≡ publishing_begun self.now.replicas self.now.entries posts.now) }
+    {
+        Publishing::start(
+            self.alloc,
+            self.replicas,
+            self.entries.copy(self.alloc)?,
+            posts,
+        )
+    }
+
+    /// Begins anew from that standing, where it didn't so twice before.
+    fn begin_anew(&mut self, standing: Standing)
+        requires turning { is_turning self.old.stage ≡ true }
+        requires none { standing.basis ≡ None }
+        ensures { IsTurned J.judges self.old self.new (Err (TurnFault.Behind standing)) }
+    {
+        let call = take_call(&mut self.stage);
+        self.stage = match self.fetch_anew(standing) {
+            Some(fetch) => Stage::Refreshing(call, fetch),
+            None => Stage::Over(no_memory(call)),
+        };
+    }
+
+    /// The fetch with which the session begins anew from that standing. None is want of memory, or that it did so twice
+    /// before.
+    fn fetch_anew(&mut self, mut standing: Standing) -> Option<Fetch<J>>
+        ensures { BeginsAnew J.judges self.old self.new standing result }
+    {
+        if self.starts >= MOST_STARTS {
+            return None;
+        }
+        self.starts += 1;
+        self.notes = Notes::of(Vec::new(self.alloc));
+        let fetch = self.fetch_for(&standing);
+        mem::swap(&mut self.pending, &mut standing.pending);
+        fetch.ok()
+    }
+
+    /// The fetch for that standing. The error is want of memory.
+    fn fetch_for(&self, standing: &Standing) -> Result<Fetch<J>, Memory>
+        ensures by { IfOk result (λ fetch. (fetch.judge ≡ self.now.judge) × (fetch.replicas ≡ self.now.replicas) × (fetch.entries ≡ self.now.entries)) }
+        ensures started { IfOk result (FetchIsAfter J.judges (standing_of standing.now) standing.now.held [] []) }
+    {
+        Fetch::start(
+            self.alloc,
+            self.judge,
+            self.replicas,
+            self.entries.copy(self.alloc)?,
+            standing,
+        )
+    }
+}
+
+/// Takes the call, which isn't answered yet.
+fn take_call<J: Judge>(stage: &mut Stage<J>) -> Call
+    requires { call_at stage.old ≢ None }
+    ensures call { call_at stage.old ≡ Some result }
+    ensures told { stage.new ≡ Stage.Told }
+{
+    match mem::replace(stage, Stage::Told) {
+        Stage::Refreshing(call, _) => call,
+        Stage::Turning(call) => call,
+        _ => unreachable!(),
+    }
+}
+
+/// Takes what is to be told.
+fn take_told<J: Judge>(stage: &mut Stage<J>) -> Served
+    requires { told_at stage.old ≢ None }
+    ensures served { told_at stage.old ≡ Some result }
+    ensures told { stage.new ≡ Stage.Told }
+{
+    match mem::replace(stage, Stage::Told) {
+        Stage::Publishing(told, _) => told,
+        Stage::Over(told) => told,
+        _ => unreachable!(),
+    }
+}
+
+/// Nothing more is wanted than to tell what is to be told.
+fn end<J: Judge>(stage: &mut Stage<J>)
+    requires { told_at stage.old ≢ None }
+    ensures { IfSome (told_at stage.old) (λ told. stage.new ≡ Stage.Over told) }
+{
+    let told = take_told(stage);
+    *stage = Stage::Over(told);
+}
+
+/// The call is to be told that memory is wanting.
+fn lack<J: Judge>(stage: &mut Stage<J>)
+    requires { call_at stage.old ≢ None }
+    ensures { IfSome (call_at stage.old) (λ call. stage.new ≡ Stage.Over (lacking call)) }
+{
+    let call = take_call(stage);
+    *stage = Stage::Over(no_memory(call));
+}
+
+/// What the refresh wants. The error is want of memory.
+fn fetch_wants<J: Judge>(
+    stage: &mut Stage<J>,
+    posts: &Posts,
+    cache: &mut BlockCache,
+) -> Result<Want<Fetched>, Memory>
+    requires { is_refreshing stage.old ≡ true }
+    ensures { FetchWants J.judges posts.now stage.old stage.new cache.old cache.new result }
+{
+    match stage {
+        Stage::Refreshing(_, fetch) => advance(fetch, posts, cache),
+        _ => unreachable!(),
+    }
+}
+
+/// The refresh hears an answer; says whether it has failed. The error is want of memory.
+fn fetch_heard<J: Judge>(
+    stage: &mut Stage<J>,
+    cache: &mut BlockCache,
+    answer: Result<Answer, Memory>,
+) -> Result<bool, Memory>
+    requires refreshing { is_refreshing stage.old ≡ true }
+    requires awaited { awaited_at stage.old ≢ None }
+    ensures { FetchHeard J.judges stage.old stage.new cache.old cache.new answer result }
+{
+    match stage {
+        Stage::Refreshing(_, fetch) => hear(fetch, cache, answer),
+        _ => unreachable!(),
+    }
+}
+
+/// Why the refresh failed, which did, and what is noted then. None is want of memory.
+fn failure_at<J: Judge>(stage: &mut Stage<J>) -> Option<(Miss, Notes)>
+    requires { is_refreshing stage.old ≡ true }
+    ensures { FailureAt J.judges stage.old stage.new result }
+{
+    match stage {
+        Stage::Refreshing(_, fetch) => failure(fetch),
+        _ => unreachable!(),
+    }
+}
+
+/// What the publishing wants. The error is want of memory.
+fn put_wants<J: Judge>(stage: &mut Stage<J>) -> Result<Want<Acks>, Memory>
+    requires { is_publishing stage.old ≡ true }
+    ensures { PutWants stage.old stage.new result }
+{
+    match stage {
+        Stage::Publishing(_, publishing) => publishing.next(),
+        _ => unreachable!(),
+    }
+}
+
+/// What publishes hears an answer. The error is want of memory.
+fn put_heard<J: Judge>(
+    stage: &mut Stage<J>,
+    answer: Result<Answer, Memory>,
+) -> Result<(), Memory>
+    requires publishing { is_publishing stage.old ≡ true }
+    requires awaited { awaited_at stage.old ≢ None }
+    ensures { PutHeard stage.old stage.new answer result }
+{
+    match stage {
+        Stage::Publishing(_, publishing) => put_hears(publishing, answer),
+        _ => unreachable!(),
+    }
+}
+
+/// What publishes hears an answer. The error is want of memory.
+fn put_hears(publishing: &mut Publishing, answer: Result<Answer, Memory>) -> Result<(), Memory>
+    requires { publishing_awaited publishing.old ≢ None }
+    ensures { PutHears publishing.old publishing.new answer result }
+{
+    publishing.heard(answer?)
+}
