@@ -1,0 +1,6 @@
+mod Asked
+mod Scenes
+mod Asks
+mod Read
+mod Turns
+mod Ends
