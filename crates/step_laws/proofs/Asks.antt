@@ -115,22 +115,22 @@ module _ {J : Type 0} (judges : Judges J) (c : Scene) (r : ℕ) (p : Participant
 
   module _ (mid new : SessionState J) (between after : Cache) (node : Peer) (question : Ask) (given : Answer) (before later : NodesState) (same : IsSameSession old mid) (then_asks : AsksThen mid between node question)
       (nodes : IsNodesOf c.world before) (fate : (w : World) → IsNodesOf w before → FateOf hss_judged w node question given (with_nodes w later)) where
-    abbrev now : Scene
-    now = with_cache hss_judged r c p then_asks.taken between
+    abbrev here : Scene
+    here = with_cache hss_judged r c p then_asks.taken between
 
     abbrev mine : Participant
     mine = record p { cache = between }
 
-    fate_now : FateOf hss_judged now.world node question given (with_nodes now.world later)
-    fate_now = fate now.world nodes
+    fate_now : FateOf hss_judged here.world node question given (with_nodes here.world later)
+    fate_now = fate here.world nodes
 
-    same_world : with_participant (with_nodes now.world later) (record p { cache = after }) ≡ with_participant (with_nodes c.world later) (record p { cache = after })
+    same_world : with_participant (with_nodes here.world later) (record p { cache = after }) ≡ with_participant (with_nodes c.world later) (record p { cache = after })
     same_world = twice_placed (with_nodes c.world later) mine (record p { cache = after }) refl
 
     heard_so : (heard t : Session) → Hears hss_judged r then_asks.taken between node question given heard after → Fails heard t → IsLeft judges t new → IsStep judges c r new (with_participant (with_nodes c.world later) (record p { cache = after }))
     heard_so heard t hearing goes left = record {
-      next = record { world = with_participant (with_nodes now.world later) (record p { cache = after }); story = ask_told c.story p.name then_asks.taken t; session = t; began = c.began };
-      steps = acts p then_asks.taken between _ is.is_by then_asks.takes (acts_asks node question given (with_nodes now.world later) heard t after fate_now hearing goes);
+      next = record { world = with_participant (with_nodes here.world later) (record p { cache = after }); story = ask_told c.story p.name then_asks.taken t; session = t; began = c.began };
+      steps = acts p then_asks.taken between _ is.is_by then_asks.takes (acts_asks node question given (with_nodes here.world later) heard t after fate_now hearing goes);
       left = left;
       world = same_world;
     }
@@ -140,8 +140,8 @@ module _ {J : Type 0} (judges : Judges J) (c : Scene) (r : ℕ) (p : Participant
     in_vain t lacking stays session =
         let h = hears_some r then_asks.taken between node question given then_asks.asks in
         record {
-          next = record now { world = with_nodes now.world later; session = t };
-          steps = acts p then_asks.taken between _ is.is_by then_asks.takes (asks_in_vain node question given (with_nodes now.world later) h.0 t h.1 fate_now h.2 lacking);
+          next = record here { world = with_nodes here.world later; session = t };
+          steps = acts p then_asks.taken between _ is.is_by then_asks.takes (asks_in_vain node question given (with_nodes here.world later) h.0 t h.1 fate_now h.2 lacking);
           left = left_on session;
           world = ap (λ (cache : Cache). with_participant (with_nodes c.world later) (record p { cache = cache })) (sym stays);
         }

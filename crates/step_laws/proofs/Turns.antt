@@ -48,7 +48,6 @@ use Rattle.log_fetch.specs.Standings.{asked_of, refresh_of, standing_of}
 use Rattle.ivy_agent.specs.Answering.{IsCall}
 use Rattle.ivy_agent.specs.Holders.{Holder}
 use Rattle.ivy_agent.specs.Saves.{Saves}
-use Rattle.ivy_agent.specs.Turns as agent_turn
 use Rattle.ivy_agent.specs.Turns.{IsFetchedIn, TurnsAs}
 use Rattle.ivy_session.specs.declared.session.Next.TheVariants as next
 use Rattle.ivy_session.specs.declared.session.Stage.{Stage as CodeStage}
@@ -70,8 +69,8 @@ use Rattle.world_laws.specs.Keeps.{IsInHand, IsKeptSo, IsSavedWell, Keeps}
 use Rattle.world_laws.proofs.Apart.{clash_is_decided}
 use Rattle.world_laws.proofs.Bringing.{found_named, its_view, refresh_may_turn}
 use Rattle.world_laws.proofs.Frames.{into_map}
-use Rattle.step_laws.specs.Laws.{BatchesAreFetched, RefusalsAreFresh, RepliesAreRead, TurnsAreSteps, TurnsMayBe}
-use Rattle.step_laws.specs.Scenes.{IsLeft, IsSceneOf, IsStep, holder_of, memory_saves, turned_participant, turned_world}
+use Rattle.step_laws.specs.Laws.{AgentsGiveTurns, BatchesAreFetched, RefusalsAreFresh, RepliesAreRead, TurnsAreSteps, TurnsMayBe}
+use Rattle.step_laws.specs.Scenes.{GivesTurn, HadTurn, IsLeft, IsSceneOf, IsStep, holder_of, memory_saves, turned_participant, turned_world}
 use Rattle.step_laws.specs.Scenes.IsLeft.{goes_on as left_on, lacks_memory as left_lacking, is_cut as left_cut}
 use Rattle.step_laws.proofs.Read.{reply_of}
 use Rattle.step_laws.proofs.Scenes.{all_some, as_ring, found_then, keeps_then, taken_same, twice_placed}
@@ -117,6 +116,18 @@ module _ (brought : ModelRefresh) (a : Agent) (view : View) (asked : ModelAsked)
       → Saves memory_saves k (option_map kept_bytes saving) fails new → Turns hss brought a view (fails_next k) asked now end after saving × (new ≡ asked_to_save k saving)
   by_keeper None fails turns either saved = (either refl (fails_next k), saved)
   by_keeper (Some kept) fails turns either saved = (subst (λ (b : Bool). Turns hss brought a view b asked now end after (Some kept)) saved.0 turns, saved.1)
+
+had_so : (p : Participant) (view : View) (refresh : Refresh) (asked : Asked) (now : Moment) (fails : Bool) (end : TurnEnd) (after : Holder Keeper Signer)
+    → TurnsAs hss IsSigner memory_saves view (refresh_of refresh) (asked_of asked) now (holder_of p) fails end after → HadTurn p view refresh asked now end after
+had_so p view refresh asked now fails end after t =
+    let k = by_keeper (refresh_of refresh) p.agent view (asked_of asked) now p.keeper after.keeper end after.agent t.saving fails t.turns t.either t.keeper in
+    record { saving = t.saving; turns = k.0; keeper = k.1 }
+
+pub agents_give_turns : AgentsGiveTurns
+agents_give_turns p view refresh asked now (Ok turned) after t = (t.reply, had_so p view refresh asked now t.fails (Answered t.reply turned.applied) after t.turns, t.gives)
+agents_give_turns p view refresh asked now (Err fault.Memory) after t = t
+agents_give_turns p view refresh asked now (Err (fault.Behind standing)) after t = (had_so p view refresh asked now false Behind after t.turns, t.anew)
+agents_give_turns p view refresh asked now (Err (fault.BelowTide standing)) after t = (had_so p view refresh asked now false BelowTide after t.turns, t.anew)
 
 -- an answer is that of the definition
 other_end : (reply : Reply) (applied : ℕ) → Behind ≡ Answered reply applied → ⊥
@@ -230,8 +241,8 @@ module _ {J : Type 0} (judges : Judges J) (c : Scene) (r : ℕ) (p : Participant
   -- ---- the step
 
   module _ (turning_before : is_turning old.stage ≡ false) (mid new : SessionState J) (cache : Cache) (refresh : Refresh) (asked : Asked) (h : TurnsThen mid cache refresh) (is_asked : asked_at mid.stage ≡ Some asked) (after : Holder Keeper Signer) where
-    abbrev now : Scene
-    now = with_cache hss_judged r c p h.taken cache
+    abbrev here : Scene
+    here = with_cache hss_judged r c p h.taken cache
 
     abbrev mine : Participant
     mine = record p { cache = cache }
@@ -248,14 +259,14 @@ module _ {J : Type 0} (judges : Judges J) (c : Scene) (r : ℕ) (p : Participant
     before_none : c.session.standing.to_load ≡ None
     before_none = subst (λ (s : Session). s.standing.to_load ≡ None) (taken_same h.takes) none_to_load
 
-    kept_now : Keeps (now.world, now.story) × IsInHand now r
+    kept_now : Keeps (here.world, here.story) × IsInHand here r
     kept_now = keeps_then judges c r p old is keeps h.taken cache h.takes hand before_none
 
-    found_now : participant now.world h.taken.by ≡ Some mine
+    found_now : participant here.world h.taken.by ≡ Some mine
     found_now = found_then judges c r p old is keeps h.taken cache h.takes
 
     in_view : mine.agent.view ≡ Some view
-    in_view = its_view now r kept_now.1 mine found_now
+    in_view = its_view here r kept_now.1 mine found_now
 
     call : (xid : ℕ) × Asks view h.taken.message xid (asked_of asked) × ((moment : Moment) → IsMoment moment → IsCall (asked_of asked) moment)
     call = call_of judges h.taken mid mid.stage asked h.turning is_asked h.session.at
@@ -270,32 +281,29 @@ module _ {J : Type 0} (judges : Judges J) (c : Scene) (r : ℕ) (p : Participant
     abbrev IsTurn : TurnEnd → Option Kept → Type 0
     IsTurn end saving = Turns hss (refresh_of refresh) p.agent view (fails_next p.keeper) (asked_of asked) c.world.now end after.agent saving × (after.keeper ≡ asked_to_save p.keeper saving)
 
-    turn_at : (fails : Bool) (end : TurnEnd) (t : TurnsAs hss IsSigner memory_saves view (refresh_of refresh) (asked_of asked) c.world.now (holder_of p) fails end after) → IsTurn end t.saving
-    turn_at fails end t = by_keeper (refresh_of refresh) p.agent view (asked_of asked) c.world.now p.keeper after.keeper end after.agent t.saving fails t.turns t.either t.keeper
-
     -- ---- it was answered
 
     record IsTurnTold (notes : List Note) (xid : ℕ) (reply : Reply) : Type 0 where
       told : ModelTurned
       replies : told.reply ≡ reply
-      is_turn : NamesTellApart (named_bytes now.world) → IsTurnIn (named_bytes now.world) now.world.now mine.agent view (fails_next mine.keeper) h.taken c.began.knew (known_of c.story p.name) told
+      is_turn : NamesTellApart (named_bytes here.world) → IsTurnIn (named_bytes here.world) here.world.now mine.agent view (fails_next mine.keeper) h.taken c.began.knew (known_of c.story p.name) told
 
     turn_told_so : (notes : List Note) (xid : ℕ) (reply : Reply) (applied : ℕ) (saving : Option Kept) → HasRefreshed h.taken notes (refresh_of refresh) → Asks view h.taken.message xid (asked_of asked) → IsTurn (Answered reply applied) saving
         → IsTurnTold notes xid reply
-    turn_told_so notes xid reply applied saving done asks turn = ⊎_elim by_apart by_clash (clash_is_decided (named_bytes now.world))
+    turn_told_so notes xid reply applied saving done asks turn = ⊎_elim by_apart by_clash (clash_is_decided (named_bytes here.world))
       where
-        by_clash : HasClash (named_bytes now.world) → IsTurnTold notes xid reply
+        by_clash : HasClash (named_bytes here.world) → IsTurnTold notes xid reply
         by_clash clash = record {
           told = record { reply = reply; set = [] };
           replies = refl;
           is_turn = λ apart. absurd (clash.4 (apart clash.0 clash.1 clash.2 clash.3 clash.5));
         }
 
-        by_apart : NamesTellApart (named_bytes now.world) → IsTurnTold notes xid reply
+        by_apart : NamesTellApart (named_bytes here.world) → IsTurnTold notes xid reply
         by_apart apart =
-            let may = refresh_may_turn now mine r notes (refresh_of refresh) kept_now.0 apart kept_now.1 found_now done in
+            let may = refresh_may_turn here mine r notes (refresh_of refresh) kept_now.0 apart kept_now.1 found_now done in
             let definition = by_definition reply applied turn.0 refl in
-            let of = definition.2 (heads_at (brought_in h.taken.parts)) (named_bytes now.world) h.taken.standing c.began.knew (known_of c.story p.name) apart may.0 may.1 in
+            let of = definition.2 (heads_at (brought_in h.taken.parts)) (named_bytes here.world) h.taken.standing c.began.knew (known_of c.story p.name) apart may.0 may.1 in
             record {
               told = of.turned;
               replies = sym of.replies;
@@ -313,8 +321,8 @@ module _ {J : Type 0} (judges : Judges J) (c : Scene) (r : ℕ) (p : Participant
           let t = turn_told_so notes xid reply turned.applied saving done asks turn in (
             record {
               next = record {
-                world = world_after now.world (record (after_turn mine after.agent saving) { work = turned.applied });
-                story = turn_told now mine view after.agent t.told;
+                world = world_after here.world (record (after_turn mine after.agent saving) { work = turned.applied });
+                story = turn_told here mine view after.agent t.told;
                 session = answered h.taken (said_of xid reply) notes after.agent.pending;
                 began = c.began;
               };
@@ -334,10 +342,10 @@ module _ {J : Type 0} (judges : Judges J) (c : Scene) (r : ℕ) (p : Participant
           (⊎_elim (λ session. left_on (subst (λ (pending : List Post). IsSession judges (answered h.taken (said_of a.xid reply) a.notes pending) new) posts session)) (λ cut. left_cut cut.0) a.publishes)
 
       abbrev Gave : Type 0
-      Gave = agent_turn.TakesTurn hss IsSigner memory_saves view (refresh_of refresh) (asked_of asked) c.world.now (holder_of p) (Ok turned) after
+      Gave = GivesTurn p view refresh asked c.world.now (Ok turned) after
 
       by_answer : Gave → TurnedIs judges mid new h.taken (Ok turned) → IsStep judges c r new (turned_world c.world mine (Ok turned) after)
-      by_answer t told = (by_reply t.reply t.turns.saving t.gives.posts (turn_at t.fails (Answered t.reply turned.applied) t.turns) (told t.reply t.gives.bytes)).0
+      by_answer t told = (by_reply t.0 t.1.saving t.2.posts (t.1.turns, t.1.keeper) (told t.0 t.2.bytes)).0
 
       -- the reply is the one that its bytes are
       module _ (answers_are : AnswersAreReplies) (plans_are : PlansAreReplies) (finishes_are : FinishesAreReplies) (sets_make : SetsMakeTrees) (read : Reply) (fits : IsFittingReply asked.args read) (same : turned.reply ≡ bytes_of read) where
@@ -359,14 +367,14 @@ module _ {J : Type 0} (judges : Judges J) (c : Scene) (r : ℕ) (p : Participant
         )
 
         by_read : Gave → TurnedIs judges mid new h.taken (Ok turned) → SaysThen read
-        by_read t told = by_reply read t.turns.saving t.gives.posts (read_turn t.reply t.turns.saving t.gives.bytes (turn_at t.fails (Answered t.reply turned.applied) t.turns)) (told read same)
+        by_read t told = by_reply read t.1.saving t.2.posts (read_turn t.0 t.1.saving t.2.bytes (t.1.turns, t.1.keeper)) (told read same)
 
     -- ---- it was refused
 
     module _ (end : TurnEnd) (refusal : IsRefusal end) (saving : Option Kept) (turn : IsTurn end saving) where
       refused_step : (t : Session) → TakesTurn c.world.now p.agent view (fails_next p.keeper) h.taken end after.agent saving t → IsLeft judges t new → IsStep judges c r new (world_after c.world (turned_participant mine after))
       refused_step t takes left = record {
-        next = record now { world = world_after now.world (after_turn mine after.agent saving); session = t; began = record c.began { knew = known_of c.story p.name } };
+        next = record here { world = world_after here.world (after_turn mine after.agent saving); session = t; began = record c.began { knew = known_of c.story p.name } };
         steps = acts p h.taken cache _ is.is_by h.takes (is_refused view end after.agent saving t in_view refusal takes);
         left = left;
         world = same_after c.world mine (after_turn mine after.agent saving) refl ∙ ap (λ (q : Participant). world_after c.world q) (same_turned mine after saving turn.1);
@@ -385,7 +393,7 @@ module _ {J : Type 0} (judges : Judges J) (c : Scene) (r : ℕ) (p : Participant
 
     -- ---- whatever it was
 
-    by_turn : (turned : Result Turned TurnFault) → agent_turn.TakesTurn hss IsSigner memory_saves view (refresh_of refresh) (asked_of asked) c.world.now (holder_of p) turned after → TurnedIs judges mid new h.taken turned
+    by_turn : (turned : Result Turned TurnFault) → GivesTurn p view refresh asked c.world.now turned after → TurnedIs judges mid new h.taken turned
         → IsStep judges c r new (turned_world c.world mine turned after)
     by_turn (Ok turned) t told = by_answer turned t told
     by_turn (Err fault.Memory) t told = record {
@@ -394,8 +402,8 @@ module _ {J : Type 0} (judges : Judges J) (c : Scene) (r : ℕ) (p : Participant
       left = left_on told.2;
       world = refl;
     }
-    by_turn (Err (fault.Behind standing)) t told = by_refusal Behind tt t.turns.saving (turn_at false Behind t.turns) (standing_of standing) t.anew told
-    by_turn (Err (fault.BelowTide standing)) t told = by_refusal BelowTide tt t.turns.saving (turn_at false BelowTide t.turns) (standing_of standing) t.anew told
+    by_turn (Err (fault.Behind standing)) t told = by_refusal Behind tt t.0.saving (t.0.turns, t.0.keeper) (standing_of standing) t.1 told
+    by_turn (Err (fault.BelowTide standing)) t told = by_refusal BelowTide tt t.0.saving (t.0.turns, t.0.keeper) (standing_of standing) t.1 told
 
 pub turns_may_be : {J : Type 0} → TurnsMayBe J
 turns_may_be judges c r p old mid cache refresh keeps hand is wanted = may_be judges c r p old is keeps hand mid cache refresh (turns_then judges c r p old is keeps hand mid cache refresh (wanted.1 c.session is.session))
@@ -404,7 +412,7 @@ pub turns_are_steps : {J : Type 0} → TurnsAreSteps J
 turns_are_steps judges c r p old mid new cache refresh asked turned after keeps hand is turning wanted is_asked had told =
     let h = turns_then judges c r p old is keeps hand mid cache refresh (wanted.1 c.session is.session) in
     by_turn judges c r p old is keeps hand turning mid new cache refresh asked h is_asked after turned
-    (subst (λ (o : Option View). IfSome o (λ view. agent_turn.TakesTurn hss IsSigner memory_saves view (refresh_of refresh) (asked_of asked) c.world.now (holder_of p) turned after))
+    (subst (λ (o : Option View). IfSome o (λ view. GivesTurn p view refresh asked c.world.now turned after))
     (in_view judges c r p old is keeps hand turning mid new cache refresh asked h is_asked after) had)
     (told.1 h.taken h.session)
 
@@ -412,7 +420,7 @@ pub replies_are_read : AnswersAreReplies → PlansAreReplies → FinishesAreRepl
 replies_are_read answers_are plans_are finishes_are sets_make judges c r p old mid new cache refresh asked turned after read keeps hand is turning wanted is_asked had told fits same =
     let h = turns_then judges c r p old is keeps hand mid cache refresh (wanted.1 c.session is.session) in
     by_read judges c r p old is keeps hand turning mid new cache refresh asked h is_asked after turned answers_are plans_are finishes_are sets_make read fits same
-    (subst (λ (o : Option View). IfSome o (λ view. agent_turn.TakesTurn hss IsSigner memory_saves view (refresh_of refresh) (asked_of asked) c.world.now (holder_of p) (Ok turned) after))
+    (subst (λ (o : Option View). IfSome o (λ view. GivesTurn p view refresh asked c.world.now (Ok turned) after))
     (in_view judges c r p old is keeps hand turning mid new cache refresh asked h is_asked after) had)
     (told.1 h.taken h.session)
 
@@ -425,12 +433,12 @@ fresh_so v a standing e = ap (λ (s : ModelStanding). s.to_load) e
 pub refusals_are_fresh : RefusalsAreFresh
 refusals_are_fresh p refresh asked now turned after some had = by p.agent.view some had
   where
-    of : (v : View) (t : Result Turned TurnFault) → agent_turn.TakesTurn hss IsSigner memory_saves v (refresh_of refresh) (asked_of asked) now (holder_of p) t after → IfErr t IsAnewFor
+    of : (v : View) (t : Result Turned TurnFault) → GivesTurn p v refresh asked now t after → IfErr t IsAnewFor
     of v (Ok done) h = tt
     of v (Err fault.Memory) h = tt
-    of v (Err (fault.Behind standing)) h = fresh_so v after.agent standing h.anew
-    of v (Err (fault.BelowTide standing)) h = fresh_so v after.agent standing h.anew
+    of v (Err (fault.Behind standing)) h = fresh_so v after.agent standing h.1
+    of v (Err (fault.BelowTide standing)) h = fresh_so v after.agent standing h.1
 
-    by : (o : Option View) → IsSomeAnd o (λ view. Unit {0}) → IfSome o (λ view. agent_turn.TakesTurn hss IsSigner memory_saves view (refresh_of refresh) (asked_of asked) now (holder_of p) turned after) → IfErr turned IsAnewFor
+    by : (o : Option View) → IsSomeAnd o (λ view. Unit {0}) → IfSome o (λ view. GivesTurn p view refresh asked now turned after) → IfErr turned IsAnewFor
     by None none h = absurd none
     by (Some v) is h = of v turned h

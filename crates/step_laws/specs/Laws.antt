@@ -1,7 +1,9 @@
 -- Laws that tie the contracts of sessions in code, of their agents' turns and of a ring's nodes to the steps of a world's sessions.
 use Rattle.std.specs.Prelude.{◌≡◌, ◌⊎◌, ℕ, true, false, List, map, Some, None, Result, Ok, IfErr, IsSomeAnd}
 use Rattle.ivy_base.specs.declared.operation.Moment.{Moment}
+use Rattle.hss_keys.specs.Saved.{IsSigner}
 use Rattle.hss_keys.specs.Signer.{Signer}
+use Rattle.log_model.specs.View.{View}
 use Rattle.log_heads.specs.Signed.{hss_judged}
 use Rattle.nfs_model.specs.Replies.{IsFittingReply}
 use Rattle.nfs_model.specs.Results.{result as bytes_of}
@@ -21,21 +23,22 @@ use Rattle.log_fetch.specs.declared.asked.Asked.{Asked}
 use Rattle.log_fetch.specs.declared.refresh.Refresh.{Refresh}
 use Rattle.log_fetch.specs.declared.turned.Turned.{Turned}
 use Rattle.log_fetch.specs.declared.turned.TurnFault.{TurnFault}
-use Rattle.log_fetch.specs.Standings.{asked_of}
+use Rattle.log_fetch.specs.Standings.{asked_of, refresh_of}
 use Rattle.ivy_agent.specs.Answering.{IsCall}
 use Rattle.ivy_agent.specs.Holders.{Holder}
-use Rattle.ivy_agent.specs.Turns.{IsFetchedIn}
+use Rattle.ivy_agent.specs.Turns.{IsFetchedIn, TakesTurn}
 use Rattle.ivy_session.specs.declared.served.Served.{Served}
 use Rattle.ivy_session.specs.declared.session.Next.TheVariants as next
 use Rattle.ivy_session.specs.States.{SessionState, asked_at, is_turning}
 use Rattle.ivy_session.specs.Stepping.{AsksOf, IsAnewFor, IsBatchOf, IsHeard, IsNext, IsTurned}
 use Rattle.ring_nodes.specs.NodesState.{NodesState, IsNodesOf, with_nodes}
+use Rattle.world_model.specs.Agents.{hss}
 use Rattle.world_model.specs.Fates.{FateOf}
 use Rattle.world_model.specs.Keepers.{Keeper}
 use Rattle.world_model.specs.World.{World, Participant, peer_of, with_participant}
 use Rattle.world_model.specs.Steps.{Scene}
 use Rattle.world_laws.specs.Keeps.{GoesOn, IsInHand, Keeps, OnlyPublishes}
-use Rattle.step_laws.specs.Scenes.{HadTurn, HasAsked, IsDone, IsSceneOf, IsStep, turned_world}
+use Rattle.step_laws.specs.Scenes.{GivesTurn, GivesTurnThere, HasAsked, IsDone, IsSceneOf, IsStep, holder_of, memory_saves, turned_world}
 
 -- ---- asks
 
@@ -68,23 +71,28 @@ TurnsMayBe J = (judges : Judges J) (c : Scene) (r : ℕ) (p : Participant) (old 
     → (is_turning mid.stage ≡ true) × IsSomeAnd p.agent.view (λ view. IsFetchedIn view refresh.batch) × (refresh.basis ≡ None)
     × ((asked : Asked) → asked_at mid.stage ≡ Some asked → IsCall (asked_of asked) c.world.now)
 
+-- What an agent that is kept in memory says of its turn is what came of it.
+abbrev pub AgentsGiveTurns : Type 0
+AgentsGiveTurns = (p : Participant) (view : View) (refresh : Refresh) (asked : Asked) (now : Moment) (turned : Result Turned TurnFault) (after : Holder Keeper Signer)
+    → TakesTurn hss IsSigner memory_saves view (refresh_of refresh) (asked_of asked) now (holder_of p) turned after → GivesTurn p view refresh asked now turned after
+
 -- after a turn that is refused a session begins anew without a snapshot to load
 abbrev pub RefusalsAreFresh : Type 0
 RefusalsAreFresh = (p : Participant) (refresh : Refresh) (asked : Asked) (now : Moment) (turned : Result Turned TurnFault) (after : Holder Keeper Signer)
-    → IsSomeAnd p.agent.view (λ view. Unit {0}) → HadTurn p refresh asked now turned after → IfErr turned IsAnewFor
+    → IsSomeAnd p.agent.view (λ view. Unit {0}) → GivesTurnThere p refresh asked now turned after → IfErr turned IsAnewFor
 
 -- Whatever comes of the turn, and whatever the session makes of it, is a step.
 abbrev pub TurnsAreSteps : Type 0 → Type 0
 TurnsAreSteps J = (judges : Judges J) (c : Scene) (r : ℕ) (p : Participant) (old mid new : SessionState J) (cache : Cache) (refresh : Refresh) (asked : Asked) (turned : Result Turned TurnFault) (after : Holder Keeper Signer)
     → Keeps (c.world, c.story) → IsInHand c r → IsSceneOf judges c r p old → is_turning old.stage ≡ false → IsNext judges old mid p.cache cache (next.Turn refresh)
-    → asked_at mid.stage ≡ Some asked → HadTurn p refresh asked c.world.now turned after → IsTurned judges mid new turned
+    → asked_at mid.stage ≡ Some asked → GivesTurnThere p refresh asked c.world.now turned after → IsTurned judges mid new turned
     → IsStep judges c r new (turned_world c.world (record p { cache = cache }) turned after)
 
 -- Where the bytes of its turn are read as a reply of the call's procedure, that is what the session says when it publishes.
 abbrev pub RepliesAreRead : Type 0 → Type 0
 RepliesAreRead J = (judges : Judges J) (c : Scene) (r : ℕ) (p : Participant) (old mid new : SessionState J) (cache : Cache) (refresh : Refresh) (asked : Asked) (turned : Turned) (after : Holder Keeper Signer) (read : Reply)
     → Keeps (c.world, c.story) → IsInHand c r → IsSceneOf judges c r p old → is_turning old.stage ≡ false → IsNext judges old mid p.cache cache (next.Turn refresh)
-    → asked_at mid.stage ≡ Some asked → HadTurn p refresh asked c.world.now (Ok turned) after → IsTurned judges mid new (Ok turned) → IsFittingReply asked.args read → turned.reply ≡ bytes_of read
+    → asked_at mid.stage ≡ Some asked → GivesTurnThere p refresh asked c.world.now (Ok turned) after → IsTurned judges mid new (Ok turned) → IsFittingReply asked.args read → turned.reply ≡ bytes_of read
     → (step : IsStep judges c r new (turned_world c.world (record p { cache = cache }) (Ok turned) after)) × (xid : ℕ) × (step.next.session.stage ≡ publishing (Some (said_of xid read)) turned.posts)
 
 -- ---- the end

@@ -1,11 +1,14 @@
 -- Scenes of a world that code shows, and the steps that its calls are: an ask of a node, a turn, a settling, or the end.
 use Rattle.std.specs.Prelude.{◌≡◌, ◌≢◌, ℕ, true, Bool, List, [], Option, Some, None, Result, Ok, Err, IfSome}
 use Rattle.ivy_base.specs.declared.operation.Moment.{Moment}
-use Rattle.hss_keys.specs.Saved.{IsSigner}
 use Rattle.hss_keys.specs.Signer.{Signer}
+use Rattle.log_model.specs.View.{View}
 use Rattle.log_heads.specs.Signed.{hss_judged}
 use Rattle.dhash_client.specs.GetHead.{Judges}
-use Rattle.ivy_io.specs.Keepers.{after_save, fails_next}
+use Rattle.ivy_io.specs.Keepers.{after_save}
+use Rattle.nfs_model.specs.declared.replies.Reply.{Reply}
+use Rattle.agent_model.specs.Standing.{anew_in}
+use Rattle.agent_model.specs.Turning.{Answered, Behind, BelowTide, TurnEnd, Turns}
 use Rattle.session_model.specs.Sessions.{Cache, Over, Said, Session}
 use Rattle.session_model.specs.Courses.{LacksMemory}
 use Rattle.log_fetch.specs.declared.asked.Asked.{Asked}
@@ -13,13 +16,13 @@ use Rattle.log_fetch.specs.declared.refresh.Refresh.{Refresh}
 use Rattle.log_fetch.specs.declared.turned.Turned.{Turned}
 use Rattle.log_fetch.specs.declared.turned.TurnFault.{TurnFault}
 use Rattle.log_fetch.specs.declared.turned.TurnFault.TheVariants as fault
-use Rattle.log_fetch.specs.Standings.{asked_of, notes_of, refresh_of}
+use Rattle.log_fetch.specs.Standings.{asked_of, notes_of, refresh_of, standing_of}
 use Rattle.ivy_agent.specs.Holders.{Holder}
-use Rattle.ivy_agent.specs.Turns.{TakesTurn}
+use Rattle.ivy_agent.specs.Turns.{Gives}
 use Rattle.ivy_session.specs.declared.served.Served.{Served}
 use Rattle.ivy_session.specs.States.{IsSession, SessionState, served_of, session_awaited}
-use Rattle.world_model.specs.Agents.{hss}
-use Rattle.world_model.specs.Keepers.{Keeper}
+use Rattle.world_model.specs.Agents.{Kept, hss}
+use Rattle.world_model.specs.Keepers.{Keeper, asked_to_save, fails_next}
 use Rattle.world_model.specs.World.{World, Participant, participant, with_participant}
 use Rattle.world_model.specs.Steps.{Scene, Steps, having_made, world_after}
 
@@ -69,9 +72,23 @@ holder_of p = record { agent = p.agent; keeper = p.keeper }
 abbrev pub memory_saves : Keeper → List ℕ → Bool → Keeper → Type 0
 memory_saves k bytes failed new = (failed ≡ fails_next k) × (new ≡ after_save k bytes)
 
--- what came of a turn of the participant's agent in its view
-abbrev pub HadTurn : Participant → Refresh → Asked → Moment → Result Turned TurnFault → Holder Keeper Signer → Type 0
-HadTurn p refresh asked now turned after = IfSome p.agent.view (λ view. TakesTurn hss IsSigner memory_saves view (refresh_of refresh) (asked_of asked) now (holder_of p) turned after)
+module _ (p : Participant) (view : View) (refresh : Refresh) (asked : Asked) (now : Moment) where
+  -- The participant's agent had its turn, whose save fails exactly where the keeper plans it; and the keeper was asked to save, where it was.
+  pub record HadTurn (end : TurnEnd) (after : Holder Keeper Signer) : Type 0 where
+    pub saving : Option Kept
+    pub turns : Turns hss (refresh_of refresh) p.agent view (fails_next p.keeper) (asked_of asked) now end after.agent saving
+    pub keeper : after.keeper ≡ asked_to_save p.keeper saving
+
+  -- how it ended, and what was given; where memory is wanting nothing changes
+  abbrev pub GivesTurn : Result Turned TurnFault → Holder Keeper Signer → Type 0
+  GivesTurn (Ok turned) after = (reply : Reply) × HadTurn (Answered reply turned.applied) after × Gives reply after.agent turned
+  GivesTurn (Err fault.Memory) after = after ≡ holder_of p
+  GivesTurn (Err (fault.Behind standing)) after = HadTurn Behind after × (standing_of standing ≡ anew_in hss after.agent view)
+  GivesTurn (Err (fault.BelowTide standing)) after = HadTurn BelowTide after × (standing_of standing ≡ anew_in hss after.agent view)
+
+-- in the view of its agent
+abbrev pub GivesTurnThere : Participant → Refresh → Asked → Moment → Result Turned TurnFault → Holder Keeper Signer → Type 0
+GivesTurnThere p refresh asked now turned after = IfSome p.agent.view (λ view. GivesTurn p view refresh asked now turned after)
 
 -- the participant then: what its agent has to publish counts as made
 abbrev pub turned_participant : Participant → Holder Keeper Signer → Participant

@@ -12,7 +12,7 @@
 //! one that its bytes are), `proofs/Turns.antt`, `proofs/Ends.antt`.
 #![tactic(auto)]
 
-ghost use Rattle.step_laws.specs.Laws.{AskedAreMade, AsksAreSteps, BatchesAreFetched, DoneIsOver, NextAskedAreMade, RefusalsAreFresh, RepliesAreRead, SettlingsAreSteps, TurnsAreSteps, TurnsMayBe};
+ghost use Rattle.step_laws.specs.Laws.{AgentsGiveTurns, AskedAreMade, AsksAreSteps, BatchesAreFetched, DoneIsOver, NextAskedAreMade, RefusalsAreFresh, RepliesAreRead, SettlingsAreSteps, TurnsAreSteps, TurnsMayBe};
 
 use nfs_laws::answers_are_replies;
 
@@ -27,11 +27,12 @@ pub fn asks_are_steps<J>()
     ensures { AsksAreSteps J }
 {}
 
-/// Laws and no code: what a refresh brought may be given to a turn, its agent may have the turn that is wanted, and after a refusal a
-/// session begins anew without a snapshot to load.
+/// Laws and no code: what a refresh brought may be given to a turn, its agent may have the turn that is wanted, what an agent that is
+/// kept in memory says of it came of it, and after a refusal a session begins anew without a snapshot to load.
 pub fn turns_may_be<J>()
     ensures batch { BatchesAreFetched }
     ensures turn { TurnsMayBe J }
+    ensures agent { AgentsGiveTurns }
     ensures refusal { RefusalsAreFresh }
 {}
 
