@@ -1,3 +1,4 @@
+mod Calls
 mod Asked
 mod Scenes
 mod Asks

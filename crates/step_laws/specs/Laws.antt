@@ -29,16 +29,28 @@ use Rattle.ivy_agent.specs.Holders.{Holder}
 use Rattle.ivy_agent.specs.Turns.{IsFetchedIn, TakesTurn}
 use Rattle.ivy_session.specs.declared.served.Served.{Served}
 use Rattle.ivy_session.specs.declared.session.Next.TheVariants as next
-use Rattle.ivy_session.specs.States.{SessionState, asked_at, is_turning}
-use Rattle.ivy_session.specs.Stepping.{AsksOf, IsAnewFor, IsBatchOf, IsHeard, IsNext, IsTurned}
+use Rattle.ivy_session.specs.States.{IsSession, SessionState, asked_at, is_turning}
+use Rattle.ivy_session.specs.Stepping.{AsksOf, IsAnewFor, IsBatchOf, IsHeard, IsNext, IsSameSession, IsTurned}
 use Rattle.ring_nodes.specs.NodesState.{NodesState, IsNodesOf, with_nodes}
 use Rattle.world_model.specs.Agents.{hss}
 use Rattle.world_model.specs.Fates.{FateOf}
 use Rattle.world_model.specs.Keepers.{Keeper}
-use Rattle.world_model.specs.World.{World, Participant, peer_of, with_participant}
-use Rattle.world_model.specs.Steps.{Scene}
+use Rattle.world_model.specs.World.{World, Participant, participant, peer_of, with_participant}
+use Rattle.world_model.specs.Steps.{Scene, Steps}
 use Rattle.world_laws.specs.Keeps.{GoesOn, IsInHand, Keeps, OnlyPublishes}
 use Rattle.step_laws.specs.Scenes.{GivesTurn, GivesTurnThere, HasAsked, IsDone, IsSceneOf, IsStep, holder_of, memory_saves, turned_world}
+
+-- ---- scenes
+
+-- A step is of one call: whose it is, its message, the nodes that it knows and its number stay.
+abbrev pub StepsAreOfOneCall : Type 0
+StepsAreOfOneCall = (r : ℕ) (name : List ℕ) (c next : Scene) → Steps hss_judged r name c next
+    → (next.session.by ≡ c.session.by) × (next.session.message ≡ c.session.message) × (next.session.entries ≡ c.session.entries) × (next.began.number ≡ c.began.number)
+
+-- so the scene after it is one of the session in code again
+abbrev pub ScenesGoOn : Type 0 → Type 0
+ScenesGoOn J = (judges : Judges J) (c next : Scene) (r : ℕ) (p q : Participant) (old new : SessionState J) → IsSceneOf judges c r p old → IsSameSession old new → Steps hss_judged r c.session.by c next
+    → participant next.world c.session.by ≡ Some q → IsSession judges next.session new → IsSceneOf judges next r q new
 
 -- ---- asks
 

@@ -6,15 +6,22 @@
 //! that session to what is wanted next. An ask is of a node that was made (`asked_nodes_are_made`), and with its fate and its hearing
 //! a step (`asks_are_steps`); a turn may be had on what the refresh brought (`turns_may_be`), and whatever came of it is a step
 //! (`turns_are_steps`), by which the session says the reply that its bytes are (`replies_are_read`); so is a settling (`settlings_are_steps`); and what is done was over, or memory is wanting (`done_is_over`).
-//! Each step tells the world then, but for the story, and the session in code (`IsStep`).
-//! Definitions: `specs/Scenes.antt`; statements: `specs/Laws.antt`. Lemmas: `proofs/Asked.antt` (whom a session asks),
-//! `proofs/Scenes.antt` (what is at hand was taken), `proofs/Asks.antt`, `proofs/Read.antt` (the reply of a turn is the
+//! Each step tells the world then, but for the story, and the session in code (`IsStep`); where that is the scene's, the scene after it
+//! is one of the session again (`scenes_go_on`).
+//! Definitions: `specs/Scenes.antt`; statements: `specs/Laws.antt`. Lemmas: `proofs/Calls.antt` (what stays of a call),
+//! `proofs/Asked.antt` (whom a session asks), `proofs/Scenes.antt` (what is at hand was taken), `proofs/Asks.antt`, `proofs/Read.antt` (the reply of a turn is the
 //! one that its bytes are), `proofs/Turns.antt`, `proofs/Ends.antt`.
 #![tactic(auto)]
 
-ghost use Rattle.step_laws.specs.Laws.{AgentsGiveTurns, AskedAreMade, AsksAreSteps, BatchesAreFetched, DoneIsOver, NextAskedAreMade, RefusalsAreFresh, RepliesAreRead, SettlingsAreSteps, TurnsAreSteps, TurnsMayBe};
+ghost use Rattle.step_laws.specs.Laws.{AgentsGiveTurns, AskedAreMade, AsksAreSteps, BatchesAreFetched, DoneIsOver, NextAskedAreMade, RefusalsAreFresh, RepliesAreRead, ScenesGoOn, SettlingsAreSteps, StepsAreOfOneCall, TurnsAreSteps, TurnsMayBe};
 
 use nfs_laws::answers_are_replies;
+
+/// Laws and no code: a step is of one call, so the scene after it is one of the session in code again.
+pub fn scenes_go_on<J>()
+    ensures call { StepsAreOfOneCall }
+    ensures scene { ScenesGoOn J }
+{}
 
 /// Laws and no code: a session in a world asks only nodes that were made, by the definitions and in code.
 pub fn asked_nodes_are_made<J>()
