@@ -5,9 +5,18 @@ use Rattle.std.specs.Str.{bytes_eq}
 use Rattle.std.proofs.lemmas.Slice.Eq.{bytes_eq-Decides}
 use Rattle.ivy_base.specs.declared.key.Key.{Key}
 use Rattle.log_heads.specs.Signed.{hss_judged}
+use Rattle.dht_ids.specs.declared.ask.Answer.{Answer}
+use Rattle.dht_ids.specs.declared.ask.Ask.{Ask}
 use Rattle.dht_ids.specs.declared.judge.Judged.{Judged}
+use Rattle.dht_ids.specs.declared.peer.Peer.{Peer}
+use Rattle.dht_ids.specs.declared.post.Ack.{Ack}
+use Rattle.dht_ids.specs.declared.post.Post.{Post}
 use Rattle.dhash_client.specs.GetHead.{Judges}
-use Rattle.session_model.specs.Sessions.{Cache, Refreshing, Session, Takes, TakesAll, TakesSome}
+use Rattle.session_model.specs.Sessions.{Cache, Hears, Refreshing, Said, Session, Takes, TakesAll, TakesSome, acknowledged, after_put}
+use Rattle.session_model.specs.Courses.{Fails, LacksMemory}
+use Rattle.session_model.specs.Courses.Fails.{fails as refresh_fails, goes_on as refresh_goes}
+use Rattle.session_model.specs.Courses.LacksMemory.{lacks}
+use Rattle.session_model.specs.Sessions.Hears.{gets_on, got, puts_on, puts}
 use Rattle.session_model.specs.Sessions.Takes.{posted, cached}
 use Rattle.session_model.specs.Sessions.TakesAll.{none as takes_none, more as takes_more}
 use Rattle.session_model.specs.Sessions.TakesSome.{none as some_none, more as some_more}
@@ -20,7 +29,7 @@ use Rattle.world_model.specs.Steps.{Scene, with_cache}
 use Rattle.world_laws.specs.Keeps.{IsInHand, Keeps}
 use Rattle.world_laws.proofs.Frames.{found_placed}
 use Rattle.world_laws.proofs.TakingOn.{taking_keeps}
-use Rattle.step_laws.specs.Scenes.{IsSceneOf}
+use Rattle.step_laws.specs.Scenes.{IsSceneOf, given_at, given_of}
 
 -- ---- participants
 
@@ -65,6 +74,29 @@ taken_same (takes_more (cached key bytes wants free not is) rest) = taken_same r
 pub all_some : {judged : Key → List ℕ → Option Judged} {r : ℕ} {s t : Session} {cache after : Cache} → TakesAll judged r s cache t after → TakesSome judged r s cache t after
 all_some (takes_none none) = some_none
 all_some (takes_more first rest) = some_more first (all_some rest)
+
+-- ---- what is said
+
+pub put_gives : (said : Option Said) (p : Post) (posts : List Post) (acks : List Ack) (held : Bool) → given_at (after_put said p posts acks held) ≡ given_of said
+put_gives said p posts acks true = refl
+put_gives said p posts acks false = refl
+
+pub hears_gives : {judged : Key → List ℕ → Option Judged} {r : ℕ} {s t : Session} {cache after : Cache} {node : Peer} {question : Ask} {given : Answer} → Hears judged r s cache node question given t after
+    → given_at t.stage ≡ given_at s.stage
+hears_gives (gets_on want wants next part) = refl
+hears_gives (got want brought wants next whole) = refl
+hears_gives (puts_on said p posts acks at next part) = refl
+hears_gives (puts said p posts acks came at next whole) = put_gives said p posts acks (acknowledged came) ∙ sym (ap given_at at)
+
+pub fails_gives : {s t : Session} → Fails s t → given_at t.stage ≡ given_at s.stage
+fails_gives (refresh_fails notes given miss xid asked at refreshes asks) = sym (ap given_at at)
+fails_gives (refresh_goes not) = refl
+
+pub lacking_gives : {s t : Session} → LacksMemory s t → (given_at t.stage ≡ given_of None) × (given_at s.stage ≡ given_of None)
+lacking_gives (lacks notes shown given end xid asked at refreshed asks rest front) = (refl, ap given_at at)
+
+pub taken_gives : {judged : Key → List ℕ → Option Judged} {r : ℕ} {s t : Session} {cache after : Cache} → TakesAll judged r s cache t after → given_at t.stage ≡ given_at s.stage
+taken_gives takes = ap (λ (u : Session). given_at u.stage) (taken_same takes)
 
 -- ---- of a scene
 

@@ -35,7 +35,7 @@ use Rattle.session_model.specs.Refreshing.{Done, FetchesAll, Loaded, LoadEnd, Lo
 use Rattle.session_model.specs.Refreshing.LoadsFor.{none as nothing_to_load, some as snapshot_to_load}
 use Rattle.session_model.specs.Refreshing.Refreshes.{loading, fetching}
 use Rattle.session_model.specs.Replies.{Asks, said_no_memory, said_of}
-use Rattle.session_model.specs.Sessions.{Cache, Over, Publishing, Refreshing, Said, Session, TakesAll, publishing}
+use Rattle.session_model.specs.Sessions.{Cache, Over, Publishing, Refreshing, Said, Session, TakesAll}
 use Rattle.session_laws.proofs.OneRefresh.{fetch_is_one}
 use Rattle.log_fetch.specs.declared.asked.Asked.{Asked}
 use Rattle.log_fetch.specs.declared.refresh.Refresh.{Refresh}
@@ -58,6 +58,7 @@ use Rattle.ivy_session.specs.Stepping as code
 use Rattle.ivy_session.specs.Stepping.IsRefused.{begins_anew as code_begins, lacks_memory as code_lacks, gives_up as code_gives_up}
 use Rattle.ivy_session.specs.Stepping.NextIs.{turns as next_turns}
 use Rattle.view_blocks.specs.Faults.{HasKeys}
+use Rattle.script_model.specs.Messages.{Given}
 use Rattle.world_model.specs.Agents.{Agent, Kept, IsKept, IsTurnIn, TakesTurn, hss, kept_bytes, own}
 use Rattle.world_model.specs.Keepers.{Keeper, asked_to_save, fails_next}
 use Rattle.world_model.specs.Story.{known_of}
@@ -69,11 +70,11 @@ use Rattle.world_laws.specs.Keeps.{IsInHand, IsKeptSo, IsSavedWell, Keeps}
 use Rattle.world_laws.proofs.Apart.{clash_is_decided}
 use Rattle.world_laws.proofs.Bringing.{found_named, its_view, refresh_may_turn}
 use Rattle.world_laws.proofs.Frames.{into_map}
-use Rattle.step_laws.specs.Laws.{AgentsGiveTurns, BatchesAreFetched, RefusalsAreFresh, RepliesAreRead, TurnsAreSteps, TurnsMayBe}
-use Rattle.step_laws.specs.Scenes.{GivesTurn, HadTurn, IsLeft, IsSceneOf, IsStep, holder_of, memory_saves, turned_participant, turned_world}
+use Rattle.step_laws.specs.Laws.{AgentsGiveTurns, BatchesAreFetched, GivesNothing, RefusalsAreFresh, RepliesAreRead, TurnsAreSteps, TurnsMayBe}
+use Rattle.step_laws.specs.Scenes.{GivesTurn, HadTurn, IsLeft, IsSceneOf, IsStep, given_at, given_by, given_of, holder_of, memory_saves, turned_participant, turned_world}
 use Rattle.step_laws.specs.Scenes.IsLeft.{goes_on as left_on, lacks_memory as left_lacking, is_cut as left_cut}
 use Rattle.step_laws.proofs.Read.{reply_of}
-use Rattle.step_laws.proofs.Scenes.{all_some, as_ring, found_then, keeps_then, taken_same, twice_placed}
+use Rattle.step_laws.proofs.Scenes.{all_some, as_ring, found_then, keeps_then, lacking_gives, taken_same, twice_placed}
 
 -- ---- what was asked for is one
 
@@ -313,39 +314,37 @@ module _ {J : Type 0} (judges : Judges J) (c : Scene) (r : ℕ) (p : Participant
     module _ (turned : Turned) where
       -- the step, after which the session says that
       abbrev SaysThen : Reply → Type 0
-      SaysThen reply = (step : IsStep judges c r new (turned_world c.world mine (Ok turned) after)) × (xid : ℕ) × (step.next.session.stage ≡ publishing (Some (said_of xid reply)) turned.posts)
+      SaysThen reply = IsStep judges c r new (turned_world c.world mine (Ok turned) after) (given_by reply)
 
       answered_step : (reply : Reply) (saving : Option Kept) (notes : List Note) (xid : ℕ) → HasRefreshed h.taken notes (refresh_of refresh) → Asks view h.taken.message xid (asked_of asked) → IsTurn (Answered reply turned.applied) saving
-          → turned.posts ≡ after.agent.pending → IsLeft judges (answered h.taken (said_of xid reply) notes after.agent.pending) new → SaysThen reply
-      answered_step reply saving notes xid done asks turn posts left =
-          let t = turn_told_so notes xid reply turned.applied saving done asks turn in (
-            record {
-              next = record {
-                world = world_after here.world (record (after_turn mine after.agent saving) { work = turned.applied });
-                story = turn_told here mine view after.agent t.told;
-                session = answered h.taken (said_of xid reply) notes after.agent.pending;
-                began = c.began;
-              };
-              steps = acts p h.taken cache _ is.is_by h.takes
-                  (acts_turns view reply turned.applied after.agent saving _ t.told in_view (answers notes (refresh_of refresh) xid (asked_of asked) reply turned.applied after.agent saving done asks turn.0) t.replies t.is_turn);
-              left = left;
-              world = same_after c.world mine (record (after_turn mine after.agent saving) { work = turned.applied }) refl
-                  ∙ ap (λ (q : Participant). world_after c.world (record q { work = turned.applied })) (same_turned mine after saving turn.1);
-            },
-            xid,
-            ap (λ (pending : List Post). publishing (Some (said_of xid reply)) pending) (sym posts),
-          )
+          → IsLeft judges (answered h.taken (said_of xid reply) notes after.agent.pending) new → SaysThen reply
+      answered_step reply saving notes xid done asks turn left =
+          let t = turn_told_so notes xid reply turned.applied saving done asks turn in
+          record {
+            next = record {
+              world = world_after here.world (record (after_turn mine after.agent saving) { work = turned.applied });
+              story = turn_told here mine view after.agent t.told;
+              session = answered h.taken (said_of xid reply) notes after.agent.pending;
+              began = c.began;
+            };
+            steps = acts p h.taken cache _ is.is_by h.takes
+                (acts_turns view reply turned.applied after.agent saving _ t.told in_view (answers notes (refresh_of refresh) xid (asked_of asked) reply turned.applied after.agent saving done asks turn.0) t.replies t.is_turn);
+            left = left;
+            world = same_after c.world mine (record (after_turn mine after.agent saving) { work = turned.applied }) refl
+                ∙ ap (λ (q : Participant). world_after c.world (record q { work = turned.applied })) (same_turned mine after saving turn.1);
+            gives = refl;
+          }
 
       by_reply : (reply : Reply) (saving : Option Kept) → turned.posts ≡ after.agent.pending → IsTurn (Answered reply turned.applied) saving → code.IsAnswered judges mid new h.taken turned reply → SaysThen reply
       by_reply reply saving posts turn a =
-          answered_step reply saving a.notes a.xid (done_so a.notes a.given a.refreshed) (asks_so a.xid a.asked a.asks) turn posts
+          answered_step reply saving a.notes a.xid (done_so a.notes a.given a.refreshed) (asks_so a.xid a.asked a.asks) turn
           (⊎_elim (λ session. left_on (subst (λ (pending : List Post). IsSession judges (answered h.taken (said_of a.xid reply) a.notes pending) new) posts session)) (λ cut. left_cut cut.0) a.publishes)
 
       abbrev Gave : Type 0
       Gave = GivesTurn p view refresh asked c.world.now (Ok turned) after
 
-      by_answer : Gave → TurnedIs judges mid new h.taken (Ok turned) → IsStep judges c r new (turned_world c.world mine (Ok turned) after)
-      by_answer t told = (by_reply t.0 t.1.saving t.2.posts (t.1.turns, t.1.keeper) (told t.0 t.2.bytes)).0
+      by_answer : Gave → TurnedIs judges mid new h.taken (Ok turned) → (given : Given) × IsStep judges c r new (turned_world c.world mine (Ok turned) after) given × GivesNothing (Ok turned) given
+      by_answer t told = (given_by t.0, by_reply t.0 t.1.saving t.2.posts (t.1.turns, t.1.keeper) (told t.0 t.2.bytes), tt)
 
       -- the reply is the one that its bytes are
       module _ (answers_are : AnswersAreReplies) (plans_are : PlansAreReplies) (finishes_are : FinishesAreReplies) (sets_make : SetsMakeTrees) (read : Reply) (fits : IsFittingReply asked.args read) (same : turned.reply ≡ bytes_of read) where
@@ -372,38 +371,44 @@ module _ {J : Type 0} (judges : Judges J) (c : Scene) (r : ℕ) (p : Participant
     -- ---- it was refused
 
     module _ (end : TurnEnd) (refusal : IsRefusal end) (saving : Option Kept) (turn : IsTurn end saving) where
-      refused_step : (t : Session) → TakesTurn c.world.now p.agent view (fails_next p.keeper) h.taken end after.agent saving t → IsLeft judges t new → IsStep judges c r new (world_after c.world (turned_participant mine after))
-      refused_step t takes left = record {
+      refused_step : (t : Session) → TakesTurn c.world.now p.agent view (fails_next p.keeper) h.taken end after.agent saving t → IsLeft judges t new → given_at t.stage ≡ given_of None → IsStep judges c r new (world_after c.world (turned_participant mine after)) (given_of None)
+      refused_step t takes left gives = record {
         next = record here { world = world_after here.world (after_turn mine after.agent saving); session = t; began = record c.began { knew = known_of c.story p.name } };
         steps = acts p h.taken cache _ is.is_by h.takes (is_refused view end after.agent saving t in_view refusal takes);
         left = left;
         world = same_after c.world mine (after_turn mine after.agent saving) refl ∙ ap (λ (q : Participant). world_after c.world q) (same_turned mine after saving turn.1);
+        gives = gives;
       }
 
-      anew_step : h.taken.starts < 2 → IsLeft judges (anew h.taken (anew_in hss after.agent view)) new → IsStep judges c r new (world_after c.world (turned_participant mine after))
+      anew_step : h.taken.starts < 2 → IsLeft judges (anew h.taken (anew_in hss after.agent view)) new → IsStep judges c r new (world_after c.world (turned_participant mine after)) (given_of None)
       anew_step few left = refused_step (anew h.taken (anew_in hss after.agent view))
-          (begins_anew h.notes (refresh_of refresh) call.0 (asked_of asked) end after.agent saving h.done call.1 turn.0 refusal few) left
+          (begins_anew h.notes (refresh_of refresh) call.0 (asked_of asked) end after.agent saving h.done call.1 turn.0 refusal few) left (ap given_at h.done.0)
 
-      by_refusal : (standing : ModelStanding) → standing ≡ anew_in hss after.agent view → code.IsRefused judges mid new h.taken standing → IsStep judges c r new (world_after c.world (turned_participant mine after))
+      by_refusal : (standing : ModelStanding) → standing ≡ anew_in hss after.agent view → code.IsRefused judges mid new h.taken standing → IsStep judges c r new (world_after c.world (turned_participant mine after)) (given_of None)
       by_refusal standing same (code_begins few session) = anew_step few (left_on (subst (λ (s : ModelStanding). IsSession judges (anew h.taken s) new) same session))
       by_refusal standing same (code_lacks t few lacking session) = anew_step few (left_lacking t (subst (λ (s : ModelStanding). LacksMemory (anew h.taken s) t) same lacking) session)
       by_refusal standing same (code_gives_up xid notes given other many done asks session) =
           refused_step (ended h.taken (said_no_memory xid) notes None)
-          (gives_up notes (refresh_of refresh) xid (asked_of asked) end after.agent saving (done_so notes given done) (asks_so xid other asks) turn.0 refusal many) (left_on session)
+          (gives_up notes (refresh_of refresh) xid (asked_of asked) end after.agent saving (done_so notes given done) (asks_so xid other asks) turn.0 refusal many) (left_on session) refl
 
     -- ---- whatever it was
 
     by_turn : (turned : Result Turned TurnFault) → GivesTurn p view refresh asked c.world.now turned after → TurnedIs judges mid new h.taken turned
-        → IsStep judges c r new (turned_world c.world mine turned after)
+        → (given : Given) × IsStep judges c r new (turned_world c.world mine turned after) given × GivesNothing turned given
     by_turn (Ok turned) t told = by_answer turned t told
-    by_turn (Err fault.Memory) t told = record {
-      next = with_cache hss_judged r c p told.0 cache;
-      steps = lacks_memory p h.taken told.0 cache is.is_by (all_some h.takes) told.1;
-      left = left_on told.2;
-      world = refl;
-    }
-    by_turn (Err (fault.Behind standing)) t told = by_refusal Behind tt t.0.saving (t.0.turns, t.0.keeper) (standing_of standing) t.1 told
-    by_turn (Err (fault.BelowTide standing)) t told = by_refusal BelowTide tt t.0.saving (t.0.turns, t.0.keeper) (standing_of standing) t.1 told
+    by_turn (Err fault.Memory) t told = (
+      given_of None,
+      record {
+        next = with_cache hss_judged r c p told.0 cache;
+        steps = lacks_memory p h.taken told.0 cache is.is_by (all_some h.takes) told.1;
+        left = left_on told.2;
+        world = refl;
+        gives = (lacking_gives told.1).0;
+      },
+      refl,
+    )
+    by_turn (Err (fault.Behind standing)) t told = (given_of None, by_refusal Behind tt t.0.saving (t.0.turns, t.0.keeper) (standing_of standing) t.1 told, refl)
+    by_turn (Err (fault.BelowTide standing)) t told = (given_of None, by_refusal BelowTide tt t.0.saving (t.0.turns, t.0.keeper) (standing_of standing) t.1 told, refl)
 
 pub turns_may_be : {J : Type 0} → TurnsMayBe J
 turns_may_be judges c r p old mid cache refresh keeps hand is wanted = may_be judges c r p old is keeps hand mid cache refresh (turns_then judges c r p old is keeps hand mid cache refresh (wanted.1 c.session is.session))

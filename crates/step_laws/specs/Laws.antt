@@ -1,5 +1,5 @@
 -- Laws that tie the contracts of sessions in code, of their agents' turns and of a ring's nodes to the steps of a world's sessions.
-use Rattle.std.specs.Prelude.{◌≡◌, ◌⊎◌, ℕ, true, false, List, map, Some, None, Result, Ok, IfErr, IsSomeAnd}
+use Rattle.std.specs.Prelude.{◌≡◌, ◌⊎◌, ℕ, true, false, List, map, Some, None, Result, Ok, Err, IfErr, IsSomeAnd}
 use Rattle.ivy_base.specs.declared.operation.Moment.{Moment}
 use Rattle.hss_keys.specs.Saved.{IsSigner}
 use Rattle.hss_keys.specs.Signer.{Signer}
@@ -17,8 +17,7 @@ use Rattle.dhash_client.specs.GetHead.{Judges}
 use Rattle.agent_model.specs.Others.{settled}
 use Rattle.agent_model.specs.Standing.{Standing as ModelStanding}
 use Rattle.log_records.specs.Batches.{Batch}
-use Rattle.session_model.specs.Replies.{said_of}
-use Rattle.session_model.specs.Sessions.{Cache, Session, publishing}
+use Rattle.session_model.specs.Sessions.{Cache, Session}
 use Rattle.log_fetch.specs.declared.asked.Asked.{Asked}
 use Rattle.log_fetch.specs.declared.refresh.Refresh.{Refresh}
 use Rattle.log_fetch.specs.declared.turned.Turned.{Turned}
@@ -32,13 +31,14 @@ use Rattle.ivy_session.specs.declared.session.Next.TheVariants as next
 use Rattle.ivy_session.specs.States.{IsSession, SessionState, asked_at, is_turning}
 use Rattle.ivy_session.specs.Stepping.{AsksOf, IsAnewFor, IsBatchOf, IsHeard, IsNext, IsSameSession, IsTurned}
 use Rattle.ring_nodes.specs.NodesState.{NodesState, IsNodesOf, with_nodes}
+use Rattle.script_model.specs.Messages.{Given}
 use Rattle.world_model.specs.Agents.{hss}
 use Rattle.world_model.specs.Fates.{FateOf}
 use Rattle.world_model.specs.Keepers.{Keeper}
 use Rattle.world_model.specs.World.{World, Participant, participant, peer_of, with_participant}
 use Rattle.world_model.specs.Steps.{Scene, Steps}
 use Rattle.world_laws.specs.Keeps.{GoesOn, IsInHand, Keeps, OnlyPublishes}
-use Rattle.step_laws.specs.Scenes.{GivesTurn, GivesTurnThere, HasAsked, IsDone, IsSceneOf, IsStep, holder_of, memory_saves, turned_world}
+use Rattle.step_laws.specs.Scenes.{GivesTurn, GivesTurnThere, HasAsked, IsDone, IsSceneOf, IsStep, given_at, given_by, given_of, holder_of, memory_saves, turned_world}
 
 -- ---- scenes
 
@@ -68,7 +68,7 @@ abbrev pub AsksAreSteps : Type 0 → Type 0
 AsksAreSteps J = (judges : Judges J) (c : Scene) (r : ℕ) (p : Participant) (old mid new : SessionState J) (between after : Cache) (node : Peer) (question : Ask) (answer : Answer) (before later : NodesState)
     → IsSceneOf judges c r p old → HasAsked old c.session → IsNext judges old mid p.cache between (next.Ask node question)
     → IsNodesOf c.world before → ((w : World) → IsNodesOf w before → FateOf hss_judged w node question answer (with_nodes w later)) → IsHeard judges mid new between after (Ok answer)
-    → IsStep judges c r new (with_participant (with_nodes c.world later) (record p { cache = after }))
+    → IsStep judges c r new (with_participant (with_nodes c.world later) (record p { cache = after })) (given_at c.session.stage)
 
 -- ---- turns
 
@@ -93,26 +93,31 @@ abbrev pub RefusalsAreFresh : Type 0
 RefusalsAreFresh = (p : Participant) (refresh : Refresh) (asked : Asked) (now : Moment) (turned : Result Turned TurnFault) (after : Holder Keeper Signer)
     → IsSomeAnd p.agent.view (λ view. Unit {0}) → GivesTurnThere p refresh asked now turned after → IfErr turned IsAnewFor
 
+-- where there was no turn nothing is given
+abbrev pub GivesNothing : Result Turned TurnFault → Given → Type 0
+GivesNothing (Ok turned) given = Unit {0}
+GivesNothing (Err fault) given = given ≡ given_of None
+
 -- Whatever comes of the turn, and whatever the session makes of it, is a step.
 abbrev pub TurnsAreSteps : Type 0 → Type 0
 TurnsAreSteps J = (judges : Judges J) (c : Scene) (r : ℕ) (p : Participant) (old mid new : SessionState J) (cache : Cache) (refresh : Refresh) (asked : Asked) (turned : Result Turned TurnFault) (after : Holder Keeper Signer)
     → Keeps (c.world, c.story) → IsInHand c r → IsSceneOf judges c r p old → is_turning old.stage ≡ false → IsNext judges old mid p.cache cache (next.Turn refresh)
     → asked_at mid.stage ≡ Some asked → GivesTurnThere p refresh asked c.world.now turned after → IsTurned judges mid new turned
-    → IsStep judges c r new (turned_world c.world (record p { cache = cache }) turned after)
+    → (given : Given) × IsStep judges c r new (turned_world c.world (record p { cache = cache }) turned after) given × GivesNothing turned given
 
--- Where the bytes of its turn are read as a reply of the call's procedure, that is what the session says when it publishes.
+-- Where the bytes of its turn are read as a reply of the call's procedure, that is what the session says then.
 abbrev pub RepliesAreRead : Type 0 → Type 0
 RepliesAreRead J = (judges : Judges J) (c : Scene) (r : ℕ) (p : Participant) (old mid new : SessionState J) (cache : Cache) (refresh : Refresh) (asked : Asked) (turned : Turned) (after : Holder Keeper Signer) (read : Reply)
     → Keeps (c.world, c.story) → IsInHand c r → IsSceneOf judges c r p old → is_turning old.stage ≡ false → IsNext judges old mid p.cache cache (next.Turn refresh)
     → asked_at mid.stage ≡ Some asked → GivesTurnThere p refresh asked c.world.now (Ok turned) after → IsTurned judges mid new (Ok turned) → IsFittingReply asked.args read → turned.reply ≡ bytes_of read
-    → (step : IsStep judges c r new (turned_world c.world (record p { cache = cache }) (Ok turned) after)) × (xid : ℕ) × (step.next.session.stage ≡ publishing (Some (said_of xid read)) turned.posts)
+    → IsStep judges c r new (turned_world c.world (record p { cache = cache }) (Ok turned) after) (given_by read)
 
 -- ---- the end
 
 -- That its agent drops what was acknowledged is a step.
 abbrev pub SettlingsAreSteps : Type 0 → Type 0
 SettlingsAreSteps J = (judges : Judges J) (c : Scene) (r : ℕ) (p : Participant) (old new : SessionState J) (after : Cache) (acks : List Ack)
-    → IsSceneOf judges c r p old → IsNext judges old new p.cache after (next.Settle acks) → IsStep judges c r new (with_participant c.world (record p { agent = settled p.agent acks; cache = after }))
+    → IsSceneOf judges c r p old → IsNext judges old new p.cache after (next.Settle acks) → IsStep judges c r new (with_participant c.world (record p { agent = settled p.agent acks; cache = after })) (given_at c.session.stage)
 
 -- A session in code is done where it is over, or memory is wanting.
 abbrev pub DoneIsOver : Type 0 → Type 0

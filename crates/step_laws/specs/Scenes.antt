@@ -9,7 +9,9 @@ use Rattle.ivy_io.specs.Keepers.{after_save}
 use Rattle.nfs_model.specs.declared.replies.Reply.{Reply}
 use Rattle.agent_model.specs.Standing.{anew_in}
 use Rattle.agent_model.specs.Turning.{Answered, Behind, BelowTide, TurnEnd, Turns}
-use Rattle.session_model.specs.Sessions.{Cache, Over, Said, Session}
+use Rattle.script_model.specs.Messages.{Given}
+use Rattle.session_model.specs.Replies.{handle_given, verifier_given}
+use Rattle.session_model.specs.Sessions.{Cache, Over, Publishing, Refreshing, Said, Session, Stage}
 use Rattle.session_model.specs.Courses.{LacksMemory}
 use Rattle.log_fetch.specs.declared.asked.Asked.{Asked}
 use Rattle.log_fetch.specs.declared.refresh.Refresh.{Refresh}
@@ -40,6 +42,22 @@ pub record IsSceneOf {J : Type 0} (judges : Judges J) (c : Scene) (r : ℕ) (p :
 abbrev pub HasAsked : {J : Type 0} → SessionState J → Session → Type 0
 HasAsked st s = session_awaited st ≢ None → s.current ≢ []
 
+-- ---- what is said
+
+-- what is said gives this to later lines: nothing where nothing is said yet
+abbrev pub given_of : Option Said → Given
+given_of None = record { handle = None; verifier = None }
+given_of (Some said) = record { handle = said.handle; verifier = said.verifier }
+
+abbrev pub given_at : Stage → Given
+given_at Refreshing = given_of None
+given_at (Publishing said posts acks) = given_of said
+given_at (Over said) = given_of said
+
+-- so does a reply
+abbrev pub given_by : Reply → Given
+given_by reply = record { handle = handle_given reply; verifier = verifier_given reply }
+
 -- ---- a step
 
 -- The session in code is that one; or memory was wanting behind it: it is over without a turn, or publishes no more.
@@ -48,18 +66,19 @@ pub data IsLeft {J : Type 0} (judges : Judges J) (s : Session) (st : SessionStat
   lacks_memory : (t : Session) → LacksMemory s t → IsSession judges t st → IsLeft judges s st
   is_cut : st.is_cut ≡ true → IsLeft judges s st
 
--- some step of the scene's session leaves that world, and that session in code
-pub record IsStep {J : Type 0} (judges : Judges J) (c : Scene) (r : ℕ) (st : SessionState J) (after : World) : Type 0 where
+-- some step of the scene's session leaves that world and that session in code, and what is said then gives that
+pub record IsStep {J : Type 0} (judges : Judges J) (c : Scene) (r : ℕ) (st : SessionState J) (after : World) (given : Given) : Type 0 where
   pub next : Scene
   pub steps : Steps hss_judged r c.session.by c next
   pub left : IsLeft judges next.session st
   pub world : next.world ≡ after
+  pub gives : given_at next.session.stage ≡ given
 
 -- It was over; or memory was wanting, and it is over by a step; or it publishes no more.
 pub data IsDone {J : Type 0} (c : Scene) (r : ℕ) (p : Participant) (st : SessionState J) (after : Cache) (told : Served) : Type 0 where
   was_over : (said : Option Said) → c.session.stage ≡ Over said → told ≡ served_of said → st.notes ≡ notes_of c.session.notes c.session.missed → after ≡ p.cache → IsDone c r p st after told
   lacks_memory : (next : Scene) (said : Said) → Steps hss_judged r c.session.by c next → next.session.stage ≡ Over (Some said) → told ≡ served_of (Some said)
-      → st.notes ≡ notes_of next.session.notes next.session.missed → next.world ≡ with_participant c.world (record p { cache = after }) → IsDone c r p st after told
+      → given_at next.session.stage ≡ given_of None → st.notes ≡ notes_of next.session.notes next.session.missed → next.world ≡ with_participant c.world (record p { cache = after }) → IsDone c r p st after told
   is_cut : st.is_cut ≡ true → IsDone c r p st after told
 
 -- ---- a turn

@@ -2,15 +2,16 @@
 //!
 //! Layer: laws and no code, over the contracts of `ivy_session`, `ivy_agent` and `ring_nodes`, and the steps of `world_model` in
 //! worlds that keep what they should (`world_laws`); below the code that drives a session in a world.
-//! For the layers above: a scene of a world, whose session is one in code (`IsSceneOf`, `specs/Scenes.antt`), comes by each call of
-//! that session to what is wanted next. An ask is of a node that was made (`asked_nodes_are_made`), and with its fate and its hearing
-//! a step (`asks_are_steps`); a turn may be had on what the refresh brought (`turns_may_be`), and whatever came of it is a step
-//! (`turns_are_steps`), by which the session says the reply that its bytes are (`replies_are_read`); so is a settling (`settlings_are_steps`); and what is done was over, or memory is wanting (`done_is_over`).
-//! Each step tells the world then, but for the story, and the session in code (`IsStep`); where that is the scene's, the scene after it
-//! is one of the session again (`scenes_go_on`).
+//! For the layers above: a scene of a world, whose session is one in code (`IsSceneOf`, `specs/Scenes.antt`), comes by each call
+//! of that session to what is wanted next. An ask is of a node that was made (`asked_nodes_are_made`), and with its fate and its
+//! hearing a step (`asks_are_steps`); a turn may be had on what the refresh brought (`turns_may_be`), and whatever came of it is
+//! a step (`turns_are_steps`), by which the session says the reply that its bytes are (`replies_are_read`); so is a settling
+//! (`settlings_are_steps`); and what is done was over, or memory is wanting (`done_is_over`). Each step tells the world then, but
+//! for the story, the session in code, and what its reply gives to later lines (`IsStep`); where that is the scene's, the scene
+//! after it is one of the session again (`scenes_go_on`).
 //! Definitions: `specs/Scenes.antt`; statements: `specs/Laws.antt`. Lemmas: `proofs/Calls.antt` (what stays of a call),
-//! `proofs/Asked.antt` (whom a session asks), `proofs/Scenes.antt` (what is at hand was taken), `proofs/Asks.antt`, `proofs/Read.antt` (the reply of a turn is the
-//! one that its bytes are), `proofs/Turns.antt`, `proofs/Ends.antt`.
+//! `proofs/Asked.antt` (whom a session asks), `proofs/Scenes.antt` (what is at hand was taken), `proofs/Asks.antt`,
+//! `proofs/Read.antt` (the reply of a turn is the one that its bytes are), `proofs/Turns.antt`, `proofs/Ends.antt`.
 #![tactic(auto)]
 
 ghost use Rattle.step_laws.specs.Laws.{AgentsGiveTurns, AskedAreMade, AsksAreSteps, BatchesAreFetched, DoneIsOver, NextAskedAreMade, RefusalsAreFresh, RepliesAreRead, ScenesGoOn, SettlingsAreSteps, StepsAreOfOneCall, TurnsAreSteps, TurnsMayBe};
