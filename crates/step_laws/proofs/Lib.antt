@@ -1,0 +1,7 @@
+mod Calls
+mod Asked
+mod Scenes
+mod Asks
+mod Read
+mod Turns
+mod Ends

@@ -1,0 +1,121 @@
+-- Scenes of a world that code shows, and the steps that its calls are: an ask of a node, a turn, a settling, or the end.
+use Rattle.std.specs.Prelude.{◌≡◌, ◌≢◌, ℕ, true, Bool, List, [], Option, Some, None, Result, Ok, Err, IfSome}
+use Rattle.ivy_base.specs.declared.operation.Moment.{Moment}
+use Rattle.hss_keys.specs.Signer.{Signer}
+use Rattle.log_model.specs.View.{View}
+use Rattle.log_heads.specs.Signed.{hss_judged}
+use Rattle.dhash_client.specs.GetHead.{Judges}
+use Rattle.ivy_io.specs.Keepers.{after_save}
+use Rattle.nfs_model.specs.declared.replies.Reply.{Reply}
+use Rattle.agent_model.specs.Standing.{anew_in}
+use Rattle.agent_model.specs.Turning.{Answered, Behind, BelowTide, TurnEnd, Turns}
+use Rattle.script_model.specs.Messages.{Given}
+use Rattle.session_model.specs.Replies.{handle_given, verifier_given}
+use Rattle.session_model.specs.Sessions.{Cache, Over, Publishing, Refreshing, Said, Session, Stage}
+use Rattle.session_model.specs.Courses.{LacksMemory}
+use Rattle.log_fetch.specs.declared.asked.Asked.{Asked}
+use Rattle.log_fetch.specs.declared.refresh.Refresh.{Refresh}
+use Rattle.log_fetch.specs.declared.turned.Turned.{Turned}
+use Rattle.log_fetch.specs.declared.turned.TurnFault.{TurnFault}
+use Rattle.log_fetch.specs.declared.turned.TurnFault.TheVariants as fault
+use Rattle.log_fetch.specs.Standings.{asked_of, notes_of, refresh_of, standing_of}
+use Rattle.ivy_agent.specs.Holders.{Holder}
+use Rattle.ivy_agent.specs.Turns.{Gives}
+use Rattle.ivy_session.specs.declared.served.Served.{Served}
+use Rattle.ivy_session.specs.States.{IsSession, SessionState, served_of, session_awaited}
+use Rattle.world_model.specs.Agents.{Kept, hss}
+use Rattle.world_model.specs.Keepers.{Keeper, asked_to_save, fails_next}
+use Rattle.world_model.specs.World.{World, Participant, participant, with_participant}
+use Rattle.world_model.specs.Steps.{Scene, Steps, having_made, world_after}
+
+-- ---- a scene
+
+-- The scene's session is that one in code, which knows some node, gets from as many owners as the ring puts to, and has heads judged by their signatures; and it is that participant's.
+pub record IsSceneOf {J : Type 0} (judges : Judges J) (c : Scene) (r : ℕ) (p : Participant) (st : SessionState J) : Type 0 where
+  pub is_by : participant c.world c.session.by ≡ Some p
+  pub some_entry : c.session.entries ≢ []
+  pub session : IsSession judges c.session st
+  pub judge : judges st.judge ≡ hss_judged
+  pub replicas : st.replicas ≡ r
+
+-- what it waits for is the next ask of a get or a put that has made some, each of which was heard
+abbrev pub HasAsked : {J : Type 0} → SessionState J → Session → Type 0
+HasAsked st s = session_awaited st ≢ None → s.current ≢ []
+
+-- ---- what is said
+
+-- what is said gives this to later lines: nothing where nothing is said yet
+abbrev pub given_of : Option Said → Given
+given_of None = record { handle = None; verifier = None }
+given_of (Some said) = record { handle = said.handle; verifier = said.verifier }
+
+abbrev pub given_at : Stage → Given
+given_at Refreshing = given_of None
+given_at (Publishing said posts acks) = given_of said
+given_at (Over said) = given_of said
+
+-- so does a reply
+abbrev pub given_by : Reply → Given
+given_by reply = record { handle = handle_given reply; verifier = verifier_given reply }
+
+-- ---- a step
+
+-- The session in code is that one; or memory was wanting behind it: it is over without a turn, or publishes no more.
+pub data IsLeft {J : Type 0} (judges : Judges J) (s : Session) (st : SessionState J) : Type 0 where
+  goes_on : IsSession judges s st → IsLeft judges s st
+  lacks_memory : (t : Session) → LacksMemory s t → IsSession judges t st → IsLeft judges s st
+  is_cut : st.is_cut ≡ true → IsLeft judges s st
+
+-- some step of the scene's session leaves that world and that session in code, and what is said then gives that
+pub record IsStep {J : Type 0} (judges : Judges J) (c : Scene) (r : ℕ) (st : SessionState J) (after : World) (given : Given) : Type 0 where
+  pub next : Scene
+  pub steps : Steps hss_judged r c.session.by c next
+  pub left : IsLeft judges next.session st
+  pub world : next.world ≡ after
+  pub gives : given_at next.session.stage ≡ given
+
+-- It was over; or memory was wanting, and it is over by a step; or it publishes no more.
+pub data IsDone {J : Type 0} (c : Scene) (r : ℕ) (p : Participant) (st : SessionState J) (after : Cache) (told : Served) : Type 0 where
+  was_over : (said : Option Said) → c.session.stage ≡ Over said → told ≡ served_of said → st.notes ≡ notes_of c.session.notes c.session.missed → after ≡ p.cache → IsDone c r p st after told
+  lacks_memory : (next : Scene) (said : Said) → Steps hss_judged r c.session.by c next → next.session.stage ≡ Over (Some said) → told ≡ served_of (Some said)
+      → given_at next.session.stage ≡ given_of None → st.notes ≡ notes_of next.session.notes next.session.missed → next.world ≡ with_participant c.world (record p { cache = after }) → IsDone c r p st after told
+  is_cut : st.is_cut ≡ true → IsDone c r p st after told
+
+-- ---- a turn
+
+-- the participant's agent and keeper, as a turn sees them
+abbrev pub holder_of : Participant → Holder Keeper Signer
+holder_of p = record { agent = p.agent; keeper = p.keeper }
+
+-- how a save may leave a keeper in memory
+abbrev pub memory_saves : Keeper → List ℕ → Bool → Keeper → Type 0
+memory_saves k bytes failed new = (failed ≡ fails_next k) × (new ≡ after_save k bytes)
+
+module _ (p : Participant) (view : View) (refresh : Refresh) (asked : Asked) (now : Moment) where
+  -- The participant's agent had its turn, whose save fails exactly where the keeper plans it; and the keeper was asked to save, where it was.
+  pub record HadTurn (end : TurnEnd) (after : Holder Keeper Signer) : Type 0 where
+    pub saving : Option Kept
+    pub turns : Turns hss (refresh_of refresh) p.agent view (fails_next p.keeper) (asked_of asked) now end after.agent saving
+    pub keeper : after.keeper ≡ asked_to_save p.keeper saving
+
+  -- how it ended, and what was given; where memory is wanting nothing changes
+  abbrev pub GivesTurn : Result Turned TurnFault → Holder Keeper Signer → Type 0
+  GivesTurn (Ok turned) after = (reply : Reply) × HadTurn (Answered reply turned.applied) after × Gives reply after.agent turned
+  GivesTurn (Err fault.Memory) after = after ≡ holder_of p
+  GivesTurn (Err (fault.Behind standing)) after = HadTurn Behind after × (standing_of standing ≡ anew_in hss after.agent view)
+  GivesTurn (Err (fault.BelowTide standing)) after = HadTurn BelowTide after × (standing_of standing ≡ anew_in hss after.agent view)
+
+-- in the view of its agent
+abbrev pub GivesTurnThere : Participant → Refresh → Asked → Moment → Result Turned TurnFault → Holder Keeper Signer → Type 0
+GivesTurnThere p refresh asked now turned after = IfSome p.agent.view (λ view. GivesTurn p view refresh asked now turned after)
+
+-- the participant then: what its agent has to publish counts as made
+abbrev pub turned_participant : Participant → Holder Keeper Signer → Participant
+turned_participant p after = having_made (record p { agent = after.agent; keeper = after.keeper }) after.agent.pending
+
+-- the world then; where memory was wanting there was no turn
+abbrev pub turned_world : World → Participant → Result Turned TurnFault → Holder Keeper Signer → World
+turned_world w p (Ok turned) after = world_after w (record (turned_participant p after) { work = turned.applied })
+turned_world w p (Err fault.Memory) after = with_participant w p
+turned_world w p (Err (fault.Behind standing)) after = world_after w (turned_participant p after)
+turned_world w p (Err (fault.BelowTide standing)) after = world_after w (turned_participant p after)
