@@ -183,21 +183,21 @@ module _ {K S : Type 0} (signs : Signing S) (IsWhole : S → Type 0) (saves : K 
       (λ f becomes by_definition. subst (λ (p : ℕ × Agent S). Turns signs (refresh_with batch basis) a view f asked now (Answered reply p.0) p.1 saving) (λ i. (sym count i, sym y_is i))
       (turning.answers h written reply x saving takes.caught_up takes.above refl may_take becomes by_definition)) in
       record {
-    fails = fails;
-    reply = reply;
-    turns = record {
-      saving = saving;
-      turns = turns_so fails becomes by_definition;
-      either = λ none other. turns_so other (either none other).0 (either none other).1;
-      keeper = left;
-      kept = may_be;
-    };
-    gives = record {
-      bytes = bytes;
-      posts = posts ∙ ap (λ (z : Agent S). z.pending) (sym y_is);
-      front = front ∙ ap (λ (z : Agent S). joined z.holding) (sym y_is);
-    };
-  }
+        fails = fails;
+        reply = reply;
+        turns = record {
+          saving = saving;
+          turns = turns_so fails becomes by_definition;
+          either = λ none other. turns_so other (either none other).0 (either none other).1;
+          keeper = left;
+          kept = may_be;
+        };
+        gives = record {
+          bytes = bytes;
+          posts = posts ∙ ap (λ (z : Agent S). z.pending) (sym y_is);
+          front = front ∙ ap (λ (z : Agent S). joined z.holding) (sym y_is);
+        };
+      }
 
   -- what is held then stands, with that front joined into the floor
   few_held : seq_of f (head_key_of own) ≤ most_records

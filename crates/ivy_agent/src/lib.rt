@@ -10,9 +10,9 @@
 //! `entering` of the definitions, for some answer to whether the save fails, with what is saved (`specs/Making.antt`,
 //! `specs/Entering.antt`). Both say of the keeper that it is what a save of exactly those bytes leaves, or, where nothing is
 //! saved, what it was; and that what is saved may be (`IsKept`), so that no other agent has those bytes. After a save that
-//! failed an agent saves no more. [`Agent::standing`] is `standing_in`,
-//! [`Agent::settle`] is `settled`. [`Agent::turn`] is a `Turns` of the definitions, for some answer to whether the save fails
-//! (`TakesTurn` in `specs/Turns.antt`): `Behind`, `BelowTide`, or a reply with how many records were applied, the agent then,
+//! failed an agent saves no more. [`Agent::standing`] is `standing_in`, [`Agent::settle`] is `settled`; [`Agent::owner`] is its
+//! public key and [`Agent::view`] its view; [`Agent::plan_fault`] plans that a save of a keeper in memory fails. [`Agent::turn`] is a `Turns` of the definitions, for some answer to whether the save fails
+//! (`TakesTurn` in `specs/Turns.antt`; where nothing is saved, for either answer): `Behind`, `BelowTide`, or a reply with how many records were applied, the agent then,
 //! and what was saved; so where names tell the blocks apart, and for every set that the agent may know, the reply is the
 //! definition's. It also says that the reply has 32,772 bytes at most, and that there was a step for each record that was
 //! applied. Want of memory, which is tied to no cause, leaves the agent and the keeper as they were; it also comes where the
