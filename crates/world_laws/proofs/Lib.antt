@@ -112,3 +112,6 @@ pub mod CalmHeld
 pub mod CalmGets
 pub mod CalmGiven
 pub mod CalmRounds
+mod FullLoads
+mod FullFetches
+pub mod FullRefreshes

@@ -31,13 +31,13 @@ use Rattle.agent_model.specs.SavedBytes.{ArePostsSpelled}
 use Rattle.agent_model.specs.Candidates.{AreCandidatesOf, Brings, MayTurn}
 use Rattle.agent_model.specs.Turning.{Answered, Becomes, MayTake, TurnEnd}
 use Rattle.agent_model.specs.Standing.{Refresh, Standing}
-use Rattle.session_model.specs.Brought.{brought_in, heads_at}
-use Rattle.session_model.specs.Refreshing.{Note}
+use Rattle.session_model.specs.Brought.{Brought, Want, brought_in, heads_at}
+use Rattle.session_model.specs.Refreshing.{Needs, Note, RefreshEnd, Refreshes}
 use Rattle.session_model.specs.Sessions.{Cache, Hears, Said, TakesSome, Session, Refreshing, Over}
 use Rattle.session_model.specs.Courses.{Fails, HasRefreshed, IsRefusal, LacksMemory, Settles}
 use Rattle.session_model.specs.Replies.{said_no_memory}
 use Rattle.snapshot_model.specs.Reading.{IsBasisSpelled}
-use Rattle.session_laws.specs.Going.{SnapshotsAreDecided}
+use Rattle.session_laws.specs.Going.{IsOfWant, SnapshotsAreDecided}
 use Rattle.script_driver.specs.Run.{Outcome, Goes, Ends, Refuses, Exceeds, Ran, Runs, WithLaw, HasPiece, shown}
 use Rattle.script_driver.specs.Seen.{HasStory, SeenStep}
 use Rattle.script_model.specs.declared.command.Command.{Command}
@@ -463,3 +463,14 @@ HadMemory w line Exceeds = Unit {0}
 abbrev pub FullRunsAreOne : Type 0
 FullRunsAreOne = (w : Played) (number : ℕ) (lines : List (List ℕ)) (first second : Ran) → Keeps w → Runs (WithLaw IvyStep HadMemory) w number lines first
     → Runs (WithLaw IvyStep HadMemory) w number lines second → first ≡ second
+
+-- ---- refreshes end
+
+-- what this refresh was brought leads to its end: whatever comes of what it wants, and of what it wants then, it comes to want nothing
+pub data EndsAtLast (s : Standing) : List Brought → Type 0 where
+  refresh_comes_to : {brought : List Brought} (notes : List Note) (given : Refresh) (end : RefreshEnd) → Refreshes s brought notes given end
+      → ((want : Want) (came : Brought) → end ≡ Needs want → IsOfWant want came → EndsAtLast s (brought ++ came ∷ [])) → EndsAtLast s brought
+
+-- So does whatever a refresh was brought, whether or not names tell apart.
+abbrev pub RefreshesEnd : Type 0
+RefreshesEnd = (s : Standing) (brought : List Brought) (notes : List Note) (given : Refresh) (end : RefreshEnd) → Refreshes s brought notes given end → EndsAtLast s brought
