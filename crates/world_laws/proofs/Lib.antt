@@ -115,3 +115,4 @@ pub mod CalmRounds
 mod FullLoads
 mod FullFetches
 pub mod FullRefreshes
+mod FullPlans
