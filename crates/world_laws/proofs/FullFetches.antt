@@ -196,7 +196,6 @@ module _ (s : Standing) (start : Vector) where
             omega (arith, tries_short tries is, most, weight_append base tried last)
         few fits (of_own brought faults end own tries) is = absurd (other own)
 
-
     first_came : (owner ≡ s.own → ⊥) → (got : Result (List Judged) Miss) → AllCome s start (owner ∷ owners) (HeadsOf owner got ∷ []) → FetchEnds (owner ∷ owners) (HeadsOf owner got ∷ [])
     first_came other (Err miss) then_so = bounded_end (missed_bounded other miss) 0 (omega arith) ([], refl) then_so.fetches
     first_came other (Ok heads) then_so = bounded_end (heads_bounded other heads) (suc (weight base (map stamp_of heads) + weight base last)) (omega arith) ([], refl) then_so.fetches

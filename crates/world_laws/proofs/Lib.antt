@@ -116,3 +116,5 @@ mod FullLoads
 mod FullFetches
 pub mod FullRefreshes
 mod FullPlans
+mod FullGets
+pub mod FullRuns

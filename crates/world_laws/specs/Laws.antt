@@ -21,6 +21,7 @@ use Rattle.dht_ids.specs.declared.ask.Answer.{Answer}
 use Rattle.dht_ids.specs.declared.ask.Ask.{Ask}
 use Rattle.dht_ids.specs.declared.judge.Judged.{Judged}
 use Rattle.dht_ids.specs.declared.peer.Peer.{Peer}
+use Rattle.dhash_client.specs.declared.miss.Miss.{Miss}
 use Rattle.hash_signature_model.specs.declared.keys.PrivateKey.{PrivateKey}
 use Rattle.hash_signature_model.specs.declared.set.Set.{Set}
 use Rattle.hss_keys.specs.Signer.{Signer, leaf_used, leaves_used, left_of, lower_key, signed_lower}
@@ -33,7 +34,7 @@ use Rattle.agent_model.specs.Turning.{Answered, Becomes, MayTake, TurnEnd}
 use Rattle.agent_model.specs.Standing.{Refresh, Standing}
 use Rattle.session_model.specs.Brought.{Brought, Want, brought_in, heads_at}
 use Rattle.session_model.specs.Refreshing.{Needs, Note, RefreshEnd, Refreshes}
-use Rattle.session_model.specs.Sessions.{Cache, Hears, Said, TakesSome, Session, Refreshing, Over}
+use Rattle.session_model.specs.Sessions.{Cache, Hears, Said, TakesAll, TakesSome, Session, Refreshing, Over}
 use Rattle.session_model.specs.Courses.{Fails, HasRefreshed, IsRefusal, LacksMemory, Settles}
 use Rattle.session_model.specs.Replies.{said_no_memory}
 use Rattle.snapshot_model.specs.Reading.{IsBasisSpelled}
@@ -474,3 +475,13 @@ pub data EndsAtLast (s : Standing) : List Brought → Type 0 where
 -- So does whatever a refresh was brought, whether or not names tell apart.
 abbrev pub RefreshesEnd : Type 0
 RefreshesEnd = (s : Standing) (brought : List Brought) (notes : List Note) (given : Refresh) (end : RefreshEnd) → Refreshes s brought notes given end → EndsAtLast s brought
+
+-- Nothing more is to be asked for a refresh: with what is at hand it is done, or it has failed and its session is over.
+pub data RefreshIsOver (r : ℕ) (c : Scene) : Type 0 where
+  is_done : (p : Participant) (taken : Session) (cache : Cache) (notes : List Note) (given : Refresh) → participant c.world c.session.by ≡ Some p → TakesAll hss_judged r c.session p.cache taken cache → HasRefreshed taken notes given → RefreshIsOver r c
+  has_failed : (said : Said) (miss : Miss) → c.session.stage ≡ Over (Some said) → c.session.missed ≡ Some miss → RefreshIsOver r c
+
+-- Where memory is there a refresh of a session in hand comes to that, whether or not names tell apart.
+abbrev pub RefreshesRunOut : Type 0
+RefreshesRunOut = (c : Scene) (r : ℕ) → Keeps (c.world, c.story) → IsInHand c r → c.world.replicas ≡ Some r → c.session.stage ≡ Refreshing
+    → (count : ℕ) × (next : Scene) × StepsOn hss_judged r c.session.by count c next × HasMemoryAt next.session × RefreshIsOver r next

@@ -1,6 +1,9 @@
-use Rattle.world_laws.proofs.FullRefreshes as law
-use Rattle.world_laws.proofs.FullPlans as plans
+use Rattle.world_laws.proofs.FullRefreshes.{refreshes_end}
+use Rattle.world_laws.proofs.FullRuns.{refreshes_run_out}
 use Rattle.world_laws.proofs.refreshes_end.Goals as goal
 
-pub returns : goal.returns
-returns c = law.refreshes_end
+pub returns-clause-wants : goal.returns-clause-wants
+returns-clause-wants c = refreshes_end
+
+pub returns-clause-runs : goal.returns-clause-runs
+returns-clause-runs c = refreshes_run_out
