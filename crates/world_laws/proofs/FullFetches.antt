@@ -1,7 +1,6 @@
 -- Fetching the members' logs ends, whatever comes: heads come once of a log, and then at most as many records as they are above what the refresh starts from.
-use Rattle.std.proofs.Common.{◌≡◌, ◌≢◌, ◌⊎◌, inl, inr, ⊎_elim, ℕ, zero, suc, ◌+◌, ◌-◌, ◌≤◌, ◌<◌, List, [], ◌∷◌, ◌++◌, length, map, Option, Some, None, Result, Ok, Err, refl, sym, ap, ◌∙◌, subst, arith, append_assoc, Contains}
+use Rattle.std.proofs.Common.{◌≡◌, ◌≢◌, inl, inr, ⊎_elim, ℕ, zero, suc, ◌+◌, ◌-◌, ◌≤◌, ◌<◌, List, [], ◌∷◌, ◌++◌, length, map, Option, Some, None, Result, Ok, Err, refl, sym, ap, ◌∙◌, subst, arith, append_assoc, Contains}
 use Rattle.std.specs.Cmp.{tied_itself}
-use Rattle.std.specs.List.{AllByRecursion}
 use Rattle.std.specs.Ordering.{is_lt}
 use Rattle.ivy_base.specs.declared.key.Key.{Key}
 use Rattle.ivy_base.specs.declared.key.PubKey.{PubKey}
@@ -17,12 +16,12 @@ use Rattle.log_records.specs.declared.edge.Edge.{Edge}
 use Rattle.turn_model.specs.Candidates.{IsTriedBefore}
 use Rattle.dht_ids.specs.declared.judge.Judged.{Judged}
 use Rattle.dhash_client.specs.declared.miss.Miss.{Miss}
-use Rattle.agent_model.specs.Standing.{Chain, Standing, edge_at}
+use Rattle.agent_model.specs.Standing.{Chain, Standing}
 use Rattle.session_model.specs.Brought.{BlockOf, Brought, Content, Heads, HeadsOf, Want, stamp_of}
-use Rattle.session_model.specs.Walks.{AreTried, Gives, GivesNone, InTryingOrder, Lacks, LogEnd, Stops, Tries, WalkEnd, Walks, Wants}
+use Rattle.session_model.specs.Walks.{Gives, GivesNone, InTryingOrder, Lacks, LogEnd, Stops, Tries, WalkEnd, Walks, Wants}
 use Rattle.session_model.specs.Walks.Walks.{came as all_came, wants as next_wanted, misses as one_misses, garbled as one_garbled, back as one_back}
 use Rattle.session_model.specs.Walks.Tries.{none as none_tried, wants as trial_wants, misses as trial_misses, gives as trial_gives, passes as trial_passes, garbled as trial_garbled}
-use Rattle.session_model.specs.Refreshing.{Done, FailsBy, Fetches, FetchesAll, Needs, Note, RefreshEnd, chains_of, end_of_log, floors_own}
+use Rattle.session_model.specs.Refreshing.{Done, Fetches, FetchesAll, Needs, Note, RefreshEnd, chains_of, end_of_log, floors_own}
 use Rattle.session_model.specs.Refreshing.Fetches.{wants_heads, no_heads, of_heads, of_own}
 use Rattle.session_model.specs.Refreshing.FetchesAll.{all, stays, goes_on}
 use Rattle.session_laws.specs.Going.{IsOfWant}

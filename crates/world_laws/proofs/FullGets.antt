@@ -1,12 +1,10 @@
 -- A get of a session that refreshes ends, in steps in none of which memory is wanting: then its refresh has failed, or goes on with what it was brought.
-use Rattle.std.proofs.Common.{◌≡◌, ◌≢◌, ◌⊎◌, inl, inr, ℕ, zero, suc, Bool, true, false, List, [], ◌∷◌, ◌++◌, map, get_or, Some, refl, sym, ap, ◌∙◌, subst, Contains}
+use Rattle.std.proofs.Common.{◌≡◌, ◌⊎◌, inl, inr, ℕ, suc, Bool, true, false, List, [], ◌∷◌, ◌++◌, map, get_or, Some, refl, sym, ap, ◌∙◌, subst, Contains}
 use Rattle.std.specs.List.{AllByRecursion}
 use Rattle.std.proofs.lemmas.List.{append_assoc, append-nil}
-use Rattle.ivy_base.specs.declared.key.Key.{Key}
 use Rattle.log_heads.specs.Signed.{hss_judged}
 use Rattle.wire_model.specs.Rpc.{Success, SystemError, reply}
 use Rattle.nfs_model.specs.declared.replies.Reply.{Reply}
-use Rattle.turn_model.specs.Turn.{Asked}
 use Rattle.dht_ids.specs.Asked.{IsForData, told}
 use Rattle.dht_ids.specs.declared.ask.Answer.{Answer}
 use Rattle.dht_ids.specs.declared.ask.Ask.{Ask}
@@ -30,9 +28,9 @@ use Rattle.session_model.specs.Sessions.TakesAll.{none as takes_none}
 use Rattle.session_laws.specs.Going.{ComesTo, IsOfWant}
 use Rattle.session_laws.proofs.DecidedSnapshots.{snapshots_are_decided}
 use Rattle.ask_laws.proofs.AskedGets.{get_entries, gets_are_one}
-use Rattle.ask_laws.proofs.AskedPlans.{Entries, Follows, Plan, asking, ended, entry, some_follows}
+use Rattle.ask_laws.proofs.AskedPlans.{Follows, Plan, asking, ended, entry, some_follows}
 use Rattle.world_model.specs.Story.{Began, Story}
-use Rattle.world_model.specs.Steps.{Acts, Scene, Steps, StepsOn, ask_told, with_cache}
+use Rattle.world_model.specs.Steps.{Scene, Steps, StepsOn, ask_told}
 use Rattle.world_model.specs.Steps.Acts.{asks}
 use Rattle.world_model.specs.Steps.Steps.{acts}
 use Rattle.world_model.specs.Steps.StepsOn.{none as steps_none, more as steps_more}

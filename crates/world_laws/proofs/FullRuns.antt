@@ -10,7 +10,7 @@ use Rattle.ring_model.proofs.Lists.{nil_cons}
 use Rattle.agent_model.specs.Standing.{Refresh}
 use Rattle.session_model.specs.Brought.{BlockOf, Brought, Content, Heads, Part, Want, brought_in}
 use Rattle.session_model.specs.Refreshing.{Done, FailsBy, Needs, Note, RefreshEnd, Refreshes}
-use Rattle.session_model.specs.Sessions.{Cache, Refreshing, Session, Takes, TakesAll, Wants, pending_block, with_part}
+use Rattle.session_model.specs.Sessions.{Cache, Refreshing, Session, Takes, TakesAll, Wants, pending_block}
 use Rattle.session_model.specs.Sessions.Takes.{posted, cached}
 use Rattle.session_model.specs.Sessions.TakesAll.{none as takes_none, more as takes_more}
 use Rattle.session_laws.specs.Going.{IsOfWant}
@@ -22,7 +22,7 @@ use Rattle.world_laws.specs.Keeps.{IsAtStage, IsRefreshing, IsRefreshingOn}
 use Rattle.world_laws.specs.Laws.{EndsAtLast, RefreshesRunOut}
 use Rattle.world_laws.specs.Laws.EndsAtLast.{refresh_comes_to}
 use Rattle.world_laws.specs.Laws.RefreshIsOver.{is_done}
-use Rattle.world_laws.proofs.FullGets.{Later, Out, Stands, at, get_on, more_parts, refreshes_now, refreshing_has_memory, with_parts}
+use Rattle.world_laws.proofs.FullGets.{Out, Stands, at, get_on, refreshes_now, refreshing_has_memory, with_parts}
 use Rattle.world_laws.proofs.FullRefreshes.{refreshes_end}
 use Rattle.world_laws.proofs.TakingOn.{brought_then}
 use Rattle.world_laws.proofs.TurnsRefresh.{end_is_one}

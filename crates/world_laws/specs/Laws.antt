@@ -16,7 +16,7 @@ use Rattle.view_blocks.specs.Faults.{HasKeys}
 use Rattle.nfs_model.specs.declared.replies.Reply.{Reply}
 use Rattle.turn_model.specs.Basis.{Holding, Knows}
 use Rattle.turn_model.specs.Known.{EndsAt, IsKnown}
-use Rattle.turn_model.specs.Turn.{Candidate, IsPrefixOf, Turned}
+use Rattle.turn_model.specs.Turn.{Asked, Candidate, IsPrefixOf, Turned}
 use Rattle.dht_ids.specs.declared.ask.Answer.{Answer}
 use Rattle.dht_ids.specs.declared.ask.Ask.{Ask}
 use Rattle.dht_ids.specs.declared.judge.Judged.{Judged}
@@ -30,13 +30,13 @@ use Rattle.agent_model.specs.Agent.{kept_of}
 use Rattle.agent_model.specs.Others.{basis_of}
 use Rattle.agent_model.specs.SavedBytes.{ArePostsSpelled}
 use Rattle.agent_model.specs.Candidates.{AreCandidatesOf, Brings, MayTurn}
-use Rattle.agent_model.specs.Turning.{Answered, Becomes, MayTake, TurnEnd}
+use Rattle.agent_model.specs.Turning.{Answered, Becomes, MayTake, TurnEnd, Turns}
 use Rattle.agent_model.specs.Standing.{Refresh, Standing}
 use Rattle.session_model.specs.Brought.{Brought, Want, brought_in, heads_at}
 use Rattle.session_model.specs.Refreshing.{Needs, Note, RefreshEnd, Refreshes}
 use Rattle.session_model.specs.Sessions.{Cache, Hears, Said, TakesAll, TakesSome, Session, Refreshing, Over}
 use Rattle.session_model.specs.Courses.{Fails, HasRefreshed, IsRefusal, LacksMemory, Settles}
-use Rattle.session_model.specs.Replies.{said_no_memory}
+use Rattle.session_model.specs.Replies.{Asks, said_no_memory}
 use Rattle.snapshot_model.specs.Reading.{IsBasisSpelled}
 use Rattle.session_laws.specs.Going.{IsOfWant, SnapshotsAreDecided}
 use Rattle.script_driver.specs.Run.{Outcome, Goes, Ends, Refuses, Exceeds, Ran, Runs, WithLaw, HasPiece, shown}
@@ -485,3 +485,10 @@ pub data RefreshIsOver (r : ℕ) (c : Scene) : Type 0 where
 abbrev pub RefreshesRunOut : Type 0
 RefreshesRunOut = (c : Scene) (r : ℕ) → Keeps (c.world, c.story) → IsInHand c r → c.world.replicas ≡ Some r → c.session.stage ≡ Refreshing
     → (count : ℕ) × (next : Scene) × StepsOn hss_judged r c.session.by count c next × HasMemoryAt next.session × RefreshIsOver r next
+
+-- And where names tell apart and the turn of such a refresh exists, the next step is there: that turn, or the session begins anew after its refusal.
+abbrev pub DoneRefreshesStep : Type 0
+DoneRefreshesStep = (c : Scene) (r : ℕ) (p : Participant) (taken : Session) (cache : Cache) (notes : List Note) (given : Refresh) (xid : ℕ) (asked : Asked) (end : TurnEnd) (after : Agent) (saving : Option Kept)
+    → Keeps (c.world, c.story) → IsInHand c r → c.world.replicas ≡ Some r → NamesTellApart (named_bytes c.world) → participant c.world c.session.by ≡ Some p → TakesAll hss_judged r c.session p.cache taken cache
+    → HasRefreshed taken notes given → Asks taken.standing.view taken.message xid asked → Turns hss given p.agent taken.standing.view (fails_next p.keeper) asked c.world.now end after saving
+    → (next : Scene) × Steps hss_judged r c.session.by c next × HasMemoryAt next.session
