@@ -50,7 +50,7 @@ is_defined : {given : Refresh} {a after : Agent} {view : View} {failing : Bool} 
     → end ≡ Answered reply applied → IsDefined given a view failing asked now reply
 is_defined reply applied (behind far) is = absurd (cc is)
 is_defined reply applied (below near low) is = absurd (cc is)
-is_defined {given} {a} {_} {view} {failing} {asked} {now} reply applied (turn_answers h written answer after saving near over basis may becomes defined) is =
+is_defined {given = given} {a = a} {view = view} {failing = failing} {asked = asked} {now = now} reply applied (turn_answers h written answer after saving near over basis may becomes defined) is =
     subst (IsDefined given a view failing asked now) (same_reply answer reply _ applied is) (record { h = h; written = written; defined = defined })
 
 module _ (c : Scene) (r : ℕ) (p : Participant) (taken : Session) (cache : Cache) (notes : List Note) (given : Refresh) (xid : ℕ) (asked : Asked) (keeps : Keeps (c.world, c.story)) (hand : IsInHand c r) (ringed : c.world.replicas ≡ Some r)

@@ -118,3 +118,4 @@ pub mod FullRefreshes
 mod FullPlans
 mod FullGets
 pub mod FullRuns
+pub mod FullTurns
