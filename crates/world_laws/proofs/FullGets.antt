@@ -67,7 +67,7 @@ same_said : (a b : Said) → Over (Some a) ≡ Over (Some b) → a ≡ b
 same_said a b e = cc e
 
 -- a reply isn't that memory was wanting
-reply_has_memory : (s : Session) (xid : ℕ) (r : Reply) → s.stage ≡ Over (Some (said_of xid r)) → HasMemoryAt s
+pub reply_has_memory : (s : Session) (xid : ℕ) (r : Reply) → s.stage ≡ Over (Some (said_of xid r)) → HasMemoryAt s
 reply_has_memory s xid r at other is = answered_otherwise xid other _ (ap (λ (m : Said). m.message) (same_said (said_of xid r) (said_no_memory other) (sym at ∙ is)))
 
 pub refreshing_has_memory : (s : Session) → s.stage ≡ Refreshing → HasMemoryAt s
@@ -104,10 +104,11 @@ module _ (r : ℕ) (s : Session) (refreshing : s.stage ≡ Refreshing) (b : Bega
     pub next : Scene
     pub steps : StepsOn hss_judged r s.by count c next
     pub memory : HasMemoryAt next.session
+    pub same_starts : next.session.starts ≡ s.starts
     pub over : RefreshIsOver r next
 
   after : (c between : Scene) → Steps hss_judged r s.by c between → Out between → Out c
-  after c between step out = record { count = suc out.count; next = out.next; steps = steps_more step out.steps; memory = out.memory; over = out.over }
+  after c between step out = record { count = suc out.count; next = out.next; steps = steps_more step out.steps; memory = out.memory; same_starts = out.same_starts; over = out.over }
 
   stands_then : (c next : Scene) → c.session.by ≡ s.by → Stands c → Steps hss_judged r s.by c next → Stands next
   stands_then c next named stands step =
@@ -212,6 +213,7 @@ module _ (r : ℕ) (s : Session) (refreshing : s.stage ≡ Refreshing) (b : Bega
                   next = asked_scene t (keeping hss_judged r came cache);
                   steps = steps_more step steps_none;
                   memory = reply_has_memory t now.xid (missed_reply now.asked miss) refl;
+                  same_starts = refl;
                   over = has_failed (said_of now.xid (missed_reply now.asked miss)) miss refl refl;
                 }
 

@@ -18,7 +18,7 @@ use Rattle.world_model.specs.Story.{Began, Story}
 use Rattle.world_model.specs.Steps.{Scene}
 use Rattle.world_model.specs.Steps.StepsOn.{none as steps_none}
 use Rattle.world_model.specs.World.{World, Participant, participant}
-use Rattle.world_laws.specs.Keeps.{IsAtStage, IsRefreshing, IsRefreshingOn}
+use Rattle.world_laws.specs.Keeps.{IsAtStage, IsInHand, IsRefreshing, IsRefreshingOn, Keeps}
 use Rattle.world_laws.specs.Laws.{EndsAtLast, RefreshesRunOut}
 use Rattle.world_laws.specs.Laws.EndsAtLast.{refresh_comes_to}
 use Rattle.world_laws.specs.Laws.RefreshIsOver.{is_done}
@@ -109,6 +109,7 @@ module _ (r : ℕ) (s : Session) (refreshing : s.stage ≡ Refreshing) (b : Bega
       next = here w st before early;
       steps = steps_none;
       memory = refreshing_has_memory (now before early) refreshing;
+      same_starts = refl;
       over = is_done p (now parts current) cache notes given is_p (fits (now parts current) cache (takes_none none)) (refreshing, refreshes);
     }
     drive_on notes given (FailsBy miss) refreshes (nothing none) taken got =
@@ -128,10 +129,12 @@ module _ (r : ℕ) (s : Session) (refreshing : s.stage ≡ Refreshing) (b : Bega
       (λ want came trail v su is of on. drive (next want came is of) v su (parts ++ record { brought = came; asks = trail } ∷ []) [] on on.hand.goes_on.by on.hand.goes_on.is_by (parts ++ record { brought = came; asks = trail } ∷ []) []
       on.hand.goes_on.by.cache (brought_then parts came trail ∙ ap (λ (l : List Brought). l ++ came ∷ []) same) (λ t kept rest. rest))
 
-pub refreshes_run_out : RefreshesRunOut
-refreshes_run_out c r keeps hand ringed refreshing =
+pub refresh_out : (c : Scene) (r : ℕ) → Keeps (c.world, c.story) → IsInHand c r → c.world.replicas ≡ Some r → (refreshing : c.session.stage ≡ Refreshing) → Out r c.session refreshing c.began c
+refresh_out c r keeps hand ringed refreshing =
     let s : Session = c.session in
     let on : IsRefreshing r s = subst (IsAtStage c.world r s) refreshing hand.goes_on.stage in
-    let out = drive r s refreshing c.began (refreshes_end s.standing (brought_in s.parts) on.notes on.given on.end on.refreshed) c.world c.story s.parts s.current (record { keeps = keeps; hand = hand; ringed = ringed }) hand.goes_on.by
-    hand.goes_on.is_by s.parts s.current hand.goes_on.by.cache refl (λ t kept rest. rest) in
-    (out.count, out.next, out.steps, out.memory, out.over)
+    drive r s refreshing c.began (refreshes_end s.standing (brought_in s.parts) on.notes on.given on.end on.refreshed) c.world c.story s.parts s.current (record { keeps = keeps; hand = hand; ringed = ringed }) hand.goes_on.by hand.goes_on.is_by
+    s.parts s.current hand.goes_on.by.cache refl (λ t kept rest. rest)
+
+pub refreshes_run_out : RefreshesRunOut
+refreshes_run_out c r keeps hand ringed refreshing = (let out = refresh_out c r keeps hand ringed refreshing in (out.count, out.next, out.steps, out.memory, out.over))

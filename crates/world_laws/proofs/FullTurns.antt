@@ -1,5 +1,5 @@
 -- Where a refresh is done and its turn exists, the next step is there: the turn is had, or it was refused and the session begins anew.
-use Rattle.std.proofs.Common.{◌≡◌, inl, inr, ℕ, Bool, List, ◌++◌, Option, Some, None, refl, sym, subst, arith}
+use Rattle.std.proofs.Common.{◌≡◌, inl, inr, ℕ, ◌+◌, Bool, List, ◌++◌, Option, Some, None, refl, sym, subst, arith}
 use Rattle.std.proofs.lemmas.Bool.{cases_lt}
 use Rattle.ivy_base.specs.declared.operation.Moment.{Moment}
 use Rattle.ivy_base.specs.Naming.{NamesTellApart}
@@ -18,7 +18,7 @@ use Rattle.session_model.specs.Courses.{HasRefreshed, IsRefusal, answered, anew,
 use Rattle.session_model.specs.Courses.TakesTurn.{answers, begins_anew, gives_up}
 use Rattle.session_model.specs.Refreshing.{Note}
 use Rattle.session_model.specs.Replies.{Asks, said_no_memory, said_of}
-use Rattle.session_model.specs.Sessions.{Cache, Refreshing, Session, TakesAll}
+use Rattle.session_model.specs.Sessions.{Cache, Refreshing, Session, TakesAll, publishing}
 use Rattle.session_laws.proofs.DecidedSnapshots.{snapshots_are_decided}
 use Rattle.world_model.specs.Agents.{Agent, Kept, hss}
 use Rattle.world_model.specs.Keepers.{fails_next}
@@ -77,37 +77,49 @@ module _ (c : Scene) (r : ℕ) (p : Participant) (taken : Session) (cache : Cach
   in_view : then_p.agent.view ≡ Some taken.standing.view
   in_view = its_view then_c r then_so.1 then_p found
 
-  abbrev Next : Type 0
-  Next = (next : Scene) × Steps hss_judged r c.session.by c next × HasMemoryAt next.session
+  -- the session publishes what its turn's agent has to
+  abbrev pub Had : Reply → Agent → Type 0
+  Had reply after = (next : Scene) × Steps hss_judged r c.session.by c next × HasMemoryAt next.session × (next.session.stage ≡ publishing (Some (said_of xid reply)) after.pending)
 
-  had : (reply : Reply) (applied : ℕ) (after : Agent) (saving : Option Kept) → Turns hss given p.agent taken.standing.view (fails_next p.keeper) asked c.world.now (Answered reply applied) after saving → Next
+  -- it begins anew, for the first time
+  abbrev pub Anew : Type 0
+  Anew = (next : Scene) × Steps hss_judged r c.session.by c next × HasMemoryAt next.session × (next.session.stage ≡ Refreshing) × (taken.starts ≡ 0) × (next.session.starts ≡ taken.starts + 1)
+
+  pub had : (reply : Reply) (applied : ℕ) (after : Agent) (saving : Option Kept) → Turns hss given p.agent taken.standing.view (fails_next p.keeper) asked c.world.now (Answered reply applied) after saving → Had reply after
   had reply applied after saving turn =
       let may = refresh_may_turn then_c then_p r notes given then_so.0 then_apart then_so.1 found done in
       let d = is_defined reply applied turn refl in
       let of = d.defined (heads_at (brought_in taken.parts)) (named_bytes then_c.world) taken.standing c.began.knew (known_of c.story p.name) then_apart may.0 may.1 in (
         _,
         acts p taken cache _ is_p all (turns taken.standing.view reply applied after saving (answered taken (said_of xid reply) notes after.pending) of.turned in_view
-        (answers notes given xid asked reply applied after saving done asks turn) (sym of.replies)
-        (λ tells. record { xid = xid; asked = asked; asks = asks; notes = notes; given = given; refreshed = done; taken = of.taken; is_turn = of.is_turn })),
+            (answers notes given xid asked reply applied after saving done asks turn) (sym of.replies)
+            (λ tells. record { xid = xid; asked = asked; asks = asks; notes = notes; given = given; refreshed = done; taken = of.taken; is_turn = of.is_turn })),
         λ other e. cc e,
+        refl,
       )
 
-  refused : (end : TurnEnd) (after : Agent) (saving : Option Kept) → Turns hss given p.agent taken.standing.view (fails_next p.keeper) asked c.world.now end after saving → IsRefusal end → Next
+  pub refused : (end : TurnEnd) (after : Agent) (saving : Option Kept) → Turns hss given p.agent taken.standing.view (fails_next p.keeper) asked c.world.now end after saving → IsRefusal end → Anew
   refused end after saving turn refusal = elim (cases_lt taken.starts 2) [
     | inl few ↦ (
       _,
       acts p taken cache _ is_p all (is_refused taken.standing.view end after saving (anew taken (anew_in hss after taken.standing.view)) in_view refusal (begins_anew notes given xid asked end after saving done asks turn refusal few)),
       refreshing_has_memory (anew taken (anew_in hss after taken.standing.view)) done.0,
+      done.0,
+      second_turn_is_answered then_c then_p r taken.standing.view end after saving (anew taken (anew_in hss after taken.standing.view)) then_so.0 then_apart ringed then_so.1 found in_view
+          (begins_anew notes given xid asked end after saving done asks turn refusal few) refusal,
+      refl,
     )
     | inr many ↦ (
-      let first : taken.starts ≡ 0 = second_turn_is_answered then_c then_p r taken.standing.view end after saving (ended taken (said_no_memory xid) notes None) then_so.0 then_apart ringed then_so.1 found in_view
-      (gives_up notes given xid asked end after saving done asks turn refusal many) refusal in
-      absurd (omega (arith, first, many))
-    )
+        let first : taken.starts ≡ 0 = second_turn_is_answered then_c then_p r taken.standing.view end after saving (ended taken (said_no_memory xid) notes None) then_so.0 then_apart ringed then_so.1 found in_view
+        (gives_up notes given xid asked end after saving done asks turn refusal many) refusal in
+        absurd (omega (arith, first, many))
+        )
   ]
 
 pub done_refreshes_step : DoneRefreshesStep
-done_refreshes_step c r p taken cache notes given xid asked Behind after saving keeps hand ringed apart is_p all done asks turn = refused c r p taken cache notes given xid asked keeps hand ringed apart is_p all done asks Behind after saving turn tt
-done_refreshes_step c r p taken cache notes given xid asked BelowTide after saving keeps hand ringed apart is_p all done asks turn = refused c r p taken cache notes given xid asked keeps hand ringed apart is_p all done asks BelowTide after saving turn tt
+done_refreshes_step c r p taken cache notes given xid asked Behind after saving keeps hand ringed apart is_p all done asks turn =
+    let n = refused c r p taken cache notes given xid asked keeps hand ringed apart is_p all done asks Behind after saving turn tt in (n.0, n.1, n.2)
+done_refreshes_step c r p taken cache notes given xid asked BelowTide after saving keeps hand ringed apart is_p all done asks turn =
+    let n = refused c r p taken cache notes given xid asked keeps hand ringed apart is_p all done asks BelowTide after saving turn tt in (n.0, n.1, n.2)
 done_refreshes_step c r p taken cache notes given xid asked (Answered reply applied) after saving keeps hand ringed apart is_p all done asks turn =
-    had c r p taken cache notes given xid asked keeps hand ringed apart is_p all done asks reply applied after saving turn
+    let n = had c r p taken cache notes given xid asked keeps hand ringed apart is_p all done asks reply applied after saving turn in (n.0, n.1, n.2)

@@ -119,3 +119,4 @@ mod FullPlans
 mod FullGets
 pub mod FullRuns
 pub mod FullTurns
+pub mod FullSessions

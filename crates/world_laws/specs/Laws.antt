@@ -492,3 +492,22 @@ DoneRefreshesStep = (c : Scene) (r : ℕ) (p : Participant) (taken : Session) (c
     → Keeps (c.world, c.story) → IsInHand c r → c.world.replicas ≡ Some r → NamesTellApart (named_bytes c.world) → participant c.world c.session.by ≡ Some p → TakesAll hss_judged r c.session p.cache taken cache
     → HasRefreshed taken notes given → Asks taken.standing.view taken.message xid asked → Turns hss given p.agent taken.standing.view (fails_next p.keeper) asked c.world.now end after saving
     → (next : Scene) × Steps hss_judged r c.session.by c next × HasMemoryAt next.session
+
+-- a turn of the refresh by what was given
+abbrev pub TurnAt : Scene → Participant → Session → Refresh → Asked → TurnEnd → Agent → Option Kept → Type 0
+TurnAt c p taken given asked end after saving = Turns hss given p.agent taken.standing.view (fails_next p.keeper) asked c.world.now end after saving
+
+-- A session goes to its end with memory there; or names clash on the way; or its refresh is done, and it goes on so by whatever turn there is of it.
+pub data GoesFully (r : ℕ) (name : List ℕ) : Scene → Type 0 where
+  ends : {c next : Scene} → RunsOut hss_judged r name c next → HasMemoryAt next.session → GoesFully r name c
+  clashes : {c : Scene} → HasClash (named_bytes c.world) → GoesFully r name c
+  goes_on : {c next : Scene} (count : ℕ) → StepsOn hss_judged r name count c next → HasMemoryAt next.session → GoesFully r name next → GoesFully r name c
+  has_turn : {c : Scene} (p : Participant) (taken : Session) (cache : Cache) (notes : List Note) (given : Refresh) (xid : ℕ) (asked : Asked) → participant c.world name ≡ Some p → TakesAll hss_judged r c.session p.cache taken cache
+      → HasRefreshed taken notes given → Asks taken.standing.view taken.message xid asked
+      → (leads : (end : TurnEnd) (after : Agent) (saving : Option Kept) → TurnAt c p taken given asked end after saving → Scene)
+      → ((end : TurnEnd) (after : Agent) (saving : Option Kept) (turn : TurnAt c p taken given asked end after saving) → Steps hss_judged r name c (leads end after saving turn) × HasMemoryAt (leads end after saving turn).session)
+      → ((end : TurnEnd) (after : Agent) (saving : Option Kept) (turn : TurnAt c p taken given asked end after saving) → GoesFully r name (leads end after saving turn)) → GoesFully r name c
+
+-- So does each session in hand that refreshes.
+abbrev pub SessionsGoFully : Type 0
+SessionsGoFully = (c : Scene) (r : ℕ) → Keeps (c.world, c.story) → IsInHand c r → c.world.replicas ≡ Some r → c.session.stage ≡ Refreshing → GoesFully r c.session.by c

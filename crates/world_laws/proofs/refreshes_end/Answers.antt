@@ -1,3 +1,4 @@
+use Rattle.world_laws.proofs.FullSessions.{sessions_go_fully}
 use Rattle.world_laws.proofs.FullTurns.{done_refreshes_step}
 use Rattle.world_laws.proofs.FullRefreshes.{refreshes_end}
 use Rattle.world_laws.proofs.FullRuns.{refreshes_run_out}
@@ -11,3 +12,6 @@ returns-clause-runs c = refreshes_run_out
 
 pub returns-clause-step : goal.returns-clause-step
 returns-clause-step c = done_refreshes_step
+
+pub returns-clause-sessions : goal.returns-clause-sessions
+returns-clause-sessions c = sessions_go_fully
