@@ -1,5 +1,5 @@
 -- Where memory is there, a session that refreshes goes to its end, up to a clash of names, or to a turn that doesn't exist.
-use Rattle.std.proofs.Common.{◌≡◌, ◌⊎◌, inl, inr, ℕ, ◌+◌, List, [], map, Option, Some, refl, sym, ap, ◌∙◌, subst, arith, Contains}
+use Rattle.std.proofs.Common.{◌≡◌, inl, inr, ℕ, ◌+◌, List, [], map, Option, Some, refl, sym, ap, ◌∙◌, subst, arith, Contains}
 use Rattle.std.specs.List.{AllByRecursion}
 use Rattle.ivy_base.specs.Naming.{NamesTellApart}
 use Rattle.log_heads.specs.Signed.{hss_judged}
@@ -12,8 +12,8 @@ use Rattle.agent_model.specs.Standing.{Refresh}
 use Rattle.agent_model.specs.Turning.{Answered, Behind, BelowTide, TurnEnd, Turns}
 use Rattle.session_model.specs.Courses.{HasRefreshed}
 use Rattle.session_model.specs.Refreshing.{Note}
-use Rattle.session_model.specs.Replies.{Asks, said_of}
-use Rattle.session_model.specs.Sessions.{Cache, Publishing, Refreshing, Session, TakesAll, in_publishing_order, publishing}
+use Rattle.session_model.specs.Replies.{said_of}
+use Rattle.session_model.specs.Sessions.{Cache, Refreshing, Session, TakesAll, in_publishing_order, publishing}
 use Rattle.session_laws.proofs.DecidedSnapshots.{snapshots_are_decided}
 use Rattle.world_model.specs.Agents.{Agent, Kept, hss}
 use Rattle.world_model.specs.Keepers.{fails_next}

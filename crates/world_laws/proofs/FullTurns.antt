@@ -23,11 +23,11 @@ use Rattle.session_laws.proofs.DecidedSnapshots.{snapshots_are_decided}
 use Rattle.world_model.specs.Agents.{Agent, Kept, hss}
 use Rattle.world_model.specs.Keepers.{fails_next}
 use Rattle.world_model.specs.Story.{known_of}
-use Rattle.world_model.specs.Steps.{Acts, Scene, Steps, with_cache}
+use Rattle.world_model.specs.Steps.{Scene, Steps, with_cache}
 use Rattle.world_model.specs.Steps.Acts.{turns, is_refused}
 use Rattle.world_model.specs.Steps.Steps.{acts}
-use Rattle.world_model.specs.World.{Participant, named_bytes, participant, with_participant}
-use Rattle.world_laws.specs.Keeps.{IsAtStage, IsInHand, IsRefreshing, Keeps}
+use Rattle.world_model.specs.World.{Participant, named_bytes, participant}
+use Rattle.world_laws.specs.Keeps.{IsInHand, Keeps}
 use Rattle.world_laws.specs.Laws.{DoneRefreshesStep, HasMemoryAt}
 use Rattle.world_laws.proofs.Bringing.{found_named, its_view, refresh_may_turn}
 use Rattle.world_laws.proofs.Frames.{found_placed, same_keys}
