@@ -112,3 +112,11 @@ pub mod CalmHeld
 pub mod CalmGets
 pub mod CalmGiven
 pub mod CalmRounds
+mod FullLoads
+mod FullFetches
+pub mod FullRefreshes
+mod FullPlans
+mod FullGets
+pub mod FullRuns
+pub mod FullTurns
+pub mod FullSessions

@@ -16,11 +16,12 @@ use Rattle.view_blocks.specs.Faults.{HasKeys}
 use Rattle.nfs_model.specs.declared.replies.Reply.{Reply}
 use Rattle.turn_model.specs.Basis.{Holding, Knows}
 use Rattle.turn_model.specs.Known.{EndsAt, IsKnown}
-use Rattle.turn_model.specs.Turn.{Candidate, IsPrefixOf, Turned}
+use Rattle.turn_model.specs.Turn.{Asked, Candidate, IsPrefixOf, Turned}
 use Rattle.dht_ids.specs.declared.ask.Answer.{Answer}
 use Rattle.dht_ids.specs.declared.ask.Ask.{Ask}
 use Rattle.dht_ids.specs.declared.judge.Judged.{Judged}
 use Rattle.dht_ids.specs.declared.peer.Peer.{Peer}
+use Rattle.dhash_client.specs.declared.miss.Miss.{Miss}
 use Rattle.hash_signature_model.specs.declared.keys.PrivateKey.{PrivateKey}
 use Rattle.hash_signature_model.specs.declared.set.Set.{Set}
 use Rattle.hss_keys.specs.Signer.{Signer, leaf_used, leaves_used, left_of, lower_key, signed_lower}
@@ -29,15 +30,15 @@ use Rattle.agent_model.specs.Agent.{kept_of}
 use Rattle.agent_model.specs.Others.{basis_of}
 use Rattle.agent_model.specs.SavedBytes.{ArePostsSpelled}
 use Rattle.agent_model.specs.Candidates.{AreCandidatesOf, Brings, MayTurn}
-use Rattle.agent_model.specs.Turning.{Answered, Becomes, MayTake, TurnEnd}
+use Rattle.agent_model.specs.Turning.{Answered, Becomes, MayTake, TurnEnd, Turns}
 use Rattle.agent_model.specs.Standing.{Refresh, Standing}
-use Rattle.session_model.specs.Brought.{brought_in, heads_at}
-use Rattle.session_model.specs.Refreshing.{Note}
-use Rattle.session_model.specs.Sessions.{Cache, Hears, Said, TakesSome, Session, Refreshing, Over}
+use Rattle.session_model.specs.Brought.{Brought, Want, brought_in, heads_at}
+use Rattle.session_model.specs.Refreshing.{Needs, Note, RefreshEnd, Refreshes}
+use Rattle.session_model.specs.Sessions.{Cache, Hears, Said, TakesAll, TakesSome, Session, Refreshing, Over}
 use Rattle.session_model.specs.Courses.{Fails, HasRefreshed, IsRefusal, LacksMemory, Settles}
-use Rattle.session_model.specs.Replies.{said_no_memory}
+use Rattle.session_model.specs.Replies.{Asks, said_no_memory}
 use Rattle.snapshot_model.specs.Reading.{IsBasisSpelled}
-use Rattle.session_laws.specs.Going.{SnapshotsAreDecided}
+use Rattle.session_laws.specs.Going.{IsOfWant, SnapshotsAreDecided}
 use Rattle.script_driver.specs.Run.{Outcome, Goes, Ends, Refuses, Exceeds, Ran, Runs, WithLaw, HasPiece, shown}
 use Rattle.script_driver.specs.Seen.{HasStory, SeenStep}
 use Rattle.script_model.specs.declared.command.Command.{Command}
@@ -463,3 +464,50 @@ HadMemory w line Exceeds = Unit {0}
 abbrev pub FullRunsAreOne : Type 0
 FullRunsAreOne = (w : Played) (number : ℕ) (lines : List (List ℕ)) (first second : Ran) → Keeps w → Runs (WithLaw IvyStep HadMemory) w number lines first
     → Runs (WithLaw IvyStep HadMemory) w number lines second → first ≡ second
+
+-- ---- refreshes end
+
+-- what this refresh was brought leads to its end: whatever comes of what it wants, and of what it wants then, it comes to want nothing
+pub data EndsAtLast (s : Standing) : List Brought → Type 0 where
+  refresh_comes_to : {brought : List Brought} (notes : List Note) (given : Refresh) (end : RefreshEnd) → Refreshes s brought notes given end
+      → ((want : Want) (came : Brought) → end ≡ Needs want → IsOfWant want came → EndsAtLast s (brought ++ came ∷ [])) → EndsAtLast s brought
+
+-- So does whatever a refresh was brought, whether or not names tell apart.
+abbrev pub RefreshesEnd : Type 0
+RefreshesEnd = (s : Standing) (brought : List Brought) (notes : List Note) (given : Refresh) (end : RefreshEnd) → Refreshes s brought notes given end → EndsAtLast s brought
+
+-- Nothing more is to be asked for a refresh: with what is at hand it is done, or it has failed and its session is over.
+pub data RefreshIsOver (r : ℕ) (c : Scene) : Type 0 where
+  is_done : (p : Participant) (taken : Session) (cache : Cache) (notes : List Note) (given : Refresh) → participant c.world c.session.by ≡ Some p → TakesAll hss_judged r c.session p.cache taken cache → HasRefreshed taken notes given → RefreshIsOver r c
+  has_failed : (said : Said) (miss : Miss) → c.session.stage ≡ Over (Some said) → c.session.missed ≡ Some miss → RefreshIsOver r c
+
+-- Where memory is there a refresh of a session in hand comes to that, whether or not names tell apart.
+abbrev pub RefreshesRunOut : Type 0
+RefreshesRunOut = (c : Scene) (r : ℕ) → Keeps (c.world, c.story) → IsInHand c r → c.world.replicas ≡ Some r → c.session.stage ≡ Refreshing
+    → (count : ℕ) × (next : Scene) × StepsOn hss_judged r c.session.by count c next × HasMemoryAt next.session × RefreshIsOver r next
+
+-- And where names tell apart and the turn of such a refresh exists, the next step is there: that turn, or the session begins anew after its refusal.
+abbrev pub DoneRefreshesStep : Type 0
+DoneRefreshesStep = (c : Scene) (r : ℕ) (p : Participant) (taken : Session) (cache : Cache) (notes : List Note) (given : Refresh) (xid : ℕ) (asked : Asked) (end : TurnEnd) (after : Agent) (saving : Option Kept)
+    → Keeps (c.world, c.story) → IsInHand c r → c.world.replicas ≡ Some r → NamesTellApart (named_bytes c.world) → participant c.world c.session.by ≡ Some p → TakesAll hss_judged r c.session p.cache taken cache
+    → HasRefreshed taken notes given → Asks taken.standing.view taken.message xid asked → Turns hss given p.agent taken.standing.view (fails_next p.keeper) asked c.world.now end after saving
+    → (next : Scene) × Steps hss_judged r c.session.by c next × HasMemoryAt next.session
+
+-- a turn of the refresh by what was given
+abbrev pub TurnAt : Scene → Participant → Session → Refresh → Asked → TurnEnd → Agent → Option Kept → Type 0
+TurnAt c p taken given asked end after saving = Turns hss given p.agent taken.standing.view (fails_next p.keeper) asked c.world.now end after saving
+
+-- A session goes to its end with memory there; or names clash on the way; or its refresh is done, and it goes on so by whatever turn there is of it.
+pub data GoesFully (r : ℕ) (name : List ℕ) : Scene → Type 0 where
+  ends : {c next : Scene} → RunsOut hss_judged r name c next → HasMemoryAt next.session → GoesFully r name c
+  clashes : {c : Scene} → HasClash (named_bytes c.world) → GoesFully r name c
+  goes_on : {c next : Scene} (count : ℕ) → StepsOn hss_judged r name count c next → HasMemoryAt next.session → GoesFully r name next → GoesFully r name c
+  has_turn : {c : Scene} (p : Participant) (taken : Session) (cache : Cache) (notes : List Note) (given : Refresh) (xid : ℕ) (asked : Asked) → participant c.world name ≡ Some p → TakesAll hss_judged r c.session p.cache taken cache
+      → HasRefreshed taken notes given → Asks taken.standing.view taken.message xid asked
+      → (leads : (end : TurnEnd) (after : Agent) (saving : Option Kept) → TurnAt c p taken given asked end after saving → Scene)
+      → ((end : TurnEnd) (after : Agent) (saving : Option Kept) (turn : TurnAt c p taken given asked end after saving) → Steps hss_judged r name c (leads end after saving turn) × HasMemoryAt (leads end after saving turn).session)
+      → ((end : TurnEnd) (after : Agent) (saving : Option Kept) (turn : TurnAt c p taken given asked end after saving) → GoesFully r name (leads end after saving turn)) → GoesFully r name c
+
+-- So does each session in hand that refreshes.
+abbrev pub SessionsGoFully : Type 0
+SessionsGoFully = (c : Scene) (r : ℕ) → Keeps (c.world, c.story) → IsInHand c r → c.world.replicas ≡ Some r → c.session.stage ≡ Refreshing → GoesFully r c.session.by c

@@ -37,6 +37,9 @@
 //! stays: what its nodes hold, and what puts and gets come to in it), `proofs/CalmStates.antt` and those up to
 //! `CalmCommands.antt` (each step and each line keeps that), `proofs/CalmRounds.antt` (stops, joins and rounds),
 //! `proofs/LineKeys.antt` (the key of a log that a line begins can be saved).
+//! That memory may be there: `proofs/FullLoads.antt`, `proofs/FullFetches.antt` and `proofs/FullRefreshes.antt` (a refresh wants
+//! something finitely often), `proofs/FullPlans.antt` (whom a get asks), `proofs/FullGets.antt` and `proofs/FullRuns.antt` (a
+//! refresh runs out), `proofs/FullTurns.antt` (its turn, where that exists, is the next step) and `proofs/FullSessions.antt`.
 //! That there is one: `proofs/OneCourse.antt` (a trail tells what comes of a get or a put), `proofs/OneHeard.antt` (an ask
 //! has one fate, and one thing is heard of it), `proofs/OneTurns.antt` (turns), `proofs/OneSteps.antt` (steps of sessions),
 //! `proofs/OneMessages.antt` (what becomes of a message), `proofs/OneCalls.antt` (lines of calls), `proofs/OneAsks.antt` (look-ups
@@ -47,7 +50,7 @@
 ghost use Rattle.world_laws.specs.Calm.{AckedIsHeld, AreAny, BlocksAreGiven, HasSameRing, HeadsAreGiven, RingStays};
 ghost use Rattle.world_laws.specs.Frames.{DamageLinesKeep, EachReplyBySteps, HeadlineOfRuns, JoinLinesKeep, KeeperLinesKeep, LinesKeepByThese, LogLinesKeep, MildChangesKeep, MoreBlocksKeep, RestartLinesKeep, RingLinesKeep, RoundLinesKeep, StillLinesKeep, StopLinesKeep, UseLinesKeep, ViewLinesKeep};
 ghost use Rattle.world_laws.specs.Kinds.{LineHasOneKind};
-ghost use Rattle.world_laws.specs.Laws.{AlikeTurnsAnswerAlike, AllStepsKeep, AnsweredTurnsKeep, CallLinesKeep, CallsBegin, ClashIsDecided, EachLineDoesSomething, EachReplyIsOnReplay, EachScriptHasARun, EachSessionEnds, EachStepKeeps, EmptyKeeps, FewerStayApart, FreshTurnsAreAnswered, FullRunsAreOne, GetsBringKeep, GetsGoOnKeep, HeadlineBySteps, HeadlineHolds, HeadsAreSavedFirst, HeldIsSpelled, KeptOnce, KnownIsOne, LackingKeeps, LackingStepsKeep, LeafSignsOnce, LinesKeep, LinesKeepBySteps, ManyStepsAreOne, ManyStepsKeep, MetGrows, NoSnapshotComes, OneTruth, OpenLineKeeps, OtherLogsDontCount, OthersHaveNoTurn, PublishingIsOne, PublishingKeeps, PutsKeep, ReceivingKeeps, RefreshBrings, RefreshEndsInTurn, RefreshMayTurn, RefusedTurnsKeep, ScriptsBySteps, SecondTurnIsAnswered, SessionsEndOnce, SessionsStepOnce, SettlingKeeps, SnapLinesKeep, StepsAreOne, StepsKeep, StepsKeepByTurns, StillLinesChangeNothing, TakingKeeps, TurnsAreSaved, UpperLeavesSignOnce, VainAsksKeep, WholePublishingKeeps};
+ghost use Rattle.world_laws.specs.Laws.{AlikeTurnsAnswerAlike, AllStepsKeep, AnsweredTurnsKeep, CallLinesKeep, CallsBegin, ClashIsDecided, DoneRefreshesStep, EachLineDoesSomething, EachReplyIsOnReplay, EachScriptHasARun, EachSessionEnds, EachStepKeeps, EmptyKeeps, FewerStayApart, FreshTurnsAreAnswered, FullRunsAreOne, GetsBringKeep, GetsGoOnKeep, HeadlineBySteps, HeadlineHolds, HeadsAreSavedFirst, HeldIsSpelled, KeptOnce, KnownIsOne, LackingKeeps, LackingStepsKeep, LeafSignsOnce, LinesKeep, LinesKeepBySteps, ManyStepsAreOne, ManyStepsKeep, MetGrows, NoSnapshotComes, OneTruth, OpenLineKeeps, OtherLogsDontCount, OthersHaveNoTurn, PublishingIsOne, PublishingKeeps, PutsKeep, ReceivingKeeps, RefreshBrings, RefreshEndsInTurn, RefreshMayTurn, RefreshesEnd, RefreshesRunOut, RefusedTurnsKeep, ScriptsBySteps, SecondTurnIsAnswered, SessionsEndOnce, SessionsGoFully, SessionsStepOnce, SettlingKeeps, SnapLinesKeep, StepsAreOne, StepsKeep, StepsKeepByTurns, StillLinesChangeNothing, TakingKeeps, TurnsAreSaved, UpperLeavesSignOnce, VainAsksKeep, WholePublishingKeeps};
 
 /// A law and no code: of any blocks, names tell them apart, or two of them clash.
 pub fn clashes_are_decided()
@@ -321,4 +324,16 @@ pub fn sessions_step_once()
 pub fn lines_are_one()
     ensures lines { StepsAreOne }
     ensures runs { FullRunsAreOne }
+{}
+
+/// Laws and no code: a refresh wants something finitely often, whatever comes of it and whether or not names tell the blocks apart:
+/// a snapshot's lists are over lists of lower levels, each record that comes is below the one before, and heads come once of a log.
+/// So a session in hand that refreshes has steps, in none of which memory is wanting, to where its refresh is done or has failed.
+/// Of one that is done, where names tell the blocks apart and its turn exists, the next step is there, and memory isn't wanting in it;
+/// so the session goes to its end with memory there, but for a clash of names or a turn that doesn't exist.
+pub fn refreshes_end()
+    ensures wants { RefreshesEnd }
+    ensures runs { RefreshesRunOut }
+    ensures step { DoneRefreshesStep }
+    ensures sessions { SessionsGoFully }
 {}
