@@ -43,7 +43,7 @@ module _ {T : Type 0} (e : Entries) (question : Ask) (told_by : IsToldBy e quest
     (asks_of : (owners : List Peer) (asks : Told) (result : Result T Miss) → Ends owners asks result → AreAsks owners IsEnough asks)
     (end_of : (owners : List Peer) (asks : Told) → AreAsks owners IsEnough asks → (result : Result T Miss) × Ends owners asks result) (entries : List Peer) where
   -- what comes after the look-up
-  abbrev after_plan : Option (List Peer) → Plan
+  abbrev pub after_plan : Option (List Peer) → Plan
   after_plan None = ended
   after_plan (Some []) = ended
   after_plan (Some (p ∷ ps)) = owners_plan e IsEnough decided (firsts [] (p ∷ ps)) []
@@ -63,7 +63,7 @@ module _ {T : Type 0} (e : Entries) (question : Ask) (told_by : IsToldBy e quest
       let b : AreAsks (p ∷ ps) IsEnough asks = subst (λ (l : List Peer). AreAsks l IsEnough asks) (sym (ok_same (p ∷ ps) owners h)) a in
       owners_fit e IsEnough decided (firsts [] (p ∷ ps)) [] asks (subst (λ (l : List Peer). AreAsked IsEnough l [] asks) (firsts_same b.firsts) (from_asks IsEnough (p ∷ ps) asks b))
 
-  course_fits : (n : ℕ) → n ≡ 512 → (trail : List Heard) → IsWhole trail → Follows e (look_plan e after_plan n [] None entries) trail
+  pub course_fits : (n : ℕ) → n ≡ 512 → (trail : List Heard) → IsWhole trail → Follows e (look_plan e after_plan n [] None entries) trail
   course_fits n s trail w = by w.1
     where
       by : IsCourse e.key question entries Ends trail w.0 → Follows e (look_plan e after_plan n [] None entries) trail
@@ -83,7 +83,7 @@ module _ {T : Type 0} (e : Entries) (question : Ask) (told_by : IsToldBy e quest
       let r = end_of (p ∷ ps) b.0 (to_asks IsEnough (p ∷ ps) (firsts [] (p ∷ ps)) (firsts_are [] (p ∷ ps)) b.0 b.1) in
       (r.0, of_owners looks b.0 (Some (p ∷ ps)) (p ∷ ps) (is ∙ ap (λ (t : List Heard). told_all (ask.Route e.key) looks ++ t) (b.2 ∙ sym (told_owners e question told_by b.0))) looked refl r.1)
 
-  course_back : (n : ℕ) → n ≡ 512 → (trail : List Heard) → Follows e (look_plan e after_plan n [] None entries) trail → IsWhole trail
+  pub course_back : (n : ℕ) → n ≡ 512 → (trail : List Heard) → Follows e (look_plan e after_plan n [] None entries) trail → IsWhole trail
   course_back n s trail f = let h = look_back e after_plan n [] None entries trail (omega (arith, s)) f in course_from trail h.looks h.found h.rest h.is h.looked h.after
 
   planned_from : (n : ℕ) → n ≡ 512 → IsPlanned e IsWhole

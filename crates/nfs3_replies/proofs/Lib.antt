@@ -5,5 +5,5 @@ mod ReadAttributes
 mod ReadForms
 mod ReadPages
 mod ReadMounts
-mod ReadAnswers
+pub mod ReadAnswers
 mod Sizes

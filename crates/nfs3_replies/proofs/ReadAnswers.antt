@@ -257,7 +257,7 @@ one_for program procedure (inr h) = subst (λ (n : ℕ). ReadsOne (Answers n pro
 
 -- ---- by the arguments of procedures
 
-forms_of : (args : Args) → (tail_form_for (program_of args) (procedure_of args) ≡ tail_form_of args) × (result_form_for (program_of args) (procedure_of args) ≡ result_form_of args)
+pub forms_of : (args : Args) → (tail_form_for (program_of args) (procedure_of args) ≡ tail_form_of args) × (result_form_for (program_of args) (procedure_of args) ≡ result_form_of args)
 forms_of call.Null = (refl, refl)
 forms_of (call.GetAttr object) = (refl, refl)
 forms_of (call.SetAttr object what guard) = (refl, refl)

@@ -8,6 +8,7 @@ use Rattle.nfs_model.specs.Arguments.{procedure_of, program_of}
 use Rattle.nfs_model.specs.Replies.{IsReplyTo, result_form_of, tail_form_of}
 use Rattle.nfs3_replies.specs.Reading.{IsProcedure, IsReply}
 use Rattle.nfs3_replies.specs.ReadParts.{result_form_for, tail_form_for}
+use Rattle.nfs3_replies.proofs.ReadAnswers.{forms_of}
 use Rattle.reply_parts.specs.Reading.{IsNoReply, IsReadFrom}
 
 -- each call is of a procedure that there is
@@ -40,37 +41,6 @@ is_procedure call.Dump = inr (refl, omega arith)
 is_procedure (call.Umnt path) = inr (refl, omega arith)
 is_procedure call.UmntAll = inr (refl, omega arith)
 is_procedure call.Export = inr (refl, omega arith)
-
--- its forms are those of its procedure
-forms_of : (args : Args) → (tail_form_for (program_of args) (procedure_of args) ≡ tail_form_of args) × (result_form_for (program_of args) (procedure_of args) ≡ result_form_of args)
-forms_of call.Null = (refl, refl)
-forms_of (call.GetAttr object) = (refl, refl)
-forms_of (call.SetAttr object what guard) = (refl, refl)
-forms_of (call.Lookup dir name) = (refl, refl)
-forms_of (call.Access object bits) = (refl, refl)
-forms_of (call.ReadLink link) = (refl, refl)
-forms_of (call.Read file offset count) = (refl, refl)
-forms_of (call.Write file offset count stable bytes) = (refl, refl)
-forms_of (call.Create dir name how) = (refl, refl)
-forms_of (call.MkDir dir name what) = (refl, refl)
-forms_of (call.SymLink dir name what text) = (refl, refl)
-forms_of (call.MkNod dir name node) = (refl, refl)
-forms_of (call.Remove dir name) = (refl, refl)
-forms_of (call.RmDir dir name) = (refl, refl)
-forms_of (call.Rename dir name to_dir to_name) = (refl, refl)
-forms_of (call.Link file dir name) = (refl, refl)
-forms_of (call.ReadDir dir cookie verifier count) = (refl, refl)
-forms_of (call.ReadDirPlus dir cookie verifier dircount maxcount) = (refl, refl)
-forms_of (call.FsStat object) = (refl, refl)
-forms_of (call.FsInfo object) = (refl, refl)
-forms_of (call.PathConf object) = (refl, refl)
-forms_of (call.Commit file offset count) = (refl, refl)
-forms_of call.MountNull = (refl, refl)
-forms_of (call.Mnt path) = (refl, refl)
-forms_of call.Dump = (refl, refl)
-forms_of (call.Umnt path) = (refl, refl)
-forms_of call.UmntAll = (refl, refl)
-forms_of call.Export = (refl, refl)
 
 same_forms : (args other : Args) → program_of args ≡ program_of other → procedure_of args ≡ procedure_of other → (tail_form_of other ≡ tail_form_of args) × (result_form_of other ≡ result_form_of args)
 same_forms args other p q = (

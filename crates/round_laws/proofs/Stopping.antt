@@ -93,12 +93,12 @@ stop_line_stops r w next n output h i e =
 
 -- ---- several
 
-same_filter : (f g : Peer → Bool) (l : List Peer) → ((q : Peer) → IsAmong q l → g q ≡ f q) → filter g l ≡ filter f l
+pub same_filter : (f g : Peer → Bool) (l : List Peer) → ((q : Peer) → IsAmong q l → g q ≡ f q) → filter g l ≡ filter f l
 same_filter f g [] e = refl
 same_filter f g (x ∷ l) e = (λ i. cond (e x (inl refl) i) (x ∷ same_filter f g l (λ q j. e q (inr j)) i) (same_filter f g l (λ q j. e q (inr j)) i))
 
 -- where two tests differ at one place alone, one more passes at most
-one_more_passes : (f g : Peer → Bool) (p : Peer) (l : List Peer) → AreDistinct l → ((q : Peer) → (q ≡ p → ⊥) → g q ≡ f q) → length (filter g l) ≤ suc (length (filter f l))
+pub one_more_passes : (f g : Peer → Bool) (p : Peer) (l : List Peer) → AreDistinct l → ((q : Peer) → (q ≡ p → ⊥) → g q ≡ f q) → length (filter g l) ≤ suc (length (filter f l))
 one_more_passes f g p [] d e = omega arith
 one_more_passes f g p (x ∷ l) d e = ⊎_elim
     (λ s.
