@@ -94,6 +94,7 @@ impl<J: Judge> Fetch<J> {
     ) -> Result<Fetch<J>, Memory>
         ensures by { IfOk result (λ fetch. (fetch.judge ≡ judge) × (fetch.replicas ≡ replicas) × (fetch.entries ≡ entries)) }
         ensures started { IfOk result (FetchIsAfter J.judges (standing_of standing.now) standing.now.held [] []) }
+        ensures free { IfOk result (λ fetch. fetch_awaited fetch ≡ None) }
         ensures left { IfOk result (λ fetch. fetch_left fetch < most_left) }
     {
         Ok(Fetch {
