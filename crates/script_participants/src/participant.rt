@@ -124,6 +124,13 @@ impl Participant {
         self.agent.order()
     }
 
+    /// The root of the last snapshot that a line printed.
+    pub fn printed(&self) -> Option<Key>
+        ensures { result ≡ self.now.printed }
+    {
+        self.printed
+    }
+
     /// Its agent enters a view, and its cache is empty then; or the view is refused; or the keeper fails. The error is want of
     /// memory; nothing is changed then.
     pub fn enter(&mut self, alloc: Global, view: View) -> Result<EnterEnd, Memory>
