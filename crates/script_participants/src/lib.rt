@@ -10,7 +10,8 @@
 //! (`specs/Turning.antt`); what is to be published then counts as made by [`Participant::count_made`]. [`Participant::plan_fault`]
 //! is `with_fault`, [`Participant::settle`] is `settled`, [`Participant::record_made`] gives the name that a script says by a
 //! number. [`Participant::work_text`] and [`Participants::order_text`] are what the lines of these names show, and
-//! [`Participants::keys_of`] are the public keys that a view is made of. [`Participants::at`] lends one to be changed.
+//! [`Participants::keys_of`] are the public keys that a view is made of. [`Participants::at`] lends one to be changed, and
+//! [`Participant::cache`] its cache; [`Participant::standing`] is what its sessions are given of its agent.
 //! Lemmas to cite: `changed_has` of `proofs/Places.antt`: where no two have one name, a world with the changed one has the
 //! participants then.
 //! Definitions: `specs/*.antt`, and `world_model`'s `specs/Agents.antt`, `specs/Keepers.antt`, `specs/Logs.antt` and

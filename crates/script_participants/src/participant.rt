@@ -1,14 +1,15 @@
 //! Who writes a log.
 
 ghost use Rattle.std.specs.Prelude.{◌≡◌, ◌≢◌, ◌≤◌, ◌+◌, ◌==◌, length, find, option_map, None, IfOk, OnOk, OnErr, IfSome, IsSomeAnd};
+ghost use Rattle.std.specs.Borrow.{sem};
 ghost use Rattle.hss_keys.specs.Signer.{left_of};
-ghost use Rattle.log_fetch.specs.Standings.{asked_of, refresh_of};
+ghost use Rattle.log_fetch.specs.Standings.{asked_of, refresh_of, standing_of};
 ghost use Rattle.log_records.specs.Records.{records_of};
 ghost use Rattle.agent_model.specs.Others.{settled};
 ghost use Rattle.ivy_agent.specs.Answering.{IsCall};
 ghost use Rattle.ivy_agent.specs.Bounds.{HasBounds};
 ghost use Rattle.ivy_agent.specs.Turns.{IsFetchedIn};
-ghost use Rattle.world_model.specs.Agents.{opened, own};
+ghost use Rattle.world_model.specs.Agents.{opened, own, standing_in};
 ghost use Rattle.world_model.specs.Faults.{work_text};
 ghost use Rattle.world_model.specs.Keepers.{with_fault};
 ghost use Rattle.world_model.specs.Logs.{newcomer};
@@ -24,7 +25,7 @@ use hss_keys::Hss;
 use ivy_agent::{Agent, MakeFault};
 use ivy_base::{Bytes, Key, Memory, Moment, PubKey, Steps};
 use ivy_io::{Leave, MemKeeper};
-use log_fetch::{Asked, Refresh, TurnFault, Turned};
+use log_fetch::{Asked, Refresh, Standing, TurnFault, Turned};
 use log_records::Record;
 use std::alloc::Global;
 use std::marker::Model;
@@ -55,6 +56,7 @@ impl Model for Participant {
 impl Participant {
     ghost use Rattle.script_participants.specs.ParticipantState.{state_of, counting};
     ghost use Rattle.script_participants.specs.InView.{entering_view};
+    ghost use Rattle.script_participants.specs.Lending.{LendsCache};
     ghost use Rattle.script_participants.specs.Turning.{TakesTurn};
 
     /// A participant whose agent opens its log at that moment and is saved; its first posts count as made. The error is want of
@@ -94,6 +96,22 @@ impl Participant {
         ensures { result.now ≡ self.now.name }
     {
         self.name.as_slice()
+    }
+
+    /// Its cache, to be changed.
+    pub fn cache(&mut self) -> &mut BlockCache
+        ensures value { result.now ≡ self.old.cache }
+        ensures* lends { sem 𝓛 (LendsCache self.entry result) }
+    {
+        &mut self.cache
+    }
+
+    /// What a session is given of its agent, which is in a view. The error is want of memory.
+    pub fn standing(&self, alloc: Global) -> Result<Standing, Memory>
+        requires { IsSomeAnd self.now.agent.view (λ view. Unit {0}) }
+        ensures { IfOk result (λ s. IfSome self.now.agent.view (λ view. standing_of s ≡ standing_in self.now.agent view)) }
+    {
+        self.agent.standing(alloc)
     }
 
     /// The public key of its log.
