@@ -1,7 +1,10 @@
--- What a fetch or a put is to ask is the next ask of its get or put.
-use Rattle.std.proofs.Common.{◌≡◌, ℕ, List, ◌∷◌, Option, Some, None, if◌then◌else◌, refl, sym, ◌∙◌, subst}
+-- What a fetch or a put is to ask is the next ask of its get or put, and was told once it was heard.
+use Rattle.std.proofs.Common.{◌≡◌, ◌≢◌, ⊎_elim, ℕ, Bool, true, false, List, [], ◌∷◌, ◌++◌, Option, Some, None, if◌then◌else◌, refl, sym, ◌∙◌, subst}
 use Rattle.log_model.specs.Vector.{Vector}
 use Rattle.ivy_base.specs.Naming.{head_key_of}
+use Rattle.ivy_base.specs.declared.key.Key.{Key}
+use Rattle.dht_ids.specs.Asked.{IsForData, told}
+use Rattle.dht_ids.specs.declared.ask.Answer.{Answer}
 use Rattle.dht_ids.specs.declared.ask.Ask.{Ask}
 use Rattle.dht_ids.specs.declared.ask.Ask.TheVariants as ask
 use Rattle.dht_ids.specs.declared.ask.Heard.{Heard}
@@ -97,3 +100,26 @@ pub first_is_next : (trail : List Heard) (s : PublishingState) (node : Peer) (qu
 first_is_next trail s node question h waits =
     let n = posts_next s.replicas s.entries s.left trail node question s.put h waits in
     record { first = n.0; posts = n.1; posts_are = n.2; next = n.3 }
+
+-- ---- what was heard
+
+-- what a put of the post asks is for data
+pub put_is_for_data : (p : Post) → IsForData (put_question p)
+put_is_for_data p = by (is_head p.kind)
+  where
+    by : (of_head : Bool) → IsForData (if of_head then ask.PutHead p.key p.bytes else ask.PutBlock p.key p.bytes)
+    by true = tt
+    by false = tt
+
+told_some : (trail : List Heard) (node : Peer) (question : Ask) (given : Answer) → IsForData question → trail ++ told node question given ≢ []
+told_some (first ∷ trail) node question given ok none = cc none
+told_some [] node (ask.Route key) given ok none = cc none
+told_some [] node ask.Near given ok none = ok
+told_some [] node (ask.Notify peer) given ok none = ok
+told_some [] node (ask.Get key) given ok none = cc none
+told_some [] node (ask.PutBlock key bytes) given ok none = cc none
+told_some [] node (ask.PutHead key bytes) given ok none = cc none
+
+-- once the next ask of a get or a put was heard, some ask was
+pub next_is_told : {key : Key} {own : Ask} {Whole : List Heard → Type 0} {trail : List Heard} {node : Peer} {question : Ask} → AsksNext key own Whole trail node question → IsForData own → (given : Answer) → trail ++ told node question given ≢ []
+next_is_told {trail = trail} {node = node} {question = question} n ok given = told_some trail node question given (⊎_elim (λ route. subst IsForData (sym route) tt) (λ owners. subst IsForData (sym owners) ok) n.is_of)

@@ -182,9 +182,9 @@ module _ {J : Type 0} (judges : Judges J) (st : SessionState J) (c : Call) where
           let n = h.3 s node question waits is.at.fetching in
           heard_so h.0 n.0 n.0 h.1 (by_same (λ (j : J) (m : ℕ). Hears (judges j) m s before node question h.0 n.0 after) f.judge st.judge f.replicas st.replicas is.at.judge is.at.replicas n.1)
           (still_goes_on (λ notes refresh miss staged refreshes.
-          let w = fetches_by n.0.standing n.3.none refreshes in
-          in_not_fails g.state miss (one_end n.0.standing n.0.standing.held (brought_in n.0.parts) (end_in g.state) (FailsBy miss) (stands judges n.0.standing n.0.standing.held g n.3.fetch n.3.unfailed) (notes, w.0, w.1))))
-          (goes_to s n.0 f g is n.2 h.2.0 h.2.1 n.3),
+          let w = fetches_by n.0.standing n.3.0.none refreshes in
+          in_not_fails g.state miss (one_end n.0.standing n.0.standing.held (brought_in n.0.parts) (end_in g.state) (FailsBy miss) (stands judges n.0.standing n.0.standing.held g n.3.0.fetch n.3.0.unfailed) (notes, w.0, w.1))))
+          (goes_to s n.0 f g is n.2 h.2.0 h.2.1 n.3.0) n.3.1,
     )
 
     -- the state with what is told
@@ -213,6 +213,7 @@ module _ {J : Type 0} (judges : Judges J) (st : SessionState J) (c : Call) where
                 entries = is.entries ∙ sym (ap (λ (x : Session). x.entries) n.2);
                 starts = is.starts ∙ sym (ap (λ (x : Session). x.starts) n.2);
                 at = record { said = Some (said_of c.xid (missed_reply (asked_of c.asked) missed.0)); is_told = refl; stage = refl; noted = why.noted_are };
-              }),
+              })
+              (λ waits. absurd (waits refl)),
         )))
         ends

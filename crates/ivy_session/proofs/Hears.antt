@@ -26,7 +26,7 @@ use Rattle.log_fetch.specs.Fetching.{Fetching, FetchHasHeard, GetGoesOn, GetIsOv
 use Rattle.ask_laws.proofs.AskedGets.{get_next_is_not_whole}
 use Rattle.ivy_session.specs.States.{IsFetching}
 use Rattle.ivy_session.specs.Taking.{FetchHears, IsHeardTo, IsSameCall, kept_back}
-use Rattle.ivy_session.proofs.Asking.{fetch_asks_next}
+use Rattle.ivy_session.proofs.Asking.{fetch_asks_next, next_is_told}
 use Rattle.ivy_session.proofs.Bringing.{none_kept, not_missed, one_kept, right_name}
 use Rattle.ivy_session.proofs.Fetches.{ComesTo, wants_so}
 
@@ -93,7 +93,10 @@ module _ {J : Type 0} (judges : Judges J) (posts : List Post) (old new : Fetchin
           subst (λ (c : Cache). Hears (judges old.judge) old.replicas s before node question answer (record s { current = asks }) c) (sym (ap (λ (b : Option (Key × List ℕ)). kept_back b before) on.3))
               (gets_on want (wants_so judges posts s old want (judges old.judge) old.replicas is needed) next (λ whole. get_next_is_not_whole (judges old.judge) old.replicas s.entries want asks x.0.0 x.0.1 then_next whole)),
           refl,
-          record { stage = is.stage; none = is.none; pending = is.pending; entries = h.0.2 ∙ is.entries; unmissed = is.unmissed; fetch = on.2; unfailed = un },
+          (
+            record { stage = is.stage; none = is.none; pending = is.pending; entries = h.0.2 ∙ is.entries; unmissed = is.unmissed; fetch = on.2; unfailed = un },
+            λ waits. next_is_told next tt answer,
+          ),
         )
 
     got_so : (want : Want) → Next want → Needed want → (o : GetIsOver judges s.standing s.standing.held s.parts asks want old new block)
@@ -116,7 +119,10 @@ module _ {J : Type 0} (judges : Judges J) (posts : List Post) (old new : Fetchin
       with_part s o.0 asks,
       got_so want next needed o,
       refl,
-      record { stage = is.stage; none = is.none; pending = is.pending; entries = h.0.2 ∙ is.entries; unmissed = is.unmissed; fetch = o.3; unfailed = e },
+      (
+        record { stage = is.stage; none = is.none; pending = is.pending; entries = h.0.2 ∙ is.entries; unmissed = is.unmissed; fetch = o.3; unfailed = e },
+        λ waits. absurd (waits o.2),
+      ),
     )
     over_on want next needed o true e = (with_part s o.0 asks, got_so want next needed o, refl, (record { fetch = o.3; failed = e }, none_back want o e block refl))
 

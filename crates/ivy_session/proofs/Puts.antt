@@ -30,7 +30,7 @@ use Rattle.ivy_session.specs.Stepping.AsksOf.{puts as asks_of_put}
 use Rattle.ivy_session.specs.Stepping.NextIs.{asks as next_asks, settles, is_cut as next_is_cut}
 use Rattle.ivy_session.specs.Stepping.HeardIs.{hears as heard_so, is_cut as heard_is_cut}
 use Rattle.ivy_session.specs.Ending.{PutHears}
-use Rattle.ivy_session.proofs.Asking.{FirstIsNext, first_is_next}
+use Rattle.ivy_session.proofs.Asking.{FirstIsNext, first_is_next, next_is_told, put_is_for_data}
 use Rattle.ivy_session.proofs.Hears.{there_is}
 use Rattle.ivy_session.proofs.Nobody.{put_asks_somebody}
 
@@ -154,6 +154,7 @@ module _ {J : Type 0} (judges : Judges J) (st : SessionState J) (told : Served) 
             starts = is.starts;
             at = record { said = is.at.said; is_told = is.at.is_told; stage = is.at.stage ∙ sym stage_is; replicas = replicas_are; entries = same.1 ∙ is.at.entries; asks = trail; noted = is.at.noted };
           })
+          (λ waits. next_is_told (asks_next_of first.first refl) (put_is_for_data first.first) answer)
       step (put_is_over other posts came stage_is whole stage_then trail none) =
           let one : first.first ≡ other = same_first first.first other first.posts posts (sym first.posts_are ∙ same_posts is.at.said (posts_of p) (other ∷ posts) p.acks p.acks stage_is) in
           let t : Session = record s { stage = after_put is.at.said other posts p.acks (acknowledged came); current = [] } in
@@ -166,6 +167,7 @@ module _ {J : Type 0} (judges : Judges J) (st : SessionState J) (told : Served) 
             starts = is.starts;
             at = record { said = is.at.said; is_told = is.at.is_told; stage = sym stage_then; replicas = replicas_are; entries = same.1 ∙ is.at.entries; asks = trail; noted = is.at.noted };
           })
+          (λ waits. absurd (waits none))
 
     pub puts_hear : PutHears p q given (Ok tt) → IsHeard judges (At p) (At q) cache cache given
     puts_hear h = (

@@ -1,5 +1,5 @@
 -- A session in code, and which session of the definitions it may be.
-use Rattle.std.specs.Prelude.{◌≡◌, ℕ, Bool, true, false, List, [], Option, Some, None}
+use Rattle.std.specs.Prelude.{◌≡◌, ◌≢◌, ℕ, Bool, true, false, List, [], Option, Some, None}
 use Rattle.dht_ids.specs.declared.ask.Ask.{Ask}
 use Rattle.dht_ids.specs.declared.peer.Peer.{Peer}
 use Rattle.dht_ids.specs.declared.post.Post.{Post}
@@ -45,6 +45,10 @@ awaited_at stage.Told = None
 -- the node to be heard, and what it is asked
 abbrev pub session_awaited : {J : Type 0} → SessionState J → Option (Peer × Ask)
 session_awaited st = awaited_at st.stage
+
+-- what it waits for is the next ask of a get or a put that has made some, each of which was heard
+abbrev pub HasAsked : {J : Type 0} → SessionState J → Session → Type 0
+HasAsked st s = session_awaited st ≢ None → s.current ≢ []
 
 -- its agent's turn is awaited
 abbrev pub is_turning : {J : Type 0} → Stage J → Bool

@@ -35,7 +35,7 @@ use Rattle.ivy_session.specs.declared.session.Next.{Next}
 use Rattle.ivy_session.specs.declared.session.Next.TheVariants as next
 use Rattle.ivy_session.specs.declared.served.Served.{Served}
 use Rattle.ivy_session.specs.declared.served.Served.TheVariants as served
-use Rattle.ivy_session.specs.States.{SessionState, IsSession, is_turning, served_of, session_awaited}
+use Rattle.ivy_session.specs.States.{HasAsked, SessionState, IsSession, is_turning, served_of, session_awaited}
 
 -- the judge, the number of owners and the nodes stay
 abbrev pub IsSameSession : {J : Type 0} → SessionState J → SessionState J → Type 0
@@ -83,9 +83,10 @@ module _ {J : Type 0} (judges : Judges J) (old new : SessionState J) (s : Sessio
         → NextIs before after (next.Done (served_of said))
     is_unrouted : (t : Session) (told : Served) → TakesAll (judges old.judge) old.replicas s before t after → IsUnrouted t told → NextIs before after (next.Done told)
 
-  -- The answer was heard: a step of the session; or memory is wanting, and it has no turn, or publishes no more.
+  -- The answer was heard: a step of the session, behind which it waits for a node only where the get or put on its way has made asks; or memory is wanting, and it has no turn, or publishes no more.
   pub data HeardIs (before after : Cache) (node : Peer) (question : Ask) (given : Result Answer Memory) : Type 0 where
-    hears : (answer : Answer) (heard t : Session) → given ≡ Ok answer → Hears (judges old.judge) old.replicas s before node question answer heard after → Fails heard t → IsSession judges t new → HeardIs before after node question given
+    hears : (answer : Answer) (heard t : Session) → given ≡ Ok answer → Hears (judges old.judge) old.replicas s before node question answer heard after → Fails heard t → IsSession judges t new → HasAsked new t
+        → HeardIs before after node question given
     lacks_memory : (t : Session) → LacksMemory s t → after ≡ before → IsSession judges t new → HeardIs before after node question given
     is_cut : (said : Option Said) (posts : List Post) (acks : List Ack) → s.stage ≡ Publishing said posts acks → new.is_cut ≡ true → after ≡ before
         → IsSession judges (record s { stage = Over said; current = [] }) new → HeardIs before after node question given

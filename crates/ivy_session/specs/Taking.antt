@@ -68,9 +68,9 @@ pub record IsFailing {J : Type 0} (judges : Judges J) (s : Session) (f : Fetchin
   pub fetch : FetchIsAfter judges s.standing s.standing.held s.parts s.current f
   pub failed : is_failed f ≡ true
 
--- The answer was heard, and a block that came right is kept: the fetch goes on, or has failed.
+-- The answer was heard, and a block that came right is kept: the fetch goes on, and waits for a node only where a get has made asks; or it has failed.
 abbrev pub IsHeardTo : {J : Type 0} → Judges J → List Post → Session → Fetching J → Cache → Cache → Bool → Type 0
-IsHeardTo judges posts t new before after false = IsFetching judges posts t new
+IsHeardTo judges posts t new before after false = IsFetching judges posts t new × (fetch_awaited new ≢ None → t.current ≢ [])
 IsHeardTo judges posts t new before after true = IsFailing judges t new × (after ≡ before)
 
 -- Where memory is wanting the cache is the same.

@@ -6,8 +6,9 @@
 //! ([`Session::heard`]); it wants its agent's turn, and is told what came of it ([`Session::turned`]); it wants its agent to drop
 //! posts that were acknowledged; then it is done. Each of these is a step of the session of `session_model`
 //! (`specs/Stepping.antt`: `NextIs`, `HeardIs`, `TurnedIs`), whichever session of the definitions it may be (`specs/States.antt`:
-//! `IsSession`). Want of memory before the turn is answered by SYSTEM_ERR, for which the memory was taken first; after the turn it
-//! changes no reply, and [`Session::is_cut`] tells that posts are left.
+//! `IsSession`). As it begins, and behind each answer and turn that it is told, it waits for a node only where the get or put on
+//! its way has made asks (`HasAsked`). Want of memory before the turn is answered by SYSTEM_ERR, for which the memory was taken
+//! first; after the turn it changes no reply, and [`Session::is_cut`] tells that posts are left.
 //! Definitions: `specs/States.antt`, `specs/Stepping.antt`; within, `specs/Taking.antt` (what a refresh takes of what is at hand,
 //! hears, and comes to), `specs/Ending.antt`, and `specs/InPlace.antt` (stages that are changed in place). Lemmas, each file on
 //! those before it: `proofs/Reaching.antt` and `proofs/Fetches.antt` (how a fetch stands, which is one), `proofs/Asking.antt`,

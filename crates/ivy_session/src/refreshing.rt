@@ -6,7 +6,7 @@ ghost use Rattle.dht_ids.specs.declared.post.Post.{Post as Posted};
 ghost use Rattle.block_cache.specs.Blocks.{kept};
 ghost use Rattle.log_fetch.specs.Fetching.{fetch_awaited};
 ghost use Rattle.log_fetch.specs.Standings.{standing_of};
-ghost use Rattle.ivy_session.specs.States.{BeginsAs, begun, reply_or_none};
+ghost use Rattle.ivy_session.specs.States.{BeginsAs, awaited_at, begun, reply_or_none};
 ghost use Rattle.ivy_session.specs.Taking.{Advances, FetchHears, IsFailure, kept_back};
 
 use crate::hand::take_all;
@@ -31,7 +31,8 @@ pub(crate) fn first_stage<J: Judge>(
     message: &[u8],
 ) -> Result<Stage<J>, Memory>
     requires { standing.now.basis ≡ None }
-    ensures { IfOk result (λ stage. BeginsAs J.judges message.now (standing_of standing.now) (begun judge replicas entries.now standing.now.pending stage)) }
+    ensures begun { IfOk result (λ stage. BeginsAs J.judges message.now (standing_of standing.now) (begun judge replicas entries.now standing.now.pending stage)) }
+    ensures free { IfOk result (λ stage. awaited_at stage ≡ None) }
 {
     match read_message(alloc, &standing.view, message)? {
         Reading::Alone(reply) => Ok(Stage::Over(told(reply))),

@@ -1,6 +1,6 @@
 //! The machine of a session.
 
-ghost use Rattle.std.specs.Prelude.{◌≡◌, ◌≢◌, ℕ, ◌+◌, ◌<◌, ◌≤◌, List, [], true, false, length, Some, None, IfOk, IfErr, IfSome, option_map};
+ghost use Rattle.std.specs.Prelude.{◌≡◌, ◌≢◌, ℕ, ◌+◌, ◌<◌, ◌≤◌, List, [], true, false, length, nat_lt, Some, None, IfOk, IfErr, IfSome, option_map};
 ghost use Rattle.agent_model.specs.Standing.{Standing as ModelStanding};
 ghost use Rattle.session_model.specs.Courses.{publishing_session};
 ghost use Rattle.log_fetch.specs.Standings.{standing_of};
@@ -95,6 +95,7 @@ impl<J: Judge> Session<J> {
         requires { standing.basis ≡ None }
         ensures by { IfOk result (λ st. (st.judge ≡ judge) × (st.replicas ≡ replicas) × (st.entries ≡ entries)) }
         ensures begun { IfOk result (BeginsAs J.judges message.now (standing_of standing)) }
+        ensures free { IfOk result (λ st. session_awaited st ≡ None) }
     {
         let stage = first_stage(alloc, judge, replicas, &entries, &standing, message)?;
         Ok(Session {
@@ -120,6 +121,7 @@ impl<J: Judge> Session<J> {
     ) -> Result<Session<J>, Memory>
         ensures by { IfOk result (λ st. (st.judge ≡ judge) × (st.replicas ≡ replicas) × (st.entries ≡ entries)) }
         ensures begun { IfOk result (λ st. (by : List ℕ) (standing : ModelStanding) → IsSession J.judges (publishing_session by st.entries standing pending.now) st) }
+        ensures free { IfOk result (λ st. session_awaited st ≡ None) }
     {
         let publishing = Publishing::start(alloc, replicas, entries.copy(alloc)?, pending)?;
         Ok(Session {
@@ -172,12 +174,14 @@ impl<J: Judge> Session<J> {
         }
     }
 
-    /// Is told what came of its agent's turn. It is called once after each `Turn`. A reply has at most 32,772 bytes.
+    /// Is told what came of its agent's turn. It is called once after each `Turn`. A reply has at most 32,772 bytes. No node
+    /// is to be heard then until one is asked.
     pub fn turned(&mut self, turned: Result<Turned, TurnFault>)
         requires turning { is_turning self.old.stage ≡ true }
         requires short { IfOk turned (λ t. length t.reply ≤ 32772) }
         requires anew { IfErr turned IsAnewFor }
-        ensures { IsTurned J.judges self.old self.new turned }
+        ensures turned { IsTurned J.judges self.old self.new turned }
+        ensures free { session_awaited self.new ≡ None }
     {
         match turned {
             Ok(turned) => self.answer(&turned),
@@ -185,6 +189,13 @@ impl<J: Judge> Session<J> {
             Err(TurnFault::Behind(standing)) => self.begin_anew(standing),
             Err(TurnFault::BelowTide(standing)) => self.begin_anew(standing),
         }
+    }
+
+    /// Whether it may begin anew after a refused turn: it did so at most once.
+    pub fn may_begin_anew(&self) -> bool
+        ensures { result ≡ nat_lt self.now.starts 2 }
+    {
+        self.starts < MOST_STARTS
     }
 
     /// What is noted of the logs, once the session publishes or is over.
@@ -316,7 +327,8 @@ impl<J: Judge> Session<J> {
     fn answer(&mut self, turned: &Turned)
         requires turning { is_turning self.old.stage ≡ true }
         requires short { length turned.now.reply ≤ 32772 }
-        ensures { IsTurned J.judges self.old self.new (Ok turned.now) }
+        ensures turned { IsTurned J.judges self.old self.new (Ok turned.now) }
+        ensures free { session_awaited self.new ≡ None }
     {
         let call = take_call(&mut self.stage);
         let told = reply_of(call, turned.reply.as_slice());
@@ -345,7 +357,8 @@ impl<J: Judge> Session<J> {
     fn begin_anew(&mut self, standing: Standing)
         requires turning { is_turning self.old.stage ≡ true }
         requires none { standing.basis ≡ None }
-        ensures { IsTurned J.judges self.old self.new (Err (TurnFault.Behind standing)) }
+        ensures turned { IsTurned J.judges self.old self.new (Err (TurnFault.Behind standing)) }
+        ensures free { session_awaited self.new ≡ None }
     {
         let call = take_call(&mut self.stage);
         match self.fetch_anew(standing) {
@@ -359,7 +372,7 @@ impl<J: Judge> Session<J> {
     fn fetch_anew(&mut self, standing: Standing) -> Option<Fetch<J>>
         ensures { BeginsAnew J.judges self.old self.new standing result }
     {
-        if self.starts >= MOST_STARTS {
+        if !self.may_begin_anew() {
             drop(standing);
             return None;
         }
@@ -382,6 +395,7 @@ impl<J: Judge> Session<J> {
     fn fetch_for(&self, standing: &Standing) -> Result<Fetch<J>, Memory>
         ensures by { IfOk result (λ fetch. (fetch.judge ≡ self.now.judge) × (fetch.replicas ≡ self.now.replicas) × (fetch.entries ≡ self.now.entries)) }
         ensures started { IfOk result (FetchIsAfter J.judges (standing_of standing.now) standing.now.held [] []) }
+        ensures free { IfOk result (λ fetch. fetch_awaited fetch ≡ None) }
     {
         Fetch::start(
             self.alloc,

@@ -7,15 +7,15 @@ use Rattle.ivy_session.specs.States.{BeginsAs, begun}
 use Rattle.ivy_session.proofs.Begins.{alone_begins, asks_well, call_begins}
 use Rattle.ivy_session.proofs.refreshing.first_stage.Goals as goal
 
-pub returns-in-Alone : goal.returns-in-Alone
-returns-in-Alone g c =
+pub returns-in-Alone-clause-begun : goal.returns-in-Alone-clause-begun
+returns-in-Alone-clause-begun g c =
     let s = c.args.standing.now in
     let said = subst (IsReading s.view c.args.message.now) c.in-Alone.is c.in_ok-reply.ensures in
     subst (λ (told : Served). BeginsAs g.J.Judge.judges c.args.message.now (standing_of s) (begun c.args.judge c.args.replicas c.args.entries.now s.pending (stage.Over told))) (sym c.told.ensures)
     (alone_begins g.J.Judge.judges c.args.judge c.args.replicas c.args.entries.now c.args.message.now (standing_of s) s.pending c.in-Alone.reply said)
 
-pub returns-in_ok-fetch-in-Asks : goal.returns-in_ok-fetch-in-Asks
-returns-in_ok-fetch-in-Asks g c =
+pub returns-in_ok-fetch-in-Asks-clause-begun : goal.returns-in_ok-fetch-in-Asks-clause-begun
+returns-in_ok-fetch-in-Asks-clause-begun g c =
     let s = c.args.standing.now in
     let read = subst (IsReading s.view c.args.message.now) c.in-Asks.is c.in_ok-reply.ensures in
     let call = c.in_ok-call-in-Asks.call in

@@ -7,15 +7,15 @@ use Rattle.ivy_session.proofs.session.Session.answer.Goals as goal
 pub take_call-call-requires : goal.take_call-call-requires
 take_call-call-requires g c = turning_call c.self.inside.stage (subst (λ (x : SessionState g.row.J.Denot). is_turning x.stage ≡ true) (sym c.self.view_is) c.requires.turning)
 
-pub returns-in-Ok : goal.returns-in-Ok
-returns-in-Ok g c =
+pub returns-in-Ok-clause-turned : goal.returns-in-Ok-clause-turned
+returns-in-Ok-clause-turned g c =
     let i = c.self.inside in
     let st : SessionState g.row.J.Denot = record { judge = i.judge; replicas = i.replicas; entries = i.entries; pending = i.pending; starts = i.starts; notes = i.notes; is_cut = i.is_cut; stage = i.stage } in
     subst (λ (x : SessionState g.row.J.Denot). IsTurned g.J.Judge.judges x (record st { stage = c.go_to.new.stage }) (Ok c.args.turned.now)) c.self.view_is
     (is_answered g.J.Judge.judges st i.stage c.take_call-call.result (subst (λ (x : SessionState g.row.J.Denot). is_turning x.stage ≡ true) (sym c.self.view_is) c.requires.turning) c.take_call-call.ensures.call c.args.turned.now c.as_slice.result.now c.reply_of-told.result c.in-Ok.publishing c.go_to.new.stage c.as_slice.ensures c.reply_of-told.ensures c.in-Ok.ensures c.go_to.ensures)
 
-pub returns-in-Err : goal.returns-in-Err
-returns-in-Err g c =
+pub returns-in-Err-clause-turned : goal.returns-in-Err-clause-turned
+returns-in-Err-clause-turned g c =
     let i = c.self.inside in
     let st : SessionState g.row.J.Denot = record { judge = i.judge; replicas = i.replicas; entries = i.entries; pending = i.pending; starts = i.starts; notes = i.notes; is_cut = i.is_cut; stage = i.stage } in
     subst (λ (x : SessionState g.row.J.Denot). IsTurned g.J.Judge.judges x (record st { is_cut = true; stage = c.go_to-in-Err.new.stage }) (Ok c.args.turned.now)) c.self.view_is

@@ -9,8 +9,8 @@ use Rattle.ivy_session.proofs.session.Session.begin_anew.Goals as goal
 pub take_call-call-requires : goal.take_call-call-requires
 take_call-call-requires g c = turning_call c.self.inside.stage (subst (λ (x : SessionState g.row.J.Denot). is_turning x.stage ≡ true) (sym c.self.view_is) c.requires.turning)
 
-pub returns-in-Some : goal.returns-in-Some
-returns-in-Some g c =
+pub returns-in-Some-clause-turned : goal.returns-in-Some-clause-turned
+returns-in-Some-clause-turned g c =
     let i = c.self.inside in
     let m = c.self-2.inside in
     let st : SessionState g.row.J.Denot = record { judge = i.judge; replicas = i.replicas; entries = i.entries; pending = i.pending; starts = i.starts; notes = i.notes; is_cut = i.is_cut; stage = i.stage } in
@@ -19,8 +19,8 @@ returns-in-Some g c =
     subst (λ (x : SessionState g.row.J.Denot). IsTurned g.J.Judge.judges x (record mid { stage = c.go_to.new.stage }) (Err (fault.Behind c.args.standing))) c.self.view_is
     (refresh_anew g.J.Judge.judges st i.stage c.take_call-call.result (subst (λ (x : SessionState g.row.J.Denot). is_turning x.stage ≡ true) (sym c.self.view_is) c.requires.turning) c.take_call-call.ensures.call c.take_call-call.new.stage c.args.standing mid c.in-Some.fetch c.go_to.new.stage c.requires.none begun c.go_to.ensures)
 
-pub returns-in-None : goal.returns-in-None
-returns-in-None g c =
+pub returns-in-None-clause-turned : goal.returns-in-None-clause-turned
+returns-in-None-clause-turned g c =
     let i = c.self.inside in
     let m = c.self-2.inside in
     let st : SessionState g.row.J.Denot = record { judge = i.judge; replicas = i.replicas; entries = i.entries; pending = i.pending; starts = i.starts; notes = i.notes; is_cut = i.is_cut; stage = i.stage } in

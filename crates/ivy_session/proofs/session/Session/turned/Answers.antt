@@ -7,21 +7,21 @@ use Rattle.ivy_session.proofs.session.Session.turned.Goals as goal
 pub lack-requires : goal.lack-requires
 lack-requires g c = turning_call c.self.inside.stage (subst (λ (x : SessionState g.row.J.Denot). is_turning x.stage ≡ true) (sym c.self.view_is) c.requires.turning)
 
-pub returns-in-Ok : goal.returns-in-Ok
-returns-in-Ok g c = subst (IsTurned g.J.Judge.judges c.args.self.now c.answer.new.self) (sym c.in-Ok.is) c.answer.ensures
+pub returns-in-Ok-clause-turned : goal.returns-in-Ok-clause-turned
+returns-in-Ok-clause-turned g c = subst (IsTurned g.J.Judge.judges c.args.self.now c.answer.new.self) (sym c.in-Ok.is) c.answer.ensures.turned
 
-pub returns-in-Err-Memory : goal.returns-in-Err-Memory
-returns-in-Err-Memory g c =
+pub returns-in-Err-Memory-clause-turned : goal.returns-in-Err-Memory-clause-turned
+returns-in-Err-Memory-clause-turned g c =
     let i = c.self.inside in
     let st : SessionState g.row.J.Denot = record { judge = i.judge; replicas = i.replicas; entries = i.entries; pending = i.pending; starts = i.starts; notes = i.notes; is_cut = i.is_cut; stage = i.stage } in
     subst (λ (x : SessionState g.row.J.Denot). IsTurned g.J.Judge.judges x (record st { stage = c.lack.new.stage }) c.args.turned) c.self.view_is
     (lack_at_turn g.J.Judge.judges st i.stage c.lack.new.stage c.args.turned c.in-Err-Memory.field-0 (subst (λ (x : SessionState g.row.J.Denot). is_turning x.stage ≡ true) (sym c.self.view_is) c.requires.turning) c.in-Err-Memory.is c.in-Err-Memory.field-0-is c.lack.ensures)
 
-pub returns-in-Err-Behind : goal.returns-in-Err-Behind
-returns-in-Err-Behind g c =
-    turned_behind g.J.Judge.judges c.args.self.now c.begin_anew.new.self c.args.turned c.in-Err-Behind.field-0 c.in-Err-Behind.standing c.in-Err-Behind.is c.in-Err-Behind.field-0-is c.begin_anew.ensures
+pub returns-in-Err-Behind-clause-turned : goal.returns-in-Err-Behind-clause-turned
+returns-in-Err-Behind-clause-turned g c =
+    turned_behind g.J.Judge.judges c.args.self.now c.begin_anew.new.self c.args.turned c.in-Err-Behind.field-0 c.in-Err-Behind.standing c.in-Err-Behind.is c.in-Err-Behind.field-0-is c.begin_anew.ensures.turned
 
-pub returns-in-Err-BelowTide : goal.returns-in-Err-BelowTide
-returns-in-Err-BelowTide g c =
+pub returns-in-Err-BelowTide-clause-turned : goal.returns-in-Err-BelowTide-clause-turned
+returns-in-Err-BelowTide-clause-turned g c =
     turned_below g.J.Judge.judges c.args.self.now c.begin_anew-in-Err-BelowTide.new.self c.args.turned c.in-Err-BelowTide.field-0 c.in-Err-BelowTide.standing c.in-Err-BelowTide.is c.in-Err-BelowTide.field-0-is
-    c.begin_anew-in-Err-BelowTide.ensures
+    c.begin_anew-in-Err-BelowTide.ensures.turned
