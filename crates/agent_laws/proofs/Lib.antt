@@ -6,4 +6,6 @@ mod Brought
 mod Going
 mod Hand
 mod Over
+mod Largest
 pub mod Taken
+pub mod There

@@ -69,12 +69,23 @@ module _ (view : View) (b : Basis) (below : List Record) (well : IsView view) (s
 
     -- and back: what the largest closed part of the whole has beyond the front
     module _ (s : List Record) (p : plain.IsClosedPart view All s) where
-      pub over_part : over.IsClosedPart view b.front Hand (filter is_beyond s)
-      over_part = record {
-        part = λ r c. let w = from_filter is_beyond s r c in beyond_hand r (p.part r w.0) w.1;
-        closed = beyond_closed s p.part p.closed;
-        largest = λ t at_hand closed r c. in_filter is_beyond s r
-            (p.largest (below ++ t) (λ q d. ⊎_elim (λ e. of_below q e) (λ e. of_hand q (at_hand q e)) (Contains-append_cases below t q d))
-            (whole_is_closed view below well stands.closed t (over_front t closed) (λ q d. above_of q (above q (at_hand q d)))) r (Contains-append_right below t r c))
-            (is_high r (at_hand r c));
-      }
+      -- these are it, and have all of the whole's that is at hand over the front
+      pub record IsOverPart (t : List Record) : Type 0 where
+        pub largest : over.IsClosedPart view b.front Hand t
+        pub has : (r : Record) → Contains s r → Hand r → Contains t r
+
+      pub over_part : (t : List Record) × IsOverPart t
+      over_part = (
+        filter is_beyond s,
+        record {
+          largest = record {
+            part = λ r c. let w = from_filter is_beyond s r c in beyond_hand r (p.part r w.0) w.1;
+            closed = beyond_closed s p.part p.closed;
+            largest = λ t at_hand closed r c. in_filter is_beyond s r
+                (p.largest (below ++ t) (λ q d. ⊎_elim (λ e. of_below q e) (λ e. of_hand q (at_hand q e)) (Contains-append_cases below t q d))
+                (whole_is_closed view below well stands.closed t (over_front t closed) (λ q d. above_of q (above q (at_hand q d)))) r (Contains-append_right below t r c))
+                (is_high r (at_hand r c));
+          };
+          has = λ r c a. in_filter is_beyond s r c (is_high r a);
+        },
+      )

@@ -12,7 +12,7 @@
 //! Statements: `specs/Laws.antt`. Nothing here runs, so there are no costs.
 #![tactic(auto)]
 
-ghost use Rattle.agent_laws.specs.Laws.{FrontIsJoined, OwnLogEndsAtFloor, TakenIsByDefinition};
+ghost use Rattle.agent_laws.specs.Laws.{FrontIsJoined, OwnLogEndsAtFloor, TakenIsByDefinition, ThereIsATaking};
 
 /// A law and no code: what a turn takes by what is held is what it takes by the definition; the front of what is taken is that
 /// of what is held then; and the own log goes on from the floor.
@@ -20,4 +20,9 @@ pub fn turns_take_by_definition()
     ensures taken { TakenIsByDefinition }
     ensures front { FrontIsJoined }
     ensures own_log { OwnLogEndsAtFloor }
+{}
+
+/// A law and no code: a turn that isn't refused has something to take, whatever its refresh brought.
+pub fn there_are_takings()
+    ensures { ThereIsATaking }
 {}
