@@ -9,3 +9,4 @@ mod Over
 mod Largest
 pub mod Taken
 pub mod There
+pub mod Served
