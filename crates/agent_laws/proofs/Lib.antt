@@ -10,3 +10,4 @@ mod Largest
 pub mod Taken
 pub mod There
 pub mod Served
+pub mod Answering
