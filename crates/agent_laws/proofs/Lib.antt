@@ -10,4 +10,5 @@ mod Largest
 pub mod Taken
 pub mod There
 pub mod Served
+pub mod Octets
 pub mod Answering
