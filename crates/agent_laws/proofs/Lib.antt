@@ -11,4 +11,5 @@ pub mod Taken
 pub mod There
 pub mod Served
 pub mod Octets
+pub mod Saving
 pub mod Answering
