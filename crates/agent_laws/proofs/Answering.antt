@@ -44,6 +44,7 @@ use Rattle.agent_laws.specs.Laws.{IsTakenBy}
 use Rattle.agent_laws.proofs.Fronts.{front_is_joined, reach_of_log}
 use Rattle.agent_laws.proofs.Served.{IsOn, MayAppend, by_failing, kept, more}
 use Rattle.agent_laws.proofs.Taken.{going_is_gone_on, is_taken, own_ends}
+use Rattle.agent_laws.proofs.Octets.{HasOctets}
 
 or_left : (b c : Bool) → b ≡ true → (b || c) ≡ true
 or_left true c h = refl
@@ -67,6 +68,10 @@ module _ (own : PubKey) (v : Vector) (now : Moment) where
   all_owned : (n : ℕ) (prev : Key) (ops : List Op) → AllByRecursion (λ r. r.owner ≡ own) (linked own v now n prev ops)
   all_owned n prev [] = tt
   all_owned n prev (op ∷ ops) = (refl, all_owned (n + 1) (new_record own n prev v now op).name ops)
+
+  all_octets : (n : ℕ) (prev : Key) (ops : List Op) → AllByRecursion HasOctets ops → AllByRecursion (λ r. HasOctets r.op) (linked own v now n prev ops)
+  all_octets n prev [] h = tt
+  all_octets n prev (op ∷ ops) h = (h.0, all_octets (n + 1) (new_record own n prev v now op).name ops h.1)
 
 module _ {S : Type 0} (signs : Signing S) (a : Agent S) (view : View) (brought : Refresh) (new : List Record) (asked : Asked) (now : Moment) (well : IsView view) (member : Contains view.members (own signs a))
     (takes : TakesNew view (own signs a) a.floor (going_on a brought.basis) brought new) where
@@ -108,6 +113,9 @@ module _ {S : Type 0} (signs : Signing S) (a : Agent S) (view : View) (brought :
   pub count_written : (ops : List Op) → length (written ops) ≡ length ops
   count_written ops = as_many mine (without_log (head_key_of mine) (joined held)) now (far + 1) (option_map_or (λ t. t.name) (stamp_at (joined held) (head_key_of mine)) no_name) ops
 
+  pub octets_written : (ops : List Op) → AllByRecursion HasOctets ops → AllByRecursion (λ r. HasOctets r.op) (written ops)
+  octets_written ops h = all_octets mine (without_log (head_key_of mine) (joined held)) now (far + 1) (option_map_or (λ t. t.name) (stamp_at (joined held) (head_key_of mine)) no_name) ops h
+
   owned_written : (ops : List Op) → AllByRecursion (λ r. r.owner ≡ mine) (written ops)
   owned_written ops = all_owned mine (without_log (head_key_of mine) (joined held)) now (far + 1) (option_map_or (λ t. t.name) (stamp_at (joined held) (head_key_of mine)) no_name) ops
 
@@ -126,13 +134,13 @@ module _ {S : Type 0} (signs : Signing S) (a : Agent S) (view : View) (brought :
     abbrev taken : List Record
     taken = its.0
 
-    closed : IsClosed view taken
+    pub closed : IsClosed view taken
     closed = its.1.largest.closed
 
     tree_is : kept_tree held ≡ replay taken
     tree_is = kept_tree_is_replay view taken held closed its.1.holds
 
-    front_is : front taken ≡ joined held
+    pub front_is : front taken ≡ joined held
     front_is = front_is_joined view taken held its.1.holds
 
     on : On taken

@@ -13,3 +13,4 @@ pub mod Served
 pub mod Octets
 pub mod Saving
 pub mod Answering
+pub mod Existing
