@@ -1,6 +1,5 @@
 -- What a turn that takes something answers and writes, by the definition.
-use Rattle.std.proofs.Common.{◌≡◌, ◌≢◌, ◌⊎◌, inl, inr, ⊎_elim, ℕ, ◌+◌, ◌≤◌, ◌<◌, suc, Bool, true, false, ◌||◌, List, [], ◌∷◌, ◌++◌, length, map, Option, Some, None, refl, sym, ap, ◌∙◌, subst, arith, Contains}
-use Rattle.std.specs.Prelude.{IsTrue}
+use Rattle.std.proofs.Common.{◌≡◌, ◌≢◌, ℕ, ◌+◌, ◌≤◌, suc, Bool, true, false, ◌||◌, List, [], ◌∷◌, ◌++◌, length, map, refl, sym, ap, ◌∙◌, subst, arith, Contains}
 use Rattle.std.specs.List.{AllByRecursion}
 use Rattle.std.specs.Option.{option_map_or}
 use Rattle.std.proofs.lemmas.List.{append-nil, map-append}
@@ -16,20 +15,20 @@ use Rattle.wire_model.specs.Rpc.{IsIdentity}
 use Rattle.log_model.specs.Chain.{AllMayBeWritten, IsGood}
 use Rattle.log_model.specs.Closed.{IsClosed, log_of}
 use Rattle.log_model.specs.Laws.{NumbersAreKeys}
-use Rattle.log_model.specs.Rank.{front, own_entry}
+use Rattle.log_model.specs.Rank.{front}
 use Rattle.log_model.specs.Record.{Record}
 use Rattle.log_model.specs.Replay.{effect, replay}
-use Rattle.log_model.specs.Spelling.{IsMoment, most_records, new_record, no_name}
+use Rattle.log_model.specs.Spelling.{IsMoment, new_record, no_name}
 use Rattle.log_model.specs.Vector.{Stamp, Vector, reach, seq_of, stamp_at, without_log}
 use Rattle.log_model.specs.View.{View, IsView}
 use Rattle.log_model.proofs.Later.{EndsWith, apply_more, good_of, replay_more}
 use Rattle.log_model.proofs.Lists.{each_from, each}
 use Rattle.nfs_model.specs.Arguments.{ArgumentsFit}
-use Rattle.nfs_model.specs.Changing.{Operations, finish}
+use Rattle.nfs_model.specs.Changing.{finish}
 use Rattle.nfs_model.specs.declared.replies.NfsStatus.TheVariants.{ServerFault}
 use Rattle.nfs_model.specs.declared.replies.Reply.{Reply}
 use Rattle.nfs_model.specs.declared.replies.Reply.TheVariants.{Refused}
-use Rattle.turn_model.specs.Basis.{Holding, HoldsAll, Knows, kept_tree}
+use Rattle.turn_model.specs.Basis.{Holding, Knows, kept_tree}
 use Rattle.turn_model.specs.Turn.{Agent as Inputs, Asked, Turned, appended, bare_tail, linked, turn_on}
 use Rattle.turn_model.proofs.Kept.{kept_tree_is_replay}
 use Rattle.turn_model.proofs.Plans.{plan_may_be_written}

@@ -1,6 +1,6 @@
 -- The blocks of records that are planned for a call are bytes, where the call's arguments are.
 use Rattle.std.proofs.Common.{◌≡◌, ℕ, zero, suc, ◌/◌, ◌%◌, Bool, true, false, cond, List, [], ◌∷◌, ◌++◌, length, take, Option, Some, None, Result, Ok, Err, refl, sym, ◌∙◌, subst, arith, ◌≤◌, ◌<◌, not, ◌+◌}
-use Rattle.std.specs.Prelude.{◌-◌, ◌^◌, flat_map, replicate, IfSome, nat_lt, ◌||◌, ◌&&◌, ◌==◌, is_some, nat_le}
+use Rattle.std.specs.Prelude.{◌-◌, ◌^◌, flat_map, replicate, nat_lt, ◌||◌, ◌&&◌, ◌==◌, is_some, nat_le}
 use Rattle.std.specs.List.{AllByRecursion, list_all}
 use Rattle.std.proofs.lemmas.Bool.{lt-ltb}
 use Rattle.std.proofs.lemmas.List.Folds.{list_all-append}
@@ -8,22 +8,21 @@ use Rattle.ivy_base.proofs.NameLemmas.{bytes-name}
 use Rattle.ivy_base.specs.declared.key.Key.{Key}
 use Rattle.ivy_base.specs.declared.key.PubKey.{PubKey}
 use Rattle.ivy_base.specs.declared.operation.Change.{Change}
-use Rattle.ivy_base.specs.declared.operation.Kind.{Kind}
 use Rattle.ivy_base.specs.declared.operation.Moment.{Moment}
 use Rattle.ivy_base.specs.declared.operation.Op.{Op}
 use Rattle.ivy_base.specs.declared.operation.Op.TheVariants as op
-use Rattle.ivy_base.specs.Naming.{head_key_of, inode_number}
+use Rattle.ivy_base.specs.Naming.{inode_number}
 use Rattle.tree_model.specs.Tree.{Tree, entry, directory_kind, is_file, file_kind, is_directory, name_count}
 use Rattle.tree_model.proofs.Sound.{both_true}
 use Rattle.wire_model.specs.Rpc.{Identity}
 use Rattle.wire_model.specs.Xdr.{boolean, double_word, moment, opaque, optional, padding, word}
 use Rattle.log_model.specs.Record.{Record}
 use Rattle.log_model.specs.Spelling.{HasSpelling, IsKey, OperationFits, body, kind_number, record_block, record_kind, vector_entry, record_tag}
-use Rattle.log_model.specs.Vector.{Entry, Vector}
+use Rattle.log_model.specs.Vector.{Vector}
 use Rattle.log_model.specs.View.{View}
 use Rattle.log_model.proofs.Lists.{both}
 use Rattle.nfs_model.specs.Arguments.{arguments, set_what, create_how}
-use Rattle.nfs_model.specs.Changing.{Nothing, Operations, Plan, Refuse, about, plan, plan_attributes, plan_create, plan_directory, plan_file, plan_file_at, plan_link, plan_remove, plan_remove_directory, plan_rename, plan_rename_between, plan_symbolic_link, plan_write, set_times, unless, directory_checks, name_checks, invalid_times, too_large, inode_under, may_cut, may_change, same_target, move_checks, is_empty_under, set_attribute_checks, taken}
+use Rattle.nfs_model.specs.Changing.{Nothing, Operations, Plan, Refuse, about, plan, plan_create, plan_file, plan_file_at, plan_rename_between, unless, directory_checks, name_checks, invalid_times, too_large, inode_under, may_cut, may_change, same_target, move_checks, is_empty_under, set_attribute_checks, taken}
 use Rattle.nfs_model.specs.Checks.{Check, is_dot, is_dot_dot}
 use Rattle.nfs_model.specs.Objects.{Object, object_of, may_write, is_owner}
 use Rattle.nfs_model.specs.declared.arguments.Args.{Args}
@@ -33,7 +32,6 @@ use Rattle.nfs_model.specs.declared.arguments.How.TheVariants.{Unchecked, Guarde
 use Rattle.nfs_model.specs.declared.arguments.SetWhat.{SetWhat}
 use Rattle.nfs_model.specs.declared.replies.NfsStatus.{NfsStatus}
 use Rattle.nfs_model.specs.declared.replies.Tail.{Tail}
-use Rattle.nfs_model.specs.declared.replies.Reply.{Reply}
 use Rattle.nfs_model.specs.declared.replies.NfsStatus.TheVariants.{Acces, Exist, Inval, NoEnt, NotDir, FBig, IsDir, MLink, NameTooLong, NotEmpty, NotSupp}
 
 abbrev is_octet : ℕ → Bool

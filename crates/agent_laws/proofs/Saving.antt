@@ -1,5 +1,5 @@
 -- What a turn takes and what it has to publish then can be saved.
-use Rattle.std.proofs.Common.{◌≡◌, inl, inr, ℕ, ◌+◌, ◌≤◌, ◌<◌, ◌^◌, Bool, true, false, cond, not, filter, List, [], ◌∷◌, ◌++◌, length, length-append, map, refl, sym, ap, ◌∙◌, subst, arith, Contains}
+use Rattle.std.proofs.Common.{inl, inr, ◌+◌, ◌≤◌, ◌<◌, ◌^◌, Bool, true, false, cond, not, filter, List, [], ◌∷◌, ◌++◌, length, length-append, map, refl, arith, Contains}
 use Rattle.std.specs.Prelude.{IsTrue}
 use Rattle.std.specs.List.{AllByRecursion}
 use Rattle.std.proofs.lemmas.List.{length-map}
@@ -9,7 +9,7 @@ use Rattle.ivy_base.specs.Naming.{head_key_of}
 use Rattle.log_model.specs.Closed.{IsClosed}
 use Rattle.log_model.specs.Rank.{front, full_vector, own_entry}
 use Rattle.log_model.specs.Record.{Record}
-use Rattle.log_model.specs.Spelling.{HasSpelling, IsKey, longest_record}
+use Rattle.log_model.specs.Spelling.{HasSpelling, IsKey}
 use Rattle.log_model.specs.Vector.{Entry, Stamp}
 use Rattle.log_model.specs.View.{View, IsView, is_named}
 use Rattle.log_model.proofs.Later.{good_of, name_is_key}
@@ -38,8 +38,7 @@ module _ (view : View) (s : List Record) (well : IsView view) (closed : IsClosed
       let good = good_of view s r closed c in
       let spelled = good.spelled in
       each_with_entry Fits r.vector (own_entry r)
-      (each_from Fits r.vector (λ e d. (each _ r.vector e spelled.entries d, each (λ x. IsTrue (is_named view x.0)) r.vector e good.named d)))
-      (
+      (each_from Fits r.vector (λ e d. (each _ r.vector e spelled.entries d, each (λ x. IsTrue (is_named view x.0)) r.vector e good.named d))) (
         (head_is_key r.owner, spelled.some, (let few = spelled.few in omega (arith, few)), name_is_key r spelled),
         member_named view r.owner (each (λ q. Contains view.members q.owner) s r closed.members c),
       )

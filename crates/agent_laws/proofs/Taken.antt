@@ -16,16 +16,14 @@ use Rattle.log_model.specs.Standing.{StandsAmong}
 use Rattle.log_model.proofs.Lists.{in_nothing, each, each_from}
 use Rattle.log_model.proofs.Opening.{same_owner}
 use Rattle.log_model.proofs.Sets.{same_list, chain_ascends}
-use Rattle.log_records.specs.declared.edge.Edge.{Edge}
-use Rattle.log_records.specs.Batches.{Batch, AreUnder, owner_of, stamp_in, GoesOnFrom}
 use Rattle.turn_model.specs.Basis.{Basis, Holding, HoldsAll, Knows, IsAboveTide, nothing_held}
 use Rattle.turn_model.specs.Known.{EndsAt}
 use Rattle.causal_order.specs.AtHand.{above, IsNewPart}
 use Rattle.turn_model.specs.Turn.{Candidate, IsAtHand, IsPrefixOf}
 use Rattle.agent_model.specs.Agent.{Agent, joined}
-use Rattle.agent_model.specs.Standing.{Standing, Chain, Refresh, chain_of, dominates, go_on_from, going_on, beyond}
+use Rattle.agent_model.specs.Standing.{Standing, Chain, Refresh, dominates, go_on_from, going_on, beyond}
 use Rattle.agent_model.specs.Candidates.{MayTurn, StandsWithin, IsCandidateOf, BringsOf}
-use Rattle.agent_model.specs.Taking.{TakesNew, refresh_with, with_new, within}
+use Rattle.agent_model.specs.Taking.{refresh_with, with_new, within}
 use Rattle.agent_laws.specs.Laws.{IsGoneOn, IsTakenBy, OwnLogEndsAtFloor, TakenIsByDefinition}
 use Rattle.agent_laws.proofs.Brought.{IsTold, IsOfHead, choose, brought_row}
 use Rattle.agent_laws.proofs.Going.{IsGoing, below_known}

@@ -1,5 +1,5 @@
 -- What a turn takes that isn't refused: there is a largest closed part of what is at hand.
-use Rattle.std.proofs.Common.{◌≡◌, ◌⊎◌, inl, inr, ⊎_elim, ℕ, ◌+◌, Bool, true, false, not, filter, List, [], ◌∷◌, ◌++◌, map, Option, Some, None, refl, sym, ap, ◌∙◌, subst, Contains, ◌<◌}
+use Rattle.std.proofs.Common.{◌≡◌, ◌⊎◌, inl, inr, ⊎_elim, ℕ, ◌+◌, Bool, true, false, not, filter, List, [], ◌∷◌, ◌++◌, map, Option, Some, None, refl, sym, ap, ◌∙◌, subst, Contains}
 use Rattle.std.specs.Cmp.{tied_itself}
 use Rattle.std.specs.List.{AllByRecursion, list_any}
 use Rattle.std.specs.Ordering.{is_eq}
@@ -32,7 +32,7 @@ use Rattle.agent_model.specs.Standing.{Chain, Refresh}
 use Rattle.agent_model.specs.Taking.{within}
 use Rattle.agent_laws.specs.Laws.{ThereIsATaking}
 use Rattle.agent_laws.proofs.Fronts.{in_log, from_log}
-use Rattle.agent_laws.proofs.Going.{IsGoing, below, full, full_chain, in_part, rest}
+use Rattle.agent_laws.proofs.Going.{IsGoing, below, full, full_chain, in_part}
 use Rattle.agent_laws.proofs.Hand.{Hand, IsOfBrought, chain_hand, hand_above, hand_cases}
 use Rattle.agent_laws.proofs.Largest.{IsLog, filter_ascends, largest_part, one_each}
 use Rattle.agent_laws.proofs.Over.{IsOverPart, over_part}

@@ -1,9 +1,8 @@
 -- Where its agent has room, a session that refreshes goes to its end with memory there, or names clash on the way.
-use Rattle.std.proofs.Common.{◌≡◌, inl, inr, ℕ, Bool, true, false, cond, List, [], ◌∷◌, map, Option, Some, None, refl, sym, ap, ◌∙◌, subst, Contains}
+use Rattle.std.proofs.Common.{◌≡◌, inl, inr, ℕ, Bool, true, false, cond, List, [], ◌∷◌, map, Option, Some, refl, sym, ◌∙◌, subst}
 use Rattle.std.specs.Prelude.{if◌then◌else◌}
 use Rattle.std.specs.List.{AllByRecursion}
 use Rattle.std.specs.Str.{bytes_eq}
-use Rattle.ivy_base.specs.declared.key.Key.{Key}
 use Rattle.ivy_base.specs.declared.operation.Moment.{Moment}
 use Rattle.log_heads.specs.Signed.{hss_judged}
 use Rattle.log_model.proofs.Lists.{each, each_from}
@@ -28,8 +27,6 @@ use Rattle.session_model.specs.Sessions.Hears.{gets_on, got, puts_on, puts}
 use Rattle.session_model.specs.Sessions.Takes.{posted, cached}
 use Rattle.session_model.specs.Sessions.TakesAll.{none as takes_none, more as takes_more}
 use Rattle.world_model.specs.Agents.{Agent, Kept, hss}
-use Rattle.world_model.specs.Fates.{FateOf}
-use Rattle.world_model.specs.Keepers.{fails_next}
 use Rattle.world_model.specs.Steps.{Acts, Scene, Steps, StepsOn, after_turn}
 use Rattle.world_model.specs.Steps.Acts.{asks, asks_in_vain, is_refused, settles, turns}
 use Rattle.world_model.specs.Steps.Steps.{acts, lacks_memory}

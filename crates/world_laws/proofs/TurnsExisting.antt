@@ -1,9 +1,9 @@
 -- Where a refresh is done there is a turn of it.
-use Rattle.std.proofs.Common.{◌≡◌, ℕ, List, ◌++◌, Option, Some, None, refl, sym, ap, ◌∙◌, subst, Contains}
+use Rattle.std.proofs.Common.{◌≡◌, ℕ, List, ◌++◌, Option, Some, refl, sym, subst, Contains}
 use Rattle.std.specs.Prelude.{IfSome, IsTrue}
 use Rattle.std.specs.List.{AllByRecursion}
 use Rattle.ivy_base.specs.Naming.{NamesTellApart}
-use Rattle.wire_model.specs.Rpc.{CallMessage, auth, call}
+use Rattle.wire_model.specs.Rpc.{auth, call}
 use Rattle.wire_model.specs.Xdr.{word}
 use Rattle.log_heads.specs.Signed.{hss_judged}
 use Rattle.log_model.proofs.Lists.{each}
