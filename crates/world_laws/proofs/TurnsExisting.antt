@@ -20,7 +20,7 @@ use Rattle.session_model.specs.Courses.{HasRefreshed}
 use Rattle.session_model.specs.Refreshing.{Note}
 use Rattle.session_model.specs.Replies.{Asks}
 use Rattle.session_model.specs.Sessions.{Cache, Session, TakesAll}
-use Rattle.world_model.specs.Agents.{hss, own}
+use Rattle.world_model.specs.Agents.{hss, own, Agent, Kept}
 use Rattle.world_model.specs.Keepers.{fails_next}
 use Rattle.world_model.specs.Steps.{Scene, with_cache}
 use Rattle.world_model.specs.Story.{known_of}
@@ -34,6 +34,8 @@ use Rattle.world_laws.proofs.SignatureBytes.{sealed_opaque}
 use Rattle.world_laws.proofs.Taking.{HasTaken, takes_some_so}
 use Rattle.world_laws.proofs.TakingOn.{taking_keeps}
 use Rattle.world_laws.proofs.TurnsRefresh.{caller_is_identity}
+use Rattle.agent_model.specs.Turning.{TurnEnd}
+use Rattle.world_laws.specs.Laws.{TurnAt}
 
 -- the arguments of a call that is bytes are bytes
 args_octets : (view : View) (message : List ℕ) (xid : ℕ) (asked : Asked) → AreBytes message → Asks view message xid asked → AreOctets (arguments asked.args)
@@ -93,11 +95,10 @@ module _ (c : Scene) (r : ℕ) (p : Participant) (taken : Session) (cache : Cach
     moment = keeps.moment;
   }
 
+  pub its_turn : (end : TurnEnd) × (after : Agent) × (saving : Option Kept) × TurnAt c p taken given asked end after saving
+  its_turn =
+      let may = refresh_may_turn then_c then_p r notes given then_so.0 then_apart then_so.1 found done in
+      there_is_a_turn hss p.agent taken.standing.view given (fails_next p.keeper) asked c.world.now may_answer (heads_at (brought_in taken.parts)) (named_bytes then_c.world) taken.standing c.began.knew (known_of c.story p.name) then_apart may.0 may.1
+
 pub turns_exist : TurnsExist
-turns_exist c r p taken cache notes given xid asked keeps hand apart is_p all done asks bytes room =
-    let its = may_answer c r p taken cache notes given xid asked keeps hand apart is_p all done asks bytes room in
-    let then_it = then_c c r p taken cache notes given xid asked keeps hand apart is_p all done asks bytes room in
-    let apart_then = then_apart c r p taken cache notes given xid asked keeps hand apart is_p all done asks bytes room in
-    let so = then_so c r p taken cache notes given xid asked keeps hand apart is_p all done asks bytes room in
-    let may = refresh_may_turn then_it (record p { cache = cache }) r notes given so.0 apart_then so.1 (found c r p taken cache notes given xid asked keeps hand apart is_p all done asks bytes room) done in
-    there_is_a_turn hss p.agent taken.standing.view given (fails_next p.keeper) asked c.world.now its (heads_at (brought_in taken.parts)) (named_bytes then_it.world) taken.standing c.began.knew (known_of c.story p.name) apart_then may.0 may.1
+turns_exist = its_turn
