@@ -17,10 +17,10 @@ use Rattle.turn_model.specs.Turn.{Candidate}
 use Rattle.candidate_laws.proofs.OneCandidate as one
 use Rattle.agent_model.specs.Standing.{Standing, Chain, Refresh}
 use Rattle.agent_model.specs.Candidates.{IsCandidateOf, misled, by_heads, records_above, BringsOf, candidate, misleading, nothing}
-use Rattle.agent_laws.proofs.Fronts.{from_log}
-use Rattle.agent_laws.proofs.Rows.{is_above, chain_row, ends_above, IsRow, row_above}
 use Rattle.log_records.specs.declared.edge.Edge.{Edge}
 use Rattle.log_records.specs.Batches.{GoesOnFrom, stamp_in}
+use Rattle.agent_laws.proofs.Fronts.{from_log}
+use Rattle.agent_laws.proofs.Rows.{is_above, chain_row, ends_above, IsRow, row_above}
 
 -- the records were brought as a chain to a head of another's log: no chain to it is made, or the candidate is it
 pub record IsOfHead (met : List (List ℕ)) (view : View) (own : PubKey) (floor : Vector) (owner : PubKey) (chain records : List Record) : Type 0 where

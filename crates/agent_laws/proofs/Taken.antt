@@ -18,12 +18,13 @@ use Rattle.log_model.proofs.Opening.{same_owner}
 use Rattle.log_model.proofs.Sets.{same_list, chain_ascends}
 use Rattle.turn_model.specs.Basis.{Basis, Holding, HoldsAll, Knows, IsAboveTide, nothing_held}
 use Rattle.turn_model.specs.Known.{EndsAt}
-use Rattle.causal_order.specs.AtHand.{above, IsNewPart}
 use Rattle.turn_model.specs.Turn.{Candidate, IsAtHand, IsPrefixOf}
+use Rattle.causal_order.specs.AtHand.{above, IsNewPart}
 use Rattle.agent_model.specs.Agent.{Agent, joined}
 use Rattle.agent_model.specs.Standing.{Standing, Chain, Refresh, dominates, go_on_from, going_on, beyond}
 use Rattle.agent_model.specs.Candidates.{MayTurn, StandsWithin, IsCandidateOf, BringsOf}
 use Rattle.agent_model.specs.Taking.{refresh_with, with_new, within}
+use Rattle.agent_model.specs.Turning.{is_behind, is_below_tide}
 use Rattle.agent_laws.specs.Laws.{IsGoneOn, IsTakenBy, OwnLogEndsAtFloor, TakenIsByDefinition}
 use Rattle.agent_laws.proofs.Brought.{IsTold, IsOfHead, choose, brought_row}
 use Rattle.agent_laws.proofs.Going.{IsGoing, below_known}
@@ -32,7 +33,6 @@ use Rattle.agent_laws.proofs.Lists.{from_map}
 use Rattle.agent_laws.proofs.Over.{whole_part}
 use Rattle.agent_laws.proofs.Fronts.{in_log, from_log, front_is_joined, stamp_of_log}
 use Rattle.agent_laws.proofs.Rows.{IsRow, is_above, all_pass_is, row_good, chain_row, last_from, last_from-append}
-use Rattle.agent_model.specs.Turning.{is_behind, is_below_tide}
 
 -- ---- what a turn goes on from
 

@@ -8,6 +8,7 @@ use Rattle.log_model.specs.Vector.{Stamp, Vector, stamp_at}
 use Rattle.log_model.specs.Record.{Record}
 use Rattle.log_model.specs.Rank.{front}
 use Rattle.log_model.specs.Closed.{IsClosedPart}
+use Rattle.log_model.specs.Spelling.{most_records}
 use Rattle.log_records.specs.declared.edge.Edge.{Edge}
 use Rattle.log_records.specs.Batches.{Batch, AreUnder}
 use Rattle.turn_model.specs.Basis.{Basis, Holding, HoldsAll, Knows}
@@ -17,7 +18,6 @@ use Rattle.agent_model.specs.Standing.{Refresh, Standing}
 use Rattle.agent_model.specs.Candidates.{AreCandidatesOf, MayTurn}
 use Rattle.agent_model.specs.Taking.{TakesNew, refresh_with, with_new}
 use Rattle.agent_model.specs.Turning.{is_behind, is_below_tide}
-use Rattle.log_model.specs.Spelling.{most_records}
 
 -- The set is the largest closed part of what the agent knows and of the candidates that the refresh's heads name, and all of it is held.
 pub record IsTakenBy (heads : Key → List Stamp) (met : List (List ℕ)) (view : View) (s : Standing) (knew known : List Record) (started : Vector) (h : Holding) (taken : List Record) : Type 0 where

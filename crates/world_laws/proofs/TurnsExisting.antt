@@ -12,6 +12,7 @@ use Rattle.nfs_model.specs.Arguments.{arguments}
 use Rattle.turn_model.specs.Turn.{Asked}
 use Rattle.view_blocks.specs.Faults.{HasKeys}
 use Rattle.agent_model.specs.Standing.{Refresh}
+use Rattle.agent_model.specs.Turning.{TurnEnd}
 use Rattle.agent_laws.specs.Laws.{HasRoom}
 use Rattle.agent_laws.proofs.Existing.{MayAnswer, there_is_a_turn}
 use Rattle.agent_laws.proofs.Octets.{AreOctets, right_octets}
@@ -27,6 +28,7 @@ use Rattle.world_model.specs.Story.{known_of}
 use Rattle.world_model.specs.World.{Participant, named_bytes, participant}
 use Rattle.world_laws.specs.FullTurns.{AreBytes, TurnsExist}
 use Rattle.world_laws.specs.Keeps.{IsInHand, IsKeptSo, IsSavedWell, Keeps}
+use Rattle.world_laws.specs.Laws.{TurnAt}
 use Rattle.world_laws.proofs.Bringing.{found_named, its_view, refresh_may_turn}
 use Rattle.world_laws.proofs.EachStep.{all_some}
 use Rattle.world_laws.proofs.Frames.{found_placed, same_keys}
@@ -34,8 +36,6 @@ use Rattle.world_laws.proofs.SignatureBytes.{sealed_opaque}
 use Rattle.world_laws.proofs.Taking.{HasTaken, takes_some_so}
 use Rattle.world_laws.proofs.TakingOn.{taking_keeps}
 use Rattle.world_laws.proofs.TurnsRefresh.{caller_is_identity}
-use Rattle.agent_model.specs.Turning.{TurnEnd}
-use Rattle.world_laws.specs.Laws.{TurnAt}
 
 -- the arguments of a call that is bytes are bytes
 args_octets : (view : View) (message : List ℕ) (xid : ℕ) (asked : Asked) → AreBytes message → Asks view message xid asked → AreOctets (arguments asked.args)
