@@ -52,7 +52,7 @@ use Rattle.ivy_agent.specs.Turns.{IsFetchedIn, TurnsAs}
 use Rattle.ivy_session.specs.declared.session.Next.TheVariants as next
 use Rattle.ivy_session.specs.declared.session.Stage.{Stage as CodeStage}
 use Rattle.ivy_session.specs.declared.session.Stage.TheVariants as stage
-use Rattle.ivy_session.specs.States.{IsAt, IsSession, SessionState, asked_at, is_turning}
+use Rattle.ivy_session.specs.States.{IsAt, IsSession, SessionState, asked_at, is_turning, session_awaited}
 use Rattle.ivy_session.specs.Stepping.{IsAnewFor, IsBatchOf, NextIs, TurnedIs}
 use Rattle.ivy_session.specs.Stepping as code
 use Rattle.ivy_session.specs.Stepping.IsRefused.{begins_anew as code_begins, lacks_memory as code_lacks, gives_up as code_gives_up}
@@ -241,7 +241,8 @@ module _ {J : Type 0} (judges : Judges J) (c : Scene) (r : ℕ) (p : Participant
 
   -- ---- the step
 
-  module _ (turning_before : is_turning old.stage ≡ false) (mid new : SessionState J) (cache : Cache) (refresh : Refresh) (asked : Asked) (h : TurnsThen mid cache refresh) (is_asked : asked_at mid.stage ≡ Some asked) (after : Holder Keeper Signer) where
+  module _ (turning_before : is_turning old.stage ≡ false) (mid new : SessionState J) (cache : Cache) (refresh : Refresh) (asked : Asked) (h : TurnsThen mid cache refresh) (is_asked : asked_at mid.stage ≡ Some asked) (after : Holder Keeper Signer)
+      (free : session_awaited new ≡ None) where
     abbrev here : Scene
     here = with_cache hss_judged r c p h.taken cache
 
@@ -277,6 +278,9 @@ module _ {J : Type 0} (judges : Judges J) (c : Scene) (r : ℕ) (p : Participant
 
     done_so : (notes : List Note) (given : ModelRefresh) → HasRefreshed h.taken notes given → HasRefreshed h.taken notes (refresh_of refresh)
     done_so notes given d = subst (λ (ns : List Note). HasRefreshed h.taken ns (refresh_of refresh)) (same_notes h.taken h.notes notes (refresh_of refresh) given none_to_load h.done d) h.done
+
+    starts_are : h.taken.starts ≡ c.session.starts
+    starts_are = ap (λ (s : Session). s.starts) (taken_same h.takes)
 
     -- the turn, and what it leaves
     abbrev IsTurn : TurnEnd → Option Kept → Type 0
@@ -317,7 +321,7 @@ module _ {J : Type 0} (judges : Judges J) (c : Scene) (r : ℕ) (p : Participant
       SaysThen reply = IsStep judges c r new (turned_world c.world mine (Ok turned) after) (given_by reply)
 
       answered_step : (reply : Reply) (saving : Option Kept) (notes : List Note) (xid : ℕ) → HasRefreshed h.taken notes (refresh_of refresh) → Asks view h.taken.message xid (asked_of asked) → IsTurn (Answered reply turned.applied) saving
-          → IsLeft judges (answered h.taken (said_of xid reply) notes after.agent.pending) new → SaysThen reply
+          → IsLeft judges c.session.starts (answered h.taken (said_of xid reply) notes after.agent.pending) new → SaysThen reply
       answered_step reply saving notes xid done asks turn left =
           let t = turn_told_so notes xid reply turned.applied saving done asks turn in
           record {
@@ -338,7 +342,7 @@ module _ {J : Type 0} (judges : Judges J) (c : Scene) (r : ℕ) (p : Participant
       by_reply : (reply : Reply) (saving : Option Kept) → turned.posts ≡ after.agent.pending → IsTurn (Answered reply turned.applied) saving → code.IsAnswered judges mid new h.taken turned reply → SaysThen reply
       by_reply reply saving posts turn a =
           answered_step reply saving a.notes a.xid (done_so a.notes a.given a.refreshed) (asks_so a.xid a.asked a.asks) turn
-          (⊎_elim (λ session. left_on (subst (λ (pending : List Post). IsSession judges (answered h.taken (said_of a.xid reply) a.notes pending) new) posts session)) (λ cut. left_cut cut.0) a.publishes)
+          (⊎_elim (λ session. left_on (subst (λ (pending : List Post). IsSession judges (answered h.taken (said_of a.xid reply) a.notes pending) new) posts session) (λ waits. absurd (waits free))) (λ cut. left_cut cut.0) a.publishes)
 
       abbrev Gave : Type 0
       Gave = GivesTurn p view refresh asked c.world.now (Ok turned) after
@@ -371,7 +375,7 @@ module _ {J : Type 0} (judges : Judges J) (c : Scene) (r : ℕ) (p : Participant
     -- ---- it was refused
 
     module _ (end : TurnEnd) (refusal : IsRefusal end) (saving : Option Kept) (turn : IsTurn end saving) where
-      refused_step : (t : Session) → TakesTurn c.world.now p.agent view (fails_next p.keeper) h.taken end after.agent saving t → IsLeft judges t new → given_at t.stage ≡ given_of None → IsStep judges c r new (world_after c.world (turned_participant mine after)) (given_of None)
+      refused_step : (t : Session) → TakesTurn c.world.now p.agent view (fails_next p.keeper) h.taken end after.agent saving t → IsLeft judges c.session.starts t new → given_at t.stage ≡ given_of None → IsStep judges c r new (world_after c.world (turned_participant mine after)) (given_of None)
       refused_step t takes left gives = record {
         next = record here { world = world_after here.world (after_turn mine after.agent saving); session = t; began = record c.began { knew = known_of c.story p.name } };
         steps = acts p h.taken cache _ is.is_by h.takes (is_refused view end after.agent saving t in_view refusal takes);
@@ -380,16 +384,16 @@ module _ {J : Type 0} (judges : Judges J) (c : Scene) (r : ℕ) (p : Participant
         gives = gives;
       }
 
-      anew_step : h.taken.starts < 2 → IsLeft judges (anew h.taken (anew_in hss after.agent view)) new → IsStep judges c r new (world_after c.world (turned_participant mine after)) (given_of None)
+      anew_step : h.taken.starts < 2 → IsLeft judges c.session.starts (anew h.taken (anew_in hss after.agent view)) new → IsStep judges c r new (world_after c.world (turned_participant mine after)) (given_of None)
       anew_step few left = refused_step (anew h.taken (anew_in hss after.agent view))
           (begins_anew h.notes (refresh_of refresh) call.0 (asked_of asked) end after.agent saving h.done call.1 turn.0 refusal few) left (ap given_at h.done.0)
 
       by_refusal : (standing : ModelStanding) → standing ≡ anew_in hss after.agent view → code.IsRefused judges mid new h.taken standing → IsStep judges c r new (world_after c.world (turned_participant mine after)) (given_of None)
-      by_refusal standing same (code_begins few session) = anew_step few (left_on (subst (λ (s : ModelStanding). IsSession judges (anew h.taken s) new) same session))
-      by_refusal standing same (code_lacks t few lacking session) = anew_step few (left_lacking t (subst (λ (s : ModelStanding). LacksMemory (anew h.taken s) t) same lacking) session)
+      by_refusal standing same (code_begins few session) = anew_step few (left_on (subst (λ (s : ModelStanding). IsSession judges (anew h.taken s) new) same session) (λ waits. absurd (waits free)))
+      by_refusal standing same (code_lacks t few lacking session) = anew_step few (left_lacking t (subst (λ (n : ℕ). n < 2) starts_are few) (subst (λ (s : ModelStanding). LacksMemory (anew h.taken s) t) same lacking) session)
       by_refusal standing same (code_gives_up xid notes given other many done asks session) =
           refused_step (ended h.taken (said_no_memory xid) notes None)
-          (gives_up notes (refresh_of refresh) xid (asked_of asked) end after.agent saving (done_so notes given done) (asks_so xid other asks) turn.0 refusal many) (left_on session) refl
+          (gives_up notes (refresh_of refresh) xid (asked_of asked) end after.agent saving (done_so notes given done) (asks_so xid other asks) turn.0 refusal many) (left_on session (λ waits. absurd (waits free))) refl
 
     -- ---- whatever it was
 
@@ -401,7 +405,7 @@ module _ {J : Type 0} (judges : Judges J) (c : Scene) (r : ℕ) (p : Participant
       record {
         next = with_cache hss_judged r c p told.0 cache;
         steps = lacks_memory p h.taken told.0 cache is.is_by (all_some h.takes) told.1;
-        left = left_on told.2;
+        left = left_on told.2 (λ waits. absurd (waits free));
         world = refl;
         gives = (lacking_gives told.1).0;
       },
@@ -414,19 +418,19 @@ pub turns_may_be : {J : Type 0} → TurnsMayBe J
 turns_may_be judges c r p old mid cache refresh keeps hand is wanted = may_be judges c r p old is keeps hand mid cache refresh (turns_then judges c r p old is keeps hand mid cache refresh (wanted.1 c.session is.session))
 
 pub turns_are_steps : {J : Type 0} → TurnsAreSteps J
-turns_are_steps judges c r p old mid new cache refresh asked turned after keeps hand is turning wanted is_asked had told =
+turns_are_steps judges c r p old mid new cache refresh asked turned after keeps hand is turning wanted is_asked had told free =
     let h = turns_then judges c r p old is keeps hand mid cache refresh (wanted.1 c.session is.session) in
-    by_turn judges c r p old is keeps hand turning mid new cache refresh asked h is_asked after turned
+    by_turn judges c r p old is keeps hand turning mid new cache refresh asked h is_asked after free turned
     (subst (λ (o : Option View). IfSome o (λ view. GivesTurn p view refresh asked c.world.now turned after))
-    (in_view judges c r p old is keeps hand turning mid new cache refresh asked h is_asked after) had)
+    (in_view judges c r p old is keeps hand turning mid new cache refresh asked h is_asked after free) had)
     (told.1 h.taken h.session)
 
 pub replies_are_read : AnswersAreReplies → PlansAreReplies → FinishesAreReplies → SetsMakeTrees → {J : Type 0} → RepliesAreRead J
-replies_are_read answers_are plans_are finishes_are sets_make judges c r p old mid new cache refresh asked turned after read keeps hand is turning wanted is_asked had told fits same =
+replies_are_read answers_are plans_are finishes_are sets_make judges c r p old mid new cache refresh asked turned after read keeps hand is turning wanted is_asked had told free fits same =
     let h = turns_then judges c r p old is keeps hand mid cache refresh (wanted.1 c.session is.session) in
-    by_read judges c r p old is keeps hand turning mid new cache refresh asked h is_asked after turned answers_are plans_are finishes_are sets_make read fits same
+    by_read judges c r p old is keeps hand turning mid new cache refresh asked h is_asked after free turned answers_are plans_are finishes_are sets_make read fits same
     (subst (λ (o : Option View). IfSome o (λ view. GivesTurn p view refresh asked c.world.now (Ok turned) after))
-    (in_view judges c r p old is keeps hand turning mid new cache refresh asked h is_asked after) had)
+    (in_view judges c r p old is keeps hand turning mid new cache refresh asked h is_asked after free) had)
     (told.1 h.taken h.session)
 
 -- ---- after a refusal

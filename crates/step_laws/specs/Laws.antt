@@ -28,7 +28,7 @@ use Rattle.ivy_agent.specs.Holders.{Holder}
 use Rattle.ivy_agent.specs.Turns.{IsFetchedIn, TakesTurn}
 use Rattle.ivy_session.specs.declared.served.Served.{Served}
 use Rattle.ivy_session.specs.declared.session.Next.TheVariants as next
-use Rattle.ivy_session.specs.States.{IsSession, SessionState, asked_at, is_turning}
+use Rattle.ivy_session.specs.States.{HasAsked, IsSession, SessionState, asked_at, is_turning, session_awaited}
 use Rattle.ivy_session.specs.Stepping.{AsksOf, IsAnewFor, IsBatchOf, IsHeard, IsNext, IsSameSession, IsTurned}
 use Rattle.ring_nodes.specs.NodesState.{NodesState, IsNodesOf, with_nodes}
 use Rattle.script_model.specs.Messages.{Given}
@@ -38,7 +38,7 @@ use Rattle.world_model.specs.Keepers.{Keeper}
 use Rattle.world_model.specs.World.{World, Participant, participant, peer_of, with_participant}
 use Rattle.world_model.specs.Steps.{Scene, Steps}
 use Rattle.world_laws.specs.Keeps.{GoesOn, IsInHand, Keeps, OnlyPublishes}
-use Rattle.step_laws.specs.Scenes.{GivesTurn, GivesTurnThere, HasAsked, IsDone, IsSceneOf, IsStep, given_at, given_by, given_of, holder_of, memory_saves, turned_world}
+use Rattle.step_laws.specs.Scenes.{GivesTurn, GivesTurnThere, IsDone, IsSceneOf, IsStep, given_at, given_by, given_of, holder_of, memory_saves, turned_world}
 
 -- ---- scenes
 
@@ -102,14 +102,15 @@ GivesNothing (Err fault) given = given ≡ given_of None
 abbrev pub TurnsAreSteps : Type 0 → Type 0
 TurnsAreSteps J = (judges : Judges J) (c : Scene) (r : ℕ) (p : Participant) (old mid new : SessionState J) (cache : Cache) (refresh : Refresh) (asked : Asked) (turned : Result Turned TurnFault) (after : Holder Keeper Signer)
     → Keeps (c.world, c.story) → IsInHand c r → IsSceneOf judges c r p old → is_turning old.stage ≡ false → IsNext judges old mid p.cache cache (next.Turn refresh)
-    → asked_at mid.stage ≡ Some asked → GivesTurnThere p refresh asked c.world.now turned after → IsTurned judges mid new turned
+    → asked_at mid.stage ≡ Some asked → GivesTurnThere p refresh asked c.world.now turned after → IsTurned judges mid new turned → session_awaited new ≡ None
     → (given : Given) × IsStep judges c r new (turned_world c.world (record p { cache = cache }) turned after) given × GivesNothing turned given
 
 -- Where the bytes of its turn are read as a reply of the call's procedure, that is what the session says then.
 abbrev pub RepliesAreRead : Type 0 → Type 0
 RepliesAreRead J = (judges : Judges J) (c : Scene) (r : ℕ) (p : Participant) (old mid new : SessionState J) (cache : Cache) (refresh : Refresh) (asked : Asked) (turned : Turned) (after : Holder Keeper Signer) (read : Reply)
     → Keeps (c.world, c.story) → IsInHand c r → IsSceneOf judges c r p old → is_turning old.stage ≡ false → IsNext judges old mid p.cache cache (next.Turn refresh)
-    → asked_at mid.stage ≡ Some asked → GivesTurnThere p refresh asked c.world.now (Ok turned) after → IsTurned judges mid new (Ok turned) → IsFittingReply asked.args read → turned.reply ≡ bytes_of read
+    → asked_at mid.stage ≡ Some asked → GivesTurnThere p refresh asked c.world.now (Ok turned) after → IsTurned judges mid new (Ok turned) → session_awaited new ≡ None
+    → IsFittingReply asked.args read → turned.reply ≡ bytes_of read
     → IsStep judges c r new (turned_world c.world (record p { cache = cache }) (Ok turned) after) (given_by read)
 
 -- ---- the end

@@ -1,5 +1,5 @@
 -- Scenes of a world that code shows, and the steps that its calls are: an ask of a node, a turn, a settling, or the end.
-use Rattle.std.specs.Prelude.{◌≡◌, ◌≢◌, ℕ, true, Bool, List, [], Option, Some, None, Result, Ok, Err, IfSome}
+use Rattle.std.specs.Prelude.{◌≡◌, ◌≢◌, ℕ, ◌<◌, true, Bool, List, [], Option, Some, None, Result, Ok, Err, IfSome}
 use Rattle.ivy_base.specs.declared.operation.Moment.{Moment}
 use Rattle.hss_keys.specs.Signer.{Signer}
 use Rattle.log_model.specs.View.{View}
@@ -22,7 +22,7 @@ use Rattle.log_fetch.specs.Standings.{asked_of, notes_of, refresh_of, standing_o
 use Rattle.ivy_agent.specs.Holders.{Holder}
 use Rattle.ivy_agent.specs.Turns.{Gives}
 use Rattle.ivy_session.specs.declared.served.Served.{Served}
-use Rattle.ivy_session.specs.States.{IsSession, SessionState, served_of, session_awaited}
+use Rattle.ivy_session.specs.States.{HasAsked, IsSession, SessionState, served_of}
 use Rattle.world_model.specs.Agents.{Kept, hss}
 use Rattle.world_model.specs.Keepers.{Keeper, asked_to_save, fails_next}
 use Rattle.world_model.specs.World.{World, Participant, participant, with_participant}
@@ -37,10 +37,6 @@ pub record IsSceneOf {J : Type 0} (judges : Judges J) (c : Scene) (r : ℕ) (p :
   pub session : IsSession judges c.session st
   pub judge : judges st.judge ≡ hss_judged
   pub replicas : st.replicas ≡ r
-
--- what it waits for is the next ask of a get or a put that has made some, each of which was heard
-abbrev pub HasAsked : {J : Type 0} → SessionState J → Session → Type 0
-HasAsked st s = session_awaited st ≢ None → s.current ≢ []
 
 -- ---- what is said
 
@@ -60,17 +56,18 @@ given_by reply = record { handle = handle_given reply; verifier = verifier_given
 
 -- ---- a step
 
--- The session in code is that one; or memory was wanting behind it: it is over without a turn, or publishes no more.
-pub data IsLeft {J : Type 0} (judges : Judges J) (s : Session) (st : SessionState J) : Type 0 where
-  goes_on : IsSession judges s st → IsLeft judges s st
-  lacks_memory : (t : Session) → LacksMemory s t → IsSession judges t st → IsLeft judges s st
-  is_cut : st.is_cut ≡ true → IsLeft judges s st
+-- The session in code is that one, and waits for a node only where the get or put on its way has made asks; or memory was wanting behind it: it is over without a turn, where it hadn't begun anew
+-- twice before the step, or publishes no more.
+pub data IsLeft {J : Type 0} (judges : Judges J) (starts_before : ℕ) (s : Session) (st : SessionState J) : Type 0 where
+  goes_on : IsSession judges s st → HasAsked st s → IsLeft judges starts_before s st
+  lacks_memory : (t : Session) → starts_before < 2 → LacksMemory s t → IsSession judges t st → IsLeft judges starts_before s st
+  is_cut : st.is_cut ≡ true → IsLeft judges starts_before s st
 
 -- some step of the scene's session leaves that world and that session in code, and what is said then gives that
 pub record IsStep {J : Type 0} (judges : Judges J) (c : Scene) (r : ℕ) (st : SessionState J) (after : World) (given : Given) : Type 0 where
   pub next : Scene
   pub steps : Steps hss_judged r c.session.by c next
-  pub left : IsLeft judges next.session st
+  pub left : IsLeft judges c.session.starts next.session st
   pub world : next.world ≡ after
   pub gives : given_at next.session.stage ≡ given
 
