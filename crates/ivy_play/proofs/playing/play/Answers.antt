@@ -55,6 +55,12 @@ returns-in-Err-Memory-clause-front g c = told_front _ _ _ (c.run_script.ensures.
 pub returns-in-Err-Memory-clause-complete : goal.returns-in-Err-Memory-clause-complete
 returns-in-Err-Memory-clause-complete g c = of_the_full_run _ _ (λ ran no_read no_write. inr (inl refl))
 
+pub returns-in-Err-Read-clause-alike : goal.returns-in-Err-Read-clause-alike
+returns-in-Err-Read-clause-alike g c = λ ending each no_read no_write. absurd (no_read ((rw c.in-Err-Read.field-0-is at c.in-Err-Read.ensures.fails) empty_world c.new-world.ensures tt).1)
+
+pub returns-in-Err-Write-clause-alike : goal.returns-in-Err-Write-clause-alike
+returns-in-Err-Write-clause-alike g c = λ ending each no_read no_write. absurd (no_write ((rw c.in-Err-Write.field-0-is at c.in-Err-Write.ensures.fails) empty_world c.new-world.ensures tt).1)
+
 pub returns-in-Ok-Ended-clause-alike : goal.returns-in-Ok-Ended-clause-alike
 returns-in-Ok-Ended-clause-alike g c = ends_alike Ended _ _ _ _ _ ((rw c.in-Ok-Ended.field-0-is at c.in-Ok-Ended.ensures.told) empty_world c.new-world.ensures tt)
 
