@@ -1,9 +1,8 @@
 -- A log that begins.
-use Rattle.std.proofs.Common.{◌≡◌, ◌≢◌, ℕ, ◌<◌, true, false, List, [], ◌∷◌, ◌++◌, map, refl, sym, ap, ◌∙◌, subst, arith, Option, Some, None}
+use Rattle.std.proofs.Common.{◌≡◌, ◌≢◌, ℕ, ◌<◌, true, false, List, [], ◌∷◌, ◌++◌, refl, sym, ap, ◌∙◌, subst, arith, Option, Some, None}
 use Rattle.std.specs.Prelude.{is_some, option_map}
 use Rattle.std.proofs.lemmas.List.{map_push}
 use Rattle.ivy_base.specs.declared.key.Key.{Key}
-use Rattle.ivy_base.specs.declared.operation.Moment.{Moment}
 use Rattle.hash_signature_model.specs.declared.set.Set.{Set}
 use Rattle.hss_keys.specs.Signer.{Signer, left_of}
 use Rattle.hss_keys.proofs.Signing.{capacity_some}
@@ -11,7 +10,7 @@ use Rattle.dht_ids.specs.declared.judge.Judged.{Judged}
 use Rattle.dht_ids.specs.declared.post.Post.{Post}
 use Rattle.script_driver.specs.Run.{Refuses}
 use Rattle.world_model.specs.Agents.{opened}
-use Rattle.world_model.specs.Logs.{LogLine, Played, fresh_signer, newcomer, with_newcomer}
+use Rattle.world_model.specs.Logs.{LogLine, Played, fresh_signer, newcomer}
 use Rattle.world_model.specs.Logs.LogLine.{before_ring, known}
 use Rattle.world_model.specs.Steps.{met_by}
 use Rattle.world_model.specs.World.{Participant, World, participant}

@@ -1,7 +1,7 @@
 -- Lines of faults.
-use Rattle.std.proofs.Common.{◌≡◌, ℕ, ◌+◌, Bool, true, false, List, [], ◌∷◌, refl, sym, ap, ◌∙◌, subst, Option, Some, None}
+use Rattle.std.proofs.Common.{◌≡◌, ℕ, ◌+◌, true, List, [], ◌∷◌, refl, sym, ap, ◌∙◌, Option, Some}
 use Rattle.std.specs.Prelude.{nat_le, nat_lt, ◌&&◌}
-use Rattle.std.proofs.lemmas.Bool.{cond-true, cond-false}
+use Rattle.std.proofs.lemmas.Bool.{cond-true}
 use Rattle.ivy_base.specs.declared.key.Key.{Key}
 use Rattle.script_driver.specs.Run.{Outcome, Goes, Refuses}
 use Rattle.world_model.specs.Faults.{damage_by, lose_line}
@@ -37,12 +37,6 @@ module _ (w : World) (s : PartsState) (has : HasParts w s) where
   pub stops : (named : Option Node) (id : Key) (after : NodesState) (output : List ℕ) → named ≡ node_of s.nodes id → stop_line w (node_of s.nodes id) ≡ Goes (with_nodes w after) [] → output ≡ [] → GoesTo (stop_line w named) output (record s { nodes = after })
   stops named id after output is line nothing = went_so (stop_line w named) (with_nodes w after) output (record s { nodes = after }) (ap (stop_line w) is ∙ line) nothing (nodes_then after) refl
 
-  pub nobody_stops : (named : Option Node) → named ≡ None → Refuses ≡ stop_line w named
-  nobody_stops named is = sym (ap (stop_line w) is)
-
-  pub stopped_before : (named : Option Node) (id : Key) → named ≡ node_of s.nodes id → stop_line w (node_of s.nodes id) ≡ Refuses → Refuses ≡ stop_line w named
-  stopped_before named id is line = sym (ap (stop_line w) is ∙ line)
-
   -- ---- an ask is lost
 
   pub loses : (count : ℕ) (after : NodesState) (output : List ℕ) → (nat_lt 0 count && nat_le count 1000000) ≡ true → after ≡ record s.nodes { lost = (s.nodes.asked + count) ∷ s.nodes.lost } → output ≡ []
@@ -58,9 +52,6 @@ module _ (w : World) (s : PartsState) (has : HasParts w s) where
         moment = has.moment;
         met = has.met;
       }) refl
-
-  pub no_such_ask : (count : ℕ) → (nat_lt 0 count && nat_le count 1000000) ≡ false → Refuses ≡ lose_line w count
-  no_such_ask count outside = sym (cond-false (nat_lt 0 count && nat_le count 1000000) (Goes (record w { lost = (w.asked + count) ∷ w.lost }) []) Refuses outside)
 
   -- ---- a block is damaged
 
@@ -78,21 +69,3 @@ module _ (w : World) (s : PartsState) (has : HasParts w s) where
         moment = has.moment;
         met = meets_it w.met has.met;
       }) refl
-
-  pub no_node_damages : (named : Option Node) (key_is : Option Key) (offset byte : ℕ) → named ≡ None → Refuses ≡ damage_by w named key_is offset byte
-  no_node_damages named key_is offset byte is = by key_is ∙ ap (λ (n : Option Node). damage_by w n key_is offset byte) (sym is)
-    where
-      by : (k : Option Key) → Refuses ≡ damage_by w None k offset byte
-      by None = refl
-      by (Some key) = refl
-
-  pub no_key_damages : (named : Option Node) (key_is : Option Key) (offset byte : ℕ) → key_is ≡ None → Refuses ≡ damage_by w named key_is offset byte
-  no_key_damages named key_is offset byte is = by named ∙ ap (λ (k : Option Key). damage_by w named k offset byte) (sym is)
-    where
-      by : (n : Option Node) → Refuses ≡ damage_by w n None offset byte
-      by None = refl
-      by (Some n) = refl
-
-  pub no_byte_damages : (named : Option Node) (key_is : Option Key) (id key : Key) (offset byte : ℕ) (after : NodesState) → named ≡ node_of s.nodes id → key_is ≡ Some key
-      → damage_by w (node_of s.nodes id) (Some key) offset byte ≡ damaged_world (with_nodes w after) None → Refuses ≡ damage_by w named key_is offset byte
-  no_byte_damages named key_is id key offset byte after node_is is line = sym ((λ i. damage_by w (node_is i) (is i) offset byte) ∙ line)

@@ -1,5 +1,5 @@
 -- What a node holds is shown.
-use Rattle.std.proofs.Common.{◌≡◌, ℕ, Bool, true, false, cond, List, [], ◌∷◌, ◌++◌, length, map, refl, sym, ap, ◌∙◌, subst, append_assoc, Option, Some, None}
+use Rattle.std.proofs.Common.{◌≡◌, ℕ, Bool, true, false, cond, List, [], ◌∷◌, ◌++◌, length, map, refl, sym, ap, ◌∙◌, Option, Some, None}
 use Rattle.std.specs.Prelude.{codes}
 use Rattle.std.specs.Fmt.{decimal}
 use Rattle.std.specs.List.{flat_map}
@@ -10,11 +10,11 @@ use Rattle.dht_ids.specs.declared.peer.Peer.{Peer}
 use Rattle.dht_ids.specs.declared.post.Post.{Post}
 use Rattle.node_store.specs.Stores.{Block, Blocks, post_of}
 use Rattle.ring_model.proofs.Lists.{none_some, some_same}
-use Rattle.script_driver.specs.Run.{Outcome, Goes, Refuses}
+use Rattle.script_driver.specs.Run.{Goes, Refuses}
 use Rattle.world_model.specs.Faults.{holds_by, holds_text}
 use Rattle.world_model.specs.Nodes.{Node}
 use Rattle.world_model.specs.World.{World, peer_of}
-use Rattle.ring_nodes.specs.NodesState.{IsPeerOf, NodesState, held_by, node_of}
+use Rattle.ring_nodes.specs.NodesState.{IsPeerOf, held_by, node_of}
 use Rattle.script_world.specs.Held.{key_lines}
 use Rattle.script_world.specs.PartsState.{GoesOn, HasParts, PartsState}
 
@@ -44,24 +44,3 @@ module _ (w : World) (s : PartsState) (has : HasParts w s) where
           (text ∙ (λ i. codes "holds " ++ decimal (same i).number ++ 32 ∷ decimal (length (are i)) ++ 10 ∷ key_lines (are i))
           ∙ (λ i. codes "holds " ++ decimal (peer_of n).number ++ 32 ∷ decimal (length-map n.blocks post_of i) ++ 10 ∷ lines_are n.blocks i))
       by false lives = absurd (none_some held (sym (here ∙ ap (λ (b : Bool). cond b (Some (map post_of n.blocks)) None) lives)))
-
-  pub holds_nothing : (named : Option Node) (peer : Peer) → IsPeerOf s.nodes named (Some peer) → None ≡ held_by (node_of s.nodes peer.id) → Refuses ≡ holds_by w named
-  holds_nothing None peer is none = refl
-  holds_nothing (Some n) peer is none = by n.is_live refl
-    where
-      here : None ≡ held_by (Some n)
-      here = none ∙ ap held_by (ap (λ (q : Peer). node_of s.nodes q.id) (some_same peer (peer_of n) is.0) ∙ is.1)
-
-      by : (live : Bool) → n.is_live ≡ live → Refuses ≡ cond live (Goes w (holds_text n)) Refuses
-      by true lives = absurd (none_some (map post_of n.blocks) (here ∙ ap (λ (b : Bool). cond b (Some (map post_of n.blocks)) None) lives))
-      by false lives = refl
-
-  pub nobody_holds : (named : Option Node) → named ≡ None → Refuses ≡ holds_by w named
-  nobody_holds named none = sym (ap (holds_by w) none)
-
--- the lines stand behind the first one
-pub held_shown : (number : ℕ) (held : List Post) (count : ℕ) (front text : List ℕ) → count ≡ length held → front ≡ codes "holds " ++ decimal number ++ 32 ∷ decimal count ++ 10 ∷ [] → text ≡ front ++ key_lines held
-    → text ≡ codes "holds " ++ decimal number ++ 32 ∷ decimal (length held) ++ 10 ∷ key_lines held
-held_shown number held count front text counted line is =
-    is ∙ ap (λ (f : List ℕ). f ++ key_lines held) (line ∙ ap (λ (k : ℕ). codes "holds " ++ decimal number ++ 32 ∷ decimal k ++ 10 ∷ []) counted)
-    ∙ append_assoc (codes "holds " ++ decimal number ++ 32 ∷ decimal (length held)) (10 ∷ []) (key_lines held)

@@ -1,19 +1,18 @@
 -- A participant that a line names, and changes.
-use Rattle.std.proofs.Common.{◌≡◌, ℕ, ◌<◌, Bool, true, false, cond, List, [], ◌∷◌, length, map, set, get_or, refl, sym, ap, ◌∙◌, subst, Option, Some, None}
-use Rattle.std.specs.Prelude.{nat_lt, find, option_map, is_some}
+use Rattle.std.proofs.Common.{◌≡◌, ℕ, Bool, true, false, cond, List, [], ◌∷◌, map, set, get_or, refl, sym, ap, ◌∙◌, Option, Some, None}
+use Rattle.std.specs.Prelude.{nat_lt, find, option_map}
 use Rattle.std.specs.List.{position}
 use Rattle.std.specs.Str.{bytes_eq}
-use Rattle.std.proofs.lemmas.Bool.{cond-true, cond-false}
+use Rattle.std.proofs.lemmas.Bool.{cond-true}
 use Rattle.std.proofs.lemmas.Slice.Eq.{bytes_eq-Decides}
-use Rattle.script_driver.specs.Run.{Outcome, Goes, Refuses}
-use Rattle.world_model.specs.Faults.{order_line, order_text, showing, work_line, work_text}
+use Rattle.script_driver.specs.Run.{Goes, Refuses}
 use Rattle.world_model.specs.Keepers.{with_fault}
 use Rattle.world_model.specs.Logs.{keep_by, keep_line}
 use Rattle.world_model.specs.World.{Participant, World, participant, with_participant}
-use Rattle.ring_nodes.proofs.Places.{found_at, found_within, none_found}
+use Rattle.ring_nodes.proofs.Places.{found_at, none_found}
 use Rattle.script_participants.specs.ParticipantState.{AreNamedApart, HasParticipants, ParticipantState, state_of}
 use Rattle.script_participants.proofs.Places.{changed_has as placed_has}
-use Rattle.script_world.specs.PartsState.{GoesOn, HasParts, PartsState}
+use Rattle.script_world.specs.PartsState.{HasParts, PartsState}
 use Rattle.script_world.proofs.Faulting.{GoesTo, went_so}
 
 abbrev pub find_named : List ℕ → List ParticipantState → Option ParticipantState
@@ -93,31 +92,3 @@ module _ (w : World) (s : PartsState) (has : HasParts w s) where
 
   pub nobody_keeps : (name : List ℕ) (count : ℕ) (new : Bool) → position (λ (q : ParticipantState). bytes_eq q.name name) s.participants ≡ None → Refuses ≡ keep_line w name count new
   nobody_keeps name count new none = sym (ap (λ (o : Option Participant). keep_by w o count new) (nobody_in name (none_found (λ (q : ParticipantState). bytes_eq q.name name) s.participants none)))
-
-  pub no_save_keeps : (name : List ℕ) (count : ℕ) (new : Bool) → nat_lt 0 count ≡ false → Refuses ≡ keep_line w name count new
-  no_save_keeps name count new none = by (participant w name)
-    where
-      by : (o : Option Participant) → Refuses ≡ keep_by w o count new
-      by None = refl
-      by (Some p) = sym (cond-false (nat_lt 0 count) (Goes (with_participant w (record p { keeper = with_fault p.keeper count new })) []) Refuses none)
-
-  -- ---- shows
-
-  module _ (text : Participant → List ℕ) (name : List ℕ) where
-    pub shows : (x : ParticipantState) (output : List ℕ) → find_named name s.participants ≡ Some x → is_some x.agent.view ≡ true → ((p : Participant) → state_of p ≡ x → output ≡ text p)
-        → (next : World) × (Goes next output ≡ showing w text (participant w name)) × GoesOn w s next
-    shows x output found in_view is =
-        let its = one_in name x found in (
-          w,
-          ap (λ (o : List ℕ). Goes w o) (is its.0 its.2)
-              ∙ sym (ap (showing w text) its.1 ∙ cond-true (is_some its.0.agent.view) (Goes w (text its.0)) Refuses (ap (λ (y : ParticipantState). is_some y.agent.view) its.2 ∙ in_view)),
-          (has, refl),
-        )
-
-    pub nobody_shows : find_named name s.participants ≡ None → Refuses ≡ showing w text (participant w name)
-    nobody_shows none = sym (ap (showing w text) (nobody_in name none))
-
-    pub outside_shows : (x : ParticipantState) → find_named name s.participants ≡ Some x → is_some x.agent.view ≡ false → Refuses ≡ showing w text (participant w name)
-    outside_shows x found outside =
-        let its = one_in name x found in
-        sym (ap (showing w text) its.1 ∙ cond-false (is_some its.0.agent.view) (Goes w (text its.0)) Refuses (ap (λ (y : ParticipantState). is_some y.agent.view) its.2 ∙ outside))

@@ -17,7 +17,7 @@ use Rattle.script_driver.specs.Run.{Outcome, Goes, Refuses, Exceeds}
 use Rattle.script_model.specs.Words.{◌>>=◌}
 use Rattle.world_model.specs.Agents.{own}
 use Rattle.world_model.specs.Logs.{Played, ViewLine, acked_view, in_key_order, is_too_large, keys_of, with_key, with_view}
-use Rattle.world_model.specs.Logs.ViewLine.{exceeds, known, makes, no_former, no_members, one_head_key}
+use Rattle.world_model.specs.Logs.ViewLine.{exceeds, makes, no_former, no_members, one_head_key}
 use Rattle.world_model.specs.World.{NamedView, Participant, World, empty_world, meets, participant, view_named}
 use Rattle.met_blocks.specs.MetState.{AreMet, MetState}
 use Rattle.ring_nodes.specs.Looking.{PutsSo}

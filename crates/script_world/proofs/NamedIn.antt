@@ -1,5 +1,5 @@
 -- What a line names.
-use Rattle.std.proofs.Common.{◌≡◌, ℕ, ◌-◌, suc, zero, Bool, true, false, cond, List, [], ◌∷◌, inl, inr, map, take, drop, refl, sym, ap, ◌∙◌, subst, Option, Some, None}
+use Rattle.std.proofs.Common.{◌≡◌, ℕ, ◌-◌, suc, zero, Bool, true, false, cond, List, [], ◌∷◌, inl, inr, map, drop, refl, sym, ap, ◌∙◌, subst, Option, Some, None}
 use Rattle.std.specs.Prelude.{◌==◌, filter, find, nat_lt, option_map, IfOk, Result, Ok, Err}
 use Rattle.ivy_base.specs.declared.memory.Memory.{Memory}
 use Rattle.ivy_base.specs.declared.key.Key.{Key}
@@ -15,7 +15,7 @@ use Rattle.script_model.specs.declared.command.NodeWord.TheVariants as node
 use Rattle.script_model.specs.Words.{◌>>=◌}
 use Rattle.world_model.specs.Faults.{key_named, node_named, owner_of_key}
 use Rattle.world_model.specs.Nodes.{Node}
-use Rattle.world_model.specs.Ring.{in_ring_order, live_in_order}
+use Rattle.world_model.specs.Ring.{live_in_order}
 use Rattle.world_model.specs.World.{Participant, World, live_peers, node_at, peer_of}
 use Rattle.ring_nodes.specs.NodesState.{AreSound, IsNodesOf, IsPeerOf, NodesState, node_of}
 use Rattle.script_participants.specs.ParticipantState.{ParticipantState, state_of}
@@ -26,10 +26,6 @@ use Rattle.script_world.specs.PartsState.{HasParts, PartsState, record_by}
 pub peer_is : (s : NodesState) (named : Option Node) (p : Peer) → IsPeerOf s named (Some p) → named ≡ node_of s p.id
 peer_is s None p is = absurd (none_some p (sym is))
 peer_is s (Some n) p is = sym is.1 ∙ ap (λ (q : Peer). node_of s q.id) (sym (some_same p (peer_of n) is.0))
-
-pub no_peer_is : (s : NodesState) (named : Option Node) → IsPeerOf s named None → named ≡ None
-no_peer_is s None is = refl
-no_peer_is s (Some n) is = absurd (none_some (peer_of n) is.0)
 
 -- ---- a key's owners were made
 
@@ -71,9 +67,6 @@ owner_made w r count k p is = live_made p w.nodes (by (nat_lt 0 count) is)
     by false e = absurd (none_some p e)
 
 module _ (w : World) (s : PartsState) (has : HasParts w s) where
-  pub numbered_in : (number : ℕ) (peer : Option Peer) → IsPeerOf s.nodes (find (λ (n : Node). (peer_of n).number == number) s.nodes.nodes) peer → IsPeerOf s.nodes (node_named w (node.Numbered number)) peer
-  numbered_in number peer is = subst (λ (ns : List Node). IsPeerOf s.nodes (find (λ (n : Node). (peer_of n).number == number) ns) peer) (sym has.nodes.0) is
-
   named_by : (count : ℕ) (word : KeyWord) (r : ℕ) (k : Key) → s.replicas ≡ Some r → Some k ≡ key_named w word
       → node_named w (node.OwnerOf count word) ≡ (owner_of_key w r count k >>= λ p. node_at w p.id)
   named_by count word r k ring key =
@@ -93,17 +86,6 @@ module _ (w : World) (s : PartsState) (has : HasParts w s) where
   owner_in count word r k p ring key sound is =
       subst (λ (o : Option Node). IsPeerOf s.nodes o p) (sym (named_by count word r k ring key ∙ ap (λ (o : Option Peer). o >>= λ p. node_at w p.id) (sym is)))
       (owned r count k p sound is)
-
-  pub no_ring_in : (count : ℕ) (word : KeyWord) → s.replicas ≡ None → IsPeerOf s.nodes (node_named w (node.OwnerOf count word)) None
-  no_ring_in count word none =
-      subst (λ (o : Option ℕ). IsPeerOf s.nodes (o >>= λ r. key_named w word >>= λ k. owner_of_key w r count k >>= λ p. node_at w p.id) None) (sym (has.replicas ∙ none)) refl
-
-  pub no_key_in : (count : ℕ) (word : KeyWord) (r : ℕ) → s.replicas ≡ Some r → None ≡ key_named w word → IsPeerOf s.nodes (node_named w (node.OwnerOf count word)) None
-  no_key_in count word r ring none =
-      subst (λ (o : Option Node). IsPeerOf s.nodes o None)
-      (sym (ap (λ (o : Option ℕ). o >>= λ r. key_named w word >>= λ k. owner_of_key w r count k >>= λ p. node_at w p.id) (has.replicas ∙ ring)
-      ∙ ap (λ (o : Option Key). o >>= λ k. owner_of_key w r count k >>= λ p. node_at w p.id) (sym none)))
-      refl
 
 -- ---- a record that a log's agent made
 

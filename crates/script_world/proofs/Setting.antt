@@ -1,30 +1,19 @@
 -- Lines that set a world up.
-use Rattle.std.proofs.Common.{◌≡◌, ℕ, ◌≤◌, Bool, true, false, List, [], refl, sym, ap, ◌∙◌, subst, Option, Some, arith}
+use Rattle.std.proofs.Common.{◌≡◌, ℕ, Bool, true, false, List, [], refl, sym, ap, ◌∙◌, subst, Option, Some}
 use Rattle.std.specs.Prelude.{◌==◌, nat_le, nat_lt, ◌&&◌, ◌||◌, is_some, not}
-use Rattle.std.proofs.lemmas.Bool.{and_parts, cond-true, cond-false, eqb-false, leb-true, not-false, or_parts}
+use Rattle.std.proofs.lemmas.Bool.{cond-true}
 use Rattle.ivy_base.specs.declared.operation.Moment.{Moment}
 use Rattle.script_driver.specs.Run.{Goes, Refuses}
 use Rattle.world_model.specs.Logs.{at_line}
 use Rattle.world_model.specs.Ring.{AreSettled, RingLine, first_peers, in_ring_order, is_refused_ring}
-use Rattle.world_model.specs.Ring.RingLine.{exceeds, makes, refused}
+use Rattle.world_model.specs.Ring.RingLine.{makes}
 use Rattle.world_model.specs.World.{World}
 use Rattle.ring_nodes.specs.NodesState.{NodesState}
 use Rattle.script_world.specs.PartsState.{GoesOn, HasParts, PartsState}
 
-and_false : (b : Bool) → (b && false) ≡ false
-and_false true = refl
-and_false false = refl
-
 -- whether a ring of such counts is refused
 abbrev refuses : Option ℕ → ℕ → ℕ → Bool
 refuses before count r = is_some before || not (nat_le 1 r && nat_le r 8) || count == 0
-
-pub accepted : (before : Option ℕ) (count r : ℕ) → refuses before count r ≡ false → (1 ≤ r) × (r ≤ 8) × (count ≡ 0 → ⊥)
-accepted before count r is =
-    let parts = or_parts (is_some before || not (nat_le 1 r && nat_le r 8)) (count == 0) is in
-    let first = or_parts (is_some before) (not (nat_le 1 r && nat_le r 8)) parts.0 in
-    let both = and_parts (nat_le 1 r) (nat_le r 8) (not-false (nat_le 1 r && nat_le r 8) first.1) in
-    (leb-true 1 r both.0, leb-true r 8 both.1, eqb-false count 0 parts.1)
 
 module _ (w : World) (s : PartsState) (has : HasParts w s) where
   pub refused_in : (count r : ℕ) (b : Bool) → refuses s.replicas count r ≡ b → is_refused_ring w count r ≡ b
@@ -72,10 +61,3 @@ module _ (w : World) (s : PartsState) (has : HasParts w s) where
           refl,
         ),
       )
-
-  pub far_is_refused : (sec nsec : ℕ) → nat_lt sec 4294967296 ≡ false → Refuses ≡ at_line w sec nsec
-  far_is_refused sec nsec far = sym (cond-false (nat_lt sec 4294967296 && nat_lt nsec 1000000000) (Goes (record w { now = record { sec = sec; nsec = nsec } }) []) Refuses (λ i. far i && nat_lt nsec 1000000000))
-
-  pub large_is_refused : (sec nsec : ℕ) → nat_lt nsec 1000000000 ≡ false → Refuses ≡ at_line w sec nsec
-  large_is_refused sec nsec large =
-      sym (cond-false (nat_lt sec 4294967296 && nat_lt nsec 1000000000) (Goes (record w { now = record { sec = sec; nsec = nsec } }) []) Refuses ((λ i. nat_lt sec 4294967296 && large i) ∙ and_false (nat_lt sec 4294967296)))

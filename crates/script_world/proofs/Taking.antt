@@ -3,7 +3,7 @@ use Rattle.std.proofs.Common.{◌≡◌, sym, subst}
 use Rattle.script_driver.specs.declared.machine.Taken.{Taken}
 use Rattle.script_driver.specs.declared.machine.Taken.TheVariants.{Went, Ended, Refused, Exceeded}
 use Rattle.script_driver.specs.Machine.{outcome_told}
-use Rattle.script_driver.specs.Run.{Outcome, Goes, Ends, Refuses, Exceeds}
+use Rattle.script_driver.specs.Run.{Outcome, Refuses}
 use Rattle.script_world.specs.PartsState.{IsTaken}
 
 module _ {W : Type 0} (Then : W → Type 0) (Does : Outcome W → Type 0) where

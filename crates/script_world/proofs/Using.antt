@@ -1,5 +1,5 @@
 -- A participant that enters a view.
-use Rattle.std.proofs.Common.{◌≡◌, ℕ, Bool, List, [], map, set, get_or, refl, sym, ap, ◌∙◌, subst, Option, Some, None}
+use Rattle.std.proofs.Common.{◌≡◌, ℕ, List, [], set, get_or, refl, sym, ap, ◌∙◌, subst, Option, Some, None}
 use Rattle.std.specs.Prelude.{codes, IfOk, Result, Ok, Err}
 use Rattle.ivy_base.specs.declared.memory.Memory.{Memory}
 use Rattle.script_driver.specs.declared.machine.Taken.{Taken}
@@ -43,13 +43,6 @@ module _ (w : Played) (s : PartsState) (has : HasParts w.0 s) (log view : List �
       by : (v : Option View) → Refuses ≡ use_by w None v
       by None = refl
       by (Some v) = refl
-
-  pub no_view_entered : view_named w.0 view ≡ None → Refuses ≡ use_line w log view
-  no_view_entered none = by (participant w.0 log) ∙ ap (use_by w (participant w.0 log)) (sym none)
-    where
-      by : (p : Option Participant) → Refuses ≡ use_by w p None
-      by None = refl
-      by (Some p) = refl
 
   module _ (place : ℕ) (old : ParticipantState) (v : View) (apart : AreNamedApart s.participants) (found : position (λ (q : ParticipantState). bytes_eq q.name log) s.participants ≡ Some place)
       (is : old ≡ get_or s.participants place old) (in_view : view_named w.0 view ≡ Some v) where

@@ -1,8 +1,5 @@
-use Rattle.std.proofs.Common.{◌≡◌, Some, sym, ap, ◌∙◌, subst, rules}
-use Rattle.std.specs.Prelude.{List, ℕ}
-use Rattle.world_model.specs.Faults.{damage_by, key_named, node_named}
-use Rattle.world_model.specs.World.{meets}
-use Rattle.met_blocks.specs.MetState.{AreMet}
+use Rattle.std.proofs.Common.{◌≡◌, sym, ap, ◌∙◌, subst}
+use Rattle.world_model.specs.Faults.{key_named, node_named}
 use Rattle.ring_nodes.specs.NodesState.{IsPeerOf, node_of}
 use Rattle.script_world.specs.PartsState.{HasParts, PartsState}
 use Rattle.script_world.proofs.Faulting.{damages}

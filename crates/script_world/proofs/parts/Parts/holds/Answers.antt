@@ -1,8 +1,7 @@
-use Rattle.std.proofs.Common.{◌≡◌, Some, sym, ap, ◌∙◌, subst, rules}
-use Rattle.dht_ids.specs.declared.post.Post.{Post}
+use Rattle.std.proofs.Common.{◌≡◌, Some, sym, ap, ◌∙◌, subst}
 use Rattle.world_model.specs.Faults.{node_named}
 use Rattle.ring_nodes.specs.NodesState.{IsPeerOf, held_by, node_of}
-use Rattle.script_world.specs.PartsState.{HasParts, PartsState}
+use Rattle.script_world.specs.PartsState.{PartsState}
 use Rattle.script_world.proofs.Holding.{shows_held}
 use Rattle.script_world.proofs.parts.Parts.holds.Goals as goal
 

@@ -1,4 +1,4 @@
-use Rattle.std.proofs.Common.{◌≡◌, Some, true, false, sym, subst}
+use Rattle.std.proofs.Common.{true, false, sym, subst}
 use Rattle.script_views.specs.Made.{IsMade}
 use Rattle.script_world.specs.PartsState.{HasParts, PartsState}
 use Rattle.script_world.specs.Views.{PutsView}

@@ -1,4 +1,4 @@
-use Rattle.std.proofs.Common.{◌≡◌, Option, Some, IfOk, sym, ap, ◌∙◌, subst}
+use Rattle.std.proofs.Common.{◌≡◌, Option, IfOk, sym, ap, ◌∙◌, subst}
 use Rattle.dht_ids.specs.declared.peer.Peer.{Peer}
 use Rattle.world_model.specs.Faults.{owner_of_key}
 use Rattle.world_model.specs.World.{World}

@@ -1,4 +1,4 @@
-use Rattle.std.proofs.Common.{◌≡◌, Some, sym, ap, ◌∙◌, subst, rules}
+use Rattle.std.proofs.Common.{◌≡◌, sym, ap, ◌∙◌, subst}
 use Rattle.world_model.specs.Faults.{node_named}
 use Rattle.ring_nodes.specs.NodesState.{IsPeerOf, node_of}
 use Rattle.script_world.specs.PartsState.{HasParts, PartsState}

@@ -1,7 +1,5 @@
-use Rattle.std.proofs.Common.{◌≡◌, Some, sym, ap, ◌∙◌, subst}
+use Rattle.std.proofs.Common.{Some, sym, ap, ◌∙◌, subst}
 use Rattle.log_model.specs.View.{View}
-use Rattle.world_model.specs.World.{World, view_named}
-use Rattle.script_participants.specs.InView.{entering_view}
 use Rattle.script_world.specs.PartsState.{HasParts}
 use Rattle.script_world.proofs.Kept.{kept_changed}
 use Rattle.script_world.proofs.Using.{enters_in, name_stays, nobody_enters}
