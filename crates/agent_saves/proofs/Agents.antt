@@ -1,8 +1,7 @@
 -- Saved bytes are of what was read, or of nothing.
-use Rattle.std.proofs.Common.{◌≡◌, ℕ, ◌<◌, ◌≤◌, ◌^◌, List, [], ◌++◌, length, Option, Some, None, Err, Result, refl, sym, ap, ◌∙◌, subst, arith}
+use Rattle.std.proofs.Common.{◌≡◌, ℕ, ◌<◌, ◌≤◌, ◌^◌, List, length, Option, Some, None, Err, Result, refl, sym, ap, ◌∙◌, subst, arith}
 use Rattle.std.specs.Prelude.{IfSome, Contains, IsTrue}
 use Rattle.std.specs.List.{AllByRecursion}
-use Rattle.ivy_base.specs.declared.key.Key.{Key}
 use Rattle.ivy_base.specs.declared.key.PubKey.{PubKey}
 use Rattle.ivy_base.specs.Naming.{head_key_of}
 use Rattle.wire_model.proofs.OneReading.{whole}
@@ -12,7 +11,6 @@ use Rattle.log_records.specs.Parts.{IsOptional}
 use Rattle.view_blocks.specs.Faults.{HasKeys}
 use Rattle.version_vectors.specs.Vectors.{VectorFits}
 use Rattle.snapshot_model.specs.Blocks.{IsVectorSpelled}
-use Rattle.dht_ids.specs.declared.post.Post.{Post}
 use Rattle.dht_ids.specs.declared.signature.LoadFault.{LoadFault}
 use Rattle.dht_ids.specs.declared.signature.LoadFault.TheVariants as load
 use Rattle.agent_model.specs.Agent.{Kept, Signing, own_key}
@@ -20,7 +18,7 @@ use Rattle.agent_model.specs.SavedBytes.{IsKept, kept_bytes}
 use Rattle.agent_saves.specs.declared.fault.Refusal.{Refusal}
 use Rattle.agent_saves.specs.declared.fault.Refusal.TheVariants.{Malformed, Memory}
 use Rattle.agent_saves.specs.Parts.{AreOf, IsLegal, IsTold, Told, most_counted, told_bytes}
-use Rattle.agent_saves.specs.Refusals.{AreOfNone, Refuses, of_load}
+use Rattle.agent_saves.specs.Refusals.{Refuses, of_load}
 use Rattle.agent_saves.specs.Saves.{AreSavedOf, AreSavedOfNone, IsCounted}
 use Rattle.agent_saves.proofs.PartReading.{one_told}
 
@@ -75,6 +73,17 @@ module _ {S : Type 0} (signs : Signing S) (IsWhole : S → Type 0) where
   pub refused_parts : (bytes : List ℕ) (refusal : Refusal) → Refuses IsTold told_bytes bytes refusal → Refuses (IsKept signs CanBe) (kept_bytes signs) bytes refusal
   refused_parts bytes Malformed = λ absent k f e. absent (told_of k) (fits_told k f) e
   refused_parts bytes Memory = λ absent. tt
+
+  -- ---- what may be saved is told by its bytes
+
+  pub told_apart_by_bytes : ((a b : S) → IsWhole a → IsWhole b → signs.saved a ≡ signs.saved b → a ≡ b) → (k l : Kept S) → IsKept signs CanBe k → IsKept signs CanBe l → kept_bytes signs k ≡ kept_bytes signs l → k ≡ l
+  told_apart_by_bytes told_apart k l f g e = λ i. record { signer = signer i; view = (parts i).0.0.0.0.1; floor = (parts i).0.0.1; pending = (parts i).0.1; snapshot = (parts i).1 }
+    where
+      parts : told_of k ≡ told_of l
+      parts = whole one_told (told_of k) (told_of l) (fits_told k f) (fits_told l g) e
+
+      signer : k.signer ≡ l.signer
+      signer = told_apart k.signer l.signer f.signer.0 g.signer.0 (ap (λ (q : Told). q.0.0.0.0.0.1) parts)
 
   -- ---- what was read is all that the bytes say
 

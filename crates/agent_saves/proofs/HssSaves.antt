@@ -29,19 +29,23 @@ signer_short s f =
       f.sets.few,
     )
 
+-- what may be saved of a hierarchical signer has bytes that are counted
+pub counted : (k : Kept Signer) → IsKept hss IsSigner k → IsKept hss (IsCounted IsSigner saved_bytes) k
+counted k f = record { signer = (f.signer, signer_short k.signer f.signer); some = f.some; few = f.few; floor = f.floor; view = f.view; posts = f.posts; snapshot = f.snapshot }
+
 module _ (bytes : List ℕ) where
+  pub of_none : AreSavedOfNone hss (IsCounted IsSigner saved_bytes) bytes → AreSavedOfNone hss IsSigner bytes
+  of_none h k f e = h k (counted k f) e
+
   of_signer : (k : Kept Signer) → AreSavedOf hss (IsCounted IsSigner saved_bytes) bytes k → AreSavedOf hss IsSigner bytes k
   of_signer k h = record {
     kept = record { signer = h.kept.signer.0; some = h.kept.some; few = h.kept.few; floor = h.kept.floor; view = h.kept.view; posts = h.kept.posts; snapshot = h.kept.snapshot };
     spelled = h.spelled;
   }
 
-  counted : (k : Kept Signer) → IsKept hss IsSigner k → IsKept hss (IsCounted IsSigner saved_bytes) k
-  counted k f = record { signer = (f.signer, signer_short k.signer f.signer); some = f.some; few = f.few; floor = f.floor; view = f.view; posts = f.posts; snapshot = f.snapshot }
-
   pub read_of_hss : {A E : Type 0} (kept : A → Kept Signer) (r : Result (Option A) E)
       → IfOk r (λ o. MatchOption o (AreSavedOfNone hss (IsCounted IsSigner saved_bytes) bytes) (λ s. AreSavedOf hss (IsCounted IsSigner saved_bytes) bytes (kept s)))
       → IfOk r (λ o. MatchOption o (AreSavedOfNone hss IsSigner bytes) (λ s. AreSavedOf hss IsSigner bytes (kept s)))
-  read_of_hss kept (Ok None) h = λ k f e. h k (counted k f) e
+  read_of_hss kept (Ok None) h = of_none h
   read_of_hss kept (Ok (Some s)) h = of_signer (kept s) h
   read_of_hss kept (Err e) h = tt

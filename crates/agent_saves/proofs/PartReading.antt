@@ -1,11 +1,11 @@
 -- Where the parts of saved bytes can't be read.
-use Rattle.std.proofs.Common.{◌≡◌, ℕ, List, [], ◌++◌, Option, refl, sym, ap, ◌∙◌, arith}
+use Rattle.std.proofs.Common.{◌≡◌, ℕ, List, [], ◌++◌, Option, sym, ap, ◌∙◌, arith}
 use Rattle.std.specs.Prelude.{◌≢◌}
 use Rattle.std.proofs.lemmas.List.{append-nil}
 use Rattle.ivy_base.specs.declared.key.Key.{Key}
 use Rattle.wire_model.specs.Xdr.{word, opaque, array, optional, IsAny, IsUpTo, IsWord}
 use Rattle.wire_model.specs.OneReading.{ReadsOne, IsFront, HasNoFront}
-use Rattle.wire_model.proofs.OneReading.{◌▷◌, one_array, one_optional, one_word, of_fewer, whole}
+use Rattle.wire_model.proofs.OneReading.{◌▷◌, one_array, one_optional, one_word, of_fewer}
 use Rattle.wire_model.proofs.Fronts.{both, no_first, no_second}
 use Rattle.log_model.specs.Spelling.{IsKey, vector_entry}
 use Rattle.log_model.specs.Vector.{Vector}

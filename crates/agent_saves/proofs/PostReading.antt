@@ -1,14 +1,13 @@
 -- A post can be read in one way only, and where none can be read.
-use Rattle.std.proofs.Common.{◌≡◌, ℕ, ◌<◌, ◌≤◌, ◌^◌, true, List, [], ◌∷◌, ◌++◌, length, refl, sym, ap, ◌∙◌, subst, arith}
-use Rattle.std.specs.Prelude.{IsTrue, nat_lt}
-use Rattle.std.specs.List.{AllByRecursion, list_all, flat_map}
+use Rattle.std.proofs.Common.{◌≡◌, ℕ, ◌<◌, ◌^◌, List, [], ◌∷◌, ◌++◌, length, refl, sym, ap, ◌∙◌, subst, arith}
+use Rattle.std.specs.List.{AllByRecursion, flat_map}
 use Rattle.ivy_base.specs.declared.key.Key.{Key}
-use Rattle.wire_model.specs.Xdr.{word, opaque, array, AreSoMany, IsAny, IsUpTo, IsWord}
+use Rattle.wire_model.specs.Xdr.{opaque, AreSoMany, IsAny, IsUpTo}
 use Rattle.wire_model.specs.OneReading.{ReadsOne, IsFront, HasNoFront}
-use Rattle.wire_model.proofs.OneReading.{◌▷◌, of_fewer, of_parts, one_short_opaque, one_word}
-use Rattle.wire_model.proofs.Fronts.{both, no_first, no_second}
+use Rattle.wire_model.proofs.OneReading.{◌▷◌, of_parts, one_short_opaque, one_word}
+use Rattle.wire_model.proofs.Fronts.{both, no_second}
 use Rattle.wire_model.proofs.Dependent.{PartsOf, none_of_some}
-use Rattle.wire_model.proofs.Arrays.{counted, more_items, no_count, no_counted, no_next}
+use Rattle.wire_model.proofs.Arrays.{more_items, no_next}
 use Rattle.log_model.specs.Spelling.{IsKey}
 use Rattle.log_records.specs.Parts.{key_bytes}
 use Rattle.version_vectors.proofs.OneVector.{one_key}
@@ -18,7 +17,7 @@ use Rattle.dht_ids.specs.declared.post.PostKind.TheVariants as kind
 use Rattle.agent_model.specs.SavedBytes.{HasItsName, kind_number, post_bytes}
 use Rattle.agent_saves.specs.declared.fault.Refusal.{Refusal}
 use Rattle.agent_saves.specs.declared.fault.Refusal.TheVariants.{Malformed, Memory}
-use Rattle.agent_saves.specs.Parts.{ArePosts, IsPost, kind_bytes, most_counted}
+use Rattle.agent_saves.specs.Parts.{IsPost, kind_bytes, most_counted}
 use Rattle.agent_saves.specs.Refusals.{RefusesFront}
 
 -- one part is refused as another one is
@@ -80,32 +79,17 @@ one_post = of_parts parts_of parts_fit (λ p. refl) (λ p q e. ap of_parts_said 
 has_parts : (p : Post) → IsPost p → PartsOf ArePostParts parts_bytes (post_bytes p)
 has_parts p f = record { part = parts_of p; fits = parts_fit p f; spelled = refl }
 
-pub no_kind : {b0 : List ℕ} → HasNoFront IsAny kind_bytes b0 → HasNoFront IsPost post_bytes b0
-no_kind absent = none_of_some has_parts (no_first (IsUpTo most_counted) opaque (no_first IsKey key_bytes absent))
+module _ {b0 b1 b2 : List ℕ} {k : PostKind} {key : Key} (f : IsFront IsAny kind_bytes b0 k b1) (g : IsFront IsKey key_bytes b1 key b2) where
+  pub no_block : HasNoFront (IsUpTo most_counted) opaque b2 → HasNoFront IsPost post_bytes b0
+  no_block absent = none_of_some has_parts (no_second (one_kind ▷ one_key) (both f g) absent)
 
-module _ {b0 b1 : List ℕ} {k : PostKind} (f : IsFront IsAny kind_bytes b0 k b1) where
-  pub no_key : HasNoFront IsKey key_bytes b1 → HasNoFront IsPost post_bytes b0
-  no_key absent = none_of_some has_parts (no_first (IsUpTo most_counted) opaque (no_second one_kind f absent))
-
-  module _ {b2 : List ℕ} {key : Key} (g : IsFront IsKey key_bytes b1 key b2) where
-    pub no_block : HasNoFront (IsUpTo most_counted) opaque b2 → HasNoFront IsPost post_bytes b0
-    no_block absent = none_of_some has_parts (no_second (one_kind ▷ one_key) (both f g) absent)
-
-    module _ {b3 : List ℕ} {block : List ℕ} (h : IsFront (IsUpTo most_counted) opaque b2 block b3) where
-      pub misnamed : (HasItsName (record { key = key; bytes = block; kind = k }) → ⊥) → HasNoFront IsPost post_bytes b0
-      misnamed misfit = record {
-        none = λ p rest i.
-            let whole = both (both f g) h in
-            let same : ((k, key), block) ≡ parts_of p = (one_of_parts.one ((k, key), block) (parts_of p) b3 rest whole.fits (parts_fit p i.fits) (sym whole.spelled ∙ i.spelled)).0 in
-            misfit (subst (λ (q : PostParts). HasItsName (of_parts_said q)) (sym same) i.fits.1);
-      }
-
-      pub post_front : (copy : List ℕ) → copy ≡ block → HasItsName (record { key = key; bytes = block; kind = k }) → list_all (λ b. nat_lt b 256) block ≡ true
-          → IsFront IsPost post_bytes b0 (record { key = key; bytes = copy; kind = k }) b3
-      post_front copy same named each = subst (λ (c : List ℕ). IsFront IsPost post_bytes b0 (record { key = key; bytes = c; kind = k }) b3) (sym same) (record {
-        fits = (g.fits, named, (omega (arith, h.fits), each));
-        spelled = (both (both f g) h).spelled;
-      })
+  pub misnamed : {b3 : List ℕ} {block : List ℕ} → IsFront (IsUpTo most_counted) opaque b2 block b3 → (HasItsName (record { key = key; bytes = block; kind = k }) → ⊥) → HasNoFront IsPost post_bytes b0
+  misnamed {b3} {block} h misfit = record {
+    none = λ p rest i.
+        let whole = both (both f g) h in
+        let same : ((k, key), block) ≡ parts_of p = (one_of_parts.one ((k, key), block) (parts_of p) b3 rest whole.fits (parts_fit p i.fits) (sym whole.spelled ∙ i.spelled)).0 in
+        misfit (subst (λ (q : PostParts). HasItsName (of_parts_said q)) (sym same) i.fits.1);
+  }
 
 -- ---- several
 
@@ -116,13 +100,3 @@ no_next_post f short absent = no_next one_post f short absent
 pub more_posts : {start left rest : List ℕ} {done : List Post} {x : Post} → IsFront (AllByRecursion IsPost) (flat_map post_bytes) start done left → IsFront IsPost post_bytes left x rest
     → IsFront (AllByRecursion IsPost) (flat_map post_bytes) start (done ++ x ∷ []) rest
 more_posts f g = more_items one_post f g
-
-pub no_count_of_posts : {b0 : List ℕ} → HasNoFront IsWord word b0 → HasNoFront ArePosts (array post_bytes) b0
-no_count_of_posts absent = no_count one_post most_counted (omega arith) absent
-
-module _ {b0 b1 : List ℕ} {count : ℕ} (f : IsFront IsWord word b0 count b1) where
-  pub no_counted_posts : HasNoFront (AreSoMany IsPost count) (flat_map post_bytes) b1 → HasNoFront ArePosts (array post_bytes) b0
-  no_counted_posts absent = no_counted one_post most_counted (omega arith) f absent
-
-  pub posts_front : {b2 : List ℕ} {posts : List Post} → IsFront (AreSoMany IsPost count) (flat_map post_bytes) b1 posts b2 → IsFront ArePosts (array post_bytes) b0 posts b2
-  posts_front g = counted one_post f (omega (arith, f.fits)) (record { fits = g.fits.each; spelled = g.spelled }) g.fits.size

@@ -1,5 +1,5 @@
 use Rattle.std.proofs.lemmas.Result.{err_from_is_err_and}
-use Rattle.agent_saves.proofs.PostReading.{no_kind, no_key, no_block, misnamed, post_front}
+use Rattle.agent_saves.proofs.PostReading.{no_block, misnamed}
 use Rattle.agent_saves.proofs.posts.read_post.Goals as goal
 
 pub returns-in_err-block-clause-err : goal.returns-in_err-block-clause-err
