@@ -1,5 +1,5 @@
 -- An agent that drops what it held.
-use Rattle.std.proofs.Common.{◌≡◌, ℕ, ◌≤◌, Bool, [], Option, Some, None, refl, sym, ap, ◌∙◌, subst, arith}
+use Rattle.std.proofs.Common.{◌≡◌, ℕ, ◌≤◌, Bool, [], Option, Some, None, sym, ap, ◌∙◌, subst, arith}
 use Rattle.std.specs.Prelude.{IfSome}
 use Rattle.ivy_base.specs.declared.key.Key.{Key}
 use Rattle.log_model.specs.Vector.{Vector}
