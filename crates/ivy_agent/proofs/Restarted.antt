@@ -5,7 +5,7 @@ use Rattle.wire_model.specs.Xdr.{IsAny}
 use Rattle.log_model.specs.Vector.{Vector}
 use Rattle.log_model.specs.View.{View}
 use Rattle.turn_model.specs.Basis.{nothing_held}
-use Rattle.ivy_io.specs.Keepers.{GivesKept}
+use Rattle.ivy_io.specs.Keepers.{GivesKept, KeeperState}
 use Rattle.replay_engine.specs.Engines.{Engine, holding}
 use Rattle.agent_model.specs.Agent as model
 use Rattle.agent_model.specs.Agent.{Signing, joined, own_key}
@@ -74,3 +74,9 @@ module _ {S : Type 0} (signs : Signing S) (IsWhole : S → Type 0) where
     restarts (Err (after, fault.Memory)) t = (given_some (kept before) bytes gives, stayed after t)
     restarts (Err (after, fault.Nothing)) t = absurd t
     restarts (Err (after, fault.Keeper)) t = absurd t
+
+-- ---- in place
+
+-- what a keeper in memory was told to keep
+pub kept_there : {S : Type 0} (before : Holder KeeperState S) (a : model.Agent S) (keeper : KeeperState) (bytes : List ℕ) → record { agent = a; keeper = keeper } ≡ before → Some bytes ≡ keeper.kept → before.keeper.kept ≡ Some bytes
+kept_there before a keeper bytes is told = ap (λ (h : Holder KeeperState _). h.keeper.kept) (sym is) ∙ sym told

@@ -1,6 +1,7 @@
 -- How starting again from what was saved ends.
 use Rattle.std.specs.Prelude.{◌≡◌, ℕ, List, Option, Some, None, IfSome, Result, Ok, Err}
 use Rattle.ivy_io.specs.Causes.{counted}
+use Rattle.ivy_io.specs.Keepers.{KeeperState}
 use Rattle.agent_model.specs.Agent.{Kept, Signing, restored}
 use Rattle.agent_model.specs.SavedBytes.{IsKept, kept_bytes}
 use Rattle.agent_saves.specs.Saves.{AreSavedOf, AreSavedOfNone, IsCounted}
@@ -51,3 +52,14 @@ module _ {K S : Type 0} (signs : Signing S) (IsWhole : S → Type 0) where
   Restarts kept faults before (Err (after, fault.Malformed)) = (bytes : List ℕ) × AreNobodys signs IsWhole bytes × Keeps (kept before) (Some bytes) × HasStayed kept faults before after
   Restarts kept faults before (Err (after, fault.Keeper)) = HasFailed kept faults before after
   Restarts kept faults before (Err (after, fault.Memory)) = KeepsSome (kept before) × HasStayed kept faults before after
+
+-- ---- in place
+
+module _ {S : Type 0} (signs : Signing S) (IsWhole : S → Type 0) (before : Holder KeeperState S) where
+  -- Over a keeper in memory, which stays as it is: the agent that it keeps starts again in the place of the one before; or nothing has changed.
+  abbrev pub StartsAgain : Result Unit RestartFault → Holder KeeperState S → Type 0
+  StartsAgain (Ok done) after = (k : Kept S) × IsKept signs IsWhole k × (before.keeper.kept ≡ Some (kept_bytes signs k)) × (after ≡ record before { agent = restored k })
+  StartsAgain (Err fault.Nothing) after = (before.keeper.kept ≡ None) × (after ≡ before)
+  StartsAgain (Err fault.Malformed) after = (bytes : List ℕ) × (before.keeper.kept ≡ Some bytes) × AreNobodys signs IsWhole bytes × (after ≡ before)
+  StartsAgain (Err fault.Memory) after = after ≡ before
+  StartsAgain (Err fault.Keeper) after = ⊥

@@ -12,7 +12,8 @@
 //! saved, what it was; and that what is saved may be (`IsKept`), so that no other agent has those bytes. After a save that
 //! failed an agent saves no more. [`Agent::restart`] gives `restored` of what the keeper holds, where those are the bytes of
 //! something that may be saved, and else says that it holds nothing, no agent's bytes, or failed; [`Agent::restore`] does so
-//! with bytes, and leaves the keeper as it is (`specs/Restarting.antt`). [`Agent::standing`] is `standing_in`,
+//! with bytes, and leaves the keeper as it is, and [`Agent::start_again`] does so in place, over a keeper in memory
+//! (`specs/Restarting.antt`). [`Agent::standing`] is `standing_in`,
 //! [`Agent::settle`] is `settled`; [`Agent::owner`] is its public key and [`Agent::view`] its view; [`Agent::plan_fault`]
 //! plans that a save of a keeper in memory fails. [`Agent::turn`] is a `Turns` of the definitions, for some answer to whether the save fails
 //! (`TakesTurn` in `specs/Turns.antt`; where nothing is saved, for either answer): `Behind`, `BelowTide`, or a reply with how many records were applied, the agent then,

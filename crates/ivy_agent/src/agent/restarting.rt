@@ -9,7 +9,7 @@ ghost use Rattle.agent_model.specs.SavedBytes.{IsKept};
 ghost use Rattle.agent_saves.specs.Saves.{IsCounted, said};
 ghost use Rattle.ivy_agent.specs.Holders.{signing};
 ghost use Rattle.ivy_agent.specs.Saves.{saved_of};
-ghost use Rattle.ivy_agent.specs.Restarting.{Restarts, Restores};
+ghost use Rattle.ivy_agent.specs.Restarting.{Restarts, Restores, StartsAgain};
 
 use super::Agent;
 use crate::fault::RestartFault;
@@ -18,7 +18,7 @@ use crate::saving::Kept;
 use agent_saves::Saved;
 use hss_keys::Signs;
 use ivy_base::{Memory, head_key};
-use ivy_io::{KeepFault, Keeper};
+use ivy_io::{KeepFault, Keeper, MemKeeper};
 use replay_engine::Engine;
 use std::alloc::Global;
 use version_vectors::Vector;
@@ -46,7 +46,8 @@ impl<K: Keeper, S: Signs + Drop> Agent<K, S> {
     ///
     /// # Errors
     ///
-    /// `Malformed` exactly where these are no agent's bytes, and `Memory` where memory runs out. The keeper is given back.
+    /// `Malformed` where these are no agent's bytes, those aside of a key whose own bytes no word counts, and `Memory` where
+    /// memory runs out. The keeper is given back.
     pub fn restore(alloc: Global, keeper: K, bytes: &[u8]) -> Result<Self, (K, RestartFault)>
         ensures { Restores (signing S.key S.remaining S.signature S.next S.saved) S.is_whole keeper bytes.now result }
     {
@@ -76,6 +77,47 @@ impl<K: Keeper, S: Signs + Drop> Agent<K, S> {
             front: Vector::empty(alloc),
             to_load,
             has_failed: false,
+        }
+    }
+
+    /// Becomes the agent of what was saved, which holds nothing.
+    fn become_saved(&mut self, alloc: Global, saved: Saved<S>, nothing: Engine)
+        requires kept { IsKept (signing S.key S.remaining S.signature S.next S.saved) (IsCounted S.is_whole S.saved) (said saved) }
+        requires nothing { holding nothing ≡ nothing_held }
+        ensures { self.new ≡ record self.old { agent = restored (said saved) } }
+    {
+        self.kept = kept_of(saved);
+        self.to_load = self.kept.snapshot;
+        self.engine = nothing;
+        self.front = Vector::empty(alloc);
+        self.has_failed = false;
+    }
+}
+
+impl<S: Signs + Drop> Agent<MemKeeper, S> {
+    /// Starts again in place from what the keeper holds, which stays as it is. What the agent was before is dropped, and with
+    /// it the key that signed until now.
+    ///
+    /// # Errors
+    ///
+    /// `Nothing` exactly where the keeper holds nothing, `Malformed` where what it holds are no agent's bytes, and `Memory`
+    /// where memory runs out. Nothing has changed then.
+    pub fn start_again(&mut self, alloc: Global) -> Result<(), RestartFault>
+        ensures { StartsAgain (signing S.key S.remaining S.signature S.next S.saved) S.is_whole self.old result self.new }
+    {
+        let Some(bytes) = self.keeper.kept() else {
+            return Err(RestartFault::Nothing);
+        };
+        let Ok(nothing) = hold_nothing(alloc) else {
+            return Err(RestartFault::Memory);
+        };
+        match Saved::read(alloc, bytes) {
+            Ok(Some(saved)) => {
+                self.become_saved(alloc, saved, nothing);
+                Ok(())
+            }
+            Ok(None) => Err(RestartFault::Malformed),
+            Err(Memory) => Err(RestartFault::Memory),
         }
     }
 }
