@@ -119,3 +119,5 @@ mod FullGets
 pub mod FullRuns
 pub mod FullTurns
 pub mod FullSessions
+pub mod TurnsExisting
+pub mod FullEnds

@@ -5,3 +5,4 @@ pub mod Kinds
 pub mod Laws
 pub mod Frames
 pub mod Calm
+pub mod FullTurns
