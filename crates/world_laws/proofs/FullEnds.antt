@@ -1,9 +1,10 @@
 -- Where its agent has room, a session that refreshes goes to its end with memory there, or names clash on the way.
-use Rattle.std.proofs.Common.{◌≡◌, inl, inr, ℕ, Bool, true, false, cond, List, [], ◌∷◌, map, Option, Some, refl, sym, ◌∙◌, subst}
+use Rattle.std.proofs.Common.{◌≡◌, inl, inr, ℕ, Bool, true, false, cond, List, [], ◌∷◌, map, Option, Some, refl, sym, ◌∙◌, subst, ◌⊎◌, suc}
 use Rattle.std.specs.Prelude.{if◌then◌else◌}
 use Rattle.std.specs.List.{AllByRecursion}
 use Rattle.std.specs.Str.{bytes_eq}
 use Rattle.ivy_base.specs.declared.operation.Moment.{Moment}
+use Rattle.ivy_base.specs.Naming.{HasClash}
 use Rattle.log_heads.specs.Signed.{hss_judged}
 use Rattle.log_model.proofs.Lists.{each, each_from}
 use Rattle.log_model.specs.View.{View}
@@ -27,15 +28,16 @@ use Rattle.session_model.specs.Sessions.Hears.{gets_on, got, puts_on, puts}
 use Rattle.session_model.specs.Sessions.Takes.{posted, cached}
 use Rattle.session_model.specs.Sessions.TakesAll.{none as takes_none, more as takes_more}
 use Rattle.world_model.specs.Agents.{Agent, Kept, hss}
-use Rattle.world_model.specs.Steps.{Acts, Scene, Steps, StepsOn, after_turn}
+use Rattle.world_model.specs.Steps.{Acts, Scene, Steps, StepsOn, after_turn, RunsOut}
 use Rattle.world_model.specs.Steps.Acts.{asks, asks_in_vain, is_refused, settles, turns}
 use Rattle.world_model.specs.Steps.Steps.{acts, lacks_memory}
 use Rattle.world_model.specs.Steps.StepsOn.{is_over as steps_over, more as steps_more, none as steps_none}
 use Rattle.world_model.specs.World.{Participant, named_bytes, participant}
-use Rattle.world_laws.specs.FullTurns.{AreBytes, GoesToItsEnd, SessionsGoToTheirEnds}
+use Rattle.world_model.specs.Steps.RunsOut.{more as runs_more}
+use Rattle.world_laws.specs.FullTurns.{AreBytes, GoesToItsEnd, SessionsGoToTheirEnds, SessionsEndOrClash}
 use Rattle.world_laws.specs.FullTurns.GoesToItsEnd.{ends as it_ends, clashes as it_clashes, goes_on as it_goes_on}
 use Rattle.world_laws.specs.Keeps.{IsInHand, Keeps}
-use Rattle.world_laws.specs.Laws.{GoesFully}
+use Rattle.world_laws.specs.Laws.{GoesFully, HasMemoryAt}
 use Rattle.world_laws.specs.Laws.GoesFully.{ends, clashes, goes_on, has_turn}
 use Rattle.world_laws.proofs.Apart.{clash_is_decided}
 use Rattle.world_laws.proofs.Bringing.{found_named}
@@ -167,3 +169,32 @@ sessions_go_to_their_ends c r p keeps hand ringed refreshing is_p bytes room =
     let found = found_named c.world.participants c.session.by p is_p in
     to_its_end r c.session.by (sessions_go_fully c r keeps hand ringed refreshing) keeps hand ringed refl bytes (λ at. each_from (λ q. q.name ≡ c.session.by → HasRoom q.agent) c.world.participants (λ q among named.
     subst (λ (o : Participant). HasRoom o.agent) (one_named (λ (o : Participant). o.name) c.world.participants p q keeps.apart found.0 among (found.1 ∙ sym named)) room))
+
+-- ---- in one
+
+module _ (r : ℕ) (name : List ℕ) where
+  runs_behind : {count : ℕ} {c mid next : Scene} → StepsOn hss_judged r name count c mid → RunsOut hss_judged r name mid next → RunsOut hss_judged r name c next
+  runs_behind steps_none runs = runs
+  runs_behind (steps_over said over) runs = runs
+  runs_behind (steps_more step rest) runs = runs_more step (runs_behind rest runs)
+
+  steps_behind : {count more : ℕ} {c mid next : Scene} → StepsOn hss_judged r name count c mid → StepsOn hss_judged r name more mid next → (all : ℕ) × StepsOn hss_judged r name all c next
+  steps_behind {more = more} steps_none steps = (more, steps)
+  steps_behind {more = more} (steps_over said over) steps = (more, steps)
+  steps_behind (steps_more step rest) steps = (let w = steps_behind rest steps in (suc w.0, steps_more step w.1))
+
+  -- its end, or where names clash
+  abbrev EndOrClash : Scene → Type 0
+  EndOrClash c = ((next : Scene) × RunsOut hss_judged r name c next × HasMemoryAt next.session) ⊎ ((count : ℕ) × (next : Scene) × StepsOn hss_judged r name count c next × HasClash (named_bytes next.world))
+
+  end_or_clash : {c : Scene} → GoesToItsEnd r name c → EndOrClash c
+  end_or_clash (it_ends {c = c} {next = next} runs memory) = inl (next, runs, memory)
+  end_or_clash (it_clashes {c = c} clash) = inr (0, c, steps_none, clash)
+  end_or_clash (it_goes_on {c = c} {next = next} count steps memory rest) = by (end_or_clash rest)
+    where
+      by : EndOrClash next → EndOrClash c
+      by (inl w) = inl (w.0, runs_behind steps w.1, w.2)
+      by (inr w) = (let all = steps_behind steps w.2 in inr (all.0, w.1, all.1, w.3))
+
+pub sessions_end_or_clash : SessionsEndOrClash
+sessions_end_or_clash c r p keeps hand ringed refreshing is_p bytes room = end_or_clash r c.session.by (sessions_go_to_their_ends c r p keeps hand ringed refreshing is_p bytes room)

@@ -1,5 +1,5 @@
 -- Turns that exist, and sessions that go to their ends with them.
-use Rattle.std.specs.Prelude.{◌≡◌, ℕ, List, Option, Some, IsTrue, nat_lt}
+use Rattle.std.specs.Prelude.{◌≡◌, ℕ, List, Option, Some, IsTrue, nat_lt, ◌⊎◌}
 use Rattle.std.specs.List.{list_all}
 use Rattle.ivy_base.specs.Naming.{HasClash, NamesTellApart}
 use Rattle.log_heads.specs.Signed.{hss_judged}
@@ -38,3 +38,10 @@ pub data GoesToItsEnd (r : ℕ) (name : List ℕ) : Scene → Type 0 where
 abbrev pub SessionsGoToTheirEnds : Type 0
 SessionsGoToTheirEnds = (c : Scene) (r : ℕ) (p : Participant) → Keeps (c.world, c.story) → IsInHand c r → c.world.replicas ≡ Some r → c.session.stage ≡ Refreshing
     → participant c.world c.session.by ≡ Some p → AreBytes c.session.message → HasRoom p.agent → GoesToItsEnd r c.session.by c
+
+-- That is, it has an end in which memory was there, or there are steps to where names clash.
+abbrev pub SessionsEndOrClash : Type 0
+SessionsEndOrClash = (c : Scene) (r : ℕ) (p : Participant) → Keeps (c.world, c.story) → IsInHand c r → c.world.replicas ≡ Some r → c.session.stage ≡ Refreshing
+    → participant c.world c.session.by ≡ Some p → AreBytes c.session.message → HasRoom p.agent
+    → ((next : Scene) × RunsOut hss_judged r c.session.by c next × HasMemoryAt next.session)
+    ⊎ ((count : ℕ) × (next : Scene) × StepsOn hss_judged r c.session.by count c next × HasClash (named_bytes next.world))
