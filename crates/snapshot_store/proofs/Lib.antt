@@ -1,0 +1,5 @@
+pub mod Places
+pub mod Puts
+pub mod Cuts
+pub mod Waiting
+pub mod Tops
