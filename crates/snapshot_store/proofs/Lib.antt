@@ -3,3 +3,5 @@ pub mod Puts
 pub mod Cuts
 pub mod Waiting
 pub mod Tops
+pub mod Listings
+pub mod InOrder

@@ -136,6 +136,16 @@ fn close(
     Ok(name)
 }
 
+/// The empty list.
+pub fn nothing() -> Listed
+    ensures { listed_of result ≡ record { level = 0; top = no_name } }
+{
+    Listed {
+        level: 0,
+        top: NO_NAME,
+    }
+}
+
 /// The list whose topmost block has this name, of that level, or which is empty.
 fn named(level: u32, names: &[Key]) -> Listed
     requires { length names.now ≤ 1 }
@@ -143,9 +153,6 @@ fn named(level: u32, names: &[Key]) -> Listed
 {
     match names.first() {
         Some(top) => Listed { level, top: *top },
-        None => Listed {
-            level: 0,
-            top: NO_NAME,
-        },
+        None => nothing(),
     }
 }

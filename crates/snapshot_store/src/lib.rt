@@ -5,4 +5,9 @@
 #![tactic(auto)]
 
 mod blocks;
+mod inodes;
+mod items;
 mod levels;
+pub mod making;
+
+pub use making::{Made, make};
