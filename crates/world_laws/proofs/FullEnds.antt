@@ -43,7 +43,7 @@ use Rattle.world_laws.proofs.Apart.{clash_is_decided}
 use Rattle.world_laws.proofs.Bringing.{found_named}
 use Rattle.world_laws.proofs.Frames.{one_named}
 use Rattle.world_laws.proofs.FullSessions.{sessions_go_fully}
-use Rattle.world_laws.proofs.NoSnapshotSteps.{fate_same}
+use Rattle.world_laws.proofs.LastingLines.{fate_same}
 use Rattle.world_laws.proofs.SessionLinesSteps.{step_leads, steps_on_lead}
 use Rattle.world_laws.proofs.TurnsExisting.{turns_exist}
 

@@ -93,7 +93,7 @@ pub mod OneRing
 pub mod OneLines
 mod NoSnapshotSaved
 mod NoSnapshotTurns
-mod NoSnapshotSteps
+mod LastingLines
 mod NoSnapshotLines
 pub mod SnapBounds
 pub mod SnapSpelled
@@ -121,3 +121,4 @@ pub mod FullTurns
 pub mod FullSessions
 pub mod TurnsExisting
 pub mod FullEnds
+mod Rooms

@@ -6,3 +6,4 @@ pub mod Laws
 pub mod Frames
 pub mod Calm
 pub mod FullTurns
+pub mod FullRuns
