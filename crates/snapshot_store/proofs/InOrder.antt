@@ -1,5 +1,5 @@
 -- The inode at a place among all, which are in the order of their numbers.
-use Rattle.std.proofs.Common.{◌≡◌, ℕ, zero, suc, ◌+◌, ◌<◌, Bool, true, false, cond, ◌&&◌, List, [], ◌∷◌, ◌++◌, length, map, take, get_or, Option, Some, None, Contains, refl, sym, ap, ◌∙◌, subst, arith}
+use Rattle.std.proofs.Common.{◌≡◌, ℕ, zero, suc, ◌+◌, ◌<◌, Bool, true, false, cond, List, [], ◌∷◌, ◌++◌, length, map, take, get_or, Some, None, Contains, refl, sym, ap, ◌∙◌, subst, arith}
 use Rattle.std.specs.FinMap.Entries.{find as value_at, below_all, is_sorted}
 use Rattle.std.specs.List.{AllByRecursion}
 use Rattle.std.specs.Ordering.{is_lt}
@@ -7,7 +7,7 @@ use Rattle.std.proofs.lemmas.List.{map-append}
 use Rattle.ivy_base.specs.declared.key.Key.{Key}
 use Rattle.ivy_base.specs.Naming.{key_cmp}
 use Rattle.tree_model.specs.Tree.{Inode, IsInOrder, Tree, inode_at, same_key}
-use Rattle.tree_model.proofs.Keys.{keys_total, same_key_is, same_key_itself}
+use Rattle.tree_model.proofs.Keys.{same_key_is, same_key_itself}
 use Rattle.tree_model.proofs.Sound.{both_true}
 use Rattle.tree_model.proofs.Climb.{less_is_not_equal}
 use Rattle.log_model.proofs.Lists.{each, there}

@@ -5,7 +5,7 @@ use Rattle.std.proofs.lemmas.List.{append-nil, append_assoc, length-append, leng
 use Rattle.snapshot_model.specs.Spelling.{Made, in_pieces, list_made}
 use Rattle.snapshot_model.proofs.Pieces.{few_pieces}
 use Rattle.snapshot_store.specs.declared.levels.Levels.{Levels}
-use Rattle.snapshot_store.specs.Levels.{AreFull, HasRoom, IsCut, IsOver, item_count}
+use Rattle.snapshot_store.specs.Levels.{AreFull, IsCut, IsOver, item_count}
 use Rattle.snapshot_store.specs.Listing.{IsListing}
 use Rattle.snapshot_store.proofs.Cuts.{next_piece, piece_in_front}
 use Rattle.snapshot_store.proofs.Waiting.{as_many}
@@ -20,16 +20,18 @@ length_cut : {A : Type 0} {things : List A} {ps : List (List A)} {left : List A}
 length_cut {ps = ps} {left = left} cut = ap length cut.whole ∙ length-append (flat_map (λ p. p) ps) left ∙ ap (λ n. n + length left) (length_full ps cut.full)
 
 module _ (before now : List (List ℕ)) (items : List Made) (l : Levels) (over : IsOver before items now l) where
-  pub has_room : HasRoom l
-  has_room = record {
-    firsts = omega (arith, as_many l.firsts.items over.firsts over.firsts_wait, over.few_firsts);
-    seconds = omega (arith, as_many l.seconds.items over.seconds over.seconds_wait, over.few_seconds);
-  }
-
   pub items_counted : item_count l ≡ length items
   items_counted =
-      omega (arith, length_cut over.items_cut, length_cut over.lists_cut, length-map over.lowest (list_made 1), length-map over.middle (list_made 2),
-      as_many l.firsts.items over.firsts over.firsts_wait, as_many l.seconds.items over.seconds over.seconds_wait, as_many l.thirds.items (map (list_made 2) over.middle) over.thirds_wait)
+      omega (
+        arith,
+        length_cut over.items_cut,
+        length_cut over.lists_cut,
+        length-map over.lowest (list_made 1),
+        length-map over.middle (list_made 2),
+        as_many l.firsts.items over.firsts over.firsts_wait,
+        as_many l.seconds.items over.seconds over.seconds_wait,
+        as_many l.thirds.items (map (list_made 2) over.middle) over.thirds_wait,
+      )
 
 -- ---- lists over pieces
 

@@ -1,10 +1,10 @@
 -- Where a block is found, and what one more changes.
-use Rattle.std.proofs.Common.{◌≡◌, ℕ, suc, ◌+◌, ◌<◌, Bool, true, false, cond, ◌||◌, List, [], ◌∷◌, ◌++◌, length, get_or, Option, Some, None, option_map, refl, sym, ap, ◌∙◌, subst, arith}
+use Rattle.std.proofs.Common.{◌≡◌, ℕ, suc, ◌<◌, Bool, true, false, cond, ◌||◌, List, [], ◌∷◌, ◌++◌, length, get_or, Option, Some, None, option_map, refl, sym, ap, ◌∙◌, subst, arith}
 use Rattle.std.specs.List.{list_any}
 use Rattle.std.specs.Map.{lookup}
 use Rattle.std.specs.Option.{IfSome, option_or}
 use Rattle.std.specs.Str.{bytes_eq}
-use Rattle.std.proofs.lemmas.Bool.{cond-true, cond-false}
+use Rattle.std.proofs.lemmas.Bool.{cond-false}
 use Rattle.std.proofs.lemmas.List.Folds.{list_any_at}
 use Rattle.std.proofs.lemmas.Slice.Eq.{bytes_eq-Decides}
 use Rattle.ivy_base.specs.declared.key.Key.{Key}
@@ -71,9 +71,6 @@ among_at b blocks i d within same =
 
 pub put_anew : (blocks : List (List ℕ)) (b : List ℕ) → list_any (bytes_eq b) blocks ≡ false → blocks ++ b ∷ [] ≡ with_block blocks b
 put_anew blocks b new = sym (cond-false (list_any (bytes_eq b) blocks) blocks (blocks ++ b ∷ []) new)
-
-pub put_again : (blocks : List (List ℕ)) (b : List ℕ) → list_any (bytes_eq b) blocks ≡ true → blocks ≡ with_block blocks b
-put_again blocks b there = sym (cond-true (list_any (bytes_eq b) blocks) blocks (blocks ++ b ∷ []) there)
 
 module _ (blocks : List (List ℕ)) (b : List ℕ) (places : List (Key × ℕ)) (valid : ArePlaced blocks places) where
   -- the block's name was put into the map with the place behind the others

@@ -2,7 +2,7 @@
 use Rattle.std.proofs.Common.{◌≡◌, ℕ, zero, suc, ◌+◌, ◌*◌, ◌<◌, ◌≤◌, Bool, true, false, cond, List, [], ◌∷◌, ◌++◌, length, map, refl, sym, ap, ◌∙◌, subst, arith}
 use Rattle.std.specs.Prelude.{nat_le}
 use Rattle.std.specs.List.{flat_map}
-use Rattle.std.proofs.lemmas.Bool.{cond-true, cond-false, leb-true}
+use Rattle.std.proofs.lemmas.Bool.{cond-true}
 use Rattle.std.proofs.lemmas.List.{append-nil, append_assoc, length-append, length-map, map-append}
 use Rattle.ivy_base.specs.declared.key.Key.{Key}
 use Rattle.ivy_base.specs.Naming.{name}
@@ -12,7 +12,7 @@ use Rattle.snapshot_blocks.specs.declared.listed.Listed.{Listed}
 use Rattle.snapshot_blocks.specs.Parsed.{listed_of}
 use Rattle.snapshot_store.specs.declared.levels.Levels.{Levels}
 use Rattle.snapshot_store.specs.Puts.{PutsList, put_all}
-use Rattle.snapshot_store.specs.Levels.{AreFull, Closes, ClosesRest, HasOneList, IsCut, IsOver, item_count, top_listed}
+use Rattle.snapshot_store.specs.Levels.{AreFull, Closes, ClosesRest, IsCut, IsOver, top_listed}
 use Rattle.snapshot_store.proofs.Puts.{put_above, put_over}
 use Rattle.snapshot_store.proofs.Cuts.{pieces_cut, rest_piece, one_piece, within_piece}
 use Rattle.snapshot_store.proofs.Waiting.{as_many}
@@ -64,13 +64,12 @@ rest_closed before level others uppers left names above above_then blocks after 
         → (above_then ≡ map made_name (uppers ++ map (list_made level) (rest_piece ms))) × (after ≡ put_all before (others ++ (uppers ++ map (list_made level) (rest_piece ms))))
     by [] is c = (
       c.0 ∙ above_named ∙ ap (map made_name) (sym (append-nil uppers)),
-      c.1 ∙ is ∙ ap (put_all before) (append-nil (others ++ uppers) ∙ ap (λ ms. others ++ ms) (sym (append-nil uppers)))
+      c.1 ∙ is ∙ ap (put_all before) (append-nil (others ++ uppers) ∙ ap (λ ms. others ++ ms) (sym (append-nil uppers))),
     )
     by (m ∷ ms) is c =
-        let bytes = list_block level (map made_name (m ∷ ms)) in
-        (
+        let bytes = list_block level (map made_name (m ∷ ms)) in (
           c.0 ∙ ap (λ keys. keys ++ name bytes ∷ []) above_named ∙ sym (map-append made_name uppers (list_made level (m ∷ ms) ∷ [])),
-          c.1 ∙ ap (λ b. with_block b bytes) is ∙ put_over before (others ++ uppers) (m ∷ ms) bytes ∙ ap (put_all before) (append_assoc others uppers (list_made level (m ∷ ms) ∷ []))
+          c.1 ∙ ap (λ b. with_block b bytes) is ∙ put_over before (others ++ uppers) (m ∷ ms) bytes ∙ ap (put_all before) (append_assoc others uppers (list_made level (m ∷ ms) ∷ [])),
         )
 
 few_rest : {A : Type 0} (xs : List A) → length (rest_piece xs) ≤ 1
@@ -151,16 +150,16 @@ module _ (before blocks : List (List ℕ)) (items : List Made) (l : Levels) (ove
     middle_list made one is =
         let top = top_is 1 2 ones twos refl (omega (arith, as_many thirds twos twos_put.0, one)) in
         record {
-      blocks = twos_put.1 ∙ ap (put_all before) (sym top.0 ∙ ap (λ (p : ℕ × List Made). p.1) (sym (level_more 2 1 items many_ones)));
-      named = is ∙ ap (top_listed 2) twos_put.0 ∙ sym top.1 ∙ ap named_by (sym (level_more 2 1 items many_ones));
-    }
+          blocks = twos_put.1 ∙ ap (put_all before) (sym top.0 ∙ ap (λ (p : ℕ × List Made). p.1) (sym (level_more 2 1 items many_ones)));
+          named = is ∙ ap (top_listed 2) twos_put.0 ∙ sym top.1 ∙ ap named_by (sym (level_more 2 1 items many_ones));
+        }
 
     -- one of level 3 stands above them
     pub upper_list : (key : Key) (b3 : List (List ℕ)) → 1 < length thirds → length thirds ≤ 512 → Closes 3 thirds b2 b3 key → (made : Listed) → listed_of made ≡ record { level = 3; top = key } → PutsList before items b3 made
     upper_list key b3 several few closes made is =
         let is_three : list_of items ≡ (3, list_made 3 twos ∷ []) =
-            level_more 2 1 items many_ones ∙ level_more 1 2 ones (omega (arith, as_many thirds twos twos_put.0, several))
-            ∙ one_list 0 3 twos (omega (arith, as_many thirds twos twos_put.0, several)) (omega (arith, as_many thirds twos twos_put.0, few)) in
+        level_more 2 1 items many_ones ∙ level_more 1 2 ones (omega (arith, as_many thirds twos twos_put.0, several))
+        ∙ one_list 0 3 twos (omega (arith, as_many thirds twos twos_put.0, several)) (omega (arith, as_many thirds twos twos_put.0, few)) in
         record {
           blocks =
               closes.blocks ∙ (λ i. with_block (twos_put.1 i) (list_block 3 (twos_put.0 i))) ∙ put_above before twos (list_block 3 (map made_name twos))

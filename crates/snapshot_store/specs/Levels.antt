@@ -6,8 +6,9 @@ use Rattle.ivy_base.specs.Naming.{name}
 use Rattle.log_model.specs.Spelling.{no_name}
 use Rattle.snapshot_model.specs.Blocks.{Listed, list_block}
 use Rattle.snapshot_model.specs.Spelling.{Made, list_made, made_name, with_block}
+use Rattle.snapshot_blocks.specs.declared.listed.Listed as listed
 use Rattle.snapshot_store.specs.declared.levels.Levels.{Levels}
-use Rattle.snapshot_store.specs.Puts.{put_all}
+use Rattle.snapshot_store.specs.Puts.{PutsList, put_all}
 
 -- ---- one level
 
@@ -29,15 +30,16 @@ ClosesRest level (n ∷ ns) above before above_then after =
 
 -- ---- all levels
 
--- as many names wait as are no list block's at most
+-- of the two lower levels fewer names wait than a list block has
 pub record HasRoom (l : Levels) : Type 0 where
   pub firsts : length l.firsts.items < 512
   pub seconds : length l.seconds.items < 512
 
+-- no names wait but that of one list block of level 1, or none
 abbrev pub HasOneList : Levels → Type 0
 HasOneList l = (l.thirds.items ≡ []) × (length l.seconds.items ≤ 1)
 
--- over so many items they are
+-- how many items the names stand for
 abbrev pub item_count : Levels → ℕ
 item_count l = 262144 * length l.thirds.items + 512 * length l.seconds.items + length l.firsts.items
 
@@ -64,6 +66,16 @@ pub record IsOver (before : List (List ℕ)) (items : List Made) (after : List (
   pub few_firsts : length firsts < 512
   pub few_seconds : length seconds < 512
   pub blocks : after ≡ put_all before (map (list_made 2) middle ++ seconds ++ firsts)
+
+-- whatever items the list was over, it is over one more now, which was put last before
+abbrev pub TakesIn : Key → Levels → List (List ℕ) → Levels → List (List ℕ) → Type 0
+TakesIn item l now m after =
+    (before between : List (List ℕ)) (items : List Made) (one : Made) → IsOver before items between l → now ≡ put_all between (one ∷ []) → item ≡ made_name one
+    → IsOver before (items ++ one ∷ []) after m
+
+-- whatever items the list was over, it was put, and is named so
+abbrev pub Finishes : Levels → List (List ℕ) → List (List ℕ) → listed.Listed → Type 0
+Finishes l now after made = (before : List (List ℕ)) (items : List Made) → IsOver before items now l → PutsList before items after made
 
 -- the list whose topmost block has the first of these names
 abbrev pub top_listed : ℕ → List Key → Listed

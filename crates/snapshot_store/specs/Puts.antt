@@ -1,5 +1,5 @@
 -- What is put of a snapshot.
-use Rattle.std.specs.Prelude.{◌≡◌, ℕ, ◌≤◌, List, ◌++◌, length, map, flat_map, fold, Option, option_map}
+use Rattle.std.specs.Prelude.{◌≡◌, ℕ, ◌≤◌, List, length, flat_map, fold, Option, option_map}
 use Rattle.ivy_base.specs.declared.key.Key.{Key}
 use Rattle.tree_model.specs.Tree.{Tree, Inode, listing}
 use Rattle.log_model.specs.Vector.{Vector}

@@ -7,7 +7,8 @@ ghost use Rattle.ivy_base.specs.Naming.{name};
 ghost use Rattle.snapshot_model.specs.Spelling.{with_block};
 ghost use Rattle.snapshot_store.specs.Places.{place_of};
 
-use ivy_base::{Bytes, Key, Memory, name_of};
+use crate::block::Block;
+use ivy_base::{Bytes, Key, Memory};
 use std::alloc::Global;
 use std::collections::BTreeMap;
 use std::marker::Model;
@@ -15,7 +16,7 @@ use std::marker::Model;
 /// The blocks that were put, each once, which contracts see as a list in the order in which they were put.
 #[derive(Drop)]
 pub struct Blocks {
-    blocks: Vec<Bytes>,
+    blocks: Vec<Block>,
     /// Where in `blocks` the first block of each name stands.
     places: BTreeMap<Key, usize>,
 }
@@ -42,21 +43,23 @@ impl Blocks {
         }
     }
 
-    /// Puts a block behind the others, where it isn't among them, and gives its name. The error is want of memory.
-    pub fn add(&mut self, block: Bytes) -> Result<Key, Memory>
-        ensures blocks { OnOk result (self.new ≡ with_block self.old block) }
-        ensures named { IfOk result (λ key. key ≡ name block) }
+    /// Puts the block of these bytes behind the others, where it isn't among them, and gives its name. The error is want of
+    /// memory.
+    pub fn add(&mut self, bytes: Bytes) -> Result<Key, Memory>
+        ensures blocks { OnOk result (self.new ≡ with_block self.old bytes) }
+        ensures named { IfOk result (λ key. key ≡ name bytes) }
     {
-        let key = name_of(block.as_slice());
+        let block = Block::of(bytes);
+        let key = block.name();
         match self.place(&key) {
-            None => self.add_first(key, block)?,
+            None => self.add_first(block)?,
             Some(place) => self.add_further(place, block)?,
         }
         Ok(key)
     }
 
     /// The blocks as a vector, which is not copied.
-    pub fn into_vec(self) -> Vec<Bytes>
+    pub fn into_vec(self) -> Vec<Block>
         ensures { result.items ≡ self }
     {
         self.blocks
@@ -70,19 +73,18 @@ impl Blocks {
     }
 
     // Puts the first block of that name. Room for it is made before its place is noted, so that nothing has to be undone.
-    fn add_first(&mut self, key: Key, block: Bytes) -> Result<(), Memory>
-        requires named { key ≡ name block }
-        requires first { place_of key self.old ≡ None }
+    fn add_first(&mut self, block: Block) -> Result<(), Memory>
+        requires { place_of (name block) self.old ≡ None }
         ensures { OnOk result (self.new ≡ with_block self.old block) }
     {
         self.blocks.try_reserve(1)?;
-        self.places.insert(key, self.blocks.len())?;
+        self.places.insert(block.name(), self.blocks.len())?;
         self.blocks.push(block)?;
         Ok(())
     }
 
-    // Puts a block of whose name the first one stands at that place. Two different blocks of one name aren't known.
-    fn add_further(&mut self, place: usize, block: Bytes) -> Result<(), Memory>
+    // Puts a block of whose name the first one stands at that place.
+    fn add_further(&mut self, place: usize, block: Block) -> Result<(), Memory>
         requires { place_of (name block) self.old ≡ Some place }
         ensures { OnOk result (self.new ≡ with_block self.old block) }
     {
@@ -93,7 +95,8 @@ impl Blocks {
         Ok(())
     }
 
-    // Whether the block, of whose name the first one stands at that place, is among these.
+    // Whether the block, of whose name the first one stands at that place, is among these. It is sought among all only
+    // where that is another block.
     fn stands(&self, place: usize, block: &[u8]) -> bool
         requires { place_of (name block.now) self.now ≡ Some place }
         ensures { result ≡ list_any (bytes_eq block.now) self.now }

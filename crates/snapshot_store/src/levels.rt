@@ -3,9 +3,7 @@
 ghost use Rattle.std.specs.Prelude.{◌≡◌, ◌<◌, ◌≤◌, ℕ, List, [], ◌∷◌, ◌++◌, length, IfOk, OnOk, MatchBool};
 ghost use Rattle.log_model.specs.Spelling.{no_name};
 ghost use Rattle.snapshot_blocks.specs.Parsed.{listed_of};
-ghost use Rattle.snapshot_model.specs.Spelling.{Made, made_name};
-ghost use Rattle.snapshot_store.specs.Levels.{Appends, Closes, ClosesRest, HasOneList, HasRoom, IsOver, item_count, top_listed};
-ghost use Rattle.snapshot_store.specs.Puts.{PutsList, put_all};
+ghost use Rattle.snapshot_store.specs.Levels.{Appends, Closes, ClosesRest, Finishes, HasOneList, HasRoom, IsOver, TakesIn, item_count, top_listed};
 
 use crate::blocks::Blocks;
 use ivy_base::{Key, Memory};
@@ -45,7 +43,7 @@ impl Levels {
     /// Takes in an item, whose block and those below it were put last. The error is want of memory.
     pub fn push(&mut self, alloc: Global, blocks: &mut Blocks, item: Key) -> Result<(), Memory>
         requires { HasRoom self.old }
-        ensures { OnOk result ((before between : List (List ℕ)) (items : List Made) (one : Made) → IsOver before items between self.old → blocks.old ≡ put_all between (one ∷ []) → item ≡ made_name one → IsOver before (items ++ one ∷ []) blocks.new self.new) }
+        ensures { OnOk result (TakesIn item self.old blocks.old self.new blocks.new) }
     {
         let Some(first) = append(alloc, blocks, 1, &mut self.firsts, item)? else {
             return Ok(());
@@ -61,7 +59,7 @@ impl Levels {
     pub fn finish(mut self, alloc: Global, blocks: &mut Blocks) -> Result<Listed, Memory>
         requires room { HasRoom self }
         requires few { item_count self ≤ 134217728 }
-        ensures { IfOk result (λ l. (before : List (List ℕ)) (items : List Made) → IsOver before items blocks.old self → PutsList before items blocks.new l) }
+        ensures { IfOk result (Finishes self blocks.old blocks.new) }
     {
         close_rest(alloc, blocks, 1, &mut self.firsts, &mut self.seconds)?;
         if self.has_one_list() {

@@ -4,10 +4,12 @@
 //! `snapshot_model` says which blocks a snapshot has, and in which order they are put.
 #![tactic(auto)]
 
+pub mod block;
 mod blocks;
 mod inodes;
 mod items;
 mod levels;
 pub mod making;
 
+pub use block::Block;
 pub use making::{Made, make};

@@ -5,10 +5,11 @@ ghost use Rattle.snapshot_model.specs.Reading.{IsBasisSpelled};
 ghost use Rattle.snapshot_model.specs.Spelling.{root_name, snapshot_blocks};
 ghost use Rattle.snapshot_store.specs.Puts.{basis_with};
 
+use crate::block::Block;
 use crate::blocks::Blocks;
 use crate::inodes::put_inodes;
 use fs_tree::Tree;
-use ivy_base::{Bytes, Key, Memory};
+use ivy_base::{Key, Memory};
 use snapshot_blocks::RootBlock;
 use std::alloc::Global;
 use version_vectors::{Rank, Vector};
@@ -20,7 +21,7 @@ pub struct Made {
     /// The name of its root block.
     pub root: Key,
     /// Each block once, behind those that it names: the root block is the last.
-    pub blocks: Vec<Bytes>,
+    pub blocks: Vec<Block>,
 }
 
 /// The blocks of a snapshot in that view of the tree, which covers the records of that front and that tide, the greatest

@@ -1,8 +1,6 @@
-use Rattle.std.proofs.Common.{◌≡◌, ◌++◌, [], length, map, sym, ap, ◌∙◌, subst, arith}
+use Rattle.std.proofs.Common.{map, ap, ◌∙◌, arith}
 use Rattle.std.specs.Slice.Iter.{chunks_rest, chunks_size}
-use Rattle.std.proofs.lemmas.List.{drop_all}
 use Rattle.snapshot_model.specs.Spelling.{in_pieces, entries_made}
-use Rattle.snapshot_store.specs.Listing.{IsListing}
 use Rattle.snapshot_store.proofs.Listings.{none_done, one_done, all_done, few_done, chunk_cut, none_left}
 use Rattle.snapshot_store.proofs.items.put_entries.Goals as goal
 

@@ -1,4 +1,4 @@
-use Rattle.std.proofs.Common.{refl, ap, sym, ◌∙◌, arith, rules}
+use Rattle.std.proofs.Common.{refl, ap, ◌∙◌, arith}
 use Rattle.snapshot_store.specs.Levels.{top_listed}
 use Rattle.snapshot_store.proofs.Tops.{few_above, low_list, middle_list, upper_list}
 use Rattle.snapshot_store.proofs.levels.Levels.finish.Goals as goal
