@@ -1,0 +1,8 @@
+mod Scenes
+mod Asks
+mod Over
+mod Turns
+mod Ends
+mod Many
+mod Begun
+mod Lines
