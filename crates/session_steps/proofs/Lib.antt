@@ -6,3 +6,4 @@ mod Ends
 mod Many
 mod Begun
 mod Lines
+mod Parts

@@ -158,10 +158,10 @@ module _ (c : Scene) (r : ℕ) (old : Shown) (way : IsUnderWay c r) (shows : Sho
     -- ---- what is left
 
     told_none : new.told ≡ None
-    told_none = t.told ∙ ap (λ (call : CallState). call.told) h.call ∙ none
+    told_none = t.is_told.told ∙ ap (λ (call : CallState). call.told) h.call ∙ none
 
     replicas : new.session.replicas ≡ r
-    replicas = t.is_turned.0.1 ∙ wants.0.1 ∙ shows.replicas
+    replicas = t.is_told.is_turned.0.1 ∙ wants.0.1 ∙ shows.replicas
 
     given_before : mid.given ≡ given_of None
     given_before = ap (λ (call : CallState). call.given) h.call ∙ nothing_given
@@ -182,7 +182,7 @@ module _ (c : Scene) (r : ℕ) (old : Shown) (way : IsUnderWay c r) (shows : Sho
       are_met = made.is_met c.world.met shows.met;
       now = refl;
       replicas = replicas;
-      no_turn = t.no_turn;
+      no_turn = t.is_told.no_turn;
       gives = gives;
       untold = told_none;
     }
@@ -195,7 +195,7 @@ module _ (c : Scene) (r : ℕ) (old : Shown) (way : IsUnderWay c r) (shows : Sho
       are_met = subst (AreMet c.world.met) (sym met) shows.met;
       now = refl;
       replicas = replicas;
-      no_turn = t.no_turn;
+      no_turn = t.is_told.no_turn;
       gives = gives;
       untold = told_none;
     }
@@ -219,24 +219,24 @@ module _ (c : Scene) (r : ℕ) (old : Shown) (way : IsUnderWay c r) (shows : Sho
         → LeftBy mid new t.mid after old.met later turned → StepsTo c r then_shown
     by (Ok turned) took gave told left =
         let parts = left.1 asked.0 asked.1 in
-        let step = laws.read judges c r shows.p old.call.session mid.session new.session between.cache refresh asked.0 turned (holder t.mid) parts.reply way.keeps hand scene is_untold.no_turn wants asked.1 gave told t.free
+        let step = laws.read judges c r shows.p old.call.session mid.session new.session between.cache refresh asked.0 turned (holder t.mid) parts.reply way.keeps hand scene is_untold.no_turn wants asked.1 gave told t.is_told.free
             parts.read.fits parts.read.spelled in
         by_step c r old way shows laws then_shown (turned_with turned.applied) (met_by c.world.met t.mid.agent.pending) is_untold step
         (left_is step.left whole (λ u may lacking session. may))
         (made_so turned.applied (given_by parts.reply) (counted shows.p between.cache took.0 refresh asked.0 old.now took.1.has_turn) left.0 (λ i. record { handle = parts.handle i; verifier = parts.verifier i }))
     by (Err fault.Memory) took gave told left =
-        let step = laws.turns judges c r shows.p old.call.session mid.session new.session between.cache refresh asked.0 (Err fault.Memory) (holder t.mid) way.keeps hand scene is_untold.no_turn wants asked.1 gave told t.free in
+        let step = laws.turns judges c r shows.p old.call.session mid.session new.session between.cache refresh asked.0 (Err fault.Memory) (holder t.mid) way.keeps hand scene is_untold.no_turn wants asked.1 gave told t.is_told.free in
         by_step c r old way shows laws then_shown mine c.world.met is_untold step.1 (left_is step.1.left whole (λ u may lacking session. may)) (as_it_was step.0 (left.who ∙ took.1) left.blocks (left.given ∙ given_before ∙ sym step.2))
     by (Err (fault.Behind standing)) took gave told left =
-        let step = laws.turns judges c r shows.p old.call.session mid.session new.session between.cache refresh asked.0 (Err (fault.Behind standing)) (holder t.mid) way.keeps hand scene is_untold.no_turn wants asked.1 gave told t.free in
+        let step = laws.turns judges c r shows.p old.call.session mid.session new.session between.cache refresh asked.0 (Err (fault.Behind standing)) (holder t.mid) way.keeps hand scene is_untold.no_turn wants asked.1 gave told t.is_told.free in
         refused_so Behind step.0 (counted shows.p between.cache took.0 refresh asked.0 old.now took.1.has_turn) refl step.1 step.2 left.0 left.1
     by (Err (fault.BelowTide standing)) took gave told left =
-        let step = laws.turns judges c r shows.p old.call.session mid.session new.session between.cache refresh asked.0 (Err (fault.BelowTide standing)) (holder t.mid) way.keeps hand scene is_untold.no_turn wants asked.1 gave told t.free in
+        let step = laws.turns judges c r shows.p old.call.session mid.session new.session between.cache refresh asked.0 (Err (fault.BelowTide standing)) (holder t.mid) way.keeps hand scene is_untold.no_turn wants asked.1 gave told t.is_told.free in
         refused_so BelowTide step.0 (counted shows.p between.cache took.0 refresh asked.0 old.now took.1.has_turn) refl step.1 step.2 left.0 left.1
 
     -- the turn is a step
     pub turns_step : StepsTo c r then_shown
-    turns_step = by t.turned took gave t.is_turned t.left
+    turns_step = by t.turned took gave t.is_told.is_turned t.is_told.left
 
 -- some scene is shown
 pub may_turn : Laws → (old : Shown) → HasScene old → old.call.told ≡ None → (mid : CallState) (between : ParticipantState) (refresh : Refresh) → HasNext old.call mid old.who between (next.Turn refresh) → MayTurn mid between refresh old.now

@@ -113,16 +113,20 @@ module _ (old new : CallState) (before after : ParticipantState) (met later : Me
   LeftBy (Err (fault.Behind standing)) = CountsAsMade before after met later × BeginsAnew old new
   LeftBy (Err (fault.BelowTide standing)) = CountsAsMade before after met later × BeginsAnew old new
 
--- The session was told what came of the turn, and no node is to be heard then.
-pub record HasTurned (refresh : Refresh) (now : Moment) (old new : CallState) (before after : ParticipantState) (met later : MetState) : Type 0 where
-  pub turned : Result Turned TurnFault
-  pub mid : ParticipantState
-  pub took : TookTurn old refresh now turned before mid
+-- the session is told what came of its turn, and no node is to be heard then
+pub record IsToldOf (turned : Result Turned TurnFault) (old new : CallState) (before after : ParticipantState) (met later : MetState) : Type 0 where
   pub is_turned : IsTurned judges old.session new.session turned
   pub free : session_awaited new.session ≡ None
   pub no_turn : is_turning new.session.stage ≡ false
   pub told : new.told ≡ old.told
-  pub left : LeftBy old new mid after met later turned
+  pub left : LeftBy old new before after met later turned
+
+-- the agent had its turn, and the session was told so
+pub record HasTurned (refresh : Refresh) (now : Moment) (old new : CallState) (before after : ParticipantState) (met later : MetState) : Type 0 where
+  pub turned : Result Turned TurnFault
+  pub mid : ParticipantState
+  pub took : TookTurn old refresh now turned before mid
+  pub is_told : IsToldOf turned old new mid after met later
 
 -- ---- many steps
 

@@ -13,5 +13,6 @@
 
 mod ending;
 mod open;
+mod stepping;
 
 pub use open::OpenCall;
