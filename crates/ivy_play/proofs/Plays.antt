@@ -6,8 +6,7 @@ use Rattle.ivy_io.specs.Known.{then}
 use Rattle.script_driver.specs.Lines.{lines_of}
 use Rattle.script_driver.specs.Run.{Ran, Ending, WithLaw}
 use Rattle.script_driver.specs.Told.{run_of, ran_of, TellsAll, TellsFront, TellsLess, StopsShort}
-use Rattle.script_driver.proofs.RunLaws.{obeys_with_law}
-use Rattle.script_driver.proofs.SeenRuns.{stops_weaker}
+use Rattle.script_driver.proofs.RunLaws.{stops_with_law}
 use Rattle.log_model.proofs.Lists.{in_nothing}
 use Rattle.play_model.specs.World.{empty_world}
 use Rattle.play_model.specs.Step.{IvyStep}
@@ -42,9 +41,7 @@ pub told_less : (left held holds : Option (List ℕ)) → TellsLess (run_of IvyS
 told_less left held holds t = record { front = told_front left held holds t.front; less = t.less }
 
 pub stops_short : (before left held holds : Option (List ℕ)) → StopsShort IvyStep empty_world before left held holds → StopsShort (WithLaw IvyStep Headline) empty_world before left held holds
-stops_short before left held holds =
-    stops_weaker IvyStep (WithLaw IvyStep Headline) empty_world before left held holds
-    (λ last lines text. obeys_with_law IvyStep Headline IsValid replies_are_served line_keeps empty_world last lines text empty_is_valid)
+stops_short before left held holds = stops_with_law IvyStep Headline IsValid replies_are_served line_keeps empty_world before left held holds empty_is_valid
 
 -- there is one full run
 the_full_run : (script : List ℕ) → (ran : Ran) × IsTheFullRun script ran

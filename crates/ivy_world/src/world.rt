@@ -139,6 +139,12 @@ impl World {
 }
 
 impl Machine for World {
+    ghost use Rattle.play_model.specs.World.{World as Seen};
+
+    ghost Whole = { Seen };
+
+    ghost shows = { λ world whole. world ≡ whole };
+
     ghost step = { IvyStep };
 
     ghost keeps = { λ _. Unit {0} };

@@ -1,20 +1,14 @@
 -- What was read and taken: lines that are obeyed one after the other, and the part of a line behind them.
-use Rattle.std.proofs.Common.{◌≡◌, ℕ, ◌+◌, ◌<◌, ◌≤◌, ◌^◌, List, [], ◌∷◌, ◌++◌, length, Option, Some, None, refl, sym, ap, ◌∙◌, append_assoc, arith, length-append}
-use Rattle.std.specs.Prelude.{IfNone}
+use Rattle.std.proofs.Common.{◌≡◌, ℕ, ◌+◌, ◌≤◌, ◌^◌, List, [], ◌∷◌, ◌++◌, length, Option, Some, None, refl, sym, ap, ◌∙◌, append_assoc, arith, length-append}
 use Rattle.std.specs.List.{AllByRecursion}
 use Rattle.std.proofs.lemmas.List.{append-nil, take_all}
 use Rattle.std.proofs.lemmas.Grind.{flat_map-append}
-use Rattle.ivy_io.specs.Known.{onto, then}
-use Rattle.ivy_io.proofs.KnownLemmas.{then-nil, then-then}
-use Rattle.script_driver.specs.declared.machine.Taken.{Taken}
-use Rattle.script_driver.specs.declared.machine.Taken.TheVariants as taken
-use Rattle.script_driver.specs.declared.drive.Stop.{Stop}
+use Rattle.ivy_io.specs.Known.{onto}
 use Rattle.script_driver.specs.declared.script.Script.{Script}
 use Rattle.script_driver.specs.Lines.{HasNoNewline, with_newlines}
-use Rattle.script_driver.specs.Machine.{outcome_told}
-use Rattle.script_driver.specs.Run.{line_limit, shown, Outcome, Goes, Obeys}
+use Rattle.script_driver.specs.Run.{line_limit, shown, Outcome, Goes, Ran, Obeys}
 use Rattle.script_driver.specs.Script.{ahead, Takes, Waits}
-use Rattle.script_driver.specs.Told.{ObeysLines, Progresses, StopsShort, Spells, OnWent}
+use Rattle.script_driver.specs.Told.{ObeysLines, Advances, TellsOn, StopsShort}
 
 onto-nil : (known : Option (List ℕ)) → onto [] known ≡ known
 onto-nil None = refl
@@ -59,45 +53,23 @@ module _ {World : Type 0} (step : World → List ℕ → Outcome World → Type 
   all_of_both P [] ys a b = b
   all_of_both P (x ∷ xs) ys a b = (a.0, all_of_both P xs ys a.1 b)
 
-  one_line : (world next : World) (line output : List ℕ) (old new : Script) (before left : Option (List ℕ)) → step world (shown line) (Goes next output)
-      → Takes (line ++ 10 ∷ []) old new before left × HasNoNewline line → ObeysLines step world next output old new before left
-  one_line world next line output old new before left does took = record {
-    lines = line ∷ [];
-    whole = (took.1, tt);
-    obeyed = obeys_one world next line output does;
-    takes = rw append-nil took.0;
-  }
+  -- nothing was taken
+  pub no_line : (world : World) (script : Script) (left : Option (List ℕ)) → ObeysLines step world world [] script script left left
+  no_line world script left = record { lines = []; whole = tt; obeyed = obeys_nothing world; takes = takes_nothing script left }
 
   -- a line that isn't too long was taken
-  pub line_obeyed : (world next : World) (line : List ℕ) → length line ≤ line_limit → (answer : Taken) (old new : Script) (before left : Option (List ℕ)) → step world line (outcome_told answer next)
-      → (0 < new.budget → Takes (line ++ 10 ∷ []) old new before left × HasNoNewline line) → OnWent answer (λ output. 0 < new.budget → ObeysLines step world next output old new before left)
-  line_obeyed world next line few (taken.Went output) old new before left does took =
+  pub one_line : (world next : World) (line output : List ℕ) → length line ≤ line_limit → (old new : Script) (before left : Option (List ℕ)) → step world line (Goes next output)
+      → Takes (line ++ 10 ∷ []) old new before left × HasNoNewline line → ObeysLines step world next output old new before left
+  one_line world next line output few old new before left does took =
       let all : shown line ≡ line = take_all (line_limit + 1) line (omega (arith, few)) in
-      λ more. one_line world next line output.items old new before left (rw all does) (took more)
-  line_obeyed world next line few taken.Ended old new before left does took = tt
-  line_obeyed world next line few taken.Refused old new before left does took = tt
-  line_obeyed world next line few taken.Exceeded old new before left does took = tt
+      record {
+        lines = line ∷ [];
+        whole = (took.1, tt);
+        obeyed = obeys_one world next line output (rw all does);
+        takes = rw append-nil took.0;
+      }
 
-  -- a line that is too long went nowhere
-  pub long_obeyed : (world next : World) (front : List ℕ) (answer : Taken) (P : List ℕ → Type 0) → ((output : List ℕ) → step world front (Goes next output) → ⊥) → step world front (outcome_told answer next) → OnWent answer P
-  long_obeyed world next front (taken.Went output) P stops does = absurd (stops output.items does)
-  long_obeyed world next front taken.Ended P stops does = tt
-  long_obeyed world next front taken.Refused P stops does = tt
-  long_obeyed world next front taken.Exceeded P stops does = tt
-
-  -- what was written for an answer that goes on
-  pub progress_told : (world next : World) (answer : Taken) (number : ℕ) (text : List ℕ) (how : Option Stop) (old new : Script) (before left held holds : Option (List ℕ)) → Spells answer number text how → holds ≡ then held text
-      → OnWent answer (λ output. 0 < new.budget → ObeysLines step world next output old new before left) → IfNone how (Progresses step world next old new before left held holds)
-  progress_told world next (taken.Went output) number text how old new before left held holds spells sink went = rw spells.1 (output.items, sink ∙ ap (then held) spells.0, went)
-  progress_told world next taken.Ended number text how old new before left held holds spells sink went = rw spells.1 tt
-  progress_told world next taken.Refused number text how old new before left held holds spells sink went = rw spells.1 tt
-  progress_told world next taken.Exceeded number text how old new before left held holds spells sink went = rw spells.1 tt
-
-  pub progress_nothing : (world : World) (script : Script) (left held : Option (List ℕ)) → Progresses step world world script script left left held held
-  progress_nothing world script left held =
-      ([], sym (then-nil held), λ more. record { lines = []; whole = tt; obeyed = obeys_nothing world; takes = takes_nothing script left })
-
-  lines_more : (first mid last : World) (text more : List ℕ) (old script new : Script) (before between left : Option (List ℕ)) → ObeysLines step first mid text old script before between → ObeysLines step mid last more script new between left
+  pub lines_more : (first mid last : World) (text more : List ℕ) (old script new : Script) (before between left : Option (List ℕ)) → ObeysLines step first mid text old script before between → ObeysLines step mid last more script new between left
       → ObeysLines step first last (text ++ more) old new before left
   lines_more first mid last text more old script new before between left a b = record {
     lines = a.lines ++ b.lines;
@@ -106,19 +78,11 @@ module _ {World : Type 0} (step : World → List ℕ → Outcome World → Type 
     takes = rw (flat_map-append (λ (line : List ℕ). line ++ 10 ∷ []) a.lines b.lines) (takes_more (with_newlines a.lines) (with_newlines b.lines) old script new before between left a.takes b.takes);
   }
 
-  pub progress_more : (first mid last : World) (old script new : Script) (before between left held holds next : Option (List ℕ)) → Progresses step first mid old script before between held holds → Progresses step mid last script new between left holds next
-      → Progresses step first last old new before left held next
-  progress_more first mid last old script new before between left held holds next a b = (
-    a.0 ++ b.0,
-    b.1 ∙ ap (λ (k : Option (List ℕ)). then k b.0) a.1 ∙ then-then held a.0 b.0,
-    λ more. (let rest = b.2 more in lines_more first mid last a.0 b.0 old script new before between left (a.2 (omega (arith, more, rest.takes.budget))) rest),
-  )
-
-  -- a reader that waits, behind those lines
-  pub stops_short : (first last : World) (old script new : Script) (before between left held holds next : Option (List ℕ)) → ahead old ≡ [] → old.budget ≡ 2 ^ 40 → Progresses step first last old script before between held holds
-      → Waits script new between left → next ≡ holds → StopsShort step first before left held next
-  stops_short first last old script new before between left held holds next nothing budget a waits same =
-      let lines = a.2 (omega (arith, waits.more, waits.takes.budget)) in
+  -- a reader waits behind those lines
+  pub stops_short : (first : World) (IsLast : World → Type 0) (from : World → Ran → Type 0) (old script new : Script) (before between left : Option (List ℕ)) (start : Ran → Type 0) (held holds next : Option (List ℕ)) → ahead old ≡ [] → old.budget ≡ 2 ^ 40
+      → TellsOn (Advances step first IsLast from old script before between) start held holds → Waits script new between left → next ≡ holds → StopsShort step first before left held next
+  stops_short first IsLast from old script new before between left start held holds next nothing budget a waits same =
+      let lines = a.1.obeyed (omega (arith, waits.more, waits.takes.budget)) in
       let all = takes_more (with_newlines lines.lines) [] old script new before between left lines.takes waits.takes in
       record {
         lines = lines.lines;
@@ -129,7 +93,7 @@ module _ {World : Type 0} (step : World → List ℕ → Outcome World → Type 
         no_newline = waits.partial;
         short = waits.short;
         told = a.0;
-        last = last;
+        last = a.1.last;
         obeyed = lines.obeyed;
-        sink = same ∙ a.1;
+        sink = same ∙ a.2;
       }

@@ -18,7 +18,7 @@ use Rattle.session_model.specs.Sessions.Hears.{gets_on, got, puts_on, puts}
 use Rattle.ask_laws.proofs.AskedGets.{gets_are_one}
 use Rattle.ask_laws.proofs.AskedPuts.{puts_are_one}
 use Rattle.ivy_session.specs.declared.session.Next.TheVariants as next
-use Rattle.ivy_session.specs.States.{HasAsked, IsSession, SessionState, session_awaited}
+use Rattle.ivy_session.specs.States.{HasAsked, IsSession, SessionState, is_turning, session_awaited}
 use Rattle.ivy_session.specs.Stepping.{AsksOf, HeardIs, IsSameSession, NextIs}
 use Rattle.ivy_session.specs.Stepping.AsksOf.{gets as asks_get, puts as asks_put}
 use Rattle.ivy_session.specs.Stepping.HeardIs.{hears as heard_it, lacks_memory as no_memory_heard, is_cut as cut_heard}
@@ -115,7 +115,8 @@ module _ {J : Type 0} (judges : Judges J) (c : Scene) (r : ℕ) (p : Participant
   -- ---- the step
 
   module _ (mid new : SessionState J) (between after : Cache) (node : Peer) (question : Ask) (given : Answer) (before later : NodesState) (same : IsSameSession old mid) (then_asks : AsksThen mid between node question)
-      (nodes : IsNodesOf c.world before) (fate : (w : World) → IsNodesOf w before → FateOf hss_judged w node question given (with_nodes w later)) where
+      (nodes : IsNodesOf c.world before) (fate : (w : World) → IsNodesOf w before → FateOf hss_judged w node question given (with_nodes w later))
+      (past : is_turning new.stage ≡ false) where
     abbrev here : Scene
     here = with_cache hss_judged r c p then_asks.taken between
 
@@ -145,7 +146,7 @@ module _ {J : Type 0} (judges : Judges J) (c : Scene) (r : ℕ) (p : Participant
         record {
           next = record here { world = with_nodes here.world later; session = t };
           steps = acts p then_asks.taken between _ is.is_by then_asks.takes (asks_in_vain node question given (with_nodes here.world later) h.0 t h.1 fate_now h.2 lacking);
-          left = left_on session (λ waits. absurd (waits (over_waits_for_none judges t new over.0 session over.1)));
+          left = left_on session (λ waits. absurd (waits (over_waits_for_none judges t new over.0 session over.1))) past;
           world = ap (λ (cache : Cache). with_participant (with_nodes c.world later) (record p { cache = cache })) (sym stays);
           gives = (lacking_gives lacking).0 ∙ sym (lacking_gives lacking).1 ∙ taken_gives then_asks.takes;
         }
@@ -161,7 +162,7 @@ module _ {J : Type 0} (judges : Judges J) (c : Scene) (r : ℕ) (p : Participant
         heard_so heard t
         (as_ring_then judges c r p old is mid same (λ judged n. Hears judged n then_asks.taken between node question given heard after)
         (subst (λ (a : Answer). Hears (judges mid.judge) mid.replicas then_asks.taken between node question a heard after) (sym (same_answer given answer is_answer)) hearing))
-        goes (left_on session asked)
+        goes (left_on session asked past)
     by_hearing (no_memory_heard t lacking stays session) = in_vain t lacking stays session
     by_hearing (cut_heard said posts acks at cut stays session) = cut_so said posts acks at cut stays
 
@@ -169,6 +170,6 @@ pub next_asked_are_made : {J : Type 0} → NextAskedAreMade J
 next_asked_are_made judges c r p old mid between node question is goes wanted = next_made judges c r p old is mid between node question goes (wanted.1 c.session is.session)
 
 pub asks_are_steps : {J : Type 0} → AsksAreSteps J
-asks_are_steps judges c r p old mid new between after node question given before later is asked wanted nodes fate heard =
+asks_are_steps judges c r p old mid new between after node question given before later is asked wanted nodes fate heard past =
     let then_asks = asks_then judges c r p old is mid between node question asked (wanted.1 c.session is.session) in
-    by_hearing judges c r p old is mid new between after node question given before later wanted.0 then_asks nodes fate (heard.1 then_asks.taken node question then_asks.awaited then_asks.session)
+    by_hearing judges c r p old is mid new between after node question given before later wanted.0 then_asks nodes fate past (heard.1 then_asks.taken node question then_asks.awaited then_asks.session)

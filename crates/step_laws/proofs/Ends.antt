@@ -21,7 +21,7 @@ use Rattle.step_laws.specs.Scenes.{IsDone, IsSceneOf, IsStep, given_at}
 use Rattle.step_laws.specs.Scenes.IsDone.{was_over, lacks_memory as done_lacking, is_cut as done_cut}
 use Rattle.step_laws.specs.Scenes.IsLeft.{goes_on as left_on}
 use Rattle.step_laws.proofs.Scenes.{as_ring, lacking_gives, some_gives, taken_same, takes_later, twice_placed}
-use Rattle.step_laws.proofs.Waiting.{over_waits_for_none}
+use Rattle.step_laws.proofs.Waiting.{over_waits_for_no_turn, over_waits_for_none}
 
 publishing_now : (s : Session) (said : Option Said) (posts : List Post) (acks : List Ack) → s.stage ≡ Publishing said posts acks → s.stage ≡ Refreshing → ⊥
 publishing_now s said posts acks at e = cc (sym at ∙ e)
@@ -34,7 +34,7 @@ module _ {J : Type 0} (judges : Judges J) (c : Scene) (r : ℕ) (p : Participant
         record {
           next = record c { world = with_participant (with_participant c.world p) (record p { agent = settled p.agent acks }); session = record c.session { stage = Over said } };
           steps = acts p c.session p.cache _ is.is_by (takes_later c.session p.cache (publishing_now c.session said [] acks is_at)) (acts_settles (settled p.agent acks) _ (settles_all said acks is_at));
-          left = left_on session (λ waits. absurd (waits (over_waits_for_none judges (record c.session { stage = Over said }) new said session refl)));
+          left = left_on session (λ waits. absurd (waits (over_waits_for_none judges (record c.session { stage = Over said }) new said session refl))) (over_waits_for_no_turn judges (record c.session { stage = Over said }) new said session refl);
           world = twice_placed c.world p (record p { agent = settled p.agent acks }) refl ∙ ap (λ (cache : Cache). with_participant c.world (record p { agent = settled p.agent acks; cache = cache })) (sym stays);
           gives = sym (ap given_at is_at);
         }

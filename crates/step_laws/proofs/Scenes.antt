@@ -105,9 +105,6 @@ some_gives (some_more (cached key bytes wants free not is) rest) = some_gives re
 
 -- ---- of a scene
 
-pub decided_none : (o : Option Key) → o ≡ None → IfSome o (λ root. SnapshotsAreDecided)
-decided_none o none = subst (λ (x : Option Key). IfSome x (λ root. SnapshotsAreDecided)) (sym none) tt
-
 module _ {J : Type 0} (judges : Judges J) (c : Scene) (r : ℕ) (p : Participant) (old : SessionState J) (is : IsSceneOf judges c r p old) where
   -- by the ring's judge and so many owners
   pub as_ring : (P : (Key → List ℕ → Option Judged) → ℕ → Type 0) → P (judges old.judge) old.replicas → P hss_judged r
@@ -122,4 +119,4 @@ module _ {J : Type 0} (judges : Judges J) (c : Scene) (r : ℕ) (p : Participant
         (found_placed c.world keeps.apart c.session.by p is.is_by (record p { cache = cache }) refl)
 
     pub keeps_then : IsInHand c r → c.session.standing.to_load ≡ None → Keeps (with_participant c.world (record p { cache = cache }), c.story) × IsInHand (with_cache hss_judged r c p t cache) r
-    keeps_then hand none = taking_keeps c r p t cache keeps hand is.is_by (decided_none c.session.standing.to_load none) (all_some takes)
+    keeps_then hand none = taking_keeps c r p t cache keeps hand is.is_by (all_some takes)

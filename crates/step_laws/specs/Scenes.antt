@@ -1,5 +1,5 @@
 -- Scenes of a world that code shows, and the steps that its calls are: an ask of a node, a turn, a settling, or the end.
-use Rattle.std.specs.Prelude.{◌≡◌, ◌≢◌, ℕ, ◌<◌, true, Bool, List, [], Option, Some, None, Result, Ok, Err, IfSome}
+use Rattle.std.specs.Prelude.{◌≡◌, ◌≢◌, ℕ, ◌<◌, true, false, Bool, List, [], Option, Some, None, Result, Ok, Err, IfSome}
 use Rattle.ivy_base.specs.declared.operation.Moment.{Moment}
 use Rattle.hss_keys.specs.Signer.{Signer}
 use Rattle.log_model.specs.View.{View}
@@ -22,7 +22,7 @@ use Rattle.log_fetch.specs.Standings.{asked_of, notes_of, refresh_of, standing_o
 use Rattle.ivy_agent.specs.Holders.{Holder}
 use Rattle.ivy_agent.specs.Turns.{Gives}
 use Rattle.ivy_session.specs.declared.served.Served.{Served}
-use Rattle.ivy_session.specs.States.{HasAsked, IsSession, SessionState, served_of}
+use Rattle.ivy_session.specs.States.{HasAsked, IsSession, SessionState, is_turning, served_of}
 use Rattle.world_model.specs.Agents.{Kept, hss}
 use Rattle.world_model.specs.Keepers.{Keeper, asked_to_save, fails_next}
 use Rattle.world_model.specs.World.{World, Participant, participant, with_participant}
@@ -56,10 +56,10 @@ given_by reply = record { handle = handle_given reply; verifier = verifier_given
 
 -- ---- a step
 
--- The session in code is that one, and waits for a node only where the get or put on its way has made asks; or memory was wanting behind it: where that may be it is over without a turn, or it
--- publishes no more.
+-- The session in code is that one, waits for a node only where the get or put on its way has made asks, and no turn is awaited; or memory was wanting behind it: where that may be it is over without a
+-- turn, or it publishes no more.
 pub data IsLeft {J : Type 0} (judges : Judges J) (may_lack : Type 0) (s : Session) (st : SessionState J) : Type 0 where
-  goes_on : IsSession judges s st → HasAsked st s → IsLeft judges may_lack s st
+  goes_on : IsSession judges s st → HasAsked st s → is_turning st.stage ≡ false → IsLeft judges may_lack s st
   lacks_memory : (t : Session) → may_lack → LacksMemory s t → IsSession judges t st → IsLeft judges may_lack s st
   is_cut : st.is_cut ≡ true → IsLeft judges may_lack s st
 

@@ -1,29 +1,21 @@
--- Which lines are still to be shown to leave a world that keeps what it should, and what follows from them.
+-- What a line that goes on does; and a command by which no session goes on and no snapshot is made leaves a world that keeps what it should.
 use Rattle.std.proofs.Common.{◌≡◌, ◌⊎◌, inl, inr, ⊎_elim, ℕ, Bool, true, false, List, [], ◌∷◌, Option, Some, None, refl, nat_lt}
 use Rattle.std.specs.Prelude.{MatchBool, length, sum_by}
 use Rattle.log_heads.specs.Signed.{hss_judged}
 use Rattle.script_driver.specs.Run.{Goes, Ends, Refuses, Exceeds}
-use Rattle.script_driver.proofs.RunLaws.{runs_with_law}
 use Rattle.script_model.specs.declared.command.Command.{Command}
 use Rattle.script_model.specs.declared.command.Command.TheVariants as command
-use Rattle.script_model.specs.Lines.{command_of}
 use Rattle.world_model.specs.Logs.{Played}
-use Rattle.world_model.specs.Step.{Does, IvyStep, MayDoFirst, WithinLimit, most_bytes}
-use Rattle.world_laws.specs.Headline.{Headline}
+use Rattle.world_model.specs.Step.{Does, MayDoFirst, WithinLimit, most_bytes}
 use Rattle.world_laws.specs.Keeps.{Keeps}
-use Rattle.world_laws.specs.Frames.{HeadlineOfRuns, IsLeft, LinesKeepByThese}
 use Rattle.world_laws.proofs.Lines.{damage_lines_keep, keeper_lines_keep, still_lines_keep, stop_lines_keep}
 use Rattle.world_laws.proofs.RingLines.{join_lines_keep, ring_lines_keep, round_lines_keep}
 use Rattle.world_laws.proofs.ViewLines.{view_lines_keep}
 use Rattle.world_laws.proofs.RestartLines.{restart_lines_keep}
 use Rattle.world_laws.proofs.UseLines.{use_lines_keep}
-use Rattle.world_laws.proofs.LineFits.{Fits, command_fits}
+use Rattle.world_laws.proofs.LineFits.{Fits}
 use Rattle.world_laws.proofs.Opening.{open_line_keeps}
 use Rattle.world_laws.proofs.LogLines.{decide_signer, log_lines_keep}
-
-pub headline_of_runs : HeadlineOfRuns
-headline_of_runs lines headline w number script ran keeps runs =
-    runs_with_law IvyStep Headline Keeps (λ now line outcome ok does. headline now line outcome ok does) (λ now after line text ok does. lines now after line text ok does) w number script ran keeps runs
 
 -- ---- what a line that goes on does
 
@@ -74,6 +66,14 @@ does_line w next output (Some command.End) h = absurd (goes_or_ends next output 
 
 -- ---- each command
 
+-- the commands of which it is shown elsewhere that they leave such a world: those by which sessions go on, and the one that makes a snapshot
+abbrev pub IsLeft : Command → Type 0
+IsLeft (command.As log pieces) = Unit {0}
+IsLeft (command.Step session count) = Unit {0}
+IsLeft (command.Finish session) = Unit {0}
+IsLeft (command.Snap log) = Unit {0}
+IsLeft _ = ⊥
+
 some_first : (m : List ℕ) (ms : List (List ℕ)) → m ∷ ms ≡ [] → ⊥
 some_first m ms e = cc e
 
@@ -101,8 +101,3 @@ command_keeps w next output (command.Order log) left keeps does = still_lines_ke
 command_keeps w next output (command.Work log) left keeps does = still_lines_keep (command.Work log) tt w next output keeps does
 command_keeps w next output command.Nothing left keeps does = still_lines_keep command.Nothing tt w next output keeps does
 command_keeps w next output command.End left keeps does = absurd (goes_or_ends next output does)
-
-pub lines_keep_by_these : LinesKeepByThese
-lines_keep_by_these these w next line output keeps step =
-    let done = does_line w next output (command_of line) step in
-    command_keeps w next output done.0 (λ left. ⊎_elim (λ it. these done.0 w next line output it done.1 keeps done.2) (λ never. absurd (never (command_fits line done.0 done.1))) left) keeps done.2

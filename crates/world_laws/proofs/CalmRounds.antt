@@ -1,5 +1,5 @@
 -- Calm runs with rounds, stops and joins: the ring is settled after each round, and covered at each later line but between a join and its round.
-use Rattle.std.proofs.Common.{◌≡◌, inl, inr, ⊎_elim, ℕ, suc, ◌+◌, ◌<◌, ◌≤◌, Bool, true, false, cond, not, nat_lt, List, [], ◌∷◌, length, map, filter, Option, Some, None, refl, sym, ap, ◌∙◌, subst, arith, Contains}
+use Rattle.std.proofs.Common.{◌≡◌, ⊎_elim, ℕ, suc, ◌+◌, ◌<◌, ◌≤◌, Bool, true, false, cond, not, nat_lt, List, [], ◌∷◌, length, map, filter, Option, Some, None, refl, sym, ap, ◌∙◌, subst, arith, Contains}
 use Rattle.std.specs.Prelude.{fold}
 use Rattle.std.proofs.lemmas.Bool.{leb-false}
 use Rattle.std.proofs.lemmas.List.{length-append, length-map}
@@ -36,12 +36,12 @@ use Rattle.round_laws.specs.RingOf.{AreNamed, AreNodes, IsCoveredIn, IsSettledIn
 use Rattle.round_laws.proofs.Nodes.{Shape, lives_by, lives_shape, made_by, made_shape, order_by, order_shape, replaced}
 use Rattle.round_laws.proofs.Joining.{join_line_joins}
 use Rattle.round_laws.proofs.Order.{same_lists}
-use Rattle.round_laws.proofs.Owning.{AreDistinct, distinct_ascending, passes}
+use Rattle.round_laws.proofs.Owning.{distinct_ascending, passes}
 use Rattle.round_laws.proofs.Ringing.{ring_line_settles}
 use Rattle.round_laws.proofs.Rounding.{base_of, in_order, leaves_the_rest, leaves_who_lives, nodes_of, order_ascending, order_in, round_mends_join, shapes_of, within_of}
 use Rattle.round_laws.proofs.Settling.{settled_by}
 use Rattle.round_laws.proofs.Standing.{peer_or_not}
-use Rattle.round_laws.proofs.Stopping.{round_mends_since, stop_line_stops}
+use Rattle.round_laws.proofs.Stopping.{one_more_passes, round_mends_since, stop_line_stops}
 use Rattle.world_laws.specs.Calm.{AreAny, Calmly, IsCalm, IsCalmAt, Joined, RingStays, Since, Stopped}
 use Rattle.world_laws.specs.Calm.Calmly.{none as calmly_none, more as calmly_more}
 use Rattle.world_laws.specs.Calm.IsCalm.{rounds, joins, stops, other}
@@ -52,32 +52,6 @@ use Rattle.world_laws.proofs.CalmRuns.{first_of, some_command}
 use Rattle.world_laws.proofs.CalmCommands.{command_goes}
 
 -- ---- lists
-
-same_filter : (f g : Peer → Bool) (l : List Peer) → ((q : Peer) → IsAmong q l → g q ≡ f q) → filter g l ≡ filter f l
-same_filter f g [] e = refl
-same_filter f g (x ∷ l) e = (λ i. cond (e x (inl refl) i) (x ∷ same_filter f g l (λ q j. e q (inr j)) i) (same_filter f g l (λ q j. e q (inr j)) i))
-
--- where two tests differ at one place alone, one more passes at most
-one_more_passes : (f g : Peer → Bool) (p : Peer) (l : List Peer) → AreDistinct l → ((q : Peer) → (q ≡ p → ⊥) → g q ≡ f q) → length (filter g l) ≤ suc (length (filter f l))
-one_more_passes f g p [] d e = omega arith
-one_more_passes f g p (x ∷ l) d e = ⊎_elim
-    (λ s.
-    let rest : length (filter g l) ≡ length (filter f l) = ap length (same_filter f g l (λ q i. e q (λ t. d.0 (subst (λ y. IsAmong y l) (t ∙ sym s) i)))) in
-    here (g x) (f x) rest)
-    (λ n. there (g x) (f x) (e x n) (one_more_passes f g p l d.1 e))
-    (peer_or_not x p)
-  where
-    here : (a b : Bool) → length (filter g l) ≡ length (filter f l) → length (cond a (x ∷ filter g l) (filter g l)) ≤ suc (length (cond b (x ∷ filter f l) (filter f l)))
-    here true true r = omega (arith, r)
-    here true false r = omega (arith, r)
-    here false true r = omega (arith, r)
-    here false false r = omega (arith, r)
-
-    there : (a b : Bool) → a ≡ b → length (filter g l) ≤ suc (length (filter f l)) → length (cond a (x ∷ filter g l) (filter g l)) ≤ suc (length (cond b (x ∷ filter f l) (filter f l)))
-    there true true s r = omega (arith, r)
-    there true false s r = absurd cc
-    there false true s r = absurd cc
-    there false false s r = r
 
 ordered_one : (qs : List Peer) (p : Peer) → length (with_peer qs p) ≡ suc (length qs)
 ordered_one [] p = refl

@@ -1,27 +1,22 @@
 -- Puts and look-ups as plans whose asks are known: where entry nodes were made, and answers name nodes that were made, only such nodes are asked.
-use Rattle.std.proofs.Common.{◌≡◌, ◌⊎◌, ℕ, zero, suc, ◌≤◌, Bool, true, false, List, [], ◌∷◌, ◌++◌, Option, Some, None, IfSome, Result, Ok, Err, refl, sym, ap, ◌∙◌, subst, arith, inl, inr}
+use Rattle.std.proofs.Common.{◌≡◌, ◌⊎◌, ℕ, zero, suc, ◌≤◌, Bool, true, false, List, [], ◌∷◌, ◌++◌, Option, Some, None, IfSome, Result, refl, sym, ap, subst, inl, inr}
 use Rattle.std.specs.List.{AllByRecursion}
-use Rattle.std.proofs.lemmas.List.{append-nil}
-use Rattle.dht_ids.specs.Asked.{route_in, routes}
+use Rattle.dht_ids.specs.Asked.{route_in}
 use Rattle.dht_ids.specs.declared.ask.Answer.{Answer}
 use Rattle.dht_ids.specs.declared.ask.Answer.TheVariants as answer
 use Rattle.dht_ids.specs.declared.ask.Ask.{Ask}
-use Rattle.dht_ids.specs.declared.ask.Ask.TheVariants as ask
 use Rattle.dht_ids.specs.declared.ask.Heard.{Heard}
 use Rattle.dht_ids.specs.declared.peer.Peer.{Peer}
 use Rattle.ring_model.specs.Members.{IsAmong}
 use Rattle.ring_model.specs.Gets.{AreAsks, answered_in}
-use Rattle.ring_model.specs.Lookup.{IsLookup}
 use Rattle.ring_model.proofs.Lists.{all-left, all-right, cons_head, cons_tail, nil_cons}
-use Rattle.dhash_client.specs.Machine.{outcome}
-use Rattle.dhash_client.specs.Course.{IsCourse, Told, told_all}
-use Rattle.dhash_client.specs.Course.IsCourse.{no_route, of_owners}
+use Rattle.dhash_client.specs.Course.{IsCourse, Told}
 use Rattle.dhash_client.specs.Puts.{EndsPut, is_of_put}
 use Rattle.dhash_client.specs.declared.miss.Miss.{Miss}
-use Rattle.dhash_client.specs.declared.miss.Miss.TheVariants as miss
 use Rattle.ask_laws.proofs.AskedPlans.{Entries, Follows, IsToldBy, Plan, asking, ended, entry}
-use Rattle.ask_laws.proofs.AskedOwners.{AreAsked, choose, entries_of, from_asks, owners_back, owners_fit, owners_plan, to_asks, told_owners}
-use Rattle.ask_laws.proofs.AskedLookups.{among_or_not, firsts, firsts_are, firsts_same, last_after, look_back, look_fits, look_plan, rest_after, round_plan}
+use Rattle.ask_laws.proofs.AskedCourses.{IsWhole, after_plan, course_back, course_fits}
+use Rattle.ask_laws.proofs.AskedOwners.{choose, owners_plan}
+use Rattle.ask_laws.proofs.AskedLookups.{among_or_not, firsts, last_after, look_plan, rest_after, round_plan}
 use Rattle.ask_laws.proofs.AskedGets.{at_most_or_not}
 use Rattle.ask_laws.proofs.AskedPuts.{put_end}
 
@@ -109,13 +104,7 @@ left_behind P e (asking node looks next) (h ∷ asked) more only named f =
       whole = λ trail g. (f.0, asked ++ trail, ap (λ (x : Heard). x ∷ (asked ++ trail)) is, rest.whole trail g);
     }
 
--- ---- puts
-
-ok_err : (owners : List Peer) (m : Miss) → Ok owners ≡ Err m → ⊥
-ok_err owners m h = cc
-
-ok_same : (owners others : List Peer) → ◌≡◌ {A = Result (List Peer) Miss} (Ok owners) (Ok others) → owners ≡ others
-ok_same owners others h = cc
+-- ---- courses
 
 -- the whole trails are those that follow a plan, by which only such nodes are asked
 pub record IsPlannedOf (P : Peer → Type 0) (e : Entries) (Whole : List Heard → Type 0) : Type 0 where
@@ -124,65 +113,36 @@ pub record IsPlannedOf (P : Peer → Type 0) (e : Entries) (Whole : List Heard �
   pub back : (trail : List Heard) → Follows e plan trail → Whole trail
   pub only : AsksOnly P plan
 
+module _ {T : Type 0} (e : Entries) (question : Ask) (told_by : IsToldBy e question) (IsEnough : Told → Type 0) (decided : (t : Told) → IsEnough t ⊎ (IsEnough t → ⊥)) (Ends : List Peer → Told → Result T Miss → Type 0)
+    (asks_of : (owners : List Peer) (asks : Told) (result : Result T Miss) → Ends owners asks result → AreAsks owners IsEnough asks)
+    (end_of : (owners : List Peer) (asks : Told) → AreAsks owners IsEnough asks → (result : Result T Miss) × Ends owners asks result) (entries : List Peer) (P : Peer → Type 0) (made : AllByRecursion P entries) where
+  abbrev After : Option (List Peer) → Plan
+  After = after_plan e question told_by IsEnough decided Ends asks_of end_of entries
+
+  abbrev Whole : List Heard → Type 0
+  Whole = IsWhole e question told_by IsEnough decided Ends asks_of end_of entries
+
+  after_only : (last : Option (List Peer)) → IfSome last (AllByRecursion P) → AsksOnly P (After last)
+  after_only None h = tt
+  after_only (Some []) h = tt
+  after_only (Some (p ∷ ps)) h = owners_only e IsEnough decided P (firsts [] (p ∷ ps)) [] (firsts_only P [] (p ∷ ps) h)
+
+  planned_from : (n : ℕ) → n ≡ 512 → IsPlannedOf P e Whole
+  planned_from n s = record {
+    plan = look_plan e After n [] None entries;
+    fits = course_fits e question told_by IsEnough decided Ends asks_of end_of entries n s;
+    back = course_back e question told_by IsEnough decided Ends asks_of end_of entries n s;
+    only = look_only e After P after_only n [] None entries tt made;
+  }
+
+  pub course_planned : IsPlannedOf P e Whole
+  course_planned = planned_from 512 refl
+
+-- ---- puts
+
 module _ (e : Entries) (question : Ask) (told_by : IsToldBy e question) (r : ℕ) (entries : List Peer) where
-  abbrev IsEnough : Told → Type 0
-  IsEnough t = r ≤ answered_in is_of_put t
+  abbrev pub IsWholePut : List Heard → Type 0
+  IsWholePut trail = (result : Result Bool Miss) × IsCourse e.key question entries (EndsPut r) trail result
 
-  abbrev enough_or_not : (t : Told) → IsEnough t ⊎ (IsEnough t → ⊥)
-  enough_or_not t = at_most_or_not r (answered_in is_of_put t)
-
-  -- what comes after the look-up
-  abbrev after_plan : Option (List Peer) → Plan
-  after_plan None = ended
-  after_plan (Some []) = ended
-  after_plan (Some (p ∷ ps)) = owners_plan e IsEnough enough_or_not (firsts [] (p ∷ ps)) []
-
-  abbrev pub IsWhole : List Heard → Type 0
-  IsWhole trail = (result : Result Bool Miss) × IsCourse e.key question entries (EndsPut r) trail result
-
-  none_after : (found : Option (List Peer)) → outcome e.key found ≡ Err (miss.NoRoute e.key) → Follows e (after_plan found) []
-  none_after None h = refl
-  none_after (Some []) h = refl
-  none_after (Some (p ∷ ps)) h = absurd (ok_err (p ∷ ps) (miss.NoRoute e.key) h)
-
-  owners_after : (found : Option (List Peer)) (owners : List Peer) (asks : Told) → outcome e.key found ≡ Ok owners → AreAsks owners IsEnough asks → Follows e (after_plan found) (entries_of e asks)
-  owners_after None owners asks h a = absurd (ok_err owners (miss.NoRoute e.key) (sym h))
-  owners_after (Some []) owners asks h a = absurd (ok_err owners (miss.NoRoute e.key) (sym h))
-  owners_after (Some (p ∷ ps)) owners asks h a =
-      let b : AreAsks (p ∷ ps) IsEnough asks = subst (λ (l : List Peer). AreAsks l IsEnough asks) (sym (ok_same (p ∷ ps) owners h)) a in
-      owners_fit e IsEnough enough_or_not (firsts [] (p ∷ ps)) [] asks (subst (λ (l : List Peer). AreAsked IsEnough l [] asks) (firsts_same b.firsts) (from_asks IsEnough (p ∷ ps) asks b))
-
-  course_fits : (n : ℕ) → n ≡ 512 → (trail : List Heard) → IsWhole trail → Follows e (look_plan e after_plan n [] None entries) trail
-  course_fits n s trail w = by w.1
-    where
-      by : IsCourse e.key question entries (EndsPut r) trail w.0 → Follows e (look_plan e after_plan n [] None entries) trail
-      by (no_route looks found is looked nobody result_is) =
-          subst (Follows e (look_plan e after_plan n [] None entries)) (append-nil (told_all (ask.Route e.key) looks) ∙ sym is) (look_fits e after_plan looked n (omega (arith, s)) looks refl [] (none_after found nobody))
-      by (of_owners looks asks found owners is looked some ends) =
-          subst (Follows e (look_plan e after_plan n [] None entries)) (ap (λ (t : List Heard). told_all (ask.Route e.key) looks ++ t) (sym (told_owners e question told_by asks)) ∙ sym is)
-          (look_fits e after_plan looked n (omega (arith, s)) looks refl (entries_of e asks) (owners_after found owners asks some ends.1.asks))
-
-  course_from : (trail : List Heard) (looks : Told) (found : Option (List Peer)) (rest : List Heard) → trail ≡ told_all (ask.Route e.key) looks ++ rest → IsLookup [] None entries (routes looks) found → Follows e (after_plan found) rest → IsWhole trail
-  course_from trail looks None rest is looked f =
-      (Err (miss.NoRoute e.key), no_route looks None (is ∙ ap (λ (t : List Heard). told_all (ask.Route e.key) looks ++ t) f ∙ append-nil (told_all (ask.Route e.key) looks)) looked refl refl)
-  course_from trail looks (Some []) rest is looked f =
-      (Err (miss.NoRoute e.key), no_route looks (Some []) (is ∙ ap (λ (t : List Heard). told_all (ask.Route e.key) looks ++ t) f ∙ append-nil (told_all (ask.Route e.key) looks)) looked refl refl)
-  course_from trail looks (Some (p ∷ ps)) rest is looked f =
-      let b = owners_back e IsEnough enough_or_not (firsts [] (p ∷ ps)) [] rest f in
-      let end = put_end r (p ∷ ps) b.0 (to_asks IsEnough (p ∷ ps) (firsts [] (p ∷ ps)) (firsts_are [] (p ∷ ps)) b.0 b.1) in
-      (end.0, of_owners looks b.0 (Some (p ∷ ps)) (p ∷ ps) (is ∙ ap (λ (t : List Heard). told_all (ask.Route e.key) looks ++ t) (b.2 ∙ sym (told_owners e question told_by b.0))) looked refl end.1)
-
-  course_back : (n : ℕ) → n ≡ 512 → (trail : List Heard) → Follows e (look_plan e after_plan n [] None entries) trail → IsWhole trail
-  course_back n s trail f = let h = look_back e after_plan n [] None entries trail (omega (arith, s)) f in course_from trail h.looks h.found h.rest h.is h.looked h.after
-
-  module _ (P : Peer → Type 0) (made : AllByRecursion P entries) where
-    after_only : (last : Option (List Peer)) → IfSome last (AllByRecursion P) → AsksOnly P (after_plan last)
-    after_only None h = tt
-    after_only (Some []) h = tt
-    after_only (Some (p ∷ ps)) h = owners_only e IsEnough enough_or_not P (firsts [] (p ∷ ps)) [] (firsts_only P [] (p ∷ ps) h)
-
-    planned_from : (n : ℕ) → n ≡ 512 → IsPlannedOf P e IsWhole
-    planned_from n s = record { plan = look_plan e after_plan n [] None entries; fits = course_fits n s; back = course_back n s; only = look_only e after_plan P after_only n [] None entries tt made }
-
-    pub put_planned : IsPlannedOf P e IsWhole
-    put_planned = planned_from 512 refl
+  pub put_planned : (P : Peer → Type 0) → AllByRecursion P entries → IsPlannedOf P e IsWholePut
+  put_planned P made = course_planned e question told_by (λ t. r ≤ answered_in is_of_put t) (λ t. at_most_or_not r (answered_in is_of_put t)) (EndsPut r) (λ owners asks result h. h.1.asks) (put_end r) entries P made

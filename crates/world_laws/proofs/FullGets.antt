@@ -26,7 +26,6 @@ use Rattle.session_model.specs.Sessions.Hears.{got, gets_on}
 use Rattle.session_model.specs.Sessions.Takes.{posted, cached}
 use Rattle.session_model.specs.Sessions.TakesAll.{none as takes_none}
 use Rattle.session_laws.specs.Going.{ComesTo, IsOfWant}
-use Rattle.session_laws.proofs.DecidedSnapshots.{snapshots_are_decided}
 use Rattle.ask_laws.proofs.AskedGets.{get_entries, gets_are_one}
 use Rattle.ask_laws.proofs.AskedPlans.{Follows, Plan, asking, ended, entry, some_follows}
 use Rattle.world_model.specs.Story.{Began, Story}
@@ -38,14 +37,13 @@ use Rattle.world_model.specs.World.{World, Participant, participant, peer_of, wi
 use Rattle.world_laws.specs.Keeps.{IsAtStage, IsInHand, IsRefreshing, IsRefreshingOn, Keeps}
 use Rattle.world_laws.specs.Laws.{HasMemoryAt, RefreshIsOver}
 use Rattle.world_laws.specs.Laws.RefreshIsOver.{has_failed}
+use Rattle.world_laws.proofs.EachStep.{all_some}
 use Rattle.world_laws.proofs.ExistingFates.{IsAsked, Serves, ask_one, names_made, serves_so}
 use Rattle.world_laws.proofs.ExistingPlans.{AsksOnly, Names, left_behind}
 use Rattle.world_laws.proofs.ExistingPuts.{scene}
 use Rattle.world_laws.proofs.FullPlans.{get_planned}
 use Rattle.world_laws.proofs.NodeFates.{PutsMet}
-use Rattle.world_laws.proofs.OneSteps.{steps_keep}
 use Rattle.world_laws.proofs.SessionLinesSteps.{step_leads}
-use Rattle.world_laws.proofs.StepsLeft.{all_some, decided_for}
 use Rattle.world_laws.proofs.TakingOn.{comes_with, taking_keeps}
 use Rattle.world_laws.proofs.TurnsRefresh.{end_is_one}
 
@@ -112,14 +110,14 @@ module _ (r : ℕ) (s : Session) (refreshing : s.stage ≡ Refreshing) (b : Bega
 
   stands_then : (c next : Scene) → c.session.by ≡ s.by → Stands c → Steps hss_judged r s.by c next → Stands next
   stands_then c next named stands step =
-      let led = step_leads (steps_keep snapshots_are_decided r) r s.by c next named stands.keeps stands.hand stands.ringed step in
+      let led = step_leads r s.by c next named stands.keeps stands.hand stands.ringed step in
       record { keeps = led.leaves.0; hand = led.leaves.1; ringed = led.same.replicas ∙ stands.ringed }
 
   -- once what is at hand is taken
   module _ (w : World) (st : Story) (before : List Part) (early : List Heard) (stands : Stands (with_parts w st before early)) (p : Participant) (is_p : participant w s.by ≡ Some p) (parts : List Part) (current : List Heard) (cache : Cache)
       (all : TakesAll hss_judged r (at before early) p.cache (at parts current) cache) where
     then_so : Keeps (with_participant w (record p { cache = cache }), st) × IsInHand (with_parts (with_participant w (record p { cache = cache })) st parts current) r
-    then_so = taking_keeps (with_parts w st before early) r p (at parts current) cache stands.keeps stands.hand is_p (decided_for snapshots_are_decided s.standing.to_load) (all_some all)
+    then_so = taking_keeps (with_parts w st before early) r p (at parts current) cache stands.keeps stands.hand is_p (all_some all)
 
     pub refreshes_now : IsRefreshing r (at parts current)
     refreshes_now = subst (IsAtStage (with_participant w (record p { cache = cache })) r (at parts current)) refreshing then_so.1.goes_on.stage
@@ -194,7 +192,7 @@ module _ (r : ℕ) (s : Session) (refreshing : s.stage ≡ Refreshing) (b : Bega
         got_out came gets later = by comes.end refl
           where
             comes : ComesTo s.standing (brought_in (more_parts came trail))
-            comes = comes_with r (at parts current) want came trail (decided_for snapshots_are_decided s.standing.to_load) (wants current) (of_gets gets)
+            comes = comes_with r (at parts current) want came trail (wants current) (of_gets gets)
 
             on : ((miss : Miss) → FailsBy miss ≡ comes.end → ⊥) → Out here
             on not =

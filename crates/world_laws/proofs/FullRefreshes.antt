@@ -11,7 +11,6 @@ use Rattle.session_model.specs.Refreshing.{LoadEnd, LoadWants, Loaded, LoadsFor,
 use Rattle.session_model.specs.Refreshing.LoadsFor.{none as nothing_to_load, some as snapshot_to_load}
 use Rattle.session_model.specs.Refreshing.Refreshes.{fetching, loading}
 use Rattle.session_laws.specs.Going.{IsOfWant}
-use Rattle.session_laws.proofs.DecidedSnapshots.{snapshots_are_decided}
 use Rattle.session_laws.proofs.Going.{all_begin}
 use Rattle.world_laws.specs.Laws.{EndsAtLast, RefreshesEnd}
 use Rattle.world_laws.specs.Laws.EndsAtLast.{refresh_comes_to}
@@ -56,7 +55,7 @@ module _ (s : Standing) where
   -- where a block of it is wanted there is one
   still_loading : {to_load : Option Key} {brought : List Brought} {end : LoadEnd} {key : Key} → s.to_load ≡ to_load → LoadsFor to_load brought end → end ≡ LoadWants key → EndsAtLast s brought
   still_loading is nothing_to_load e = absurd (cc e)
-  still_loading is (snapshot_to_load {root = root} loads) e = loaded_first root is (load_ends snapshots_are_decided loads)
+  still_loading is (snapshot_to_load {root = root} loads) e = loaded_first root is (load_ends loads)
 
   ends : {brought : List Brought} {notes : List Note} {given : Refresh} {end : RefreshEnd} → Refreshes s brought notes given end → EndsAtLast s brought
   ends (loading loads) = still_loading refl loads refl

@@ -14,7 +14,6 @@ use Rattle.session_model.specs.Courses.{HasRefreshed}
 use Rattle.session_model.specs.Refreshing.{Note}
 use Rattle.session_model.specs.Replies.{said_of}
 use Rattle.session_model.specs.Sessions.{Cache, Refreshing, Session, TakesAll, in_publishing_order, publishing}
-use Rattle.session_laws.proofs.DecidedSnapshots.{snapshots_are_decided}
 use Rattle.world_model.specs.Agents.{Agent, Kept, hss}
 use Rattle.world_model.specs.Keepers.{fails_next}
 use Rattle.world_model.specs.Steps.{Scene, Steps, StepsOn}
@@ -26,15 +25,14 @@ use Rattle.world_laws.specs.Laws.GoesFully.{ends, clashes, goes_on, has_turn}
 use Rattle.world_laws.specs.Laws.RefreshIsOver.{is_done, has_failed}
 use Rattle.world_laws.proofs.Apart.{clash_is_decided}
 use Rattle.world_laws.proofs.Bringing.{found_named}
+use Rattle.world_laws.proofs.EachStep.{all_some}
 use Rattle.world_laws.proofs.ExistingFates.{names_made, serves_so}
 use Rattle.world_laws.proofs.ExistingPlans.{Names}
 use Rattle.world_laws.proofs.ExistingPuts.{Ended, all_on, runs_out}
 use Rattle.world_laws.proofs.FullGets.{reply_has_memory}
 use Rattle.world_laws.proofs.FullRuns.{refresh_out}
 use Rattle.world_laws.proofs.FullTurns.{had, refused}
-use Rattle.world_laws.proofs.OneSteps.{steps_keep}
 use Rattle.world_laws.proofs.SessionLinesSteps.{step_leads, steps_on_lead}
-use Rattle.world_laws.proofs.StepsLeft.{all_some, decided_for}
 use Rattle.world_laws.proofs.Taking.{HasTaken, takes_some_so}
 use Rattle.world_laws.proofs.TakingOn.{taking_keeps}
 
@@ -50,12 +48,12 @@ module _ (r : ℕ) (name : List ℕ) where
 
   well_then : (c next : Scene) → IsWell c → Steps hss_judged r c.session.by c next → IsWell next
   well_then c next well step =
-      let led = step_leads (steps_keep snapshots_are_decided r) r c.session.by c next refl well.keeps well.hand well.ringed step in
+      let led = step_leads r c.session.by c next refl well.keeps well.hand well.ringed step in
       record { keeps = led.leaves.0; hand = led.leaves.1; ringed = led.same.replicas ∙ well.ringed; named = led.same.call.0 ∙ well.named }
 
   well_on : {count : ℕ} (c next : Scene) → IsWell c → StepsOn hss_judged r c.session.by count c next → IsWell next
   well_on c next well steps =
-      let led = steps_on_lead (steps_keep snapshots_are_decided r) r c.session.by steps refl well.keeps well.hand well.ringed in
+      let led = steps_on_lead r c.session.by steps refl well.keeps well.hand well.ringed in
       record { keeps = led.leaves.0; hand = led.leaves.1; ringed = led.same.replicas ∙ well.ringed; named = led.same.call.0 ∙ well.named }
 
   -- after its turn the session publishes to the end
@@ -81,7 +79,7 @@ module _ (r : ℕ) (name : List ℕ) where
     same_starts = ap (λ (x : Session). x.starts) has.is
 
     on : IsRefreshing r taken
-    on = subst (IsAtStage (with_participant c.world (record p { cache = cache })) r taken) done.0 (taking_keeps c r p taken cache well.keeps well.hand is_p (decided_for snapshots_are_decided c.session.standing.to_load) (all_some all)).1.goes_on.stage
+    on = subst (IsAtStage (with_participant c.world (record p { cache = cache })) r taken) done.0 (taking_keeps c r p taken cache well.keeps well.hand is_p (all_some all)).1.goes_on.stage
 
     module _ (apart : NamesTellApart (named_bytes c.world)) where
       turned : (end : TurnEnd) (after : Agent) (saving : Option Kept) → Turns hss given p.agent taken.standing.view (fails_next p.keeper) on.asked c.world.now end after saving

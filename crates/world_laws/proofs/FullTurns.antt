@@ -19,7 +19,6 @@ use Rattle.session_model.specs.Courses.TakesTurn.{answers, begins_anew, gives_up
 use Rattle.session_model.specs.Refreshing.{Note}
 use Rattle.session_model.specs.Replies.{Asks, said_no_memory, said_of}
 use Rattle.session_model.specs.Sessions.{Cache, Refreshing, Session, TakesAll, publishing}
-use Rattle.session_laws.proofs.DecidedSnapshots.{snapshots_are_decided}
 use Rattle.world_model.specs.Agents.{Agent, Kept, hss}
 use Rattle.world_model.specs.Keepers.{fails_next}
 use Rattle.world_model.specs.Story.{known_of}
@@ -30,10 +29,10 @@ use Rattle.world_model.specs.World.{Participant, named_bytes, participant}
 use Rattle.world_laws.specs.Keeps.{IsInHand, Keeps}
 use Rattle.world_laws.specs.Laws.{DoneRefreshesStep, HasMemoryAt}
 use Rattle.world_laws.proofs.Bringing.{found_named, its_view, refresh_may_turn}
+use Rattle.world_laws.proofs.EachStep.{all_some}
 use Rattle.world_laws.proofs.Frames.{found_placed, same_keys}
 use Rattle.world_laws.proofs.FullGets.{refreshing_has_memory}
 use Rattle.world_laws.proofs.SecondTurns.{second_turn_is_answered}
-use Rattle.world_laws.proofs.StepsLeft.{all_some, decided_for}
 use Rattle.world_laws.proofs.Taking.{HasTaken, takes_some_so}
 use Rattle.world_laws.proofs.TakingOn.{taking_keeps}
 
@@ -63,7 +62,7 @@ module _ (c : Scene) (r : ℕ) (p : Participant) (taken : Session) (cache : Cach
   then_c = with_cache hss_judged r c p taken cache
 
   then_so : Keeps (then_c.world, then_c.story) × IsInHand then_c r
-  then_so = taking_keeps c r p taken cache keeps hand is_p (decided_for snapshots_are_decided c.session.standing.to_load) (all_some all)
+  then_so = taking_keeps c r p taken cache keeps hand is_p (all_some all)
 
   has : HasTaken c.world.met c.session taken cache
   has = takes_some_so c.world.met (all_some all) hand.goes_on.pending (each _ c.world.participants p keeps.met.cached (found_named c.world.participants c.session.by p is_p).0)

@@ -1,6 +1,6 @@
 -- An ask of a get that is over with it: something is brought, and the refresh goes on, or has failed.
 use Rattle.std.proofs.Common.{◌≡◌, ◌≢◌, ◌⊎◌, inl, inr, ⊎_elim, ℕ, Bool, true, false, cond, List, [], ◌∷◌, ◌++◌, map, length, Option, Some, Ok, refl, sym, ap, ◌∙◌, subst, arith, Contains}
-use Rattle.std.specs.Prelude.{IfSome, drop}
+use Rattle.std.specs.Prelude.{drop}
 use Rattle.std.specs.List.{AllByRecursion, find}
 use Rattle.std.specs.Str.{bytes_eq}
 use Rattle.std.proofs.lemmas.List.{append-nil, drop_at}
@@ -32,7 +32,7 @@ use Rattle.session_model.specs.Refreshing.{FailsBy, Note, Refreshes}
 use Rattle.session_model.specs.Replies.{missed_reply, said_of}
 use Rattle.session_model.specs.Sessions.{Cache, Gets, Hears, IsGet, Over, Publishing, Refreshing, Said, Session, Stage, Wants, keeping, wanted_key, with_part}
 use Rattle.session_model.specs.Sessions.Hears.{gets_on, got, puts_on, puts}
-use Rattle.session_laws.specs.Going.{ComesTo, SnapshotsAreDecided}
+use Rattle.session_laws.specs.Going.{ComesTo}
 use Rattle.world_model.specs.Agents.{Agent}
 use Rattle.world_model.specs.Fates.{FateOf}
 use Rattle.world_model.specs.World.{World, Participant, named_bytes, participant, peer_of, with_participant}
@@ -108,7 +108,7 @@ found_some (k ∷ ks) name h = by (bytes_eq k.name name) refl (λ later. found_s
 
 module _ (c : Scene) (r : ℕ) (p : Participant) (keeps : Keeps (c.world, c.story)) (hand : IsInHand c r) (ringed : c.world.replicas ≡ Some r) (is_p : participant c.world c.session.by ≡ Some p)
     (node : Peer) (question : Ask) (answer : Answer) (next : World) (fate : FateOf hss_judged c.world node question answer next) (at : c.session.stage ≡ Refreshing)
-    (decided : IfSome c.session.standing.to_load (λ root. SnapshotsAreDecided)) (want : Want) (brought : Brought) (wants : Wants hss_judged r c.session want)
+    (want : Want) (brought : Brought) (wants : Wants hss_judged r c.session want)
     (asks_next : AsksNext (wanted_key want) (ask.Get (wanted_key want)) (IsGet hss_judged r c.session.entries want) c.session.current node question)
     (gets : Gets hss_judged r c.session.entries want (c.session.current ++ told node question answer) brought) where
   abbrev w : World
@@ -253,7 +253,7 @@ module _ (c : Scene) (r : ℕ) (p : Participant) (keeps : Keeps (c.world, c.stor
     refreshing = subst (IsAtStage w r s) at hand.goes_on.stage
 
     came : ComesTo s.standing (brought_in heard.parts)
-    came = comes_with r s want brought asks decided wants brings.of
+    came = comes_with r s want brought asks wants brings.of
 
     refreshing_on : ((notes : List Note) (given : Refresh) (miss : Miss) → heard.stage ≡ Refreshing → Refreshes s.standing (brought_in heard.parts) notes given (FailsBy miss) → ⊥) → IsRefreshing r heard
     refreshing_on not = record {
@@ -294,15 +294,15 @@ not_both s said posts acks e f = cc (sym e ∙ f)
 
 by_hearing : (c : Scene) (r : ℕ) (p : Participant) (keeps : Keeps (c.world, c.story)) (hand : IsInHand c r) (ringed : c.world.replicas ≡ Some r) (is_p : participant c.world c.session.by ≡ Some p)
     (node : Peer) (question : Ask) (answer : Answer) (next : World) (fate : FateOf hss_judged c.world node question answer next) (at : c.session.stage ≡ Refreshing)
-    (decided : IfSome c.session.standing.to_load (λ root. SnapshotsAreDecided)) (heard t : Session) (cache : Cache) → heard.parts ≢ c.session.parts → Hears hss_judged r c.session p.cache node question answer heard cache → Fails heard t
+    (heard t : Session) (cache : Cache) → heard.parts ≢ c.session.parts → Hears hss_judged r c.session p.cache node question answer heard cache → Fails heard t
     → (let world : World = with_participant next (record p { cache = cache }) in let story : Story = ask_told c.story p.name c.session t in
     Keeps (world, story) × IsInHand (record { world = world; story = story; session = t; began = c.began }) r × (story.turns ≡ c.story.turns))
-by_hearing c r p keeps hand ringed is_p node question answer next fate at decided _ t _ other (gets_on want wants next_ask part) goes = absurd (other refl)
-by_hearing c r p keeps hand ringed is_p node question answer next fate at decided _ t _ other (got want brought wants next_ask whole) goes =
-    got_so c r p keeps hand ringed is_p node question answer next fate at decided want brought wants next_ask whole t goes
-by_hearing c r p keeps hand ringed is_p node question answer next fate at decided _ t _ other (puts_on said q posts acks stage next_ask part) goes = absurd (not_both c.session said (q ∷ posts) acks at stage)
-by_hearing c r p keeps hand ringed is_p node question answer next fate at decided _ t _ other (puts said q posts acks came stage next_ask whole) goes = absurd (not_both c.session said (q ∷ posts) acks at stage)
+by_hearing c r p keeps hand ringed is_p node question answer next fate at _ t _ other (gets_on want wants next_ask part) goes = absurd (other refl)
+by_hearing c r p keeps hand ringed is_p node question answer next fate at _ t _ other (got want brought wants next_ask whole) goes =
+    got_so c r p keeps hand ringed is_p node question answer next fate at want brought wants next_ask whole t goes
+by_hearing c r p keeps hand ringed is_p node question answer next fate at _ t _ other (puts_on said q posts acks stage next_ask part) goes = absurd (not_both c.session said (q ∷ posts) acks at stage)
+by_hearing c r p keeps hand ringed is_p node question answer next fate at _ t _ other (puts said q posts acks came stage next_ask whole) goes = absurd (not_both c.session said (q ∷ posts) acks at stage)
 
 pub gets_bring_keep : GetsBringKeep
-gets_bring_keep c r p node question answer next heard t cache keeps hand ringed is_p at other decided fate hears goes =
-    by_hearing c r p keeps hand ringed is_p node question answer next fate at decided heard t cache other hears goes
+gets_bring_keep c r p node question answer next heard t cache keeps hand ringed is_p at other fate hears goes =
+    by_hearing c r p keeps hand ringed is_p node question answer next fate at heard t cache other hears goes

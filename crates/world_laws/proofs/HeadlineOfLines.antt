@@ -1,5 +1,5 @@
 -- The headline holds of each line: those by which sessions go on, and the others, in which no turn is had.
-use Rattle.std.proofs.Common.{◌≡◌, ◌⊎◌, inl, inr, ⊎_elim, ℕ, List, [], Option, Some, None, refl, sym, ap, ◌∙◌, subst}
+use Rattle.std.proofs.Common.{◌≡◌, ◌⊎◌, inl, inr, ⊎_elim, ℕ, List, [], Option, Some, None, refl, sym, ◌∙◌, subst}
 use Rattle.std.proofs.lemmas.List.{append-nil}
 use Rattle.ivy_base.specs.declared.key.PubKey.{PubKey}
 use Rattle.hash_signature_model.specs.declared.set.Set.{Set}
@@ -26,11 +26,9 @@ use Rattle.world_model.specs.Step.{Does, IvyStep, Untold}
 use Rattle.world_model.specs.World.{World, Participant, participant, view_named}
 use Rattle.world_laws.specs.Headline.{HoldsOf, ShowsReply}
 use Rattle.world_laws.specs.Keeps.{Keeps}
-use Rattle.world_laws.specs.Laws.{HeadlineBySteps, IsCall, LinesKeepBySteps, OthersHaveNoTurn, StepsKeep}
-use Rattle.world_laws.specs.Frames.{IsLeft}
-use Rattle.world_laws.proofs.AllLines.{command_keeps, does_line}
+use Rattle.world_laws.specs.Laws.{HeadlineHolds, IsCall, OthersHaveNoTurn}
+use Rattle.world_laws.proofs.AllLines.{does_line}
 use Rattle.world_laws.proofs.HeadlineOfPublishing.{publishing_has_no_turn}
-use Rattle.world_laws.proofs.LineFits.{command_fits}
 use Rattle.world_laws.proofs.Lines.{ToSuch}
 use Rattle.world_laws.proofs.SessionLines.{call_lines_keep}
 
@@ -128,31 +126,16 @@ call_or_other c = inr (λ h. h, λ h. h)
 one_command : (c d : Command) → Some c ≡ Some d → c ≡ d
 one_command c d e = cc e
 
-module _ (steps_keep : StepsKeep) (w next : Played) (output : List ℕ) (keeps : Keeps w) where
+module _ (w next : Played) (output : List ℕ) (keeps : Keeps w) where
   command_holds : (c : Command) → Does hss_judged w c (Goes next output) → HoldsOf w c next output
   command_holds c does = ⊎_elim
-      (λ call. (call_lines_keep steps_keep c w next output call keeps does).1)
+      (λ call. (call_lines_keep c w next output call keeps does).1)
       (λ other. let same = others_have_no_turn c w next output other.0 does in record { more = []; new = same ∙ sym (append-nil w.1.turns); turns = λ h among. absurd (in_nothing h among); caused = λ shows. absurd (other.1 shows) })
       (call_or_other c)
 
-  -- a command of which it was still to be shown, but for one that makes a snapshot
-  pub left_keeps : (c : Command) → ((log : List ℕ) → c ≡ command.Snap log → Keeps next) → IsLeft c → Does hss_judged w c (Goes next output) → Keeps next
-  left_keeps (command.As log pieces) snaps left does = (call_lines_keep steps_keep (command.As log pieces) w next output tt keeps does).0
-  left_keeps (command.Step session count) snaps left does = (call_lines_keep steps_keep (command.Step session count) w next output tt keeps does).0
-  left_keeps (command.Finish session) snaps left does = (call_lines_keep steps_keep (command.Finish session) w next output tt keeps does).0
-  left_keeps (command.Snap log) snaps left does = snaps log refl
-  left_keeps c snaps left does = absurd left
-
 -- ---- each line
 
-pub headline_by_steps : HeadlineBySteps
-headline_by_steps steps_keep w line outcome keeps step c next output is goes =
+pub headline_holds : HeadlineHolds
+headline_holds w line outcome keeps step c next output is goes =
     let done = does_line w next output (command_of line) (subst (λ (o : Outcome Played). IvyStep w line o) goes step) in
-    command_holds steps_keep w next output keeps c (subst (λ (d : Command). Does hss_judged w d (Goes next output)) (one_command done.0 c (sym done.1 ∙ is)) done.2)
-
-pub lines_keep_by_steps : LinesKeepBySteps
-lines_keep_by_steps steps_keep w next line output other keeps step =
-    let done = does_line w next output (command_of line) step in
-    command_keeps w next output done.0
-    (λ left. ⊎_elim (λ it. left_keeps steps_keep w next output keeps done.0 (λ log is. absurd (other log (done.1 ∙ ap (λ (c : Command). Some c) is))) it done.2) (λ never. absurd (never (command_fits line done.0 done.1))) left)
-    keeps done.2
+    command_holds w next output keeps c (subst (λ (d : Command). Does hss_judged w d (Goes next output)) (one_command done.0 c (sym done.1 ∙ is)) done.2)

@@ -47,7 +47,6 @@ pub mod TakingOn
 pub mod Receiving
 mod GotParts
 pub mod GetsBring
-mod StepsLeft
 pub mod Beginning
 mod Opening
 pub mod LineKeys
@@ -56,7 +55,6 @@ pub mod OpenSessions
 pub mod SessionLines
 pub mod HeadlineOfPublishing
 pub mod HeadlineOfLines
-pub mod HeadlineOfScripts
 pub mod TurnsRefresh
 pub mod TurnsFloors
 pub mod TurnsTaken
@@ -70,6 +68,7 @@ mod TurnsScene
 mod AnsweredTurnsFit
 pub mod AnsweredTurns
 pub mod RefusedTurns
+mod EachStep
 pub mod ExistingPlans
 pub mod ExistingFates
 pub mod ExistingPuts
@@ -99,7 +98,7 @@ mod NoSnapshotLines
 pub mod SnapBounds
 pub mod SnapSpelled
 mod SnapLines
-mod SnapWhole
+mod EachLine
 pub mod CalmNodes
 pub mod CalmPuts
 pub mod CalmStates

@@ -11,7 +11,6 @@ use Rattle.log_model.proofs.Lists.{each, here, in_cons, in_nothing, there}
 use Rattle.session_model.specs.Courses.Begins.{alone as begins_alone, refreshes as begins_refreshing}
 use Rattle.session_model.specs.Replies.{said_no_memory}
 use Rattle.session_model.specs.Sessions.{Over, Said, Session}
-use Rattle.session_laws.specs.Going.{SnapshotsAreDecided}
 use Rattle.script_driver.specs.Run.{Goes, HasPiece}
 use Rattle.script_model.specs.declared.command.Command.TheVariants as command
 use Rattle.script_model.specs.declared.command.Piece.{Piece}
@@ -33,7 +32,7 @@ use Rattle.world_laws.proofs.Beginning.{calls_begin}
 use Rattle.world_laws.proofs.Bringing.{found_named}
 use Rattle.world_laws.proofs.Frames.{one_named}
 use Rattle.world_laws.proofs.OneMessages.{one_beginning}
-use Rattle.world_laws.proofs.OneSteps.{GoesWell, over_steps, runs_one, steps_keep, steps_one}
+use Rattle.world_laws.proofs.OneSteps.{GoesWell, over_steps, runs_one, steps_one}
 use Rattle.world_laws.proofs.Opening.{IsSent, sent_by}
 use Rattle.world_laws.proofs.OpenSessions.{begun_keeps, named_hand}
 use Rattle.world_laws.proofs.SessionLinesSteps.{Leads, steps_on_lead}
@@ -73,23 +72,23 @@ shows_so s xid said is = subst (λ (m : Said). HasPiece (λ text. text ≡ reply
 abbrev LacksBefore : Scene → Scene → Type 0
 LacksBefore c end = (xid : ℕ) → end.session.stage ≡ Over (Some (said_no_memory xid)) → c.session.stage ≡ Over (Some (said_no_memory xid))
 
-module _ (decided : SnapshotsAreDecided) (r : ℕ) where
-  runs_alike : {name : List ℕ} {c one other : Scene} → RunsOut hss_judged r name c one → RunsOut hss_judged r name c other → c.session.by ≡ name → GoesWell decided r c → NamesTellApart (named_bytes one.world)
+module _ (r : ℕ) where
+  runs_alike : {name : List ℕ} {c one other : Scene} → RunsOut hss_judged r name c one → RunsOut hss_judged r name c other → c.session.by ≡ name → GoesWell r c → NamesTellApart (named_bytes one.world)
       → LacksBefore c one → LacksBefore c other → one ≡ other
   runs_alike (runs_over said over) (runs_over word is) named w apart m n = refl
   runs_alike (runs_over said over) (runs_more step rest) named w apart m n = absurd (over_steps r step said over)
   runs_alike (runs_more step rest) (runs_over said over) named w apart m n = absurd (over_steps r step said over)
   runs_alike (runs_more step rest) (runs_more also others) named w apart m n =
-      runs_one decided r (runs_more step rest) (runs_more also others) named w apart (λ xid over. over_steps r step _ (m xid over)) (λ xid over. over_steps r also _ (n xid over))
+      runs_one r (runs_more step rest) (runs_more also others) named w apart (λ xid over. over_steps r step _ (m xid over)) (λ xid over. over_steps r also _ (n xid over))
 
-  steps_alike : {name : List ℕ} {count : ℕ} {c one other : Scene} → StepsOn hss_judged r name count c one → StepsOn hss_judged r name count c other → c.session.by ≡ name → GoesWell decided r c → NamesTellApart (named_bytes one.world)
+  steps_alike : {name : List ℕ} {count : ℕ} {c one other : Scene} → StepsOn hss_judged r name count c one → StepsOn hss_judged r name count c other → c.session.by ≡ name → GoesWell r c → NamesTellApart (named_bytes one.world)
       → LacksBefore c one → LacksBefore c other → one ≡ other
   steps_alike steps_none steps_none named w apart m n = refl
   steps_alike (steps_over said over) (steps_over word is) named w apart m n = refl
   steps_alike (steps_over said over) (steps_more step rest) named w apart m n = absurd (over_steps r step said over)
   steps_alike (steps_more step rest) (steps_over said over) named w apart m n = absurd (over_steps r step said over)
   steps_alike (steps_more step rest) (steps_more also others) named w apart m n =
-      steps_one decided r (steps_more step rest) (steps_more also others) named w apart (λ xid over. over_steps r step _ (m xid over)) (λ xid over. over_steps r also _ (n xid over))
+      steps_one r (steps_more step rest) (steps_more also others) named w apart (λ xid over. over_steps r step _ (m xid over)) (λ xid over. over_steps r also _ (n xid over))
 
 -- ---- sessions by their names
 
@@ -144,7 +143,7 @@ other_command log pieces name e = cc e
 same_finish : (a b : List ℕ) → Some (command.Finish a) ≡ Some (command.Finish b) → a ≡ b
 same_finish a b e = cc e
 
-module _ (decided : SnapshotsAreDecided) (w : Played) (keeps : Keeps w) (line : List ℕ) where
+module _ (w : Played) (keeps : Keeps w) (line : List ℕ) where
   -- a whole call
   module _ (log : List ℕ) (pieces : List Piece) (is_as : command_of line ≡ Some (command.As log pieces)) where
     never_lacks : (c next : Scene) (said : Said) → next.session.stage ≡ Over (Some said) → HasMemoryIn w.0 (replied next.world said) line (shown_end next.session said) → LacksBefore c next
@@ -172,7 +171,7 @@ module _ (decided : SnapshotsAreDecided) (w : Played) (keeps : Keeps w) (line : 
         start : Session → Scene
         start x = record { world = w.0; story = having_begun w.1; session = x; began = beginning w.1 s.by.name }
 
-        well : GoesWell decided r (start t)
+        well : GoesWell r (start t)
         well = record {
           keeps = begun_keeps w keeps r ringed;
           hand = calls_begin w r s t keeps ringed (subst (λ (n : List ℕ). participant w.0 n ≡ Some s.by) (sym named) sent.is_by) sent.in_view begins;
@@ -186,7 +185,7 @@ module _ (decided : SnapshotsAreDecided) (w : Played) (keeps : Keeps w) (line : 
         by_is = begins_by w.0 s t begins
 
         ends_same : end ≡ stop
-        ends_same = runs_alike decided r runs second by_is well (subst NamesTellApart (replied_named end.world said) apart) (never_lacks (start t) end said over m) (never_lacks (start t) stop word ended n)
+        ends_same = runs_alike r runs second by_is well (subst NamesTellApart (replied_named end.world said) apart) (never_lacks (start t) end said over m) (never_lacks (start t) stop word ended n)
 
         said_same : said ≡ word
         said_same = one_said end.session stop.session said word (ap (λ (c : Scene). c.session) ends_same) over ended
@@ -197,7 +196,7 @@ module _ (decided : SnapshotsAreDecided) (w : Played) (keeps : Keeps w) (line : 
     abbrev open_scene : Scene
     open_scene = scene_of w s (began_of w.1 name)
 
-    well_open : GoesWell decided r (scene_of w s (began_of w.1 name))
+    well_open : GoesWell r (scene_of w s (began_of w.1 name))
     well_open = record { keeps = keeps; hand = (named_hand w keeps r ringed name s is).0; ringed = ringed }
 
     was_over : (x : NamedSession) (o : Option Said) → Contains w.0.sessions x → x.name ≡ name → x.session.stage ≡ Over o → s.stage ≡ Over o
@@ -211,7 +210,7 @@ module _ (decided : SnapshotsAreDecided) (w : Played) (keeps : Keeps w) (line : 
 
     lacking_before : (count : ℕ) (end : Scene) (text : List ℕ) → StepsOn hss_judged r s.by count open_scene end → HasMemoryIn w.0 (with_session end.world name end.session) line text → LacksBefore open_scene end
     lacking_before count end text on memory xid lacking =
-        let led : Leads open_scene end r = steps_on_lead (steps_keep decided r) r s.by on refl keeps (named_hand w keeps r ringed name s is).0 ringed in
+        let led : Leads open_scene end r = steps_on_lead r s.by on refl keeps (named_hand w keeps r ringed name s is).0 ringed in
         let among : Contains (map (λ (x : NamedSession). x.name) end.world.sessions) name =
         subst (λ (xs : List NamedSession). Contains (map (λ (x : NamedSession). x.name) xs) name) (sym led.same.sessions) (named_hand w keeps r ringed name s is).1 in
         let kept : Contains w.0.sessions (record { name = name; session = end.session }) =
@@ -228,7 +227,7 @@ module _ (decided : SnapshotsAreDecided) (w : Played) (keeps : Keeps w) (line : 
       second = subst (λ (k : ℕ). RunsOut hss_judged k s.by (scene_of w s (began_of w.1 name)) stop) (some_number number r (sym ringed_too ∙ ringed)) running
 
       ends_same : end ≡ stop
-      ends_same = runs_alike decided r runs second refl (well_open name s is r ringed) (subst NamesTellApart (replied_named (without_session end.world name) said) apart)
+      ends_same = runs_alike r runs second refl (well_open name s is r ringed) (subst NamesTellApart (replied_named (without_session end.world name) said) apart)
           (lacked_before name s is r ringed end said is_finish over m) (lacked_before name s is r ringed stop word is_finish ended n)
 
       said_same : said ≡ word
@@ -243,7 +242,7 @@ module _ (decided : SnapshotsAreDecided) (w : Played) (keeps : Keeps w) (line : 
       second = subst (λ (k : ℕ). StepsOn hss_judged k s.by count (scene_of w s (began_of w.1 name)) stop) (some_number number r (sym ringed_too ∙ ringed)) going
 
       ends_same : end ≡ stop
-      ends_same = steps_alike decided r on second refl (well_open name s is r ringed) apart (lacking_before name s is r ringed count end [] on m) (lacking_before name s is r ringed count stop [] second n)
+      ends_same = steps_alike r on second refl (well_open name s is r ringed) apart (lacking_before name s is r ringed count end [] on m) (lacking_before name s is r ringed count stop [] second n)
 
 -- a session is opened in one way, in any case
 pub open_one : (w : Played) (name : List ℕ) (o : Option Sending) (one other : Played) (text words : List ℕ) → OpenLine hss_judged w name o (Goes one text) → OpenLine hss_judged w name o (Goes other words) → AreSame one text other words

@@ -10,8 +10,6 @@ use Rattle.log_model.proofs.Lists.{each}
 use Rattle.log_model.specs.View.{View, view_block, view_name}
 use Rattle.dht_ids.specs.declared.ask.Ask.TheVariants as ask
 use Rattle.dhash_client.specs.declared.put.PutKind.TheVariants as put
-use Rattle.session_laws.proofs.DecidedSnapshots.{snapshots_are_decided}
-use Rattle.session_laws.specs.Going.{SnapshotsAreDecided}
 use Rattle.script_driver.specs.Run.{Ends, Exceeds, Goes, Outcome, Refuses, WithLaw}
 use Rattle.script_driver.proofs.RunLaws.{single_run_kept}
 use Rattle.script_model.specs.declared.command.Command.{Command}
@@ -38,6 +36,7 @@ use Rattle.world_laws.specs.Keeps.{IsKeptSo, IsSavedWell, Keeps}
 use Rattle.world_laws.specs.Kinds.{Ending, Going, Limited, Refused, kind}
 use Rattle.world_laws.specs.Laws.{FullRunsAreOne, HadMemory, HasMemoryIn, StepsAreOne}
 use Rattle.world_laws.proofs.Bringing.{found_named}
+use Rattle.world_laws.proofs.EachLine.{each_line_keeps}
 use Rattle.world_laws.proofs.Frames.{nodes_of_ring}
 use Rattle.world_laws.proofs.KeptBytes.{kept_once}
 use Rattle.world_laws.proofs.LineKinds.{line_has_one_kind}
@@ -48,7 +47,6 @@ use Rattle.world_laws.proofs.OneRing.{join_one, ring_one, round_one}
 use Rattle.world_laws.proofs.OneSteps.{publishing_is_one}
 use Rattle.world_laws.proofs.SecondTurns.{one_view}
 use Rattle.world_laws.proofs.SignedHeads.{so_of}
-use Rattle.world_laws.proofs.SnapWhole.{each_line_keeps}
 
 -- ---- outcomes
 
@@ -211,7 +209,7 @@ module _ (w : Played) where
   none_obeyed : (one : Played) (text : List ℕ) → MayDoFirst w None (Goes one text) → ⊥
   none_obeyed one text h = goes_or_refuses one text (within_limit (nat_lt most_bytes (sum_by (λ b. length b) w.0.met)) (Goes one text ≡ Refuses) one text h)
 
-module _ (decided : SnapshotsAreDecided) (w : Played) (keeps : Keeps w) (line : List ℕ) (one other : Played) (text words : List ℕ) (apart : NamesTellApart (named_bytes one.0))
+module _ (w : Played) (keeps : Keeps w) (line : List ℕ) (one other : Played) (text words : List ℕ) (apart : NamesTellApart (named_bytes one.0))
     (m : HasMemoryIn w.0 one.0 line text) (n : HasMemoryIn w.0 other.0 line words) where
   command_one : (c : Command) → command_of line ≡ Some c → Does hss_judged w c (Goes one text) → Does hss_judged w c (Goes other words) → AreSame one text other words
   command_one (command.Ring nodes replicas) is does doing = untold_one w (RingLine w.0 nodes replicas) (λ a b t u f g. ring_one w.0 nodes replicas a b t u f g) one other text words does doing
@@ -219,10 +217,10 @@ module _ (decided : SnapshotsAreDecided) (w : Played) (keeps : Keeps w) (line : 
   command_one (command.View view members former) is does doing = view_one w view (keys_of w.0 members) (keys_of w.0 former) one other text words does doing
   command_one (command.Use log view) is does doing = by_function (use_line w log view) one other text words does doing
   command_one (command.At sec nsec) is does doing = by_function (beside w.1 (at_line w.0 sec nsec)) one other text words does doing
-  command_one (command.As log pieces) is does doing = as_one decided w keeps line log pieces is (sending_of w.0 log pieces) refl one other text words does doing apart m n
+  command_one (command.As log pieces) is does doing = as_one w keeps line log pieces is (sending_of w.0 log pieces) refl one other text words does doing apart m n
   command_one (command.Open session log pieces) is does doing = open_one w session (sending_of w.0 log pieces) one other text words does doing
-  command_one (command.Step session count) is does doing = step_line_one decided w keeps line session count (session_named w.0 session) refl one other text words does doing apart m n
-  command_one (command.Finish session) is does doing = finish_one decided w keeps line session is (session_named w.0 session) refl one other text words does doing apart m n
+  command_one (command.Step session count) is does doing = step_line_one w keeps line session count (session_named w.0 session) refl one other text words does doing apart m n
+  command_one (command.Finish session) is does doing = finish_one w keeps line session is (session_named w.0 session) refl one other text words does doing apart m n
   command_one (command.Join node) is does doing = untold_one w (JoinLine hss_judged w.0 node w.0.replicas) (λ a b t u f g. join_one hss_judged w.0 node w.0.replicas a b t u f g) one other text words does doing
   command_one (command.Stop node) is does doing = by_function (beside w.1 (stop_line w.0 (node_named w.0 node))) one other text words does doing
   command_one command.Round is does doing = untold_one w (RoundLine hss_judged w.0 w.0.replicas) (λ a b t u f g. round_line_one w keeps w.0.replicas refl a b t u f g) one other text words does doing
@@ -242,7 +240,7 @@ module _ (decided : SnapshotsAreDecided) (w : Played) (keeps : Keeps w) (line : 
   line_one (Some c) is does doing = command_one c is (obeyed w c one text does) (obeyed w c other words doing)
 
 pub steps_are_one : StepsAreOne
-steps_are_one w one other line text words keeps apart apart_too does doing m n = line_one snapshots_are_decided w keeps line one other text words apart m n (command_of line) refl does doing
+steps_are_one w one other line text words keeps apart apart_too does doing m n = line_one w keeps line one other text words apart m n (command_of line) refl does doing
 
 -- ---- runs
 

@@ -28,8 +28,6 @@ use Rattle.session_model.specs.Sessions.Hears.{gets_on, got, puts_on, puts}
 use Rattle.session_model.specs.Sessions.Takes.{posted, cached}
 use Rattle.session_model.specs.Sessions.TakesAll.{none as takes_none, more as takes_more}
 use Rattle.session_model.specs.Sessions.TakesSome.{none as some_none, more as some_more}
-use Rattle.session_laws.proofs.DecidedSnapshots.{snapshots_are_decided}
-use Rattle.session_laws.specs.Going.{SnapshotsAreDecided}
 use Rattle.world_model.specs.Agents.{Agent, IsTurnIn, Kept, TakesTurn, hss, own}
 use Rattle.world_model.specs.Fates.{FateOf}
 use Rattle.world_model.specs.Fates.FateOf.{lost, stopped, answers as node_answers}
@@ -42,19 +40,17 @@ use Rattle.world_model.specs.Steps.Steps.{acts, lacks_memory}
 use Rattle.world_model.specs.Steps.RunsOut.{is_over as runs_over, more as runs_more}
 use Rattle.world_model.specs.Steps.StepsOn.{none as steps_none, is_over as steps_over, more as steps_more}
 use Rattle.world_laws.specs.Keeps.{AreApart, IsInHand, Keeps}
-use Rattle.world_laws.specs.Laws.{HasMemoryAt, ManyStepsAreOne, PublishingIsOne, SessionsEndOnce, SessionsStepOnce, StepsKeep}
-use Rattle.world_laws.proofs.AnsweredTurns.{answered_turns_keep}
+use Rattle.world_laws.specs.Laws.{HasMemoryAt, ManyStepsAreOne, PublishingIsOne, SessionsEndOnce, SessionsStepOnce}
 use Rattle.world_laws.proofs.Bringing.{found_named, its_view, some_same}
+use Rattle.world_laws.proofs.EachStep.{all_some}
 use Rattle.world_laws.proofs.Frames.{found_placed, same_keys}
 use Rattle.world_laws.proofs.MoreMet.{grows_before}
 use Rattle.world_laws.proofs.OneHeard.{AsksIt, all_taken_one, is_asking, lacking_says, not_putting, one_answer, one_failure, one_settling}
 use Rattle.world_laws.proofs.OneHeard.AsksIt.{of_get, of_put}
 use Rattle.world_laws.proofs.OneTurns.{not_both_ways, one_refusal, scene_after, turns_one}
 use Rattle.world_laws.proofs.Placed.{names_placed}
-use Rattle.world_laws.proofs.RefusedTurns.{refused_turns_keep}
 use Rattle.world_laws.proofs.SecondTurns.{one_view}
 use Rattle.world_laws.proofs.SessionLinesSteps.{step_leads}
-use Rattle.world_laws.proofs.StepsLeft.{all_some, decided_for, steps_keep_by_turns}
 use Rattle.world_laws.proofs.Taking.{HasTaken, takes_some_so}
 use Rattle.world_laws.proofs.TakingOn.{taking_keeps}
 use Rattle.world_laws.proofs.TurnsRefresh.{end_is_one}
@@ -195,7 +191,7 @@ module _ (r : ℕ) (p : Participant) (c : Scene) (ready : c.session.stage ≡ Re
 
 -- the same, before what is at hand is taken
 abbrev IsReadyTo : ℕ → Scene → Type 0
-IsReadyTo r c = SnapshotsAreDecided × Keeps (c.world, c.story) × IsInHand c r × NamesTellApart (named_bytes c.world)
+IsReadyTo r c = Keeps (c.world, c.story) × IsInHand c r × NamesTellApart (named_bytes c.world)
 
 stage_taken : {r : ℕ} {s t : Session} {cache after : Cache} → TakesAll hss_judged r s cache t after → t.stage ≡ s.stage
 stage_taken (takes_none none) = refl
@@ -208,15 +204,15 @@ module _ (r : ℕ) (c : Scene) (p : Participant) (is_p : participant c.world c.s
     keeps = then_so.0;
     hand = then_so.1;
     is_p = subst (λ (u : Session). participant (with_participant c.world (record p { cache = cache })) u.by ≡ Some (record p { cache = cache })) (sym has.is)
-        (found_placed c.world is.1.apart c.session.by p is_p (record p { cache = cache }) refl);
-    apart = subst (λ (ks : List (List ℕ)). NamesTellApart (c.world.met ++ ks)) (sym (same_keys c.world is.1.apart c.session.by p is_p (record p { cache = cache }) refl refl)) is.3;
+        (found_placed c.world is.0.apart c.session.by p is_p (record p { cache = cache }) refl);
+    apart = subst (λ (ks : List (List ℕ)). NamesTellApart (c.world.met ++ ks)) (sym (same_keys c.world is.0.apart c.session.by p is_p (record p { cache = cache }) refl refl)) is.2;
   }
     where
       then_so : Keeps (with_participant c.world (record p { cache = cache }), c.story) × IsInHand (record c { world = with_participant c.world (record p { cache = cache }); session = taken }) r
-      then_so = taking_keeps c r p taken cache is.1 is.2 is_p (decided_for is.0 c.session.standing.to_load) (all_some takes)
+      then_so = taking_keeps c r p taken cache is.0 is.1 is_p (all_some takes)
 
       has : HasTaken c.world.met c.session taken cache
-      has = takes_some_so c.world.met (all_some takes) is.2.goes_on.pending (each _ c.world.participants p is.1.met.cached (found_named c.world.participants c.session.by p is_p).0)
+      has = takes_some_so c.world.met (all_some takes) is.1.goes_on.pending (each _ c.world.participants p is.0.met.cached (found_named c.world.participants c.session.by p is_p).0)
 
 step_one : (r : ℕ) (c : Scene) {one other : Scene} → (c.session.stage ≡ Refreshing → IsReadyTo r c) → Steps hss_judged r c.session.by c one → Steps hss_judged r c.session.by c other → HasMemoryAt one.session → HasMemoryAt other.session → one ≡ other
 step_one r c ready (acts p taken cache next is_p takes act) (acts q took caching after is_q taking acting) m n =
@@ -340,10 +336,7 @@ step_names r c keeps (lacks_memory p taken t cache is_p takes lacking) = same_na
 
 -- ---- one step after the other
 
-module _ (decided : SnapshotsAreDecided) (r : ℕ) where
-  pub steps_keep : StepsKeep
-  steps_keep = steps_keep_by_turns decided answered_turns_keep refused_turns_keep
-
+module _ (r : ℕ) where
   -- a scene from which steps go on
   pub record GoesWell (c : Scene) : Type 0 where
     pub keeps : Keeps (c.world, c.story)
@@ -352,7 +345,7 @@ module _ (decided : SnapshotsAreDecided) (r : ℕ) where
 
   well_then : {c next : Scene} → GoesWell c → Steps hss_judged r c.session.by c next → GoesWell next × (next.session.by ≡ c.session.by)
   well_then {c} {next} w step =
-      let led = step_leads steps_keep r c.session.by c next refl w.keeps w.hand w.ringed step in
+      let led = step_leads r c.session.by c next refl w.keeps w.hand w.ringed step in
       (record { keeps = led.leaves.0; hand = led.leaves.1; ringed = led.same.replicas ∙ w.ringed }, led.same.call.0)
 
   its_step : {name : List ℕ} {c next : Scene} → c.session.by ≡ name → Steps hss_judged r name c next → Steps hss_judged r c.session.by c next
@@ -380,7 +373,7 @@ module _ (decided : SnapshotsAreDecided) (r : ℕ) where
       let then_it = well_then w first in
       let apart_mid : NamesTellApart (named_bytes between.world) = apart_then between.world next.world (steps_names rest (then_it.1 ∙ named) then_it.0) apart in
       let apart_now : NamesTellApart (named_bytes c.world) = apart_then c.world between.world (step_names r c w.keeps first) apart_mid in
-      let same : between ≡ mid = step_one r c (λ at. (decided, w.keeps, w.hand, apart_now)) first (its_step named also) (steps_memory r rest m) (steps_memory r others n) in
+      let same : between ≡ mid = step_one r c (λ at. (w.keeps, w.hand, apart_now)) first (its_step named also) (steps_memory r rest m) (steps_memory r others n) in
       steps_one rest (subst (λ (x : Scene). StepsOn hss_judged r name count x other) (sym same) others) (then_it.1 ∙ named) then_it.0 apart m n
 
   pub runs_one : {name : List ℕ} {c one other : Scene} → RunsOut hss_judged r name c one → RunsOut hss_judged r name c other → c.session.by ≡ name → GoesWell c → NamesTellApart (named_bytes one.world)
@@ -393,17 +386,17 @@ module _ (decided : SnapshotsAreDecided) (r : ℕ) where
       let then_it = well_then w first in
       let apart_mid : NamesTellApart (named_bytes between.world) = apart_then between.world next.world (runs_names rest (then_it.1 ∙ named) then_it.0) apart in
       let apart_now : NamesTellApart (named_bytes c.world) = apart_then c.world between.world (step_names r c w.keeps first) apart_mid in
-      let same : between ≡ mid = step_one r c (λ at. (decided, w.keeps, w.hand, apart_now)) first (its_step named also) (runs_memory r rest m) (runs_memory r others n) in
+      let same : between ≡ mid = step_one r c (λ at. (w.keeps, w.hand, apart_now)) first (its_step named also) (runs_memory r rest m) (runs_memory r others n) in
       runs_one rest (subst (λ (x : Scene). RunsOut hss_judged r name x other) (sym same) others) (then_it.1 ∙ named) then_it.0 apart m n
 
 pub sessions_step_once : SessionsStepOnce
-sessions_step_once c one other r keeps hand ringed apart step also m n = step_one r c (λ at. (snapshots_are_decided, keeps, hand, apart)) step also m n
+sessions_step_once c one other r keeps hand ringed apart step also m n = step_one r c (λ at. (keeps, hand, apart)) step also m n
 
 pub many_steps_are_one : ManyStepsAreOne
-many_steps_are_one c one other r count keeps hand ringed apart steps also m n = steps_one snapshots_are_decided r steps also refl (record { keeps = keeps; hand = hand; ringed = ringed }) apart m n
+many_steps_are_one c one other r count keeps hand ringed apart steps also m n = steps_one r steps also refl (record { keeps = keeps; hand = hand; ringed = ringed }) apart m n
 
 pub sessions_end_once : SessionsEndOnce
-sessions_end_once c one other r keeps hand ringed apart runs also m n = runs_one snapshots_are_decided r runs also refl (record { keeps = keeps; hand = hand; ringed = ringed }) apart m n
+sessions_end_once c one other r keeps hand ringed apart runs also m n = runs_one r runs also refl (record { keeps = keeps; hand = hand; ringed = ringed }) apart m n
 
 -- ---- a session that only publishes
 

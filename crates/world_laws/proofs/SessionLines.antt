@@ -24,7 +24,7 @@ use Rattle.world_model.specs.Steps.{RunsOut, Scene, StepsOn}
 use Rattle.world_laws.specs.Causes.{HasCause, said_at}
 use Rattle.world_laws.specs.Headline.{HoldsOf}
 use Rattle.world_laws.specs.Keeps.{HasSaid, IsInHand, Keeps}
-use Rattle.world_laws.specs.Laws.{CallLinesKeep, StepsKeep}
+use Rattle.world_laws.specs.Laws.{CallLinesKeep}
 use Rattle.world_laws.proofs.Beginning.{calls_begin}
 use Rattle.world_laws.proofs.Bringing.{found_named}
 use Rattle.world_laws.proofs.Opening.{IsSent, sent_by}
@@ -46,7 +46,7 @@ begins_same : (w : World) (s : Sending) (t : Session) → BeginsWith w s t → (
 begins_same w s _ (begins_alone given by) = (refl, refl, refl)
 begins_same w s _ (begins_refreshing xid asked asks) = (refl, refl, refl)
 
-module _ (steps_keep : StepsKeep) (w : Played) (keeps : Keeps w) where
+module _ (w : Played) (keeps : Keeps w) where
   -- ---- a whole call
 
   as_holds : (log : List ℕ) (pieces : List Piece) (o : Option Sending) (out : Outcome Played) → sending_of w.0 log pieces ≡ o → AsLine hss_judged w o out → HoldsThen w (command.As log pieces) out
@@ -84,7 +84,7 @@ module _ (steps_keep : StepsKeep) (w : Played) (keeps : Keeps w) where
       hand = calls_begin w r s t keeps ringed (subst (λ (n : List ℕ). participant w.0 n ≡ Some s.by) (sym named) sent.is_by) sent.in_view begins
 
       led : Leads start end r
-      led = runs_lead steps_keep r s.by.name runs first.0 (begun_keeps w keeps r ringed) hand ringed
+      led = runs_lead r s.by.name runs first.0 (begun_keeps w keeps r ringed) hand ringed
 
       asked : message_of w.0.replies end.session.standing.view pieces ≡ Some end.session.message
       asked = ap (λ (v : View). message_of w.0.replies v pieces) (led.same.call.2 ∙ first.2) ∙ sent.is_message ∙ ap (λ (m : List ℕ). Some m) (sym (led.same.call.1 ∙ first.1))
@@ -99,10 +99,10 @@ module _ (steps_keep : StepsKeep) (w : Played) (keeps : Keeps w) where
     hand = named_hand w keeps r ringed name s is
 
     stepped : (count : ℕ) → StepsOn hss_judged r s.by count start end → Leads start end r
-    stepped count on = steps_on_lead steps_keep r s.by on refl keeps hand.0 ringed
+    stepped count on = steps_on_lead r s.by on refl keeps hand.0 ringed
 
     ended : RunsOut hss_judged r s.by start end → Leads start end r
-    ended runs = runs_lead steps_keep r s.by runs refl keeps hand.0 ringed
+    ended runs = runs_lead r s.by runs refl keeps hand.0 ringed
 
     put_back : Leads start end r → Keeps (with_session end.world name end.session, with_began end.story name end.began)
     put_back led = back_keeps (end.world, end.story) led.leaves.0 r (led.same.replicas ∙ ringed) name end.session end.began
@@ -144,25 +144,25 @@ module _ (steps_keep : StepsKeep) (w : Played) (keeps : Keeps w) where
       let led = ended name s is r ringed end runs in (closed name s is r ringed end led said, finish_holds name s is r ringed end said over led)
 
 pub call_lines_keep : CallLinesKeep
-call_lines_keep steps_keep (command.As log pieces) w next output call keeps does = as_holds steps_keep w keeps log pieces (sending_of w.0 log pieces) (Goes next output) refl does
-call_lines_keep steps_keep (command.Step name count) w next output call keeps does = step_line_holds steps_keep w keeps name count (session_named w.0 name) (Goes next output) refl does
-call_lines_keep steps_keep (command.Finish name) w next output call keeps does = finish_line_holds steps_keep w keeps name (session_named w.0 name) (Goes next output) refl does
-call_lines_keep steps_keep (command.Ring nodes replicas) w next output call keeps does = absurd call
-call_lines_keep steps_keep (command.Log log id seed sets) w next output call keeps does = absurd call
-call_lines_keep steps_keep (command.View view members former) w next output call keeps does = absurd call
-call_lines_keep steps_keep (command.Use log view) w next output call keeps does = absurd call
-call_lines_keep steps_keep (command.At sec nsec) w next output call keeps does = absurd call
-call_lines_keep steps_keep (command.Open session log pieces) w next output call keeps does = absurd call
-call_lines_keep steps_keep (command.Join number) w next output call keeps does = absurd call
-call_lines_keep steps_keep (command.Stop node) w next output call keeps does = absurd call
-call_lines_keep steps_keep command.Round w next output call keeps does = absurd call
-call_lines_keep steps_keep (command.Lose count) w next output call keeps does = absurd call
-call_lines_keep steps_keep (command.Damage node key offset byte) w next output call keeps does = absurd call
-call_lines_keep steps_keep (command.Snap log) w next output call keeps does = absurd call
-call_lines_keep steps_keep (command.Restart log) w next output call keeps does = absurd call
-call_lines_keep steps_keep (command.Keep log count new) w next output call keeps does = absurd call
-call_lines_keep steps_keep (command.Holds node) w next output call keeps does = absurd call
-call_lines_keep steps_keep (command.Order log) w next output call keeps does = absurd call
-call_lines_keep steps_keep (command.Work log) w next output call keeps does = absurd call
-call_lines_keep steps_keep command.Nothing w next output call keeps does = absurd call
-call_lines_keep steps_keep command.End w next output call keeps does = absurd call
+call_lines_keep (command.As log pieces) w next output call keeps does = as_holds w keeps log pieces (sending_of w.0 log pieces) (Goes next output) refl does
+call_lines_keep (command.Step name count) w next output call keeps does = step_line_holds w keeps name count (session_named w.0 name) (Goes next output) refl does
+call_lines_keep (command.Finish name) w next output call keeps does = finish_line_holds w keeps name (session_named w.0 name) (Goes next output) refl does
+call_lines_keep (command.Ring nodes replicas) w next output call keeps does = absurd call
+call_lines_keep (command.Log log id seed sets) w next output call keeps does = absurd call
+call_lines_keep (command.View view members former) w next output call keeps does = absurd call
+call_lines_keep (command.Use log view) w next output call keeps does = absurd call
+call_lines_keep (command.At sec nsec) w next output call keeps does = absurd call
+call_lines_keep (command.Open session log pieces) w next output call keeps does = absurd call
+call_lines_keep (command.Join number) w next output call keeps does = absurd call
+call_lines_keep (command.Stop node) w next output call keeps does = absurd call
+call_lines_keep command.Round w next output call keeps does = absurd call
+call_lines_keep (command.Lose count) w next output call keeps does = absurd call
+call_lines_keep (command.Damage node key offset byte) w next output call keeps does = absurd call
+call_lines_keep (command.Snap log) w next output call keeps does = absurd call
+call_lines_keep (command.Restart log) w next output call keeps does = absurd call
+call_lines_keep (command.Keep log count new) w next output call keeps does = absurd call
+call_lines_keep (command.Holds node) w next output call keeps does = absurd call
+call_lines_keep (command.Order log) w next output call keeps does = absurd call
+call_lines_keep (command.Work log) w next output call keeps does = absurd call
+call_lines_keep command.Nothing w next output call keeps does = absurd call
+call_lines_keep command.End w next output call keeps does = absurd call

@@ -34,8 +34,9 @@ use Rattle.world_model.specs.Steps.Steps.{acts, lacks_memory}
 use Rattle.world_model.specs.Steps.RunsOut.{is_over as runs_over, more as runs_more}
 use Rattle.world_model.specs.Steps.StepsOn.{none as steps_none, is_over as steps_over, more as steps_more}
 use Rattle.world_laws.specs.Keeps.{IsInHand, Keeps}
-use Rattle.world_laws.specs.Laws.{AllStepsKeep, ManyStepsKeep, StepLeaves, StepsKeep}
+use Rattle.world_laws.specs.Laws.{AllStepsKeep, ManyStepsKeep, StepLeaves}
 use Rattle.world_laws.proofs.Bringing.{some_same}
+use Rattle.world_laws.proofs.EachStep.{each_step_keeps}
 
 -- ---- what a step leaves as it was
 
@@ -162,12 +163,12 @@ leads_on c between next r one other = record {
   };
 }
 
-module _ (steps_keep : StepsKeep) (r : ℕ) where
+module _ (r : ℕ) where
   pub step_leads : (name : List ℕ) (c next : Scene) → c.session.by ≡ name → Keeps (c.world, c.story) → IsInHand c r → c.world.replicas ≡ Some r → Steps hss_judged r name c next → Leads c next r
   step_leads name c next named keeps hand ringed step =
       let its : Steps hss_judged r c.session.by c next = subst (λ n. Steps hss_judged r n c next) (sym named) step in
       record {
-        leaves = steps_keep c next r keeps hand ringed its;
+        leaves = each_step_keeps c next r keeps hand ringed its;
         same = step_same r c.session.by c next
             (λ p is_p. subst (λ (q : Participant). q.agent.view ≡ Some c.session.standing.view) (some_same hand.goes_on.by p (sym hand.goes_on.is_by ∙ is_p)) hand.goes_on.in_view) its;
       }
@@ -186,7 +187,7 @@ module _ (steps_keep : StepsKeep) (r : ℕ) where
       leads_on c between next r one (runs_lead name rest (one.same.call.0 ∙ named) one.leaves.0 one.leaves.1 (one.same.replicas ∙ ringed))
 
 pub many_steps_keep : ManyStepsKeep
-many_steps_keep steps_keep c next r count keeps hand ringed steps = (steps_on_lead steps_keep r c.session.by steps refl keeps hand ringed).leaves
+many_steps_keep c next r count keeps hand ringed steps = (steps_on_lead r c.session.by steps refl keeps hand ringed).leaves
 
 pub all_steps_keep : AllStepsKeep
-all_steps_keep steps_keep c next r keeps hand ringed runs = (runs_lead steps_keep r c.session.by runs refl keeps hand ringed).leaves
+all_steps_keep c next r keeps hand ringed runs = (runs_lead r c.session.by runs refl keeps hand ringed).leaves

@@ -1,5 +1,5 @@
 -- What is at hand is taken, and the refresh goes on: that leaves a world that keeps what it should, and such a session.
-use Rattle.std.proofs.Common.{◌≡◌, ◌≢◌, ◌⊎◌, inl, inr, ⊎_elim, ℕ, List, [], ◌∷◌, ◌++◌, Some, Ok, refl, sym, ap, ◌∙◌, subst, arith}
+use Rattle.std.proofs.Common.{◌≡◌, ◌≢◌, ◌⊎◌, inl, inr, ⊎_elim, ℕ, List, [], ◌∷◌, ◌++◌, Option, Some, None, Ok, refl, sym, ap, ◌∙◌, subst, arith}
 use Rattle.std.specs.Prelude.{IfSome}
 use Rattle.std.specs.List.{AllByRecursion}
 use Rattle.ivy_base.specs.declared.key.Key.{Key}
@@ -14,6 +14,7 @@ use Rattle.session_model.specs.Sessions.{Cache, Session, Refreshing, Stage, Take
 use Rattle.session_model.specs.Sessions.Takes.{posted, cached}
 use Rattle.session_model.specs.Sessions.TakesSome.{none as some_none, more as some_more}
 use Rattle.session_laws.specs.Going.{ComesTo, IsMissed, IsOfWant, SnapshotsAreDecided}
+use Rattle.session_laws.proofs.DecidedSnapshots.{snapshots_are_decided}
 use Rattle.session_laws.proofs.Going.{refresh_goes_on}
 use Rattle.session_laws.proofs.Missing.{fails_by_the_last}
 use Rattle.ask_laws.proofs.AskedGets.{gets_are_one}
@@ -43,10 +44,15 @@ same_last (a ∷ []) [] x y e = cc e
 same_last (a ∷ c ∷ xs) [] x y e = cc e
 same_last (a ∷ xs) (b ∷ ys) x y e = same_last xs ys x y (cc e)
 
+-- of any blocks it is known whether they are a snapshot, so also where there is one to load
+decided_for : (o : Option Key) → IfSome o (λ root. SnapshotsAreDecided)
+decided_for None = tt
+decided_for (Some root) = snapshots_are_decided
+
 -- with a part more, the session's refresh has come to this
-pub comes_with : (r : ℕ) (s : Session) (want : Want) (b : Brought) (asks : List Heard) → IfSome s.standing.to_load (λ root. SnapshotsAreDecided) → Wants hss_judged r s want → IsOfWant want b
-    → ComesTo s.standing (brought_in (s.parts ++ record { brought = b; asks = asks } ∷ []))
-comes_with r s want b asks decided wants of = subst (ComesTo s.standing) (sym (brought_then s.parts b asks)) (refresh_goes_on s.standing (brought_in s.parts) wants.1 wants.2 want b decided wants.3 of)
+pub comes_with : (r : ℕ) (s : Session) (want : Want) (b : Brought) (asks : List Heard) → Wants hss_judged r s want → IsOfWant want b → ComesTo s.standing (brought_in (s.parts ++ record { brought = b; asks = asks } ∷ []))
+comes_with r s want b asks wants of =
+    subst (ComesTo s.standing) (sym (brought_then s.parts b asks)) (refresh_goes_on s.standing (brought_in s.parts) wants.1 wants.2 want b (decided_for s.standing.to_load) wants.3 of)
 
 -- it hasn't failed, where something came
 block_came : (key : Key) (bytes : List ℕ) (miss : Miss) → IsMissed miss (BlockOf key (Ok bytes)) → ⊥
@@ -58,7 +64,7 @@ on_so r t some fresh (Needs want) goes = subst (λ asks. IsRefreshingOn r (recor
 on_so r t some fresh (FailsBy miss) goes = absurd (goes miss refl)
 on_so r t some fresh Done goes = fresh
 
-module _ (r : ℕ) (s : Session) (key : Key) (bytes : List ℕ) (some : s.entries ≢ []) (decided : IfSome s.standing.to_load (λ root. SnapshotsAreDecided)) (wants : Wants hss_judged r s (Content key)) where
+module _ (r : ℕ) (s : Session) (key : Key) (bytes : List ℕ) (some : s.entries ≢ []) (wants : Wants hss_judged r s (Content key)) where
   abbrev then_on : Session
   then_on = with_part s (BlockOf key (Ok bytes)) []
 
@@ -66,7 +72,7 @@ module _ (r : ℕ) (s : Session) (key : Key) (bytes : List ℕ) (some : s.entrie
   taken_on w at = subst (IsAtStage w r then_on) (sym wants.0) (by (subst (IsAtStage w r s) wants.0 at))
     where
       came : ComesTo s.standing (brought_in then_on.parts)
-      came = comes_with r s (Content key) (BlockOf key (Ok bytes)) [] decided wants refl
+      came = comes_with r s (Content key) (BlockOf key (Ok bytes)) [] wants refl
 
       goes : (miss : Miss) → came.end ≡ FailsBy miss → ⊥
       goes miss is =
@@ -87,18 +93,18 @@ record GoesSo (w : World) (r : ℕ) (s t : Session) : Type 0 where
   stage : IsAtStage w r (record s { parts = parts; current = current }) s.stage
   refreshing : (s.stage ≡ Refreshing) ⊎ (t ≡ s)
 
-takes_on : (w : World) (r : ℕ) {s t : Session} {cache after : Cache} → TakesSome hss_judged r s cache t after → s.entries ≢ [] → IfSome s.standing.to_load (λ root. SnapshotsAreDecided)
-    → AllByRecursion (λ a. IsAnswerIn w a.got) s.current → IsAtStage w r s s.stage → GoesSo w r s t
-takes_on w r (some_none {s = s}) some decided heard at = record { parts = s.parts; current = s.current; is = refl; heard = heard; stage = at; refreshing = inr refl }
-takes_on w r (some_more {s = s} (posted key bytes wants none is) rest) some decided heard at =
-    let g = takes_on w r rest some decided tt (taken_on r s key bytes some decided wants w at) in record { parts = g.parts; current = g.current; is = g.is; heard = g.heard; stage = g.stage; refreshing = inl wants.0 }
-takes_on w r (some_more {s = s} (cached key bytes wants none missing is) rest) some decided heard at =
-    let g = takes_on w r rest some decided tt (taken_on r s key bytes some decided wants w at) in record { parts = g.parts; current = g.current; is = g.is; heard = g.heard; stage = g.stage; refreshing = inl wants.0 }
+takes_on : (w : World) (r : ℕ) {s t : Session} {cache after : Cache} → TakesSome hss_judged r s cache t after → s.entries ≢ [] → AllByRecursion (λ a. IsAnswerIn w a.got) s.current → IsAtStage w r s s.stage
+    → GoesSo w r s t
+takes_on w r (some_none {s = s}) some heard at = record { parts = s.parts; current = s.current; is = refl; heard = heard; stage = at; refreshing = inr refl }
+takes_on w r (some_more {s = s} (posted key bytes wants none is) rest) some heard at =
+    let g = takes_on w r rest some tt (taken_on r s key bytes some wants w at) in record { parts = g.parts; current = g.current; is = g.is; heard = g.heard; stage = g.stage; refreshing = inl wants.0 }
+takes_on w r (some_more {s = s} (cached key bytes wants none missing is) rest) some heard at =
+    let g = takes_on w r rest some tt (taken_on r s key bytes some wants w at) in record { parts = g.parts; current = g.current; is = g.is; heard = g.heard; stage = g.stage; refreshing = inl wants.0 }
 
 -- ---- the law
 
 module _ (c : Scene) (r : ℕ) (p : Participant) (taken : Session) (cache : Cache) (keeps : Keeps (c.world, c.story)) (hand : IsInHand c r) (is_p : participant c.world c.session.by ≡ Some p)
-    (decided : IfSome c.session.standing.to_load (λ root. SnapshotsAreDecided)) (takes : TakesSome hss_judged r c.session p.cache taken cache) where
+    (takes : TakesSome hss_judged r c.session p.cache taken cache) where
   abbrev d : Change
   d = record (unchanged p) { cache = cache }
 
@@ -118,7 +124,7 @@ module _ (c : Scene) (r : ℕ) (p : Participant) (taken : Session) (cache : Cach
   on = goes_on_then c r p keeps hand is_p d
 
   goes : GoesSo then_world r c.session taken
-  goes = takes_on then_world r takes on.some_entry decided on.heard on.stage
+  goes = takes_on then_world r takes on.some_entry on.heard on.stage
 
   goes_then : GoesOn then_world r taken
   goes_then = subst (GoesOn then_world r) (sym goes.is) (record {
@@ -148,4 +154,4 @@ module _ (c : Scene) (r : ℕ) (p : Participant) (taken : Session) (cache : Cach
   taken_so = (participant_keeps (c.world, c.story) c.session.by p d keeps is_p mild, record { number = hand.number; goes_on = goes_then; said = has_said; sound = sound_so })
 
 pub taking_keeps : TakingKeeps
-taking_keeps c r p taken cache keeps hand is_p decided takes = taken_so c r p taken cache keeps hand is_p decided takes
+taking_keeps c r p taken cache keeps hand is_p takes = taken_so c r p taken cache keeps hand is_p takes

@@ -17,7 +17,6 @@ use Rattle.session_model.specs.Sessions.{Cache}
 use Rattle.script_driver.specs.Run.{Goes}
 use Rattle.script_model.specs.declared.command.Command.{Command}
 use Rattle.script_model.specs.declared.command.Command.TheVariants as command
-use Rattle.script_model.specs.Lines.{command_of}
 use Rattle.script_model.specs.declared.command.KeyWord.{KeyWord}
 use Rattle.script_model.specs.declared.command.NodeWord.{NodeWord}
 use Rattle.script_model.specs.Messages.{Given}
@@ -28,7 +27,7 @@ use Rattle.world_model.specs.Story.{Story}
 use Rattle.world_model.specs.Logs.{Played, fresh_signer}
 use Rattle.world_model.specs.Step.{Does}
 use Rattle.world_laws.specs.Keeps.{AreParticipants, Keeps, PeersAreMade}
-use Rattle.world_laws.specs.Laws.{EachReplyIsOnReplay, HeadlineHolds, IsStill, LinesKeep, StepsKeep}
+use Rattle.world_laws.specs.Laws.{IsStill}
 
 -- ---- participants
 
@@ -148,25 +147,3 @@ UseLinesKeep = (log view : List ℕ) → LineKeeps (command.Use log view)
 -- an agent starts again from what its keeper's bytes say
 abbrev pub RestartLinesKeep : Type 0
 RestartLinesKeep = (log : List ℕ) → LineKeeps (command.Restart log)
-
--- ---- all lines
-
--- the commands of which it is still to be shown
-abbrev pub IsLeft : Command → Type 0
-IsLeft (command.As log pieces) = Unit {0}
-IsLeft (command.Step session count) = Unit {0}
-IsLeft (command.Finish session) = Unit {0}
-IsLeft (command.Snap log) = Unit {0}
-IsLeft _ = ⊥
-
--- Where these commands, as lines say them, leave such a world, so does each line.
-abbrev pub LinesKeepByThese : Type 0
-LinesKeepByThese = ((c : Command) (w next : Played) (line output : List ℕ) → IsLeft c → command_of line ≡ Some c → Keeps w → Does hss_judged w c (Goes next output) → Keeps next) → LinesKeep
-
--- Where each line leaves such a world, and the headline holds of each, it holds of each line of a run.
-abbrev pub HeadlineOfRuns : Type 0
-HeadlineOfRuns = LinesKeep → HeadlineHolds → EachReplyIsOnReplay
-
--- Where each step leaves such a world and such a session, and the line that makes a snapshot such a world, the headline holds of each line of a run.
-abbrev pub EachReplyBySteps : Type 0
-EachReplyBySteps = StepsKeep → ((log : List ℕ) → LineKeeps (command.Snap log)) → EachReplyIsOnReplay

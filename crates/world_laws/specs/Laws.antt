@@ -1,4 +1,4 @@
--- Laws of the world's steps and of its runs. Each is stated here, and proved by the crates above.
+-- Laws of the world's steps and of its runs. Each is stated here, and proved in this crate.
 use Rattle.std.specs.Prelude.{◌≡◌, ◌≢◌, ◌⊎◌, ◌↔◌, ℕ, ◌+◌, ◌<◌, Bool, List, [], ◌∷◌, ◌++◌, map, take, Contains, Option, Some, IfSome}
 use Rattle.std.specs.List.{AllByRecursion}
 use Rattle.ivy_base.specs.declared.key.Key.{Key}
@@ -38,7 +38,7 @@ use Rattle.session_model.specs.Sessions.{Cache, Hears, Said, TakesAll, TakesSome
 use Rattle.session_model.specs.Courses.{Fails, HasRefreshed, IsRefusal, LacksMemory, Settles}
 use Rattle.session_model.specs.Replies.{Asks, said_no_memory}
 use Rattle.snapshot_model.specs.Reading.{IsBasisSpelled}
-use Rattle.session_laws.specs.Going.{IsOfWant, SnapshotsAreDecided}
+use Rattle.session_laws.specs.Going.{IsOfWant}
 use Rattle.script_driver.specs.Run.{Outcome, Goes, Ends, Refuses, Exceeds, Ran, Runs, WithLaw, HasPiece, shown}
 use Rattle.script_driver.specs.Seen.{HasStory, SeenStep}
 use Rattle.script_model.specs.declared.command.Command.{Command}
@@ -96,10 +96,13 @@ EmptyKeeps = Keeps (empty_world, empty_story)
 abbrev pub LinesKeep : Type 0
 LinesKeep = (w next : Played) (line output : List ℕ) → Keeps w → IvyStep w line (Goes next output) → Keeps next
 
--- a step of a session in hand leaves such a world and such a session, and a turn in it is on the replay
+-- what steps of a session in hand leave: such a world and such a session, and each turn in them is on the replay
+abbrev pub StepLeaves : Scene → Scene → ℕ → Type 0
+StepLeaves c next r = Keeps (next.world, next.story) × IsInHand next r × (more : List HadTurn) × NewTurns c.story next.story more × ((h : HadTurn) → Contains more h → TurnHolds h)
+
+-- a step leaves that
 abbrev pub StepsKeep : Type 0
-StepsKeep = (c next : Scene) (r : ℕ) → Keeps (c.world, c.story) → IsInHand c r → c.world.replicas ≡ Some r → Steps hss_judged r c.session.by c next
-    → Keeps (next.world, next.story) × IsInHand next r × (more : List HadTurn) × NewTurns c.story next.story more × ((h : HadTurn) → Contains more h → TurnHolds h)
+StepsKeep = (c next : Scene) (r : ℕ) → Keeps (c.world, c.story) → IsInHand c r → c.world.replicas ≡ Some r → Steps hss_judged r c.session.by c next → StepLeaves c next r
 
 -- Steps of it that are no get and no turn: an ask of a put, settling, and the end where memory is wanting.
 abbrev pub PutsKeep : Type 0
@@ -130,7 +133,7 @@ LackingStepsKeep = (c : Scene) (r : ℕ) (p : Participant) (taken t : Session) (
 -- so does an ask of a get that is over with it, by which something is brought: the refresh goes on, or has failed
 abbrev pub GetsBringKeep : Type 0
 GetsBringKeep = (c : Scene) (r : ℕ) (p : Participant) (node : Peer) (question : Ask) (answer : Answer) (world : World) (heard t : Session) (cache : Cache) → Keeps (c.world, c.story) → IsInHand c r
-    → c.world.replicas ≡ Some r → participant c.world c.session.by ≡ Some p → c.session.stage ≡ Refreshing → heard.parts ≢ c.session.parts → IfSome c.session.standing.to_load (λ root. SnapshotsAreDecided)
+    → c.world.replicas ≡ Some r → participant c.world c.session.by ≡ Some p → c.session.stage ≡ Refreshing → heard.parts ≢ c.session.parts
     → FateOf hss_judged c.world node question answer world → Hears hss_judged r c.session p.cache node question answer heard cache → Fails heard t
     → (let next : Scene = record { world = with_participant world (record p { cache = cache }); story = ask_told c.story p.name c.session t; session = t; began = c.began } in
     Keeps (next.world, next.story) × IsInHand next r × (next.story.turns ≡ c.story.turns))
@@ -138,7 +141,7 @@ GetsBringKeep = (c : Scene) (r : ℕ) (p : Participant) (node : Peer) (question 
 -- so does taking what is at hand, after which the refresh goes on
 abbrev pub TakingKeeps : Type 0
 TakingKeeps = (c : Scene) (r : ℕ) (p : Participant) (taken : Session) (cache : Cache) → Keeps (c.world, c.story) → IsInHand c r → participant c.world c.session.by ≡ Some p
-    → IfSome c.session.standing.to_load (λ root. SnapshotsAreDecided) → TakesSome hss_judged r c.session p.cache taken cache
+    → TakesSome hss_judged r c.session p.cache taken cache
     → (let next : Scene = with_cache hss_judged r c p taken cache in Keeps (next.world, next.story) × IsInHand next r)
 
 -- so do more heads that a participant received, which were met
@@ -170,11 +173,7 @@ CallsBegin = (w : Played) (r : ℕ) (s : Sending) (t : Session) → Keeps w → 
 abbrev pub OpenLineKeeps : Type 0
 OpenLineKeeps = (session log : List ℕ) (pieces : List Piece) (w next : Played) (output : List ℕ) → Keeps w → Does hss_judged w (command.Open session log pieces) (Goes next output) → Keeps next
 
--- ---- turns, and steps as a whole
-
--- such a world and such a session, and each turn in the step is on the replay
-abbrev pub StepLeaves : Scene → Scene → ℕ → Type 0
-StepLeaves c next r = Keeps (next.world, next.story) × IsInHand next r × (more : List HadTurn) × NewTurns c.story next.story more × ((h : HadTurn) → Contains more h → TurnHolds h)
+-- ---- turns
 
 -- a turn that is answered
 abbrev pub AnsweredTurnsKeep : Type 0
@@ -190,14 +189,6 @@ RefusedTurnsKeep = (c : Scene) (r : ℕ) (p : Participant) (view : View) (end : 
     → c.world.replicas ≡ Some r → participant c.world c.session.by ≡ Some p → p.agent.view ≡ Some view → IsRefusal end
     → TakesTurn c.world.now p.agent view (fails_next p.keeper) c.session end after saving t
     → StepLeaves c (record c { world = world_after c.world (after_turn p after saving); session = t; began = record c.began { knew = known_of c.story p.name } }) r
-
--- Where turns leave such a world and such a session, and it can be told whether blocks are a snapshot, so does each step.
-abbrev pub StepsKeepByTurns : Type 0
-StepsKeepByTurns = SnapshotsAreDecided → AnsweredTurnsKeep → RefusedTurnsKeep → StepsKeep
-
--- So each step does, if of any blocks it can be told whether they are a snapshot.
-abbrev pub EachStepKeeps : Type 0
-EachStepKeeps = SnapshotsAreDecided → StepsKeep
 
 -- ---- replies
 
@@ -223,9 +214,13 @@ CanBeDone w _ = Unit {0}
 abbrev pub EachLineDoesSomething : Type 0
 EachLineDoesSomething = (w : World) (line : List ℕ) → IfSome (command_of line) (CanBeDone w) → HasStory Keeps w → (outcome : Outcome World) × SeenStep Keeps IvyStep w line outcome
 
+-- the line makes no snapshot
+abbrev pub MakesNoSnapshot : List ℕ → Type 0
+MakesNoSnapshot line = (log : List ℕ) → command_of line ≢ Some (command.Snap log)
+
 -- So each script that makes no snapshot has a run.
 abbrev pub EachScriptHasARun : Type 0
-EachScriptHasARun = (w : World) (number : ℕ) (lines : List (List ℕ)) → AllByRecursion (λ line. (log : List ℕ) → command_of (shown line) ≢ Some (command.Snap log)) lines → HasStory Keeps w
+EachScriptHasARun = (w : World) (number : ℕ) (lines : List (List ℕ)) → AllByRecursion (λ line. MakesNoSnapshot (shown line)) lines → HasStory Keeps w
     → (ran : Ran) × Runs (SeenStep Keeps IvyStep) w number lines ran
 
 -- ---- one run
@@ -288,7 +283,7 @@ KeptOnce = (k l : Kept) → IsKept k → IsKept l → kept_bytes k ≡ kept_byte
 
 -- A line that makes no snapshot leaves a world without one so.
 abbrev pub NoSnapshotComes : Type 0
-NoSnapshotComes = (w next : Played) (line output : List ℕ) → Keeps w → HasNoSnapshot w.0 → ((log : List ℕ) → command_of line ≢ Some (command.Snap log)) → IvyStep w line (Goes next output) → HasNoSnapshot next.0
+NoSnapshotComes = (w next : Played) (line output : List ℕ) → Keeps w → HasNoSnapshot w.0 → MakesNoSnapshot line → IvyStep w line (Goes next output) → HasNoSnapshot next.0
 
 -- ---- keys
 
@@ -396,12 +391,12 @@ WholePublishingKeeps = (w : Played) (r : ℕ) (p : Participant) (next : Played) 
 
 -- ---- lines of calls
 
--- Where each step leaves such a world and such a session, so do many, and all up to the end: each turn in them is on the replay.
+-- Many steps of a session in hand leave such a world and such a session, and so do all up to the end; each turn in them is on the replay.
 abbrev pub ManyStepsKeep : Type 0
-ManyStepsKeep = StepsKeep → (c next : Scene) (r count : ℕ) → Keeps (c.world, c.story) → IsInHand c r → c.world.replicas ≡ Some r → StepsOn hss_judged r c.session.by count c next → StepLeaves c next r
+ManyStepsKeep = (c next : Scene) (r count : ℕ) → Keeps (c.world, c.story) → IsInHand c r → c.world.replicas ≡ Some r → StepsOn hss_judged r c.session.by count c next → StepLeaves c next r
 
 abbrev pub AllStepsKeep : Type 0
-AllStepsKeep = StepsKeep → (c next : Scene) (r : ℕ) → Keeps (c.world, c.story) → IsInHand c r → c.world.replicas ≡ Some r → RunsOut hss_judged r c.session.by c next → StepLeaves c next r
+AllStepsKeep = (c next : Scene) (r : ℕ) → Keeps (c.world, c.story) → IsInHand c r → c.world.replicas ≡ Some r → RunsOut hss_judged r c.session.by c next → StepLeaves c next r
 
 -- the commands by which sessions go on
 abbrev pub IsCall : Command → Type 0
@@ -410,29 +405,13 @@ IsCall (command.Step session count) = Unit {0}
 IsCall (command.Finish session) = Unit {0}
 IsCall _ = ⊥
 
--- Then these leave such a world, and the headline holds of them.
+-- They leave such a world, and the headline holds of them.
 abbrev pub CallLinesKeep : Type 0
-CallLinesKeep = StepsKeep → (c : Command) (w next : Played) (output : List ℕ) → IsCall c → Keeps w → Does hss_judged w c (Goes next output) → Keeps next × HoldsOf w c next output
-
--- So does each line that makes no snapshot.
-abbrev pub MakesNoSnapshot : List ℕ → Type 0
-MakesNoSnapshot line = (log : List ℕ) → command_of line ≢ Some (command.Snap log)
-
-abbrev pub LinesKeepBySteps : Type 0
-LinesKeepBySteps = StepsKeep → (w next : Played) (line output : List ℕ) → MakesNoSnapshot line → Keeps w → IvyStep w line (Goes next output) → Keeps next
+CallLinesKeep = (c : Command) (w next : Played) (output : List ℕ) → IsCall c → Keeps w → Does hss_judged w c (Goes next output) → Keeps next × HoldsOf w c next output
 
 -- In no other command a turn is had, whatever the world.
 abbrev pub OthersHaveNoTurn : Type 0
 OthersHaveNoTurn = (c : Command) (w next : Played) (output : List ℕ) → (IsCall c → ⊥) → Does hss_judged w c (Goes next output) → next.1.turns ≡ w.1.turns
-
--- So the headline holds of each line.
-abbrev pub HeadlineBySteps : Type 0
-HeadlineBySteps = StepsKeep → HeadlineHolds
-
--- So, in a script that makes no snapshot, it holds of each line of a run.
-abbrev pub ScriptsBySteps : Type 0
-ScriptsBySteps = StepsKeep → (w : Played) (number : ℕ) (lines : List (List ℕ)) (ran : Ran) → AllByRecursion (λ line. MakesNoSnapshot (shown line)) lines → Keeps w → Runs IvyStep w number lines ran
-    → Runs (WithLaw IvyStep Headline) w number lines ran
 
 -- ---- what turns save
 

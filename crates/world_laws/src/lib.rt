@@ -1,10 +1,10 @@
 //! What holds of each world that a script reaches, of each reply, and of runs.
 //!
-//! Layer: statements and their first laws, above `world_model` and `session_laws`; below the crates that prove the others and
-//! play scripts.
+//! Layer: laws, above `world_model` and `session_laws`; below the crates that play scripts.
 //! Statements, in reading order: `specs/Headline.antt` (each reply), `specs/Causes.antt` (why a session says what it
-//! says), `specs/Keeps.antt` (each world), `specs/Kinds.antt` (which lines are
-//! refused), `specs/Laws.antt` (steps and runs), `specs/Frames.antt` (what may change of a world that keeps what it should), `specs/Calm.antt` (rings that change little).
+//! says), `specs/Keeps.antt` (each world), `specs/Kinds.antt` (which lines are refused), `specs/Laws.antt` (steps and
+//! runs), `specs/Frames.antt` (what may change of a world that keeps what it should), `specs/Calm.antt` (rings that
+//! change little; some of these are stated alone).
 //! For the layers above, of a session in a world that keeps what it should (`Keeps`), where names tell the blocks apart: a
 //! refresh that is done brings what its heads name, and its turn may be held to the definition; its next step is that turn, and
 //! no other; a turn is refused once at most, and never where the session began with no snapshot to load and no basis.
@@ -24,19 +24,15 @@
 //! `proofs/TurnsKnown.antt` (what an agent knows after a turn), `proofs/TurnsSets.antt` (the set that a turn leaves),
 //! `proofs/TurnsFloors.antt` (a floor with a front joined into it), `proofs/TurnsTaken.antt` (a turn's candidates are one
 //! list), `proofs/TurnsRefresh.antt` (a refresh ends in one way, whatever names tell), `proofs/AnsweredTurns.antt` and
-//! `proofs/RefusedTurns.antt` (turns keep the world), and few). That something can be done: `proofs/ExistingPlans.antt` (whom
-//! a put asks), `proofs/ExistingFates.antt` (an ask has a fate), `proofs/ExistingPuts.antt` and
-//! `proofs/ExistingSessions.antt` (sessions to their end), `proofs/ExistingAsks.antt` (look-ups and whole puts),
-//! `proofs/ExistingRounds.antt` and `proofs/ExistingRepairs.antt` (rounds), `proofs/ExistingMessages.antt` (what becomes of a
-//! message), `proofs/SnapBounds.antt` and `proofs/SnapSpelled.antt` (what a closed set stands for, and what an agent holds,
-//! has a spelling as a snapshot), `proofs/TurnsWorld.antt` (a participant that changes by a turn, whose open sessions stay),
-//! `proofs/TurnsKnown.antt` (what an agent knows after a turn), `proofs/TurnsSets.antt` (the set that a turn leaves),
-//! `proofs/TurnsFloors.antt` (a floor with a front joined into it), `proofs/TurnsTaken.antt` (a turn's candidates are one
-//! list), `proofs/TurnsRefresh.antt` (a refresh ends in one way, whatever names tell), `proofs/AnsweredTurns.antt` and
-//! `proofs/RefusedTurns.antt` (turns keep the world), `proofs/CalmNodes.antt`, `CalmPuts.antt`, `CalmGets.antt` (a ring that
-//! stays: what its nodes hold, and what puts and gets come to in it), `proofs/CalmStates.antt` and those up to
-//! `CalmCommands.antt` (each step and each line keeps that), `proofs/CalmRounds.antt` (stops, joins and rounds),
-//! `proofs/LineKeys.antt` (the key of a log that a line begins can be saved).
+//! `proofs/RefusedTurns.antt` (turns keep the world), `proofs/SnapBounds.antt` and `proofs/SnapSpelled.antt` (what a closed set
+//! stands for, and what an agent holds, has a spelling as a snapshot).
+//! That something can be done: `proofs/ExistingPlans.antt` (whom a course asks, as that of a put), `proofs/ExistingFates.antt`
+//! (an ask has a fate), `proofs/ExistingPuts.antt` and `proofs/ExistingSessions.antt` (sessions to their end),
+//! `proofs/ExistingAsks.antt` (look-ups and whole puts), `proofs/ExistingRounds.antt` and `proofs/ExistingRepairs.antt`
+//! (rounds), `proofs/ExistingMessages.antt` (what becomes of a message).
+//! That a ring stays: `proofs/CalmNodes.antt`, `CalmPuts.antt`, `CalmGets.antt` (what its nodes hold, and what puts and gets
+//! come to in it), `proofs/CalmStates.antt` and those up to `CalmCommands.antt` (each step and each line keeps that),
+//! `proofs/CalmRounds.antt` (stops, joins and rounds).
 //! That memory may be there: `proofs/FullLoads.antt`, `proofs/FullFetches.antt` and `proofs/FullRefreshes.antt` (a refresh wants
 //! something finitely often), `proofs/FullPlans.antt` (whom a get asks), `proofs/FullGets.antt` and `proofs/FullRuns.antt` (a
 //! refresh runs out), `proofs/FullTurns.antt` (its turn, where that exists, is the next step) and `proofs/FullSessions.antt`.
@@ -48,9 +44,9 @@
 #![tactic(auto)]
 
 ghost use Rattle.world_laws.specs.Calm.{AckedIsHeld, AreAny, BlocksAreGiven, HasSameRing, HeadsAreGiven, RingStays};
-ghost use Rattle.world_laws.specs.Frames.{DamageLinesKeep, EachReplyBySteps, HeadlineOfRuns, JoinLinesKeep, KeeperLinesKeep, LinesKeepByThese, LogLinesKeep, MildChangesKeep, MoreBlocksKeep, RestartLinesKeep, RingLinesKeep, RoundLinesKeep, StillLinesKeep, StopLinesKeep, UseLinesKeep, ViewLinesKeep};
+ghost use Rattle.world_laws.specs.Frames.{DamageLinesKeep, JoinLinesKeep, KeeperLinesKeep, LogLinesKeep, MildChangesKeep, MoreBlocksKeep, RestartLinesKeep, RingLinesKeep, RoundLinesKeep, StillLinesKeep, StopLinesKeep, UseLinesKeep, ViewLinesKeep};
 ghost use Rattle.world_laws.specs.Kinds.{LineHasOneKind};
-ghost use Rattle.world_laws.specs.Laws.{AlikeTurnsAnswerAlike, AllStepsKeep, AnsweredTurnsKeep, CallLinesKeep, CallsBegin, ClashIsDecided, DoneRefreshesStep, EachLineDoesSomething, EachReplyIsOnReplay, EachScriptHasARun, EachSessionEnds, EachStepKeeps, EmptyKeeps, FewerStayApart, FreshTurnsAreAnswered, FullRunsAreOne, GetsBringKeep, GetsGoOnKeep, HeadlineBySteps, HeadlineHolds, HeadsAreSavedFirst, HeldIsSpelled, KeptOnce, KnownIsOne, LackingKeeps, LackingStepsKeep, LeafSignsOnce, LinesKeep, LinesKeepBySteps, ManyStepsAreOne, ManyStepsKeep, MetGrows, NoSnapshotComes, OneTruth, OpenLineKeeps, OtherLogsDontCount, OthersHaveNoTurn, PublishingIsOne, PublishingKeeps, PutsKeep, ReceivingKeeps, RefreshBrings, RefreshEndsInTurn, RefreshMayTurn, RefreshesEnd, RefreshesRunOut, RefusedTurnsKeep, ScriptsBySteps, SecondTurnIsAnswered, SessionsEndOnce, SessionsGoFully, SessionsStepOnce, SettlingKeeps, SnapLinesKeep, StepsAreOne, StepsKeep, StepsKeepByTurns, StillLinesChangeNothing, TakingKeeps, TurnsAreSaved, UpperLeavesSignOnce, VainAsksKeep, WholePublishingKeeps};
+ghost use Rattle.world_laws.specs.Laws.{AlikeTurnsAnswerAlike, AllStepsKeep, AnsweredTurnsKeep, CallLinesKeep, CallsBegin, ClashIsDecided, DoneRefreshesStep, EachLineDoesSomething, EachReplyIsOnReplay, EachScriptHasARun, EachSessionEnds, EmptyKeeps, FewerStayApart, FreshTurnsAreAnswered, FullRunsAreOne, GetsBringKeep, GetsGoOnKeep, HeadlineHolds, HeadsAreSavedFirst, HeldIsSpelled, KeptOnce, KnownIsOne, LackingKeeps, LackingStepsKeep, LeafSignsOnce, LinesKeep, ManyStepsAreOne, ManyStepsKeep, MetGrows, NoSnapshotComes, OneTruth, OpenLineKeeps, OtherLogsDontCount, OthersHaveNoTurn, PublishingIsOne, PublishingKeeps, PutsKeep, ReceivingKeeps, RefreshBrings, RefreshEndsInTurn, RefreshMayTurn, RefreshesEnd, RefreshesRunOut, RefusedTurnsKeep, SecondTurnIsAnswered, SessionsEndOnce, SessionsGoFully, SessionsStepOnce, SettlingKeeps, SnapLinesKeep, StepsAreOne, StepsKeep, StillLinesChangeNothing, TakingKeeps, TurnsAreSaved, UpperLeavesSignOnce, VainAsksKeep, WholePublishingKeeps};
 
 /// A law and no code: of any blocks, names tell them apart, or two of them clash.
 pub fn clashes_are_decided()
@@ -174,8 +170,7 @@ pub fn lines_of_participants_keep()
 {}
 
 /// Laws and no code: an ask of a put or of a get, whatever it brings, one that isn't heard, settling, what is at hand taken, and the
-/// end for want of memory of a session in hand leave such a world and such a session; and so do more heads received. Where there is
-/// a snapshot to load, that asks that of any blocks it can be told whether they are one.
+/// end for want of memory of a session in hand leave such a world and such a session; and so do more heads received.
 pub fn some_steps_keep()
     ensures puts { PutsKeep }
     ensures gets_go_on { GetsGoOnKeep }
@@ -213,28 +208,9 @@ pub fn turns_keep()
     ensures refused { RefusedTurnsKeep }
 {}
 
-/// A law and no code: each step leaves such a world and such a session, and a turn in it is on the replay, if of any blocks it
-/// can be told whether they are a snapshot.
-pub fn steps_keep()
-    ensures { EachStepKeeps }
-{}
-
-/// A law and no code: where turns, answered or refused, leave such a world and such a session, so does each step, if of any
-/// blocks it can be told whether they are a snapshot.
-pub fn steps_left()
-    ensures { StepsKeepByTurns }
-{}
-
-/// Laws and no code: what is left to be shown of lines. Where the command that snaps and those by which sessions go on leave
-/// such a world, so does each line; and where each line does, and the headline holds of each, it holds of each line of a run.
-pub fn lines_left()
-    ensures lines { LinesKeepByThese }
-    ensures runs { HeadlineOfRuns }
-{}
-
-/// Laws and no code: where each step of a session in hand leaves a world that keeps what it should and such a session, so do
-/// many steps, and all up to the end, and each turn in them is on the replay; and the lines by which sessions go on leave such
-/// a world, and the headline holds of them.
+/// Laws and no code: many steps of a session in hand, and all up to the end, leave a world that keeps what it should and such a
+/// session, and each turn in them is on the replay; and the lines by which sessions go on leave such a world, and the headline
+/// holds of them.
 pub fn lines_of_calls_keep()
     ensures many { ManyStepsKeep }
     ensures all { AllStepsKeep }
@@ -244,16 +220,6 @@ pub fn lines_of_calls_keep()
 /// A law and no code: in a command by which no session goes on no turn is had, whatever the world.
 pub fn other_lines_have_no_turn()
     ensures { OthersHaveNoTurn }
-{}
-
-/// Laws and no code: where each step leaves such a world and such a session, each line but one that makes a snapshot leaves
-/// such a world, and the headline holds of each line; so it holds of each line of a run of a script that makes none, and of any
-/// script, if the line that makes one leaves such a world too.
-pub fn headline_by_steps()
-    ensures lines { LinesKeepBySteps }
-    ensures headline { HeadlineBySteps }
-    ensures scripts { ScriptsBySteps }
-    ensures all { EachReplyBySteps }
 {}
 
 /// Laws and no code: from a world that some story fits each open session can be brought to its end, and each line has an outcome,

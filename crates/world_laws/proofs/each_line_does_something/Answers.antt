@@ -1,6 +1,6 @@
+use Rattle.world_laws.proofs.EachLine.{each_line_keeps}
 use Rattle.world_laws.proofs.Existing.{each_line_does_something, each_script_has_a_run}
 use Rattle.world_laws.proofs.ExistingSessions.{each_session_ends}
-use Rattle.world_laws.proofs.SnapWhole.{each_line_keeps}
 use Rattle.world_laws.proofs.each_line_does_something.Goals as goal
 
 pub returns-clause-sessions : goal.returns-clause-sessions

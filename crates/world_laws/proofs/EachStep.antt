@@ -1,8 +1,6 @@
--- Where turns leave a world that keeps what it should, and such a session, so does each step.
-use Rattle.std.proofs.Common.{◌≡◌, inl, ℕ, Bool, true, false, List, [], ◌∷◌, ◌++◌, length, length-append, Option, Some, None, refl, sym, ap, ◌∙◌, subst, arith}
-use Rattle.std.specs.Prelude.{IfSome}
+-- Each step leaves a world that keeps what it should, and such a session, and a turn in it is on the replay.
+use Rattle.std.proofs.Common.{◌≡◌, inl, ℕ, Bool, true, false, List, [], ◌∷◌, ◌++◌, length, length-append, Option, Some, refl, sym, ap, ◌∙◌, subst, arith}
 use Rattle.std.proofs.lemmas.List.{append-nil}
-use Rattle.ivy_base.specs.declared.key.Key.{Key}
 use Rattle.log_heads.specs.Signed.{hss_judged}
 use Rattle.log_model.proofs.Lists.{each, in_nothing}
 use Rattle.dht_ids.specs.declared.ask.Answer.{Answer}
@@ -17,21 +15,22 @@ use Rattle.session_model.specs.Sessions.{Cache, Hears, Over, Publishing, Refresh
 use Rattle.session_model.specs.Sessions.Hears.{gets_on, got, puts_on, puts}
 use Rattle.session_model.specs.Sessions.TakesAll.{none as takes_none, more as takes_more}
 use Rattle.session_model.specs.Sessions.TakesSome.{none as some_none, more as some_more}
-use Rattle.session_laws.specs.Going.{SnapshotsAreDecided}
 use Rattle.world_model.specs.Fates.{FateOf}
 use Rattle.world_model.specs.World.{World, Participant, participant, with_participant}
 use Rattle.world_model.specs.Story.{Story}
-use Rattle.world_model.specs.Steps.{Acts, Scene, Steps, acked_by, ask_told, with_cache}
+use Rattle.world_model.specs.Steps.{Acts, Scene, acked_by, ask_told, with_cache}
 use Rattle.world_model.specs.Steps.Acts.{asks, asks_in_vain, turns, is_refused, settles}
 use Rattle.world_model.specs.Steps.Steps.{acts, lacks_memory}
 use Rattle.world_laws.specs.Causes.HasCause.{missed as missed_cause}
 use Rattle.world_laws.specs.Keeps.{IsInHand, Keeps}
-use Rattle.world_laws.specs.Laws.{AnsweredTurnsKeep, RefusedTurnsKeep, StepLeaves, StepsKeepByTurns}
+use Rattle.world_laws.specs.Laws.{StepLeaves, StepsKeep}
+use Rattle.world_laws.proofs.AnsweredTurns.{answered_turns_keep}
 use Rattle.world_laws.proofs.Bringing.{found_named}
 use Rattle.world_laws.proofs.Frames.{found_placed}
 use Rattle.world_laws.proofs.GetsBring.{gets_bring_keep}
 use Rattle.world_laws.proofs.InHand.{gets_go_on_keep, puts_keep, settling_keeps, vain_asks_keep}
 use Rattle.world_laws.proofs.LackingSteps.{lacking_steps_keep, sound_taken}
+use Rattle.world_laws.proofs.RefusedTurns.{refused_turns_keep}
 use Rattle.world_laws.proofs.Taking.{HasTaken, takes_some_so}
 use Rattle.world_laws.proofs.TakingOn.{taking_keeps}
 
@@ -43,10 +42,6 @@ without_turns c next r h same = (h.0, h.1, [], same ∙ sym (append-nil c.story.
 pub all_some : {r : ℕ} {s t : Session} {cache after : Cache} → TakesAll hss_judged r s cache t after → TakesSome hss_judged r s cache t after
 all_some (takes_none none) = some_none
 all_some (takes_more first rest) = some_more first (all_some rest)
-
-pub decided_for : SnapshotsAreDecided → (o : Option Key) → IfSome o (λ root. SnapshotsAreDecided)
-decided_for decided None = tt
-decided_for decided (Some root) = decided
 
 -- ---- a refresh that fails
 
@@ -94,7 +89,7 @@ fails_nothing : (s t : Session) → (s.stage ≡ Refreshing → ⊥) → Fails s
 fails_nothing s _ other (refresh_fails notes given miss xid asked at refreshes asks_it) = absurd (other at)
 fails_nothing s _ other (refresh_goes not) = refl
 
-module _ (decided : SnapshotsAreDecided) (c : Scene) (r : ℕ) (p : Participant) (keeps : Keeps (c.world, c.story)) (hand : IsInHand c r) (ringed : c.world.replicas ≡ Some r) (is_p : participant c.world c.session.by ≡ Some p)
+module _ (c : Scene) (r : ℕ) (p : Participant) (keeps : Keeps (c.world, c.story)) (hand : IsInHand c r) (ringed : c.world.replicas ≡ Some r) (is_p : participant c.world c.session.by ≡ Some p)
     (node : Peer) (question : Ask) (answer : Answer) (next : World) (fate : FateOf hss_judged c.world node question answer next) where
   abbrev scene : Session → Session → Cache → Scene
   scene told_by t cache = record { world = with_participant next (record p { cache = cache }); story = ask_told c.story p.name c.session told_by; session = t; began = c.began }
@@ -115,7 +110,7 @@ module _ (decided : SnapshotsAreDecided) (c : Scene) (r : ℕ) (p : Participant)
   asked_so _ t _ (gets_on want wants asks_next part) goes =
       gone_on _ t p.cache wants.0 goes (gets_go_on_keep c r p node question answer next _ p.cache keeps hand ringed is_p wants.0 refl fate (gets_on want wants asks_next part))
   asked_so _ t _ (got want brought wants asks_next whole) goes =
-      gets_bring_keep c r p node question answer next _ t _ keeps hand ringed is_p wants.0 (not_longer c.session.parts _) (decided_for decided c.session.standing.to_load) fate (got want brought wants asks_next whole) goes
+      gets_bring_keep c r p node question answer next _ t _ keeps hand ringed is_p wants.0 (not_longer c.session.parts _) fate (got want brought wants asks_next whole) goes
   asked_so _ t _ (puts_on said q posts acks at asks_next part) goes =
       subst (λ (u : Session). Left u p.cache) (sym (fails_nothing _ t (publishing_now c.session said (q ∷ posts) acks at) goes))
       (puts_keep c r p node question answer next _ p.cache keeps hand ringed is_p (publishing_now c.session said (q ∷ posts) acks at) fate (puts_on said q posts acks at asks_next part))
@@ -125,32 +120,28 @@ module _ (decided : SnapshotsAreDecided) (c : Scene) (r : ℕ) (p : Participant)
 
 -- ---- steps
 
-module _ (decided : SnapshotsAreDecided) (answered_turns : AnsweredTurnsKeep) (refused_turns : RefusedTurnsKeep) where
-  acts_so : (c next : Scene) (r : ℕ) (p : Participant) → Keeps (c.world, c.story) → IsInHand c r → c.world.replicas ≡ Some r → participant c.world c.session.by ≡ Some p → Acts hss_judged r p c next → StepLeaves c next r
-  acts_so c _ r p keeps hand ringed is_p (asks node question answer next heard t cache fate hears goes) =
-      leaves_so decided c r p keeps hand ringed is_p node question answer next fate t cache (asked_so decided c r p keeps hand ringed is_p node question answer next fate heard t cache hears goes)
-  acts_so c _ r p keeps hand ringed is_p (asks_in_vain node question answer next heard t cache fate hears lacking) =
-      without_turns c (record c { world = next; session = t }) r (vain_asks_keep c r p node question answer next heard t cache keeps hand ringed is_p fate hears lacking) refl
-  acts_so c _ r p keeps hand ringed is_p (turns view reply applied after saving t turned in_view takes replies is_turn) = answered_turns c r p view reply applied after saving t turned keeps hand ringed is_p in_view takes replies is_turn
-  acts_so c _ r p keeps hand ringed is_p (is_refused view end after saving t in_view refusal takes) = refused_turns c r p view end after saving t keeps hand ringed is_p in_view refusal takes
-  acts_so c _ r p keeps hand ringed is_p (settles after t is) =
-      without_turns c (record c { world = with_participant c.world (record p { agent = after }); session = t }) r (settling_keeps c r p after t keeps hand is_p is) refl
+acts_so : (c next : Scene) (r : ℕ) (p : Participant) → Keeps (c.world, c.story) → IsInHand c r → c.world.replicas ≡ Some r → participant c.world c.session.by ≡ Some p → Acts hss_judged r p c next → StepLeaves c next r
+acts_so c _ r p keeps hand ringed is_p (asks node question answer next heard t cache fate hears goes) =
+    leaves_so c r p keeps hand ringed is_p node question answer next fate t cache (asked_so c r p keeps hand ringed is_p node question answer next fate heard t cache hears goes)
+acts_so c _ r p keeps hand ringed is_p (asks_in_vain node question answer next heard t cache fate hears lacking) =
+    without_turns c (record c { world = next; session = t }) r (vain_asks_keep c r p node question answer next heard t cache keeps hand ringed is_p fate hears lacking) refl
+acts_so c _ r p keeps hand ringed is_p (turns view reply applied after saving t turned in_view takes replies is_turn) = answered_turns_keep c r p view reply applied after saving t turned keeps hand ringed is_p in_view takes replies is_turn
+acts_so c _ r p keeps hand ringed is_p (is_refused view end after saving t in_view refusal takes) = refused_turns_keep c r p view end after saving t keeps hand ringed is_p in_view refusal takes
+acts_so c _ r p keeps hand ringed is_p (settles after t is) =
+    without_turns c (record c { world = with_participant c.world (record p { agent = after }); session = t }) r (settling_keeps c r p after t keeps hand is_p is) refl
 
-  step_so : (c next : Scene) (r : ℕ) → Keeps (c.world, c.story) → IsInHand c r → c.world.replicas ≡ Some r → Steps hss_judged r c.session.by c next → StepLeaves c next r
-  step_so c _ r keeps hand ringed (acts p taken cache next is_p takes act) =
-      acts_so (with_cache hss_judged r c p taken cache) next r (record p { cache = cache }) then_so.0 then_so.1 ringed found act
-    where
-      then_so : Keeps (with_participant c.world (record p { cache = cache }), c.story) × IsInHand (record c { world = with_participant c.world (record p { cache = cache }); session = taken }) r
-      then_so = taking_keeps c r p taken cache keeps hand is_p (decided_for decided c.session.standing.to_load) (all_some takes)
+pub each_step_keeps : StepsKeep
+each_step_keeps c _ r keeps hand ringed (acts p taken cache next is_p takes act) =
+    acts_so (with_cache hss_judged r c p taken cache) next r (record p { cache = cache }) then_so.0 then_so.1 ringed found act
+  where
+    then_so : Keeps (with_participant c.world (record p { cache = cache }), c.story) × IsInHand (record c { world = with_participant c.world (record p { cache = cache }); session = taken }) r
+    then_so = taking_keeps c r p taken cache keeps hand is_p (all_some takes)
 
-      has : HasTaken c.world.met c.session taken cache
-      has = takes_some_so c.world.met (all_some takes) hand.goes_on.pending (each _ c.world.participants p keeps.met.cached (found_named c.world.participants c.session.by p is_p).0)
+    has : HasTaken c.world.met c.session taken cache
+    has = takes_some_so c.world.met (all_some takes) hand.goes_on.pending (each _ c.world.participants p keeps.met.cached (found_named c.world.participants c.session.by p is_p).0)
 
-      found : participant (with_participant c.world (record p { cache = cache })) taken.by ≡ Some (record p { cache = cache })
-      found = subst (λ (u : Session). participant (with_participant c.world (record p { cache = cache })) u.by ≡ Some (record p { cache = cache })) (sym has.is)
-          (found_placed c.world keeps.apart c.session.by p is_p (record p { cache = cache }) refl)
-  step_so c _ r keeps hand ringed (lacks_memory p taken t cache is_p takes lacking) =
-      without_turns c (with_cache hss_judged r c p t cache) r (lacking_steps_keep c r p taken t cache keeps hand is_p takes lacking) refl
-
-pub steps_keep_by_turns : StepsKeepByTurns
-steps_keep_by_turns decided answered_turns refused_turns c next r keeps hand ringed step = step_so decided answered_turns refused_turns c next r keeps hand ringed step
+    found : participant (with_participant c.world (record p { cache = cache })) taken.by ≡ Some (record p { cache = cache })
+    found = subst (λ (u : Session). participant (with_participant c.world (record p { cache = cache })) u.by ≡ Some (record p { cache = cache })) (sym has.is)
+        (found_placed c.world keeps.apart c.session.by p is_p (record p { cache = cache }) refl)
+each_step_keeps c _ r keeps hand ringed (lacks_memory p taken t cache is_p takes lacking) =
+    without_turns c (with_cache hss_judged r c p t cache) r (lacking_steps_keep c r p taken t cache keeps hand is_p takes lacking) refl
