@@ -98,7 +98,7 @@ module _ (c : Scene) (r : ℕ) (old : Shown) (way : IsUnderWay c r) (shows : Sho
   asks_step laws new after later node question h asked whole =
       let wants = wants_there h in
       let step = laws.asks judges c r shows.p old.call.session mid.session new.session between.cache after.cache node question asked.answer old.nodes later (scene_of c r old way shows is_untold) is_untold.asked wants
-          shows.nodes asked.fate asked.heard.heard in
+          shows.nodes asked.fate asked.heard.heard asked.heard.no_turn in
       by_step c r old way shows laws (shown new later after old.met old.now) (record shows.p { cache = after.cache }) c.world.met is_untold step
       (left_is step.left whole (λ t may lacking session. may))
       (record {

@@ -7,3 +7,4 @@ mod Many
 mod Begun
 mod Lines
 mod Parts
+mod Arms

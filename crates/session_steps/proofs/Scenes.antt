@@ -33,7 +33,7 @@ as_told s call told is shows = subst (λ (o : Option Served). ShowsBy s call o) 
 -- where memory wasn't wanting behind it, the session in code is that one
 pub left_is : {J : Type 0} {judges : Judges J} {may : Type 0} {s : Session} {st : SessionState J} → IsLeft judges may s st → st.is_cut ≡ false → ((t : Session) → may → LacksMemory s t → IsSession judges t st → ⊥)
     → IsSession judges s st × HasAsked st s
-left_is (goes_on session asked) whole not = (session, asked)
+left_is (goes_on session asked no_turn) whole not = (session, asked)
 left_is (lacks_memory t may lacking session) whole not = absurd (not t may lacking session)
 left_is (is_cut cut) whole not = cc (cut, whole)
 

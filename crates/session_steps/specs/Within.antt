@@ -1,5 +1,5 @@
 -- What the calls within a step of a call in code say, and the laws by which that is a step of each scene that is shown.
-use Rattle.std.specs.Prelude.{◌≡◌, ◌≢◌, ◌<◌, ℕ, true, false, List, Option, Some, None, Result, Ok, Err, IfSome, IsSomeAnd}
+use Rattle.std.specs.Prelude.{◌≡◌, ◌≢◌, ◌<◌, ◌+◌, ℕ, is_some, if◌then◌else◌, true, false, List, Option, Some, None, Result, Ok, Err, IfSome, IsSomeAnd}
 use Rattle.ivy_base.specs.declared.operation.Moment.{Moment}
 use Rattle.log_heads.specs.Signed.{hss_judged}
 use Rattle.log_heads.specs.declared.judge.HssJudge.{HssJudge}
@@ -16,6 +16,7 @@ use Rattle.log_fetch.specs.Standings.{asked_of, refresh_of}
 use Rattle.ivy_agent.specs.Answering.{IsCall}
 use Rattle.ivy_agent.specs.Turns.{IsFetchedIn}
 use Rattle.ivy_session.specs.declared.session.Next.{Next}
+use Rattle.ivy_session.specs.Left.{LeavesNoMore, session_left}
 use Rattle.ivy_session.specs.States.{asked_at, is_turning, session_awaited}
 use Rattle.ivy_session.specs.Stepping.{IsHeard, IsNext, IsTurned}
 use Rattle.ring_nodes.specs.NodesState.{BringsOnly, IsNodesOf, NodesState, made_peers, with_nodes}
@@ -28,7 +29,7 @@ use Rattle.world_model.specs.Steps.{RunsOut, Scene, StepsOn, met_by}
 use Rattle.world_model.specs.World.{World}
 use Rattle.world_laws.specs.Laws.{PublishingKeeps, StepsKeep}
 use Rattle.step_laws.specs.Laws.{AsksAreSteps, DoneIsOver, NextAskedAreMade, RepliesAreRead, SettlingsAreSteps, StepsAreOfOneCall, TurnsAreSteps, TurnsMayBe}
-use Rattle.session_steps.specs.Showing.{CallState, IsUnderWay, Leaves, Shown, Shows, judges}
+use Rattle.session_steps.specs.Showing.{CallState, IsUnderWay, Leaves, Shown, Shows, StepsFrom, judges}
 
 -- ---- the laws
 
@@ -44,11 +45,18 @@ pub record Laws : Type 0 where
   pub keep : StepsKeep
   pub publishing : PublishingKeeps
 
+-- ---- what is left
+
+-- it falls with each step, until it is told that the call is over
+abbrev pub left_to : CallState → ℕ
+left_to call = if is_some call.told then 0 else 1 + session_left call.session
+
 -- ---- what is wanted next
 
 -- the session and the participant's cache are changed, and nothing else
 pub record HasNext (old new : CallState) (before after : ParticipantState) (wanted : Next) : Type 0 where
   pub wants : IsNext judges old.session new.session before.cache after.cache wanted
+  pub left : LeavesNoMore old.session new.session wanted
   pub call : new ≡ record old { session = new.session }
   pub who : after ≡ record before { cache = after.cache }
 
@@ -63,6 +71,7 @@ pub record MayAsk (call : CallState) (nodes : NodesState) (node : Peer) (questio
 pub record HasHeard (old new : CallState) (before after : ParticipantState) (answer : Answer) : Type 0 where
   pub heard : IsHeard judges old.session new.session before.cache after.cache (Ok answer)
   pub no_turn : is_turning new.session.stage ≡ false
+  pub less : session_left new.session < session_left old.session
   pub call : new ≡ record old { session = new.session }
   pub who : after ≡ record before { cache = after.cache }
 
@@ -118,6 +127,7 @@ pub record IsToldOf (turned : Result Turned TurnFault) (old new : CallState) (be
   pub is_turned : IsTurned judges old.session new.session turned
   pub free : session_awaited new.session ≡ None
   pub no_turn : is_turning new.session.stage ≡ false
+  pub less : session_left new.session < session_left old.session
   pub told : new.told ≡ old.told
   pub left : LeftBy old new before after met later turned
 
@@ -127,6 +137,13 @@ pub record HasTurned (refresh : Refresh) (now : Moment) (old new : CallState) (b
   pub mid : ParticipantState
   pub took : TookTurn old refresh now turned before mid
   pub is_told : IsToldOf turned old new mid after met later
+
+-- ---- one step
+
+-- where memory is left for what is still to be put, it is a step of whichever scene was shown; and less is left
+pub record IsArm (old new : Shown) : Type 0 where
+  pub steps : new.call.session.is_cut ≡ false → StepsFrom old new
+  pub less : left_to new.call < left_to old.call
 
 -- ---- many steps
 

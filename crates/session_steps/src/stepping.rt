@@ -1,12 +1,12 @@
 //! The steps of calls.
 
-ghost use Rattle.std.specs.Prelude.{◌≡◌, ◌≢◌, ◌≤◌, true, false, None, length, Ok, Err, IfOk, IfErr, OnOk};
-ghost use Rattle.ivy_session.specs.States.{is_told, is_turning, session_awaited};
+ghost use Rattle.std.specs.Prelude.{◌≡◌, ◌≢◌, ◌≤◌, ◌<◌, true, false, None, length, Ok, Err, IfOk, IfErr, OnOk};
+ghost use Rattle.ivy_session.specs.States.{asked_at, is_told, is_turning, session_awaited};
 ghost use Rattle.ivy_session.specs.Stepping.{IsAnewFor};
 ghost use Rattle.met_blocks.specs.MetState.{MetState};
 ghost use Rattle.script_participants.specs.ParticipantState.{ParticipantState};
 ghost use Rattle.session_steps.specs.Showing.{HasScene, StepsFrom, shown};
-ghost use Rattle.session_steps.specs.Within.{CountsAsMade, GivesOf, HasAskedOf, HasHeard, HasNext, HasTurned, IsToldOf, Laws, MayAsk, MayTurn, TookTurn};
+ghost use Rattle.session_steps.specs.Within.{CountsAsMade, GivesOf, HasAskedOf, HasHeard, HasNext, HasTurned, IsArm, IsToldOf, Laws, MayAsk, MayTurn, TookTurn, left_to};
 
 use crate::open::OpenCall;
 use dht_ids::{Answer, Ask, Peer};
@@ -24,7 +24,7 @@ use step_laws::{
     asked_nodes_are_made, asks_are_steps, done_is_over, replies_are_read, scenes_go_on, settlings_are_steps, turns_are_steps,
     turns_may_be,
 };
-use world_laws::{publishing_keeps, steps_keep};
+use world_laws::{headline_holds, publishing_keeps};
 
 impl OpenCall {
     /// One step of the session: an ask of a node, a turn of its agent, or a settling. A session that is over stays.
@@ -43,7 +43,8 @@ impl OpenCall {
         steps: &mut Steps<L>,
     ) -> Result<(), Memory>
         requires { HasScene (shown self.old nodes.old who.old met.old now) }
-        ensures { OnOk result (StepsFrom (shown self.old nodes.old who.old met.old now) (shown self.new nodes.new who.new met.new now)) }
+        ensures steps { OnOk result (StepsFrom (shown self.old nodes.old who.old met.old now) (shown self.new nodes.new who.new met.new now)) }
+        ensures less { OnOk result (self.old.told ≡ None → left_to self.new < left_to self.old) }
     {
         if self.is_told() {
             return Ok(());
@@ -65,7 +66,7 @@ impl OpenCall {
     ) -> Result<(), Memory>
         requires scene { HasScene (shown self.old nodes.old who.old met.old now) }
         requires untold { self.old.told ≡ None }
-        ensures { OnOk result (self.new.session.is_cut ≡ false → StepsFrom (shown self.old nodes.old who.old met.old now) (shown self.new nodes.new who.new met.new now)) }
+        ensures { OnOk result (IsArm (shown self.old nodes.old who.old met.old now) (shown self.new nodes.new who.new met.new now)) }
     {
         laws();
         match self.next(who) {
@@ -221,6 +222,13 @@ impl OpenCall {
         count_made(alloc, who, met)?;
         let may_begin_anew = self.session.may_begin_anew();
         self.session.turned(Err(fault));
+        self.begun_anew(may_begin_anew)
+    }
+
+    /// The error is want of memory to begin anew, where the session might.
+    fn begun_anew(&self, may_begin_anew: bool) -> Result<(), Memory>
+        ensures { OnOk result (may_begin_anew ≡ true → asked_at self.now.session.stage ≢ None) }
+    {
         if may_begin_anew && self.session.asked().is_none() {
             return Err(Memory);
         }
@@ -258,6 +266,6 @@ fn laws()
     replies_are_read::<HssJudge>();
     settlings_are_steps::<HssJudge>();
     done_is_over::<HssJudge>();
-    steps_keep();
+    headline_holds();
     publishing_keeps();
 }

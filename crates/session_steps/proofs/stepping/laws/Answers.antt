@@ -1,4 +1,3 @@
-use Rattle.session_laws.proofs.DecidedSnapshots.{snapshots_are_decided}
 use Rattle.session_steps.proofs.stepping.laws.Goals as goal
 
 pub returns : goal.returns
@@ -11,6 +10,6 @@ returns c = record {
   read = c.replies_are_read.ensures;
   settlings = c.settlings_are_steps.ensures;
   done = c.done_is_over.ensures;
-  keep = c.steps_keep.ensures snapshots_are_decided;
+  keep = c.headline_holds.ensures.steps;
   publishing = c.publishing_keeps.ensures.step;
 }

@@ -1,12 +1,10 @@
-use Rattle.std.proofs.Common.{rules, ◌≡◌, ◌≢◌, ◌≤◌, true, false, None, length, Ok, Err, IfOk, IfErr, OnOk, ℕ, ◌+◌, ◌-◌, ◌*◌, ◌<◌, ◌/◌, ◌%◌, Bool, nat_eq, nat_lt, List, [], ◌∷◌, ◌++◌, slice_index_or, slice_set, bit_and, bit_or, Fits, w8, w32, w64, Bor, MutBor}
-use Rattle.ivy_session.specs.States.{is_told, is_turning, session_awaited}
-use Rattle.ivy_session.specs.Stepping.{IsAnewFor}
-use Rattle.met_blocks.specs.MetState.{MetState}
-use Rattle.script_participants.specs.ParticipantState.{ParticipantState}
-use Rattle.session_steps.specs.Showing.{HasScene, StepsFrom, shown}
-use Rattle.session_steps.specs.Within.{CountsAsMade, GivesOf, HasAskedOf, HasHeard, HasNext, HasTurned, IsToldOf, Laws, MayAsk, MayTurn, TookTurn}
+use Rattle.std.proofs.Common.{Err, refl, sym, ap}
+use Rattle.log_fetch.specs.declared.turned.TurnFault.TheVariants as fault
+use Rattle.session_steps.specs.Showing.{CallState}
+use Rattle.session_steps.proofs.Parts.{told_so}
 use Rattle.session_steps.proofs.open.OpenCall.lack.Goals as goal
 
--- src/stepping.rt:200:5
 pub returns : goal.returns
-returns c = ?
+returns c who met = told_so (Err fault.Memory) c.args.self.now (record { session = c.turned.new.self; given = c.self.inside.given; told = c.self.inside.told }) who who met met c.self.inside.session
+    (ap (λ (call : CallState). call.session) c.self.view_is) c.turned.ensures.turned c.turned.ensures.free c.turned.ensures.turning c.turned.ensures.left (ap (λ (call : CallState). call.told) c.self.view_is)
+    (record { given = ap (λ (call : CallState). call.given) c.self.view_is; who = refl; blocks = refl })

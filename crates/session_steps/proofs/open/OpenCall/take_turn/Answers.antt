@@ -1,12 +1,16 @@
-use Rattle.std.proofs.Common.{rules, ◌≡◌, ◌≢◌, ◌≤◌, true, false, None, length, Ok, Err, IfOk, IfErr, OnOk, ℕ, ◌+◌, ◌-◌, ◌*◌, ◌<◌, ◌/◌, ◌%◌, Bool, nat_eq, nat_lt, List, [], ◌∷◌, ◌++◌, slice_index_or, slice_set, bit_and, bit_or, Fits, w8, w32, w64, Bor, MutBor}
-use Rattle.ivy_session.specs.States.{is_told, is_turning, session_awaited}
-use Rattle.ivy_session.specs.Stepping.{IsAnewFor}
-use Rattle.met_blocks.specs.MetState.{MetState}
-use Rattle.script_participants.specs.ParticipantState.{ParticipantState}
-use Rattle.session_steps.specs.Showing.{HasScene, StepsFrom, shown}
-use Rattle.session_steps.specs.Within.{CountsAsMade, GivesOf, HasAskedOf, HasHeard, HasNext, HasTurned, IsToldOf, Laws, MayAsk, MayTurn, TookTurn}
+use Rattle.std.proofs.Common.{ap, sym, ◌∙◌}
+use Rattle.ivy_session.specs.States.{SessionState, asked_at}
+use Rattle.log_heads.specs.declared.judge.HssJudge.{HssJudge}
+use Rattle.session_steps.specs.Showing.{CallState}
+use Rattle.session_steps.proofs.Parts.{anew_so, took_so}
 use Rattle.session_steps.proofs.open.OpenCall.take_turn.Goals as goal
 
--- src/stepping.rt:160:9
 pub turn-requires-clause-call : goal.turn-requires-clause-call
-turn-requires-clause-call g c = ?
+turn-requires-clause-call g c = c.requires.is_call c.in-Some.asked.now (sym (c.in-Some.ensures ∙ ap (λ (call : CallState). asked_at call.session.stage) c.self.view_is))
+
+pub returns-clause-took : goal.returns-clause-took
+returns-clause-took g c = took_so c.args.refresh c.args.now c.turn.result c.args.who.now c.turn.new.self c.args.self.now c.self.inside.session c.in-Some.asked.now (ap (λ (call : CallState). call.session) c.self.view_is) c.in-Some.ensures
+    c.turn.ensures.turn
+
+pub returns-clause-anew : goal.returns-clause-anew
+returns-clause-anew g c = anew_so c.args.refresh c.args.now c.turn.result c.args.who.now c.turn.new.self c.in-Some.asked.now c.requires.batch c.turn.ensures.turn
