@@ -1,5 +1,6 @@
 -- A settling of a call that is shown, and its end.
 use Rattle.std.proofs.Common.{◌≡◌, ℕ, true, false, List, Option, Some, None, refl, sym, ap, ◌∙◌, subst}
+use Rattle.std.specs.Prelude.{is_some}
 use Rattle.log_heads.specs.declared.judge.HssJudge.{HssJudge}
 use Rattle.dht_ids.specs.declared.post.Ack.{Ack}
 use Rattle.agent_model.specs.Others.{settled}
@@ -111,3 +112,10 @@ told_stays old told is c r way shows =
   where
     shows_told : (told : Served) → old.call.told ≡ Some told → ShowsSession c.session old.call → IsTold c.session old.call told
     shows_told told is shows = subst (λ (o : Option Served). ShowsBy c.session old.call o) is shows
+
+some_of : (P : Type 0) (o : Option Served) → is_some o ≡ true → ((told : Served) → o ≡ Some told → P) → P
+some_of P None is each = cc is
+some_of P (Some told) is each = each told refl
+
+pub is_told_stays : (old : Shown) → is_some old.call.told ≡ true → StepsFrom old old
+is_told_stays old is = some_of (StepsFrom old old) old.call.told is (told_stays old)

@@ -5,7 +5,7 @@ ghost use Rattle.ivy_session.specs.States.{asked_at, is_told, is_turning, sessio
 ghost use Rattle.ivy_session.specs.Stepping.{IsAnewFor};
 ghost use Rattle.met_blocks.specs.MetState.{MetState};
 ghost use Rattle.script_participants.specs.ParticipantState.{ParticipantState};
-ghost use Rattle.session_steps.specs.Showing.{HasScene, StepsFrom, shown};
+ghost use Rattle.session_steps.specs.Showing.{HasScene, ManyStepsFrom, RunsOutFrom, StepsFrom, shown};
 ghost use Rattle.session_steps.specs.Within.{CountsAsMade, GivesOf, HasAskedOf, HasHeard, HasNext, HasTurned, IsArm, IsToldOf, Laws, MayAsk, MayTurn, TookTurn, left_to};
 
 use crate::open::OpenCall;
@@ -51,6 +51,47 @@ impl OpenCall {
         }
         self.act(alloc, nodes, who, met, now, steps)?;
         self.goes_on()
+    }
+
+    /// So many steps. The error is that of [`OpenCall::step`].
+    pub fn step_on<L: Ledger>(
+        &mut self,
+        alloc: Global,
+        nodes: &mut RingNodes,
+        who: &mut Participant,
+        met: &mut MetBlocks,
+        now: Moment,
+        count: u64,
+        steps: &mut Steps<L>,
+    ) -> Result<(), Memory>
+        requires { HasScene (shown self.old nodes.old who.old met.old now) }
+        ensures { OnOk result (ManyStepsFrom count (shown self.old nodes.old who.old met.old now) (shown self.new nodes.new who.new met.new now)) }
+    {
+        laws();
+        'steps: for _ in 0..count {
+            self.step(alloc, nodes, who, met, now, steps)?;
+        }
+        Ok(())
+    }
+
+    /// All steps up to its end. The error is that of [`OpenCall::step`].
+    pub fn run_out<L: Ledger>(
+        &mut self,
+        alloc: Global,
+        nodes: &mut RingNodes,
+        who: &mut Participant,
+        met: &mut MetBlocks,
+        now: Moment,
+        steps: &mut Steps<L>,
+    ) -> Result<(), Memory>
+        requires { HasScene (shown self.old nodes.old who.old met.old now) }
+        ensures { OnOk result (RunsOutFrom (shown self.old nodes.old who.old met.old now) (shown self.new nodes.new who.new met.new now)) }
+    {
+        laws();
+        'steps: while !self.is_told() {
+            self.step(alloc, nodes, who, met, now, steps)?;
+        }
+        Ok(())
     }
 
     /// A step of a call that isn't told to be over, where memory is left for what is still to be put. The error is that of
