@@ -1,5 +1,5 @@
 -- Many steps of a call that is shown.
-use Rattle.std.proofs.Common.{◌≡◌, ◌≢◌, ◌⊎◌, inl, inr, ⊎_elim, ℕ, zero, suc, ◌<◌, List, Option, Some, None, refl, sym, ap, ◌∙◌, subst}
+use Rattle.std.proofs.Common.{◌≡◌, ◌≢◌, ◌⊎◌, inl, inr, ⊎_elim, ℕ, zero, suc, ◌<◌, false, List, Option, Some, None, refl, sym, ap, ◌∙◌, subst}
 use Rattle.std.specs.Prelude.{IsTrue, is_some}
 use Rattle.log_heads.specs.Signed.{hss_judged}
 use Rattle.session_model.specs.Sessions.{Over, Said, Session}
@@ -13,7 +13,7 @@ use Rattle.world_laws.specs.Laws.{StepsKeep}
 use Rattle.world_laws.proofs.Bringing.{found_named}
 use Rattle.world_laws.proofs.OneSteps.{over_steps}
 use Rattle.step_laws.proofs.Scenes.{twice_placed}
-use Rattle.session_steps.specs.Showing.{HasScene, IsOver, IsTold, IsUnderWay, Leaves, ManyStepsFrom, RunsOutFrom, Shown, Shows, ShowsBy, StepsFrom, StepsTo, world_left}
+use Rattle.session_steps.specs.Showing.{CallState, HasScene, IsOver, IsTold, IsUnderWay, Leaves, ManyStepsFrom, RunsOutFrom, Shown, Shows, ShowsBy, StepsFrom, StepsTo, world_left}
 use Rattle.session_steps.specs.Within.{IsReached, Laws, Reaches, ReachesOn}
 use Rattle.session_steps.proofs.Scenes.{as_told, stays}
 
@@ -123,3 +123,11 @@ reaches_end old new told reached c r way shows =
     ended : (s : Session) (o : Option Served) → IsTrue (is_some o) → ShowsBy s new.call o → (said : Option Said) × (s.stage ≡ Over said)
     ended s None told is = cc told
     ended s (Some served) told is = (is.said, is.is_over)
+
+-- it was not told yet
+pub not_told : (call : CallState) → is_some call.told ≡ false → call.told ≡ None
+not_told call = by call.told
+  where
+    by : (o : Option Served) → is_some o ≡ false → o ≡ None
+    by None none = refl
+    by (Some told) none = cc none

@@ -8,7 +8,10 @@
 //! message, [`OpenCall::publish`] one that only publishes. [`OpenCall::step`] makes one step of each scene under way that is
 //! shown, or none where it is over (`StepsFrom`), [`OpenCall::step_on`] so many, and [`OpenCall::run_out`] all up to the end
 //! (`RunsOutFrom`). [`OpenCall::shown`] is what a line shows of a call that is over. Want of memory ends all.
-//! Definitions: `specs/Showing.antt`, `specs/Ending.antt`.
+//! Definitions: `specs/Showing.antt`, `specs/Ending.antt`; within, `specs/Within.antt` (what the calls within a step say). Lemmas:
+//! `proofs/Scenes.antt` (what is shown behind a step of a scene), `proofs/Asks.antt`, `proofs/Turns.antt` and `proofs/Ends.antt`
+//! (whatever is wanted, it is a step), `proofs/Arms.antt` (and less is left), `proofs/Many.antt`; `proofs/Begun.antt` and
+//! `proofs/Lines.antt` (what is shown of its end); `proofs/Over.antt` and `proofs/Parts.antt`.
 #![tactic(auto)]
 
 mod ending;
