@@ -122,3 +122,8 @@ pub mod FullSessions
 pub mod TurnsExisting
 pub mod FullEnds
 mod Rooms
+mod PieceBytes
+mod GivenBytes
+mod ShownReplies
+mod BytesSteps
+mod QuietLines
