@@ -1,5 +1,5 @@
 -- Where names tell apart the blocks met, steps of a session leave its message and what it will say in bytes.
-use Rattle.std.proofs.Common.{◌≡◌, ◌≢◌, ℕ, Bool, true, false, List, [], ◌∷◌, ◌++◌, map, Option, Some, None, refl, sym, ap, ◌∙◌, subst}
+use Rattle.std.proofs.Common.{◌≡◌, ◌≢◌, ℕ, Bool, true, false, List, ◌∷◌, ◌++◌, Option, Some, None, refl, sym, ◌∙◌, subst}
 use Rattle.std.specs.Prelude.{IfSome}
 use Rattle.ivy_base.specs.declared.operation.Moment.{Moment}
 use Rattle.ivy_base.specs.Naming.{NamesTellApart}
@@ -12,33 +12,32 @@ use Rattle.dht_ids.specs.declared.ask.Ask.{Ask}
 use Rattle.dht_ids.specs.declared.peer.Peer.{Peer}
 use Rattle.dht_ids.specs.declared.post.Ack.{Ack}
 use Rattle.dht_ids.specs.declared.post.Post.{Post}
-use Rattle.turn_model.specs.Turn.{Turned, turn_on}
+use Rattle.turn_model.specs.Turn.{Turned}
 use Rattle.turn_laws.proofs.Turns.{closed_makes_keys}
 use Rattle.agent_model.specs.Turning.{Answered, TurnEnd}
-use Rattle.session_model.specs.Courses.{Begins, Fails, IsRefusal, LacksMemory, Settles}
+use Rattle.session_model.specs.Courses.{Fails, IsRefusal, LacksMemory, Settles}
 use Rattle.session_model.specs.Courses.Begins.{alone as begins_alone, refreshes as begins_refreshing}
 use Rattle.session_model.specs.Courses.Fails.{fails, goes_on}
 use Rattle.session_model.specs.Courses.LacksMemory.{lacks}
 use Rattle.session_model.specs.Courses.Settles.{settles as settles_all}
 use Rattle.session_model.specs.Courses.TakesTurn.{answers, begins_anew, gives_up}
 use Rattle.session_model.specs.Replies.{said_no_memory, said_of}
-use Rattle.session_model.specs.Sessions.{Cache, Hears, Over, Publishing, Refreshing, Said, Session, Stage, Takes, TakesAll, TakesSome, acknowledged, after_put, held_back}
+use Rattle.session_model.specs.Sessions.{Cache, Hears, Publishing, Said, Session, Takes, TakesAll, TakesSome, acknowledged, after_put}
 use Rattle.session_model.specs.Sessions.Hears.{gets_on, got, puts_on, puts}
 use Rattle.session_model.specs.Sessions.Takes.{posted, cached}
 use Rattle.session_model.specs.Sessions.TakesAll.{none as takes_none, more as takes_more}
 use Rattle.session_model.specs.Sessions.TakesSome.{none as some_none, more as some_more}
-use Rattle.world_model.specs.Agents.{Agent, IsTurnIn, Kept, TakesTurn, inputs, own}
+use Rattle.world_model.specs.Agents.{Agent, IsTurnIn, Kept, TakesTurn, inputs}
 use Rattle.world_model.specs.Calls.{Sending, BeginsWith}
-use Rattle.world_model.specs.Keepers.{fails_next}
-use Rattle.world_model.specs.Steps.{Acts, RunsOut, Scene, Steps, StepsOn, with_cache}
+use Rattle.world_model.specs.Steps.{Acts, RunsOut, Scene, Steps, StepsOn}
 use Rattle.world_model.specs.Steps.Acts.{asks, asks_in_vain, is_refused, settles, turns}
 use Rattle.world_model.specs.Steps.RunsOut.{is_over as runs_over, more as runs_more}
 use Rattle.world_model.specs.Steps.Steps.{acts, lacks_memory}
 use Rattle.world_model.specs.Steps.StepsOn.{is_over as steps_over, more as steps_more, none as steps_none}
-use Rattle.world_model.specs.World.{Participant, World, named_bytes, participant}
+use Rattle.world_model.specs.World.{Participant, World, named_bytes}
 use Rattle.world_laws.specs.FullRuns.{GivesBytes, IsOfBytes, IsSaidWell, given_of}
 use Rattle.world_laws.specs.FullTurns.{AreBytes}
-use Rattle.world_laws.specs.Keeps.{IsInHand, Keeps}
+use Rattle.world_laws.specs.Keeps.{Keeps}
 use Rattle.world_laws.proofs.Frames.{same_keys}
 use Rattle.world_laws.proofs.GivenBytes.{ReplyGives, turn_gives}
 use Rattle.world_laws.proofs.OneSteps.{GoesWell, apart_then, runs_names, steps_names}

@@ -1,12 +1,10 @@
 -- What the reply of a turn gives to later lines is bytes.
-use Rattle.std.proofs.Common.{◌≡◌, ℕ, ◌+◌, Bool, true, false, cond, not, ◌||◌, ◌&&◌, List, [], ◌∷◌, ◌++◌, length, take, Option, Some, None, Result, Ok, Err, refl, sym, ap, ◌∙◌, subst, arith}
+use Rattle.std.proofs.Common.{◌≡◌, ℕ, ◌+◌, Bool, true, false, cond, not, ◌||◌, ◌&&◌, List, [], ◌∷◌, ◌++◌, length, take, Option, Some, None, Result, Ok, Err, refl, ap, subst}
 use Rattle.std.specs.Prelude.{◌==◌, IfSome, flat_map, is_some, nat_le, nat_lt}
 use Rattle.std.specs.List.{AllByRecursion}
 use Rattle.ivy_base.proofs.NameLemmas.{bytes-name}
 use Rattle.ivy_base.specs.declared.key.Key.{Key}
 use Rattle.ivy_base.specs.declared.key.PubKey.{PubKey}
-use Rattle.ivy_base.specs.declared.operation.Kind.TheVariants.{Reg, Dir, Lnk}
-use Rattle.ivy_base.specs.declared.operation.Kind.{Kind}
 use Rattle.ivy_base.specs.declared.operation.Moment.{Moment}
 use Rattle.ivy_base.specs.declared.operation.Op.{Op}
 use Rattle.ivy_base.specs.declared.operation.Op.TheVariants as op
@@ -25,7 +23,6 @@ use Rattle.nfs_model.specs.declared.arguments.Args.TheVariants as call
 use Rattle.nfs_model.specs.declared.arguments.How.{How}
 use Rattle.nfs_model.specs.declared.arguments.How.TheVariants.{Unchecked, Guarded, Exclusive}
 use Rattle.nfs_model.specs.declared.arguments.SetWhat.{SetWhat}
-use Rattle.nfs_model.specs.declared.replies.Fattr.{Fattr}
 use Rattle.nfs_model.specs.declared.replies.NfsStatus.{NfsStatus}
 use Rattle.nfs_model.specs.declared.replies.NfsStatus.TheVariants.{Acces, Exist, FBig, Inval, IsDir, MLink, NameTooLong, NoEnt, NotDir, NotEmpty, NotSupp, RoFs, ServerFault}
 use Rattle.nfs_model.specs.declared.replies.Reply.{Reply}
@@ -34,9 +31,9 @@ use Rattle.nfs_model.specs.declared.replies.Tail.{Tail}
 use Rattle.nfs_model.specs.Answers.{about, unless}
 use Rattle.nfs_model.specs.Changing.{Nothing, Operations, Plan, Refuse, about as plan_about, directory_checks, finish, invalid_times, inode_under, is_changing, is_empty_under, made, made_number, may_change, may_cut, move_checks, name_checks, plan, plan_create, plan_file, plan_file_at, plan_rename_between, same_target, set_attribute_checks, standing, taken, too_large, unless as plan_unless}
 use Rattle.nfs_model.specs.Checks.{Check, is_dot, is_dot_dot}
-use Rattle.nfs_model.specs.Objects.{Object, handle_of, is_owner, may_read, may_write, object_of}
-use Rattle.nfs_model.specs.Pages.{cookie_verifier, long_length, page_checks, plain_length, read_directory, read_directory_plus}
-use Rattle.nfs_model.specs.Reading.{answer, found, found_inode, link_kind, lookup, lookup_checks, target_of, with_attributes}
+use Rattle.nfs_model.specs.Objects.{Object, is_owner, may_read, may_write, object_of}
+use Rattle.nfs_model.specs.Pages.{cookie_verifier, long_length, page_checks, plain_length}
+use Rattle.nfs_model.specs.Reading.{answer, found, found_inode, link_kind, lookup_checks, target_of}
 use Rattle.turn_model.specs.Turn.{Agent as Inputs, Asked, Turned, appended, bare_tail, by_plan, own_seq, turn_on}
 use Rattle.session_model.specs.Replies.{handle_given, verifier_given}
 use Rattle.agent_laws.proofs.Octets.{take_each}
@@ -246,7 +243,6 @@ module _ (t : Tree) (keys : NumbersAreKeys t) (view : View) (who : Identity) (no
 -- ---- turns
 
 module _ (i : Inputs) (s : List Record) (asked : Asked) (now : Moment) (keys : NumbersAreKeys (replay s)) where
-
   by_plan_gives : (p : Plan) → plan (replay s) i.view asked.caller asked.args now i.own (own_seq i.own s + 1) ≡ p → ReplyGives (by_plan i s asked now p).reply
   by_plan_gives (Refuse r) e = subst PlanGives e (gives_plan (replay s) keys i.view asked.caller now i.own (own_seq i.own s + 1) asked.args)
   by_plan_gives (Nothing r) e = subst PlanGives e (gives_plan (replay s) keys i.view asked.caller now i.own (own_seq i.own s + 1) asked.args)

@@ -127,3 +127,8 @@ mod GivenBytes
 mod ShownReplies
 mod BytesSteps
 mod QuietLines
+mod CallScenes
+mod BytesLines
+mod FullScenes
+mod FullLines
+mod FullScripts

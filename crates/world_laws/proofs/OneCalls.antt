@@ -51,7 +51,7 @@ one_said : (s t : Session) (a b : Said) → s ≡ t → s.stage ≡ Over (Some a
 one_said s t a b same e f = said_over t a b (ap (λ (u : Session). u.stage) (sym same) ∙ e) f
 
 -- what a reply leaves has the same blocks and keys
-replied_named : (w : World) (said : Said) → named_bytes (replied w said) ≡ named_bytes w
+pub replied_named : (w : World) (said : Said) → named_bytes (replied w said) ≡ named_bytes w
 replied_named w said = by (is_some said.message)
   where
     by : (t : Bool) → named_bytes (cond t (record w { replies = w.replies ++ record { handle = said.handle; verifier = said.verifier } ∷ [] }) w) ≡ named_bytes w
@@ -92,7 +92,7 @@ not_it : (b : Bool) → b ≡ true → b ≡ false → ⊥
 not_it b f g = cc (sym f ∙ g)
 
 -- the session that is found stands under its name
-found_session : (xs : List NamedSession) (name : List ℕ) (s : Session) → option_map (λ (x : NamedSession). x.session) (find (λ x. bytes_eq x.name name) xs) ≡ Some s → (x : NamedSession) × Contains xs x × (x.name ≡ name) × (x.session ≡ s)
+pub found_session : (xs : List NamedSession) (name : List ℕ) (s : Session) → option_map (λ (x : NamedSession). x.session) (find (λ x. bytes_eq x.name name) xs) ≡ Some s → (x : NamedSession) × Contains xs x × (x.name ≡ name) × (x.session ≡ s)
 found_session [] name s is = cc is
 found_session (x ∷ xs) name s is = by (bytes_eq x.name name) refl is (λ h. found_session xs name s h)
   where
@@ -129,7 +129,7 @@ module _ (w : Played) (keeps : Keeps w) (name : List ℕ) (s : Session) (is : se
 
 -- ---- lines
 
-begins_by : (w : World) (s : Sending) (t : Session) → BeginsWith w s t → t.by ≡ s.by.name
+pub begins_by : (w : World) (s : Sending) (t : Session) → BeginsWith w s t → t.by ≡ s.by.name
 begins_by w s _ (begins_alone given by) = refl
 begins_by w s _ (begins_refreshing xid asked asks) = refl
 

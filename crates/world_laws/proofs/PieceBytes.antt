@@ -1,5 +1,5 @@
 -- What a line sends is bytes, where what replies gave is.
-use Rattle.std.proofs.Common.{◌≡◌, ℕ, zero, suc, ◌+◌, ◌<◌, ◌^◌, ◌%◌, Bool, true, false, cond, ◌&&◌, List, [], ◌∷◌, ◌++◌, length, drop, fold, map, Option, Some, None, refl, sym, ap, ◌∙◌, subst, arith, nat_lt, nat_le}
+use Rattle.std.proofs.Common.{◌≡◌, ℕ, zero, suc, ◌+◌, ◌^◌, ◌%◌, Bool, true, false, cond, ◌&&◌, List, [], ◌∷◌, ◌++◌, length, drop, fold, Option, Some, None, refl, subst, arith, nat_lt, nat_le}
 use Rattle.std.specs.Prelude.{◌==◌, ◌*◌, ◌≤◌, IfSome, IsTrue, nat_eq, flat_map, option_map, slice_get, codes, replicate}
 use Rattle.std.specs.List.{AllByRecursion, list_all, starts_with}
 use Rattle.std.specs.Str.{bytes_eq}
@@ -11,7 +11,7 @@ use Rattle.ivy_base.specs.declared.key.Key.{Key}
 use Rattle.ivy_base.specs.Naming.{root_number}
 use Rattle.tree_model.proofs.Sound.{both_true}
 use Rattle.wire_model.specs.Rpc.{Identity, system_body}
-use Rattle.wire_model.specs.Xdr.{array, opaque, word}
+use Rattle.wire_model.specs.Xdr.{opaque, word}
 use Rattle.log_model.proofs.Lists.{both}
 use Rattle.log_model.specs.View.{View, view_block, view_name}
 use Rattle.nfs_model.specs.Objects.{handle_of}
@@ -151,9 +151,22 @@ piece_is word = choose_bytes
     ∷ (starts_with nat_eq word (codes "u:"), of_number (2 ^ 32) piece.Word (drop 2 word)) ∷ (starts_with nat_eq word (codes "w:"), of_number (2 ^ 64) piece.DoubleWord (drop 2 word))
     ∷ (starts_with nat_eq word (codes "s:"), text_of (drop 2 word)) ∷ (starts_with nat_eq word (codes "o:"), opaque_of (parts_at 58 (drop 2 word))) ∷ (starts_with nat_eq word (codes "sa:"), of_number (2 ^ 32) piece.Mode (drop 3 word))
     ∷ (starts_with nat_eq word (codes "h:"), of_number (2 ^ 64) piece.HandleOf (drop 2 word)) ∷ (starts_with nat_eq word (codes "v:"), of_number (2 ^ 64) piece.VerifierOf (drop 2 word)) ∷ [])
-    (of_raw word)
-    (tt, (call_bytes false (parts_at 58 (drop 4 word)), (call_bytes true (parts_at 58 (drop 4 word)), (number_bytes (2 ^ 32) piece.Word (drop 2 word) (λ n. tt), (number_bytes (2 ^ 64) piece.DoubleWord (drop 2 word) (λ n. tt),
-    (text_bytes (drop 2 word), (opaque_bytes (parts_at 58 (drop 2 word)), (number_bytes (2 ^ 32) piece.Mode (drop 3 word) (λ n. tt), (number_bytes (2 ^ 64) piece.HandleOf (drop 2 word) (λ n. tt), (number_bytes (2 ^ 64) piece.VerifierOf (drop 2 word) (λ n. tt), tt))))))))))
+    (of_raw word) (
+      tt,
+      (
+        call_bytes false (parts_at 58 (drop 4 word)),
+        (
+          call_bytes true (parts_at 58 (drop 4 word)),
+          (
+            number_bytes (2 ^ 32) piece.Word (drop 2 word) (λ n. tt),
+            (
+              number_bytes (2 ^ 64) piece.DoubleWord (drop 2 word) (λ n. tt),
+              (text_bytes (drop 2 word), (opaque_bytes (parts_at 58 (drop 2 word)), (number_bytes (2 ^ 32) piece.Mode (drop 3 word) (λ n. tt), (number_bytes (2 ^ 64) piece.HandleOf (drop 2 word) (λ n. tt), (number_bytes (2 ^ 64) piece.VerifierOf (drop 2 word) (λ n. tt), tt))))),
+            ),
+          ),
+        ),
+      ),
+    )
     (of_raw_bytes word)
 
 pub pieces_are : (words : List (List ℕ)) (pieces : List Piece) → each_of piece_of words ≡ Some pieces → AllByRecursion IsOfBytes pieces

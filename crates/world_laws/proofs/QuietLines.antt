@@ -1,28 +1,22 @@
 -- A line by which no session begins or goes on leaves sessions as they are, or drops them, and shows no reply.
-use Rattle.std.proofs.Common.{◌≡◌, ℕ, Bool, true, false, cond, List, [], ◌∷◌, ◌++◌, map, Option, Some, None, refl, sym, ap, ◌∙◌, subst, arith, Contains}
-use Rattle.std.specs.Prelude.{MatchBool, is_some, length, nat_lt, nat_le, ◌&&◌, fold, sum_by}
-use Rattle.std.specs.List.{list_any}
-use Rattle.std.specs.Str.{bytes_eq}
+use Rattle.std.proofs.Common.{◌≡◌, ℕ, Bool, true, false, cond, List, [], ◌++◌, Option, Some, None, refl, sym, ap, ◌∙◌, subst, arith, Contains}
+use Rattle.std.specs.Prelude.{is_some, nat_lt, nat_le, ◌&&◌}
 use Rattle.ivy_base.specs.declared.key.Key.{Key}
 use Rattle.ivy_base.specs.declared.key.PubKey.{PubKey}
 use Rattle.hash_signature_model.specs.declared.set.Set.{Set}
 use Rattle.log_heads.specs.Signed.{hss_judged}
-use Rattle.log_model.specs.View.{View, view_block}
+use Rattle.log_model.specs.View.{View}
 use Rattle.dht_ids.specs.declared.ask.Answer.{Answer}
 use Rattle.dht_ids.specs.declared.ask.Ask.{Ask}
-use Rattle.dht_ids.specs.declared.judge.Judged.{Judged}
 use Rattle.dht_ids.specs.declared.peer.Peer.{Peer}
-use Rattle.dht_ids.specs.declared.post.Post.{Post}
 use Rattle.agent_model.specs.Views.Entering.{Entered, NotMember, NotNamed, KeeperFailed}
-use Rattle.session_model.specs.Sessions.{Said, Session}
-use Rattle.node_store.specs.Stores.{Block, Blocks, bytes_at, with_byte}
+use Rattle.node_store.specs.Stores.{Blocks, with_byte}
 use Rattle.script_driver.specs.Run.{Outcome, Goes, Ends, Refuses, Exceeds}
 use Rattle.script_model.specs.declared.command.Command.{Command}
 use Rattle.script_model.specs.declared.command.Command.TheVariants as command
-use Rattle.script_model.specs.Lines.{command_of}
 use Rattle.world_model.specs.Agents.{Entering, Kept, entering}
 use Rattle.world_model.specs.Keepers.{asked_to_save, fails_next}
-use Rattle.world_model.specs.World.{World, Participant, meets, participant, view_named, with_node, without_session}
+use Rattle.world_model.specs.World.{World, Participant, participant, view_named, with_node}
 use Rattle.world_model.specs.Nodes.{Node}
 use Rattle.world_model.specs.Fates.{FateOf, Fates}
 use Rattle.world_model.specs.Fates.FateOf.{lost, stopped, answers}
@@ -34,19 +28,18 @@ use Rattle.world_model.specs.Ring.{RingLine, JoinLine, failed_join_text, stop_li
 use Rattle.world_model.specs.Ring.RingLine.{refused as ring_refused, exceeds as ring_exceeds, makes as ring_makes}
 use Rattle.world_model.specs.Ring.JoinLine.{before_ring as join_before_ring, known as join_known, exceeds as join_exceeds, alone as join_alone, joins as join_joins, fails as join_fails}
 use Rattle.world_model.specs.Rounds.RoundLine.{before_ring as round_before_ring, goes as round_goes}
-use Rattle.world_model.specs.Logs.{Played, LogLine, ViewLine, RestartLine, SnapLine, after_entering, beside, goes_if, at_line, keep_by, keep_line, use_by, with_view}
+use Rattle.world_model.specs.Logs.{Played, LogLine, ViewLine, RestartLine, SnapLine, after_entering, beside, goes_if, at_line, keep_by, keep_line, use_by}
 use Rattle.world_model.specs.Logs.LogLine.{before_ring as log_before_ring, known as log_known, begins as log_begins}
 use Rattle.world_model.specs.Logs.ViewLine.{known as view_known, no_members as view_no_members, no_former as view_no_former, one_head_key as view_one_head_key, exceeds as view_exceeds, makes as view_makes}
 use Rattle.world_model.specs.Logs.RestartLine.{nobody as restart_nobody, outside as restart_outside, starts as restart_starts}
 use Rattle.world_model.specs.Logs.SnapLine.{nobody as snap_nobody, outside as snap_outside, fails as snap_fails, makes as snap_makes}
-use Rattle.world_model.specs.Faults.{damage_by, damage_line, damaged_to, holds_by, holds_line, holds_text, lose_line, meets_some, node_named, key_named, order_line, order_text, showing, work_line, work_text}
-use Rattle.world_model.specs.Rounds.{IsRoundOf, RoundLine}
+use Rattle.world_model.specs.Faults.{damage_by, damage_line, damaged_to, holds_by, holds_line, holds_text, lose_line, node_named, key_named, order_line, order_text, showing, work_line, work_text}
+use Rattle.world_model.specs.Rounds.{RoundLine}
 use Rattle.world_model.specs.Calls.{reply_line}
 use Rattle.world_model.specs.Steps.{Acts, RunsOut, Scene, Steps, StepsOn}
 use Rattle.world_model.specs.Step.{Does, Untold}
 use Rattle.world_model.specs.Logs.{afresh, failed_text, snap_text}
 use Rattle.wire_model.specs.Rpc.{SystemError, reply}
-use Rattle.script_model.specs.Messages.{Given}
 use Rattle.world_model.specs.World.{NamedSession}
 use Rattle.log_model.proofs.Lists.{from_filter}
 use Rattle.round_laws.proofs.Rounding.{leaves_the_rest}
@@ -95,15 +88,15 @@ fates_same fates_none = (refl, refl)
 fates_same (fates_more {w} {mid} {next} to question answer fate rest) = same_after w mid next (fate_same fate) (fates_same rest)
 
 acts_same : {r : ℕ} {p : Participant} {c next : Scene} → Acts hss_judged r p c next → IsSame c.world next.world
-acts_same (acts_asks node question answer next heard t cache fate hears fails) = fate_same fate
-acts_same (asks_in_vain node question answer next heard t cache fate hears lacks) = fate_same fate
+acts_same (acts_asks node question answer next heard t cache fate hears goes) = fate_same fate
+acts_same (asks_in_vain node question answer next heard t cache fate hears lacking) = fate_same fate
 acts_same (turns view reply applied after saving t turned in_view takes replies is_turn) = (refl, refl)
 acts_same (is_refused view end after saving t in_view refusal takes) = (refl, refl)
 acts_same (settles after t is) = (refl, refl)
 
 step_same : {r : ℕ} {name : List ℕ} {c next : Scene} → Steps hss_judged r name c next → IsSame c.world next.world
 step_same (acts p taken cache next is takes act) = acts_same act
-step_same (lacks_memory p taken t cache is takes lacks) = (refl, refl)
+step_same (lacks_memory p taken t cache is takes lacking) = (refl, refl)
 
 pub runs_same : {r : ℕ} {name : List ℕ} {c next : Scene} → RunsOut hss_judged r name c next → IsSame c.world next.world
 runs_same (runs_over said over) = (refl, refl)

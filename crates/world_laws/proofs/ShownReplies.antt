@@ -1,7 +1,13 @@
 -- Which replies show that memory was wanting: none but that one.
-use Rattle.std.proofs.Common.{◌≡◌, ◌≢◌, ℕ, zero, suc, List, [], ◌∷◌, ◌++◌, Option, Some, None, refl, sym, ap, ◌∙◌, subst, arith}
+use Rattle.std.proofs.Common.{◌≡◌, ◌≢◌, ◌⊎◌, inl, inr, ℕ, zero, suc, true, take, drop, nat_lt, Result, Ok, List, [], ◌∷◌, ◌++◌, Option, Some, None, refl, sym, ap, ◌∙◌, arith}
 use Rattle.std.proofs.lemmas.List.{append-nil}
-use Rattle.hex.specs.Hex.{encode_lower, encode_with}
+use Rattle.std.specs.List.{list_all}
+use Rattle.std.proofs.lemmas.Bool.{ltb-true}
+use Rattle.hex.specs.Hex.{IsBytes, decode_of, encode_lower, encode_with}
+use Rattle.hex.specs.declared.error.FromHexError.{FromHexError}
+use Rattle.hex.proofs.HexLemmas.{decode_of-encode_lower}
+use Rattle.tree_model.proofs.Sound.{both_true}
+use Rattle.agent_laws.proofs.Octets.{a_word, joined}
 use Rattle.wire_model.specs.Rpc.{Outcome, Success, ProgramUnavailable, ProgramMismatch, ProcedureUnavailable, GarbageArguments, SystemError, RpcMismatch, BadCredential, reply}
 use Rattle.log_model.specs.View.{View}
 use Rattle.nfs_model.specs.declared.replies.Reply.{Reply}
@@ -58,9 +64,29 @@ by_message_other view message _ (by_itself c who args r is served caller are ans
 pub said_of_other : (xid : ℕ) (r : Reply) → ShowsOther (said_of xid r).message
 said_of_other xid r = shows_other xid (Success _) tt
 
--- What has a cause, and isn't said for want of memory, shows no such reply.
-pub cause_other : {st : Story} {number : ℕ} {s : Session} {said : Said} → HasCause st number s said → ((xid : ℕ) → said ≢ said_no_memory xid) → ShowsOther said.message
-cause_other {s = s} (alone given is) memory = by_message_other s.standing.view s.message given is
-cause_other (missed xid asked given miss asks refreshed is) memory = said_of_other xid (missed_reply asked miss)
-cause_other (turned h xid asked given among of asks refreshed) memory = said_of_other xid h.turned.reply
-cause_other (no_memory xid asked asks) memory = absurd (memory xid refl)
+-- What has a cause is said for want of memory, or shows no such reply.
+pub cause_shows : {st : Story} {number : ℕ} {s : Session} {said : Said} → HasCause st number s said → ((xid : ℕ) × (said ≡ said_no_memory xid)) ⊎ ShowsOther said.message
+cause_shows {s = s} (alone given is) = inr (by_message_other s.standing.view s.message given is)
+cause_shows (missed xid asked given miss asks refreshed is) = inr (said_of_other xid (missed_reply asked miss))
+cause_shows (turned h xid asked given among of asks refreshed) = inr (said_of_other xid h.turned.reply)
+cause_shows (no_memory xid asked asks) = inl (xid, refl)
+
+-- ---- the reply for want of memory
+
+below : (bytes : List ℕ) → list_all (λ b. nat_lt b 256) bytes ≡ true → IsBytes bytes
+below [] h i = omega arith
+below (b ∷ bytes) h zero = ltb-true b 256 (both_true (nat_lt b 256) (list_all (λ c. nat_lt c 256) bytes) h).0
+below (b ∷ bytes) h (suc i) = below bytes (both_true (nat_lt b 256) (list_all (λ c. nat_lt c 256) bytes) h).1 i
+
+lack_bytes : (xid : ℕ) → IsBytes (reply xid SystemError)
+lack_bytes xid = below (reply xid SystemError) (joined (joined (joined (joined (joined (a_word xid) (a_word 1)) (a_word 0)) (a_word 0)) (a_word 0)) (a_word 5)).each
+
+ok_is : (x : Result (List ℕ) FromHexError) (a b : List ℕ) → x ≡ Ok a → x ≡ Ok b → a ≡ b
+ok_is x a b e f = cc (sym e ∙ f)
+
+-- what is shown of it tells it
+pub lack_shown : (x y : ℕ) (more rest : List ℕ) → reply_line (reply x SystemError) ++ more ≡ reply_line (reply y SystemError) ++ rest → said_no_memory x ≡ said_no_memory y
+unfolding encode_with
+lack_shown x y more rest e =
+    let same : encode_lower (reply x SystemError) ≡ encode_lower (reply y SystemError) = ap (λ (l : List ℕ). take 48 (drop 6 l)) e in
+    ap (λ (m : List ℕ). said_bare (Some m)) (ok_is (decode_of (encode_lower (reply x SystemError))) (reply x SystemError) (reply y SystemError) (decode_of-encode_lower (reply x SystemError) (lack_bytes x)) (ap decode_of same ∙ decode_of-encode_lower (reply y SystemError) (lack_bytes y)))
