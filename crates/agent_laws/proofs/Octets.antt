@@ -34,7 +34,7 @@ use Rattle.nfs_model.specs.declared.replies.NfsStatus.{NfsStatus}
 use Rattle.nfs_model.specs.declared.replies.Tail.{Tail}
 use Rattle.nfs_model.specs.declared.replies.NfsStatus.TheVariants.{Acces, Exist, Inval, NoEnt, NotDir, FBig, IsDir, MLink, NameTooLong, NotEmpty, NotSupp}
 
-abbrev is_octet : ℕ → Bool
+abbrev pub is_octet : ℕ → Bool
 is_octet b = nat_lt b 256
 
 -- all of them are bytes
@@ -43,7 +43,7 @@ pub record AreOctets (bytes : List ℕ) : Type 0 where
 
 -- ---- parts
 
-joined : {a b : List ℕ} → AreOctets a → AreOctets b → AreOctets (a ++ b)
+pub joined : {a b : List ℕ} → AreOctets a → AreOctets b → AreOctets (a ++ b)
 joined {a} {b} f g = record { each = list_all-append is_octet a b ∙ both (list_all is_octet a) (list_all is_octet b) f.each g.each }
 
 pub left_octets : (a b : List ℕ) → AreOctets (a ++ b) → AreOctets a
@@ -52,25 +52,25 @@ left_octets a b h = record { each = (both_true (list_all is_octet a) (list_all i
 pub right_octets : (a b : List ℕ) → AreOctets (a ++ b) → AreOctets b
 right_octets a b h = record { each = (both_true (list_all is_octet a) (list_all is_octet b) (sym (list_all-append is_octet a b) ∙ h.each)).1 }
 
-no_octets : AreOctets []
+pub no_octets : AreOctets []
 no_octets = record { each = refl }
 
-take_each : (n : ℕ) (bytes : List ℕ) → list_all is_octet bytes ≡ true → list_all is_octet (take n bytes) ≡ true
+pub take_each : (n : ℕ) (bytes : List ℕ) → list_all is_octet bytes ≡ true → list_all is_octet (take n bytes) ≡ true
 take_each zero bytes h = refl
 take_each (suc n) [] h = refl
 take_each (suc n) (b ∷ bytes) h = let parts = both_true (is_octet b) (list_all is_octet bytes) h in both (is_octet b) (list_all is_octet (take n bytes)) parts.0 (take_each n bytes parts.1)
 
-zeros : (n : ℕ) → list_all is_octet (replicate n 0) ≡ true
+pub zeros : (n : ℕ) → list_all is_octet (replicate n 0) ≡ true
 zeros zero = refl
 zeros (suc n) = zeros n
 
 last_octet : (n : ℕ) → is_octet (n % 256) ≡ true
 last_octet n = lt-ltb (n % 256) 256 (omega arith)
 
-a_word : (n : ℕ) → AreOctets (word n)
+pub a_word : (n : ℕ) → AreOctets (word n)
 a_word n = record { each = both _ _ (last_octet (n / 16777216)) (both _ _ (last_octet (n / 65536)) (both _ _ (last_octet (n / 256)) (both _ _ (last_octet n) refl))) }
 
-a_double_word : (n : ℕ) → AreOctets (double_word n)
+pub a_double_word : (n : ℕ) → AreOctets (double_word n)
 a_double_word n = record {
   each = both _ _ (last_octet (n / 72057594037927936)) (both _ _ (last_octet (n / 281474976710656)) (both _ _ (last_octet (n / 1099511627776)) (both _ _ (last_octet (n / 4294967296))
       (both _ _ (last_octet (n / 16777216)) (both _ _ (last_octet (n / 65536)) (both _ _ (last_octet (n / 256)) (both _ _ (last_octet n) refl)))))));
@@ -79,7 +79,7 @@ a_double_word n = record {
 a_moment : (m : Moment) → AreOctets (moment m)
 a_moment m = joined (a_word m.sec) (a_word m.nsec)
 
-an_opaque : (bytes : List ℕ) → AreOctets bytes → AreOctets (opaque bytes)
+pub an_opaque : (bytes : List ℕ) → AreOctets bytes → AreOctets (opaque bytes)
 an_opaque bytes h = joined (a_word (length bytes)) (joined h (record { each = zeros ((4 - length bytes % 4) % 4) }))
 
 pub of_opaque : (bytes : List ℕ) → AreOctets (opaque bytes) → AreOctets bytes

@@ -24,7 +24,7 @@ use Rattle.world_laws.proofs.ExistingRing.{join_line, ring_line}
 use Rattle.world_laws.proofs.ExistingSnaps.{snap_line}
 use Rattle.world_laws.proofs.LineFits.{Fits, command_fits}
 
-command_does : (w : World) (st : Story) → Keeps (w, st) → (c : Command) → CanBeDone w c → Fits c → IsSeen w (λ su out. Does hss_judged (w, su) c out)
+pub command_does : (w : World) (st : Story) → Keeps (w, st) → (c : Command) → CanBeDone w c → Fits c → IsSeen w (λ su out. Does hss_judged (w, su) c out)
 command_does w st keeps (command.Ring nodes replicas) can fits = untold w (RingLine w nodes replicas) (ring_line w nodes replicas)
 command_does w st keeps (command.Log log id seed sets) can fits = log_line w st keeps log id seed sets
 command_does w st keeps (command.View view [] former) can fits = absurd (fits refl)
@@ -106,7 +106,7 @@ goes_to w st line next output lines keeps Refuses step e = cc e
 goes_to w st line next output lines keeps Exceeds step e = cc e
 
 -- a command that makes no snapshot
-can_without : (w : World) (o : Option Command) → ((log : List ℕ) → o ≢ Some (command.Snap log)) → IfSome o (CanBeDone w)
+pub can_without : (w : World) (o : Option Command) → ((log : List ℕ) → o ≢ Some (command.Snap log)) → IfSome o (CanBeDone w)
 can_without w None other = tt
 can_without w (Some (command.Snap log)) other = absurd (other log refl)
 can_without w (Some c) other = tt

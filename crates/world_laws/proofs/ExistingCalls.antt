@@ -44,7 +44,7 @@ some_participant w st keeps p among = by_ring w.replicas refl
     by_ring None is = absurd (in_nothing p (subst (λ (ps : List Participant). Contains ps p) (subst (HasRing w) is keeps.ring).1 among))
     by_ring (Some r) is = (r, is)
 
-some_open : (w : World) (st : Story) → Keeps (w, st) → (s : NamedSession) → Contains w.sessions s → (r : ℕ) × (w.replicas ≡ Some r)
+pub some_open : (w : World) (st : Story) → Keeps (w, st) → (s : NamedSession) → Contains w.sessions s → (r : ℕ) × (w.replicas ≡ Some r)
 some_open w st keeps s among = by_ring w.replicas refl
   where
     by_ring : (o : Option ℕ) → w.replicas ≡ o → (r : ℕ) × (w.replicas ≡ Some r)

@@ -1,9 +1,11 @@
 -- Each session that is in hand can be brought to its end, whatever its story: while it refreshes memory may be wanting, and then it publishes.
-use Rattle.std.proofs.Common.{◌≡◌, ◌≢◌, ℕ, [], map, Some, None, refl, le_refl, Contains}
+use Rattle.std.proofs.Common.{◌≡◌, ◌≢◌, ℕ, List, [], map, Option, Some, None, refl, subst, le_refl, Contains}
 use Rattle.std.specs.Prelude.{length}
 use Rattle.std.specs.List.{AllByRecursion}
 use Rattle.ring_model.proofs.Lists.{all_weaker}
 use Rattle.dht_ids.specs.declared.ask.Heard.{Heard}
+use Rattle.dht_ids.specs.declared.post.Ack.{Ack}
+use Rattle.dht_ids.specs.declared.post.Post.{Post}
 use Rattle.session_model.specs.Courses.{ended}
 use Rattle.session_model.specs.Courses.LacksMemory.{lacks}
 use Rattle.session_model.specs.Replies.{said_no_memory}
@@ -38,21 +40,28 @@ without_memory r w s by is_by at h = record {
     step : MayStep r s.by w s (with_participant w by) (ended s (said_no_memory h.xid) [] None)
     step st b = (st, lacks_memory by s (ended s (said_no_memory h.xid) [] None) by.cache is_by some_none (lacks h.notes [] h.given h.end h.xid h.asked at h.refreshed h.asks h.notes refl))
 
-pub session_ends : (w : World) (st : Story) (r : ℕ) → Keeps (w, st) → w.replicas ≡ Some r → (s : Session) → GoesOn w r s → EndsSo r w s
-session_ends w st r keeps ringed s g = by_stage s.stage refl g.stage
-  where
-    stands : Stands r (map peer_of w.nodes) w.met s.by g.by w
-    stands = record { serves = serves_so w st r keeps ringed; apart = keeps.apart; is_by = g.is_by }
+module _ (w : World) (st : Story) (r : ℕ) (keeps : Keeps (w, st)) (ringed : w.replicas ≡ Some r) (s : Session) (g : GoesOn w r s) where
+  stands : Stands r (map peer_of w.nodes) w.met s.by g.by w
+  stands = record { serves = serves_so w st r keeps ringed; apart = keeps.apart; is_by = g.is_by }
 
-    named : AllByRecursion (λ (h : Heard). Names (Contains (map peer_of w.nodes)) h.got) s.current
-    named = all_weaker _ _ s.current (λ (h : Heard) i. names_made w (map peer_of w.nodes) refl h.got i) g.heard
+  named : AllByRecursion (λ (h : Heard). Names (Contains (map peer_of w.nodes)) h.got) s.current
+  named = all_weaker _ _ s.current (λ (h : Heard) i. names_made w (map peer_of w.nodes) refl h.got i) g.heard
 
-    by_stage : (stage : Stage) → s.stage ≡ stage → IsAtStage w r s stage → EndsSo r w s
-    by_stage Refreshing at h = without_memory r w s g.by g.is_by at h
-    by_stage (Publishing None posts acks) at h = cc h.0
-    by_stage (Publishing (Some said) posts acks) at h = record { said = said; end = all_on r (map peer_of w.nodes) w.met s.by g.by posts w s (Some said) acks stands at g.some_entry g.entries named h.1 h.2 }
-    by_stage (Over None) at h = cc h
-    by_stage (Over (Some said)) at h = record { said = said; end = at_once r w s said at }
+  -- one that publishes says at its end what it was to say
+  pub publishing_ends : (said : Option Said) (posts : List Post) (acks : List Ack) → s.stage ≡ Publishing said posts acks → Ended r s.by w s said
+  publishing_ends said posts acks at =
+      let h : IsAtStage w r s (Publishing said posts acks) = subst (IsAtStage w r s) at g.stage in
+      all_on r (map peer_of w.nodes) w.met s.by g.by posts w s said acks stands at g.some_entry g.entries named h.1 h.2
+
+  pub session_ends : EndsSo r w s
+  session_ends = by_stage s.stage refl g.stage
+    where
+      by_stage : (stage : Stage) → s.stage ≡ stage → IsAtStage w r s stage → EndsSo r w s
+      by_stage Refreshing at h = without_memory r w s g.by g.is_by at h
+      by_stage (Publishing None posts acks) at h = cc h.0
+      by_stage (Publishing (Some said) posts acks) at h = record { said = said; end = publishing_ends (Some said) posts acks at }
+      by_stage (Over None) at h = cc h
+      by_stage (Over (Some said)) at h = record { said = said; end = at_once r w s said at }
 
 -- a participant of a world whose nodes answer publishes all that its agent has to
 pub publishes_all : (w : World) (r : ℕ) (p : Participant) → Serves r (map peer_of w.nodes) w.met w → AreApart (map (λ q. q.name) w.participants) → participant w p.name ≡ Some p → w.nodes ≢ []

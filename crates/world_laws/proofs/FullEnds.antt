@@ -173,7 +173,7 @@ sessions_go_to_their_ends c r p keeps hand ringed refreshing is_p bytes room =
 -- ---- in one
 
 module _ (r : ℕ) (name : List ℕ) where
-  runs_behind : {count : ℕ} {c mid next : Scene} → StepsOn hss_judged r name count c mid → RunsOut hss_judged r name mid next → RunsOut hss_judged r name c next
+  pub runs_behind : {count : ℕ} {c mid next : Scene} → StepsOn hss_judged r name count c mid → RunsOut hss_judged r name mid next → RunsOut hss_judged r name c next
   runs_behind steps_none runs = runs
   runs_behind (steps_over said over) runs = runs
   runs_behind (steps_more step rest) runs = runs_more step (runs_behind rest runs)

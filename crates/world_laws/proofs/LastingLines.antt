@@ -1,20 +1,16 @@
 -- What holds of each agent and its keeper, and stays through turns, settling, entering, restarts and saves, stays through each line that makes no snapshot.
-use Rattle.std.proofs.Common.{◌≡◌, ℕ, Bool, true, false, cond, not, List, [], ◌∷◌, map, filter, Some, refl, sym, subst, arith, ◌≢◌, ◌+◌, ◌&&◌, ◌++◌, Option, None, ap, ◌∙◌}
+use Rattle.std.proofs.Common.{◌≡◌, ℕ, Bool, true, false, cond, List, [], ◌∷◌, map, Some, refl, sym, subst, ◌≢◌, ◌+◌, ◌&&◌, ◌++◌, Option, None, ap, ◌∙◌}
 use Rattle.std.specs.Prelude.{if◌then◌else◌, ◌==◌, is_some, nat_le, nat_lt}
-use Rattle.std.specs.List.{AllByRecursion, list_any}
+use Rattle.std.specs.List.{AllByRecursion}
 use Rattle.std.specs.Str.{bytes_eq}
 use Rattle.log_heads.specs.Signed.{hss_judged}
-use Rattle.log_model.proofs.Lists.{each, each_from, from_filter, each_append}
+use Rattle.log_model.proofs.Lists.{each, each_append}
 use Rattle.dht_ids.specs.declared.ask.Answer.{Answer}
 use Rattle.dht_ids.specs.declared.ask.Ask.{Ask}
 use Rattle.dht_ids.specs.declared.peer.Peer.{Peer}
-use Rattle.dht_ids.specs.declared.post.Post.{Post}
-use Rattle.agent_model.specs.Others.{is_of}
-use Rattle.agent_model.specs.SavedBytes.{ArePostsSpelled}
 use Rattle.agent_model.specs.Turning.{Answered, TurnEnd}
 use Rattle.session_model.specs.Sessions.{Session, Said}
 use Rattle.session_model.specs.Courses.{Settles}
-use Rattle.session_model.specs.Courses.Settles.{settles as settles_all}
 use Rattle.world_model.specs.Agents.{Agent, Entering, IsKept, Kept, TakesTurn, hss, kept_bytes, opened}
 use Rattle.world_model.specs.Keepers.{Keeper, asked_to_save, fails_next, fresh_keeper}
 use Rattle.world_model.specs.World.{World, Participant, participant, NamedView, view_named, with_node, with_participant, without_session}
@@ -26,14 +22,12 @@ use Rattle.world_model.specs.Steps.RunsOut.{is_over as runs_over, more as runs_m
 use Rattle.world_model.specs.Steps.Steps.{acts, lacks_memory}
 use Rattle.world_model.specs.Steps.StepsOn.{is_over as steps_over, more as steps_more, none as steps_none}
 use Rattle.world_laws.proofs.Bringing.{found_named}
-use Rattle.world_laws.proofs.Publishing.{short_filter}
 use Rattle.ivy_base.specs.declared.key.Key.{Key}
 use Rattle.ivy_base.specs.declared.key.PubKey.{PubKey}
 use Rattle.hash_signature_model.specs.declared.set.Set.{Set}
 use Rattle.hss_keys.specs.Saved.{IsSigner}
 use Rattle.log_model.specs.View.{View, IsView}
 use Rattle.view_blocks.specs.Faults.{HasKeys}
-use Rattle.turn_model.specs.Basis.{fresh_basis}
 use Rattle.node_store.specs.Stores.{Blocks, with_byte}
 use Rattle.round_laws.proofs.Rounding.{leaves_the_rest}
 use Rattle.agent_model.specs.Agent.{entered, failed, kept_of, restored}
@@ -64,7 +58,6 @@ use Rattle.world_laws.specs.Laws.{MakesNoSnapshot}
 use Rattle.world_laws.proofs.AllLines.{does_line}
 use Rattle.world_laws.proofs.Lines.{ToSuch}
 use Rattle.world_laws.proofs.LogLines.{kept_whole}
-use Rattle.world_laws.proofs.SignedHeads.{so_of}
 use Rattle.world_laws.proofs.UseLines.{view_in, whole}
 use Rattle.world_laws.proofs.LineFits.{Fits, command_fits}
 use Rattle.hss_keys.specs.Signer.{Signer}

@@ -122,3 +122,13 @@ pub mod FullSessions
 pub mod TurnsExisting
 pub mod FullEnds
 mod Rooms
+mod PieceBytes
+mod GivenBytes
+mod ShownReplies
+mod BytesSteps
+mod QuietLines
+mod CallScenes
+mod BytesLines
+mod FullScenes
+mod FullLines
+mod FullScripts

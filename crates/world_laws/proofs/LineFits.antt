@@ -12,11 +12,14 @@ use Rattle.script_model.specs.Lines.{as_of, at_of, call_command, command_of, com
 use Rattle.script_model.specs.Words.{◌>>=◌, byte_of, each_of, hex_bytes, key_of, name_of, names_of, node_of, number_below, parts_at, piece_of, sets_of, words_of}
 use Rattle.world_model.specs.Logs.{fresh_signer}
 use Rattle.world_laws.proofs.LineKeys.{key_is_signer}
+use Rattle.world_laws.proofs.PieceBytes.{IsOfBytes, pieces_are}
 
--- what a line's command fits
+-- what a line's command fits: its pieces are of bytes
 abbrev pub Fits : Command → Type 0
 Fits (command.View view members former) = members ≢ []
 Fits (command.Log log id seed sets) = IsSigner (fresh_signer id seed sets)
+Fits (command.As log pieces) = AllByRecursion IsOfBytes pieces
+Fits (command.Open session log pieces) = AllByRecursion IsOfBytes pieces
 Fits _ = Unit {0}
 
 abbrev SomeFits : Option Command → Type 0
@@ -33,11 +36,11 @@ fits2 None p make h = tt
 fits2 (Some x) None make h = tt
 fits2 (Some x) (Some y) make h = h x y refl
 
-fits3 : {A B C : Type 0} (o : Option A) (p : Option B) (q : Option C) (make : A → B → C → Command) → ((x : A) (y : B) (z : C) → p ≡ Some y → Fits (make x y z)) → SomeFits (o >>= λ x. p >>= λ y. q >>= λ z. Some (make x y z))
+fits3 : {A B C : Type 0} (o : Option A) (p : Option B) (q : Option C) (make : A → B → C → Command) → ((x : A) (y : B) (z : C) → p ≡ Some y → q ≡ Some z → Fits (make x y z)) → SomeFits (o >>= λ x. p >>= λ y. q >>= λ z. Some (make x y z))
 fits3 None p q make h = tt
 fits3 (Some x) None q make h = tt
 fits3 (Some x) (Some y) None make h = tt
-fits3 (Some x) (Some y) (Some z) make h = h x y z refl
+fits3 (Some x) (Some y) (Some z) make h = h x y z refl refl
 
 fits4 : {A B C D : Type 0} (o : Option A) (p : Option B) (q : Option C) (r : Option D) (make : A → B → C → D → Command) → ((x : A) (y : B) (z : C) (u : D) → p ≡ Some y → q ≡ Some z → r ≡ Some u → Fits (make x y z u)) → SomeFits (o >>= λ x. p >>= λ y. q >>= λ z. r >>= λ u. Some (make x y z u))
 fits4 None p q r make h = tt
@@ -82,7 +85,7 @@ view_fits : (ws : List (List ℕ)) → SomeFits (view_of ws)
 view_fits [] = tt
 view_fits (v ∷ []) = tt
 view_fits (v ∷ m ∷ []) = fits2 (name_of v) (names_of m) (λ x y. command.View x y []) (λ x y e. some_names m y e)
-view_fits (v ∷ m ∷ f ∷ []) = fits3 (name_of v) (names_of m) (names_of f) (λ x y z. command.View x y z) (λ x y z e. some_names m y e)
+view_fits (v ∷ m ∷ f ∷ []) = fits3 (name_of v) (names_of m) (names_of f) (λ x y z. command.View x y z) (λ x y z e f. some_names m y e)
 view_fits (v ∷ m ∷ f ∷ w ∷ ws) = tt
 
 use_fits : (ws : List (List ℕ)) → SomeFits (use_of ws)
@@ -100,13 +103,13 @@ at_fits (s ∷ n ∷ w ∷ ws) = tt
 as_fits : (ws : List (List ℕ)) → SomeFits (as_of ws)
 as_fits [] = tt
 as_fits (p ∷ []) = tt
-as_fits (p ∷ w ∷ ws) = fits2 (name_of p) (each_of piece_of (w ∷ ws)) (λ x y. command.As x y) (λ x y e. tt)
+as_fits (p ∷ w ∷ ws) = fits2 (name_of p) (each_of piece_of (w ∷ ws)) (λ x y. command.As x y) (λ x y e. pieces_are (w ∷ ws) y e)
 
 open_fits : (ws : List (List ℕ)) → SomeFits (open_of ws)
 open_fits [] = tt
 open_fits (s ∷ []) = tt
 open_fits (s ∷ p ∷ []) = tt
-open_fits (s ∷ p ∷ w ∷ ws) = fits3 (name_of s) (name_of p) (each_of piece_of (w ∷ ws)) (λ x y z. command.Open x y z) (λ x y z e. tt)
+open_fits (s ∷ p ∷ w ∷ ws) = fits3 (name_of s) (name_of p) (each_of piece_of (w ∷ ws)) (λ x y z. command.Open x y z) (λ x y z e f. pieces_are (w ∷ ws) z f)
 
 step_fits : (ws : List (List ℕ)) → SomeFits (step_of ws)
 step_fits [] = tt
@@ -150,7 +153,7 @@ keep_fits : (ws : List (List ℕ)) → SomeFits (keep_of ws)
 keep_fits [] = tt
 keep_fits (p ∷ []) = tt
 keep_fits (p ∷ k ∷ []) = tt
-keep_fits (p ∷ k ∷ w ∷ []) = fits3 (name_of p) (number_below (2 ^ 64) k) (kept_of w) (λ x y z. command.Keep x y z) (λ x y z e. tt)
+keep_fits (p ∷ k ∷ w ∷ []) = fits3 (name_of p) (number_below (2 ^ 64) k) (kept_of w) (λ x y z. command.Keep x y z) (λ x y z e f. tt)
 keep_fits (p ∷ k ∷ w ∷ v ∷ ws) = tt
 
 holds_fits : (ws : List (List ℕ)) → SomeFits (holds_of ws)

@@ -16,11 +16,11 @@ use Rattle.world_model.specs.Logs.{fresh_signer}
 
 -- ---- bytes of digits
 
-all_bytes : (bytes : List ℕ) → IsBytes bytes → list_all (λ b. nat_lt b 256) bytes ≡ true
+pub all_bytes : (bytes : List ℕ) → IsBytes bytes → list_all (λ b. nat_lt b 256) bytes ≡ true
 all_bytes [] small = refl
 all_bytes (b ∷ bytes) small = both (nat_lt b 256) (list_all (λ c. nat_lt c 256) bytes) (lt-ltb b 256 (small 0)) (all_bytes bytes (λ i. small (suc i)))
 
-is_value : {A E : Type 0} (came : Result A E) (x : A) → ok_value came ≡ Some x → came ≡ Ok x
+pub is_value : {A E : Type 0} (came : Result A E) (x : A) → ok_value came ≡ Some x → came ≡ Ok x
 is_value (Ok y) x e = let same : y ≡ x = cc e in ap (λ z. Ok z) same
 is_value (Err f) x e = cc e
 

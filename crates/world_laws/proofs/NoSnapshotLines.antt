@@ -1,5 +1,5 @@
 -- A line that makes no snapshot leaves a world without one so.
-use Rattle.std.proofs.Common.{◌≡◌, ℕ, Bool, not, List, [], ◌∷◌, filter, Option, Some, None, refl, sym, ◌∙◌, subst, arith}
+use Rattle.std.proofs.Common.{◌≡◌, ℕ, Bool, not, List, [], ◌∷◌, filter, Some, None, refl, sym, ◌∙◌, subst, arith}
 use Rattle.std.specs.List.{AllByRecursion, list_any}
 use Rattle.log_model.proofs.Lists.{each, each_from, from_filter}
 use Rattle.turn_model.specs.Basis.{fresh_basis}
@@ -10,7 +10,7 @@ use Rattle.agent_model.specs.SavedBytes.{ArePostsSpelled}
 use Rattle.session_model.specs.Courses.{Settles}
 use Rattle.session_model.specs.Courses.Settles.{settles as settles_all}
 use Rattle.session_model.specs.Sessions.{Session}
-use Rattle.world_model.specs.Agents.{Agent, IsKept, Kept, opened, kept_bytes}
+use Rattle.world_model.specs.Agents.{Agent, Kept, opened, kept_bytes}
 use Rattle.world_model.specs.Keepers.{Keeper}
 use Rattle.world_model.specs.Logs.{Played}
 use Rattle.world_model.specs.World.{Participant}

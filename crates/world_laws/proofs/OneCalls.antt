@@ -11,7 +11,7 @@ use Rattle.log_model.proofs.Lists.{each, here, in_cons, in_nothing, there}
 use Rattle.session_model.specs.Courses.Begins.{alone as begins_alone, refreshes as begins_refreshing}
 use Rattle.session_model.specs.Replies.{said_no_memory}
 use Rattle.session_model.specs.Sessions.{Over, Said, Session}
-use Rattle.script_driver.specs.Run.{Goes, HasPiece}
+use Rattle.script_driver.specs.Run.{Goes}
 use Rattle.script_model.specs.declared.command.Command.TheVariants as command
 use Rattle.script_model.specs.declared.command.Piece.{Piece}
 use Rattle.script_model.specs.Lines.{command_of}
@@ -51,7 +51,7 @@ one_said : (s t : Session) (a b : Said) → s ≡ t → s.stage ≡ Over (Some a
 one_said s t a b same e f = said_over t a b (ap (λ (u : Session). u.stage) (sym same) ∙ e) f
 
 -- what a reply leaves has the same blocks and keys
-replied_named : (w : World) (said : Said) → named_bytes (replied w said) ≡ named_bytes w
+pub replied_named : (w : World) (said : Said) → named_bytes (replied w said) ≡ named_bytes w
 replied_named w said = by (is_some said.message)
   where
     by : (t : Bool) → named_bytes (cond t (record w { replies = w.replies ++ record { handle = said.handle; verifier = said.verifier } ∷ [] }) w) ≡ named_bytes w
@@ -59,12 +59,8 @@ replied_named w said = by (is_some said.message)
     by false = refl
 
 -- what is said for want of memory is shown
-shows_first : (message missed notes : List ℕ) → HasPiece (λ text. text ≡ message) ((message ++ missed) ++ notes)
-shows_first message missed notes = ([], message, missed ++ notes, refl, append_assoc message missed notes)
-
-shows_so : (s : Session) (xid : ℕ) (said : Said) → said ≡ said_no_memory xid → HasPiece (λ text. text ≡ reply_line (reply xid SystemError)) (shown_end s said)
-shows_so s xid said is = subst (λ (m : Said). HasPiece (λ text. text ≡ reply_line (reply xid SystemError)) (shown_end s m)) (sym is)
-    (shows_first (reply_line (reply xid SystemError)) (shown_miss s.missed) (flat_map shown_note s.notes))
+pub shows_so : (s : Session) (xid : ℕ) (said : Said) → said ≡ said_no_memory xid → shown_end s said ≡ reply_line (reply xid SystemError) ++ (shown_miss s.missed ++ flat_map shown_note s.notes)
+shows_so s xid said is = ap (shown_end s) is ∙ append_assoc (reply_line (reply xid SystemError)) (shown_miss s.missed) (flat_map shown_note s.notes)
 
 -- ---- where memory is wanting at the end only if it was at the beginning
 
@@ -96,7 +92,7 @@ not_it : (b : Bool) → b ≡ true → b ≡ false → ⊥
 not_it b f g = cc (sym f ∙ g)
 
 -- the session that is found stands under its name
-found_session : (xs : List NamedSession) (name : List ℕ) (s : Session) → option_map (λ (x : NamedSession). x.session) (find (λ x. bytes_eq x.name name) xs) ≡ Some s → (x : NamedSession) × Contains xs x × (x.name ≡ name) × (x.session ≡ s)
+pub found_session : (xs : List NamedSession) (name : List ℕ) (s : Session) → option_map (λ (x : NamedSession). x.session) (find (λ x. bytes_eq x.name name) xs) ≡ Some s → (x : NamedSession) × Contains xs x × (x.name ≡ name) × (x.session ≡ s)
 found_session [] name s is = cc is
 found_session (x ∷ xs) name s is = by (bytes_eq x.name name) refl is (λ h. found_session xs name s h)
   where
@@ -133,7 +129,7 @@ module _ (w : Played) (keeps : Keeps w) (name : List ℕ) (s : Session) (is : se
 
 -- ---- lines
 
-begins_by : (w : World) (s : Sending) (t : Session) → BeginsWith w s t → t.by ≡ s.by.name
+pub begins_by : (w : World) (s : Sending) (t : Session) → BeginsWith w s t → t.by ≡ s.by.name
 begins_by w s _ (begins_alone given by) = refl
 begins_by w s _ (begins_refreshing xid asked asks) = refl
 
@@ -148,7 +144,7 @@ module _ (w : Played) (keeps : Keeps w) (line : List ℕ) where
   module _ (log : List ℕ) (pieces : List Piece) (is_as : command_of line ≡ Some (command.As log pieces)) where
     never_lacks : (c next : Scene) (said : Said) → next.session.stage ≡ Over (Some said) → HasMemoryIn w.0 (replied next.world said) line (shown_end next.session said) → LacksBefore c next
     never_lacks c next said over memory xid lacking =
-        let found = memory.shown xid (shows_so next.session xid said (said_over next.session said (said_no_memory xid) over lacking)) in
+        let found = memory.shown xid _ (shows_so next.session xid said (said_over next.session said (said_no_memory xid) over lacking)) in
         absurd (other_command log pieces found.0.name (sym is_as ∙ found.2))
 
     pub as_one : (o : Option Sending) → sending_of w.0 log pieces ≡ o → (one other : Played) (text words : List ℕ) → AsLine hss_judged w o (Goes one text) → AsLine hss_judged w o (Goes other words)
@@ -205,7 +201,7 @@ module _ (w : Played) (keeps : Keeps w) (line : List ℕ) where
     lacked_before : (end : Scene) (said : Said) → command_of line ≡ Some (command.Finish name) → end.session.stage ≡ Over (Some said)
         → HasMemoryIn w.0 (replied (without_session end.world name) said) line (shown_end end.session said) → LacksBefore open_scene end
     lacked_before end said is_finish over memory xid lacking =
-        let found = memory.shown xid (shows_so end.session xid said (said_over end.session said (said_no_memory xid) over lacking)) in
+        let found = memory.shown xid _ (shows_so end.session xid said (said_over end.session said (said_no_memory xid) over lacking)) in
         was_over found.0 (Some (said_no_memory xid)) found.1 (same_finish found.0.name name (sym found.2 ∙ is_finish)) found.3
 
     lacking_before : (count : ℕ) (end : Scene) (text : List ℕ) → StepsOn hss_judged r s.by count open_scene end → HasMemoryIn w.0 (with_session end.world name end.session) line text → LacksBefore open_scene end

@@ -276,7 +276,7 @@ keys w = map (λ (o : Participant). (own o.agent).0) w.participants
 same_names : (w next : World) → next.met ≡ w.met → keys next ≡ keys w → Names w next
 same_names w next met same b h = subst (λ (ks : List (List ℕ)). Contains (next.met ++ ks) b) (sym same) (subst (λ (m : List (List ℕ)). Contains (m ++ keys w) b) (sym met) h)
 
-apart_then : (w next : World) → Names w next → NamesTellApart (named_bytes next) → NamesTellApart (named_bytes w)
+pub apart_then : (w next : World) → Names w next → NamesTellApart (named_bytes next) → NamesTellApart (named_bytes w)
 apart_then w next names apart a b in_a in_b same = apart a b (names a in_a) (names b in_b) same
 
 fate_names : {w next : World} {to : Peer} {question : Ask} {answer : Answer} → FateOf hss_judged w to question answer next → (next.met ≡ w.met) × (next.participants ≡ w.participants)
@@ -317,7 +317,7 @@ module _ (r : ℕ) (c : Scene) (p : Participant) (apart : AreApart (map (λ (o :
   acts_names (is_refused view end after saving t in_view refusal takes) = more_met (after_turn p after saving) after.pending refl (takes_own takes)
   acts_names (settles after t is) = same_names c.world (with_participant c.world (record p { agent = after })) refl (keys_with (record p { agent = after }) refl (settles_own is))
 
-step_names : (r : ℕ) (c : Scene) {next : Scene} → Keeps (c.world, c.story) → Steps hss_judged r c.session.by c next → Names c.world next.world
+pub step_names : (r : ℕ) (c : Scene) {next : Scene} → Keeps (c.world, c.story) → Steps hss_judged r c.session.by c next → Names c.world next.world
 step_names r c keeps (acts p taken cache next is_p takes act) = λ b h. acts_names r (with_cache hss_judged r c p taken cache) (record p { cache = cache }) apart found act b (with_names b h)
   where
     named : p.name ≡ c.session.by
@@ -351,13 +351,13 @@ module _ (r : ℕ) where
   its_step : {name : List ℕ} {c next : Scene} → c.session.by ≡ name → Steps hss_judged r name c next → Steps hss_judged r c.session.by c next
   its_step {name} {c} {next} named step = subst (λ (n : List ℕ). Steps hss_judged r n c next) (sym named) step
 
-  steps_names : {name : List ℕ} {count : ℕ} {c next : Scene} → StepsOn hss_judged r name count c next → c.session.by ≡ name → GoesWell c → Names c.world next.world
+  pub steps_names : {name : List ℕ} {count : ℕ} {c next : Scene} → StepsOn hss_judged r name count c next → c.session.by ≡ name → GoesWell c → Names c.world next.world
   steps_names steps_none named w b h = h
   steps_names (steps_over said over) named w b h = h
   steps_names (steps_more {c = c} step rest) named w b h =
       let then_it = well_then w (its_step named step) in steps_names rest (then_it.1 ∙ named) then_it.0 b (step_names r c w.keeps (its_step named step) b h)
 
-  runs_names : {name : List ℕ} {c next : Scene} → RunsOut hss_judged r name c next → c.session.by ≡ name → GoesWell c → Names c.world next.world
+  pub runs_names : {name : List ℕ} {c next : Scene} → RunsOut hss_judged r name c next → c.session.by ≡ name → GoesWell c → Names c.world next.world
   runs_names (runs_over said over) named w b h = h
   runs_names (runs_more {c = c} step rest) named w b h =
       let then_it = well_then w (its_step named step) in runs_names rest (then_it.1 ∙ named) then_it.0 b (step_names r c w.keeps (its_step named step) b h)

@@ -1,5 +1,5 @@
 -- What an agent has to publish is a record of each number at most, and a head, while no snapshot is made; so it has room for more.
-use Rattle.std.proofs.Common.{◌≡◌, ℕ, suc, ◌+◌, ◌≤◌, Bool, true, false, cond, not, List, [], ◌∷◌, ◌++◌, length, map, filter, Option, Some, None, refl, sym, ap, ◌∙◌, subst, arith, Contains}
+use Rattle.std.proofs.Common.{◌≡◌, ℕ, suc, ◌+◌, ◌≤◌, Bool, true, false, cond, not, List, [], ◌∷◌, ◌++◌, length, map, filter, Option, Some, None, refl, sym, ap, ◌∙◌, subst, arith}
 use Rattle.std.specs.Prelude.{IfSome}
 use Rattle.std.specs.List.{AllByRecursion, list_any}
 use Rattle.ivy_base.specs.declared.operation.Moment.{Moment}
@@ -11,7 +11,7 @@ use Rattle.log_model.proofs.Lists.{each, each_from}
 use Rattle.log_model.specs.Record.{Record}
 use Rattle.log_model.specs.View.{View}
 use Rattle.log_model.specs.Chain.{opening}
-use Rattle.log_model.specs.Vector.{reach, seq_of}
+use Rattle.log_model.specs.Vector.{reach}
 use Rattle.ivy_base.specs.declared.key.Key.{Key}
 use Rattle.turn_model.specs.Turn.{Asked}
 use Rattle.dht_ids.specs.declared.post.Post.{Post}
@@ -30,7 +30,7 @@ use Rattle.session_model.specs.Sessions.{Session}
 use Rattle.world_model.specs.Agents.{Agent, IsKept, Kept, TakesTurn, hss, kept_bytes, opened, own, own_reach}
 use Rattle.world_model.specs.Keepers.{Keeper, asked_to_save}
 use Rattle.world_model.specs.World.{Participant}
-use Rattle.world_laws.specs.FullRuns.{EmptyPublishesFew, FewPostsCome, HasFewPosts, PublishFew, ThereIsRoom}
+use Rattle.world_laws.specs.FullRuns.{EmptyPublishesFew, FewPostsCome, HasFewPosts, ThereIsRoom}
 use Rattle.world_laws.specs.Keeps.{IsKeptSo, IsSavedWell}
 use Rattle.world_laws.proofs.KeptBytes.{kept_once}
 use Rattle.world_laws.proofs.LastingLines.{AllLast, IsLasting, lines_last}

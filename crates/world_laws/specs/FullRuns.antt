@@ -1,17 +1,22 @@
 -- Runs in which memory is never wanting: that there is one from each world without snapshots, or names clash.
-use Rattle.std.specs.Prelude.{◌≤◌, ℕ, not, List, filter, length, Contains}
+use Rattle.std.specs.Prelude.{◌≡◌, ◌≢◌, ◌≤◌, ◌⊎◌, ℕ, not, List, ◌++◌, filter, length, Contains, IfSome}
 use Rattle.std.specs.List.{AllByRecursion}
-use Rattle.ivy_base.specs.Naming.{head_key_of}
+use Rattle.ivy_base.specs.Naming.{HasClash, NamesTellApart, head_key_of}
 use Rattle.log_model.specs.Vector.{seq_of}
 use Rattle.agent_model.specs.Agent.{is_head, kept_of, own_key}
 use Rattle.agent_laws.specs.Laws.{HasRoom}
-use Rattle.script_driver.specs.Run.{Goes}
+use Rattle.session_model.specs.Replies.{said_no_memory}
+use Rattle.session_model.specs.Sessions.{Over, Publishing, Refreshing, Said, Session, Stage}
+use Rattle.script_driver.specs.Run.{Outcome, Goes, Ends, Refuses, Exceeds, Obeys, Ran, Runs, WithLaw, shown}
+use Rattle.script_model.specs.Messages.{Given}
 use Rattle.world_model.specs.Agents.{Kept, hss}
 use Rattle.world_model.specs.Logs.{Played}
 use Rattle.world_model.specs.Step.{IvyStep}
-use Rattle.world_model.specs.World.{World, Participant, empty_world}
+use Rattle.world_model.specs.Story.{empty_story}
+use Rattle.world_model.specs.World.{World, Participant, empty_world, named_bytes}
+use Rattle.world_laws.specs.FullTurns.{AreBytes}
 use Rattle.world_laws.specs.Keeps.{IsKeptSo, Keeps}
-use Rattle.world_laws.specs.Laws.{MakesNoSnapshot}
+use Rattle.world_laws.specs.Laws.{HadMemory, MakesNoSnapshot}
 
 -- ---- room
 
@@ -35,3 +40,74 @@ FewPostsCome = (w next : Played) (line output : List ℕ) → Keeps w → Publis
 -- So each agent has room.
 abbrev pub ThereIsRoom : Type 0
 ThereIsRoom = (w : Played) (p : Participant) → Keeps w → PublishFew w.0 → Contains w.0.participants p → HasRoom p.agent
+
+-- ---- bytes
+
+-- what a reply gave to later lines is bytes
+abbrev pub GivesBytes : Given → Type 0
+GivesBytes g = IfSome g.handle AreBytes × IfSome g.verifier AreBytes
+
+abbrev pub given_of : Said → Given
+given_of said = record { handle = said.handle; verifier = said.verifier }
+
+-- So is what a session will give; and while it publishes for a call, it doesn't say that memory was wanting.
+abbrev pub IsSaidWell : Stage → Type 0
+IsSaidWell Refreshing = Unit {0}
+IsSaidWell (Publishing said posts acks) = IfSome said (λ m. GivesBytes (given_of m) × ((xid : ℕ) → m ≢ said_no_memory xid))
+IsSaidWell (Over said) = IfSome said (λ m. GivesBytes (given_of m))
+
+pub record IsOfBytes (s : Session) : Type 0 where
+  pub message : AreBytes s.message
+  pub said : IsSaidWell s.stage
+
+-- What replies gave is bytes, and so are the messages of open sessions and what these will give.
+pub record HasBytes (w : World) : Type 0 where
+  pub replies : AllByRecursion GivesBytes w.replies
+  pub sessions : AllByRecursion (λ s. IsOfBytes s.session) w.sessions
+
+abbrev pub EmptyHasBytes : Type 0
+EmptyHasBytes = HasBytes empty_world
+
+-- Where names tell apart the blocks met, a line leaves it so.
+abbrev pub BytesCome : Type 0
+BytesCome = (w next : Played) (line output : List ℕ) → Keeps w → HasBytes w.0 → NamesTellApart (named_bytes next.0) → IvyStep w line (Goes next output) → HasBytes next.0
+
+-- ---- lines
+
+-- names clash among the blocks that are met then
+abbrev pub Clashes : Outcome Played → Type 0
+Clashes (Goes next output) = HasClash (named_bytes next.0)
+Clashes Ends = ⊥
+Clashes Refuses = ⊥
+Clashes Exceeds = ⊥
+
+-- In such a world each line that makes no snapshot has an outcome in which memory was there and names tell apart, or one in which names clash.
+abbrev pub FullLines : Type 0
+FullLines = (w : Played) (line : List ℕ) → Keeps w → PublishFew w.0 → HasBytes w.0 → MakesNoSnapshot line
+    → (outcome : Outcome Played) × IvyStep w line outcome × (HadMemory w line outcome ⊎ Clashes outcome)
+
+-- ---- scripts
+
+-- The first lines lead to a world that met blocks among which names clash.
+pub record ClashesOn (w : Played) (lines : List (List ℕ)) : Type 0 where
+  pub front : List (List ℕ)
+  pub rest : List (List ℕ)
+  pub is_front : lines ≡ front ++ rest
+  pub text : List ℕ
+  pub last : Played
+  pub obeyed : Obeys IvyStep w front text last
+  pub clash : HasClash (named_bytes last.0)
+
+-- the one run in which memory is never wanting and names tell apart
+abbrev pub IsFullRun : Played → ℕ → List (List ℕ) → Ran → Type 0
+IsFullRun w number lines ran = Runs (WithLaw IvyStep HadMemory) w number lines ran × ((other : Ran) → Runs (WithLaw IvyStep HadMemory) w number lines other → other ≡ ran)
+
+-- From such a world there is that run of each script that makes no snapshot, or names clash on the way.
+abbrev pub FullScripts : Type 0
+FullScripts = (w : Played) (number : ℕ) (lines : List (List ℕ)) → Keeps w → PublishFew w.0 → HasBytes w.0 → AllByRecursion (λ line. MakesNoSnapshot (shown line)) lines
+    → ((ran : Ran) × IsFullRun w number lines ran) ⊎ ClashesOn w lines
+
+-- So it is of each script from its beginning.
+abbrev pub FullStarts : Type 0
+FullStarts = (number : ℕ) (lines : List (List ℕ)) → AllByRecursion (λ line. MakesNoSnapshot (shown line)) lines
+    → ((ran : Ran) × IsFullRun (empty_world, empty_story) number lines ran) ⊎ ClashesOn (empty_world, empty_story) lines

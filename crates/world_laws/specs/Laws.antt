@@ -39,7 +39,7 @@ use Rattle.session_model.specs.Courses.{Fails, HasRefreshed, IsRefusal, LacksMem
 use Rattle.session_model.specs.Replies.{Asks, said_no_memory}
 use Rattle.snapshot_model.specs.Reading.{IsBasisSpelled}
 use Rattle.session_laws.specs.Going.{IsOfWant}
-use Rattle.script_driver.specs.Run.{Outcome, Goes, Ends, Refuses, Exceeds, Ran, Runs, WithLaw, HasPiece, shown}
+use Rattle.script_driver.specs.Run.{Outcome, Goes, Ends, Refuses, Exceeds, Ran, Runs, WithLaw, shown}
 use Rattle.script_driver.specs.Seen.{HasStory, SeenStep}
 use Rattle.script_model.specs.declared.command.Command.{Command}
 use Rattle.script_model.specs.declared.command.Command.TheVariants as command
@@ -225,9 +225,10 @@ EachScriptHasARun = (w : World) (number : ℕ) (lines : List (List ℕ)) → All
 
 -- ---- one run
 
--- no call was refused for want of memory in this step: no such reply is shown, unless by the end of a session that was over before, and no session is over so that wasn't
+-- no call was refused for want of memory in this step: what is shown doesn't begin with such a reply, unless by the end of a session that was over before, and no session
+-- is over so that wasn't
 pub record HasMemoryIn (w next : World) (line output : List ℕ) : Type 0 where
-  pub shown : (xid : ℕ) → HasPiece (λ text. text ≡ reply_line (reply xid SystemError)) output
+  pub shown : (xid : ℕ) (rest : List ℕ) → output ≡ reply_line (reply xid SystemError) ++ rest
       → (s : NamedSession) × Contains w.sessions s × (command_of line ≡ Some (command.Finish s.name)) × (s.session.stage ≡ Over (Some (said_no_memory xid)))
   pub sessions : AllByRecursion (λ s. (xid : ℕ) → s.session.stage ≡ Over (Some (said_no_memory xid)) → Contains w.sessions s) next.sessions
 

@@ -46,7 +46,7 @@
 
 ghost use Rattle.world_laws.specs.Calm.{AckedIsHeld, AreAny, BlocksAreGiven, HasSameRing, HeadsAreGiven, RingStays};
 ghost use Rattle.world_laws.specs.Frames.{DamageLinesKeep, JoinLinesKeep, KeeperLinesKeep, LogLinesKeep, MildChangesKeep, MoreBlocksKeep, RestartLinesKeep, RingLinesKeep, RoundLinesKeep, StillLinesKeep, StopLinesKeep, UseLinesKeep, ViewLinesKeep};
-ghost use Rattle.world_laws.specs.FullRuns.{EmptyPublishesFew, FewPostsCome, ThereIsRoom};
+ghost use Rattle.world_laws.specs.FullRuns.{BytesCome, EmptyHasBytes, EmptyPublishesFew, FewPostsCome, FullLines, FullScripts, FullStarts, ThereIsRoom};
 ghost use Rattle.world_laws.specs.FullTurns.{SessionsEndOrClash, SessionsGoToTheirEnds, TurnsExist};
 ghost use Rattle.world_laws.specs.Kinds.{LineHasOneKind};
 ghost use Rattle.world_laws.specs.Laws.{AlikeTurnsAnswerAlike, AllStepsKeep, AnsweredTurnsKeep, CallLinesKeep, CallsBegin, ClashIsDecided, DoneRefreshesStep, EachLineDoesSomething, EachReplyIsOnReplay, EachScriptHasARun, EachSessionEnds, EmptyKeeps, FewerStayApart, FreshTurnsAreAnswered, FullRunsAreOne, GetsBringKeep, GetsGoOnKeep, HeadlineHolds, HeadsAreSavedFirst, HeldIsSpelled, KeptOnce, KnownIsOne, LackingKeeps, LackingStepsKeep, LeafSignsOnce, LinesKeep, ManyStepsAreOne, ManyStepsKeep, MetGrows, NoSnapshotComes, OneTruth, OpenLineKeeps, OtherLogsDontCount, OthersHaveNoTurn, PublishingIsOne, PublishingKeeps, PutsKeep, ReceivingKeeps, RefreshBrings, RefreshEndsInTurn, RefreshMayTurn, RefreshesEnd, RefreshesRunOut, RefusedTurnsKeep, SecondTurnIsAnswered, SessionsEndOnce, SessionsGoFully, SessionsStepOnce, SettlingKeeps, SnapLinesKeep, StepsAreOne, StepsKeep, StillLinesChangeNothing, TakingKeeps, TurnsAreSaved, UpperLeavesSignOnce, VainAsksKeep, WholePublishingKeeps};
@@ -322,4 +322,21 @@ pub fn there_is_room()
     ensures empty { EmptyPublishesFew }
     ensures lines { FewPostsCome }
     ensures room { ThereIsRoom }
+{}
+
+/// Laws and no code: what replies gave to later lines, and what open sessions were sent and will say, is bytes, where names tell
+/// apart the blocks met.
+pub fn replies_are_bytes()
+    ensures empty { EmptyHasBytes }
+    ensures lines { BytesCome }
+{}
+
+/// Laws and no code: in a world that keeps what it should, whose agents have room and whose replies are bytes, a line that makes
+/// no snapshot has an outcome in which memory was there, or one that meets blocks among which names clash. So each script that
+/// makes no snapshot has exactly one run in which memory is never wanting and names tell apart, or names clash among the blocks
+/// that a front of it meets.
+pub fn scripts_run_fully()
+    ensures lines { FullLines }
+    ensures scripts { FullScripts }
+    ensures starts { FullStarts }
 {}

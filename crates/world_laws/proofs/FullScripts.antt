@@ -1,0 +1,75 @@
+-- Each script that makes no snapshot has one run in which memory is never wanting, or names clash on the way.
+use Rattle.std.proofs.Common.{◌⊎◌, inl, inr, ℕ, ◌+◌, List, [], ◌∷◌, ◌++◌, refl, ap}
+use Rattle.std.specs.List.{AllByRecursion}
+use Rattle.ivy_base.specs.Naming.{HasClash}
+use Rattle.script_driver.specs.Run.{Outcome, Goes, Ends, Refuses, Exceeds, Obeys, Ran, Runs, WithLaw, behind, ended, limited, refused, shown}
+use Rattle.world_model.specs.Logs.{Played}
+use Rattle.world_model.specs.Step.{IvyStep}
+use Rattle.world_model.specs.Story.{empty_story}
+use Rattle.world_model.specs.World.{empty_world, named_bytes}
+use Rattle.world_laws.specs.FullRuns.{Clashes, ClashesOn, FullScripts, FullStarts, HasBytes, PublishFew}
+use Rattle.world_laws.specs.Keeps.{Keeps}
+use Rattle.world_laws.specs.Laws.{HadMemory, MakesNoSnapshot}
+use Rattle.world_laws.proofs.BytesLines.{bytes_come, empty_has_bytes}
+use Rattle.world_laws.proofs.EachLine.{each_line_keeps}
+use Rattle.world_laws.proofs.FirstWorld.{empty_keeps}
+use Rattle.world_laws.proofs.FullLines.{full_lines}
+use Rattle.world_laws.proofs.OneLines.{full_runs_are_one}
+use Rattle.world_laws.proofs.Rooms.{empty_publishes_few, few_posts_come}
+
+abbrev HasRun : Played → ℕ → List (List ℕ) → Type 0
+HasRun w number lines = (ran : Ran) × Runs (WithLaw IvyStep HadMemory) w number lines ran
+
+-- the first line leads to where names clash
+clashes_first : (w next : Played) (line : List ℕ) (lines : List (List ℕ)) (output : List ℕ) → IvyStep w (shown line) (Goes next output) → HasClash (named_bytes next.0) → ClashesOn w (line ∷ lines)
+unfolding Obeys
+clashes_first w next line lines output step clash = record {
+  front = line ∷ [];
+  rest = lines;
+  is_front = refl;
+  text = output ++ [];
+  last = next;
+  obeyed = (next, output, [], step, (refl, refl), refl);
+  clash = clash;
+}
+
+-- or a later one does
+clashes_later : (w next : Played) (line : List ℕ) (lines : List (List ℕ)) (output : List ℕ) → IvyStep w (shown line) (Goes next output) → ClashesOn next lines → ClashesOn w (line ∷ lines)
+unfolding Obeys
+clashes_later w next line lines output step later = record {
+  front = line ∷ later.front;
+  rest = later.rest;
+  is_front = ap (λ (ls : List (List ℕ)). line ∷ ls) later.is_front;
+  text = output ++ later.text;
+  last = later.last;
+  obeyed = (next, output, later.text, step, later.obeyed, refl);
+  clash = later.clash;
+}
+
+runs_or_clashes : (w : Played) (number : ℕ) (lines : List (List ℕ)) → Keeps w → PublishFew w.0 → HasBytes w.0 → AllByRecursion (λ line. MakesNoSnapshot (shown line)) lines → HasRun w number lines ⊎ ClashesOn w lines
+unfolding Runs
+runs_or_clashes w number [] keeps few bytes mild = inl (refused number, refl)
+runs_or_clashes w number (line ∷ lines) keeps few bytes mild =
+    let some = full_lines w (shown line) keeps few bytes mild.0 in
+    after some.0 some.1 some.2 (λ next output step memory.
+    runs_or_clashes next (number + 1) lines (each_line_keeps w next (shown line) output keeps step) (few_posts_come w next (shown line) output keeps few mild.0 step) (bytes_come w next (shown line) output keeps bytes memory.1 step) mild.1)
+  where
+    after : (outcome : Outcome Played) → IvyStep w (shown line) outcome → HadMemory w (shown line) outcome ⊎ Clashes outcome
+        → ((next : Played) (output : List ℕ) → IvyStep w (shown line) (Goes next output) → HadMemory w (shown line) (Goes next output) → HasRun next (number + 1) lines ⊎ ClashesOn next lines) → HasRun w number (line ∷ lines) ⊎ ClashesOn w (line ∷ lines)
+    after (Goes next output) step (inr clash) later = inr (clashes_first w next line lines output step clash)
+    after (Goes next output) step (inl memory) later = elim (later next output step memory) [
+      | inl runs ↦ inl (behind output runs.0, (Goes next output, (step, memory), (runs.0, runs.1, refl)))
+      | inr clashes ↦ inr (clashes_later w next line lines output step clashes)
+    ]
+    after Ends step how later = inl (ended, (Ends, (step, tt), refl))
+    after Refuses step how later = inl (refused number, (Refuses, (step, tt), refl))
+    after Exceeds step how later = inl (limited number, (Exceeds, (step, tt), refl))
+
+pub full_scripts : FullScripts
+full_scripts w number lines keeps few bytes mild = elim (runs_or_clashes w number lines keeps few bytes mild) [
+  | inl runs ↦ inl (runs.0, (runs.1, λ other also. full_runs_are_one w number lines other runs.0 keeps also runs.1))
+  | inr clashes ↦ inr clashes
+]
+
+pub full_starts : FullStarts
+full_starts number lines mild = full_scripts (empty_world, empty_story) number lines empty_keeps empty_publishes_few empty_has_bytes mild
