@@ -1,5 +1,5 @@
 -- Runs in which memory is never wanting: that there is one from each world without snapshots, or names clash.
-use Rattle.std.specs.Prelude.{◌≡◌, ◌≢◌, ◌≤◌, ◌⊎◌, ℕ, not, List, ◌++◌, filter, length, Contains, IfSome}
+use Rattle.std.specs.Prelude.{◌≡◌, ◌≢◌, ◌≤◌, ◌⊎◌, ℕ, not, List, ◌++◌, filter, length, Contains, IfSome, Some}
 use Rattle.std.specs.List.{AllByRecursion}
 use Rattle.ivy_base.specs.Naming.{HasClash, NamesTellApart, head_key_of}
 use Rattle.log_model.specs.Vector.{seq_of}
@@ -8,8 +8,12 @@ use Rattle.agent_laws.specs.Laws.{HasRoom}
 use Rattle.session_model.specs.Replies.{said_no_memory}
 use Rattle.session_model.specs.Sessions.{Over, Publishing, Refreshing, Said, Session, Stage}
 use Rattle.script_driver.specs.Run.{Outcome, Goes, Ends, Refuses, Exceeds, Obeys, Ran, Runs, WithLaw, shown}
+use Rattle.script_model.specs.declared.command.Command.TheVariants as command
+use Rattle.script_model.specs.declared.command.Piece.{Piece}
+use Rattle.script_model.specs.Lines.{command_of}
 use Rattle.script_model.specs.Messages.{Given}
 use Rattle.world_model.specs.Agents.{Kept, hss}
+use Rattle.world_model.specs.Calls.{Sending, sending_of}
 use Rattle.world_model.specs.Logs.{Played}
 use Rattle.world_model.specs.Step.{IvyStep}
 use Rattle.world_model.specs.Story.{empty_story}
@@ -67,6 +71,14 @@ pub record HasBytes (w : World) : Type 0 where
 
 abbrev pub EmptyHasBytes : Type 0
 EmptyHasBytes = HasBytes empty_world
+
+-- the line sends these pieces, in a whole call or to open a session
+abbrev pub Sends : List ℕ → List ℕ → List Piece → Type 0
+Sends line log pieces = (command_of line ≡ Some (command.As log pieces)) ⊎ ((session : List ℕ) × (command_of line ≡ Some (command.Open session log pieces)))
+
+-- They are a message of bytes, whatever the line.
+abbrev pub MessagesAreBytes : Type 0
+MessagesAreBytes = (w : World) (line log : List ℕ) (pieces : List Piece) (s : Sending) → HasBytes w → Sends line log pieces → sending_of w log pieces ≡ Some s → AreBytes s.message
 
 -- Where names tell apart the blocks met, a line leaves it so.
 abbrev pub BytesCome : Type 0
