@@ -129,7 +129,7 @@ module _ {J : Type 0} (judges : Judges J) (c : Scene) (r : ℕ) (p : Participant
     same_world : with_participant (with_nodes here.world later) (record p { cache = after }) ≡ with_participant (with_nodes c.world later) (record p { cache = after })
     same_world = twice_placed (with_nodes c.world later) mine (record p { cache = after }) refl
 
-    heard_so : (heard t : Session) → Hears hss_judged r then_asks.taken between node question given heard after → Fails heard t → IsLeft judges c.session.starts t new → IsStep judges c r new (with_participant (with_nodes c.world later) (record p { cache = after })) (given_at c.session.stage)
+    heard_so : (heard t : Session) → Hears hss_judged r then_asks.taken between node question given heard after → Fails heard t → IsLeft judges ⊥ t new → IsStep judges c r new ⊥ (with_participant (with_nodes c.world later) (record p { cache = after })) (given_at c.session.stage)
     heard_so heard t hearing goes left = record {
       next = record { world = with_participant (with_nodes here.world later) (record p { cache = after }); story = ask_told c.story p.name then_asks.taken t; session = t; began = c.began };
       steps = acts p then_asks.taken between _ is.is_by then_asks.takes (acts_asks node question given (with_nodes here.world later) heard t after fate_now hearing goes);
@@ -139,7 +139,7 @@ module _ {J : Type 0} (judges : Judges J) (c : Scene) (r : ℕ) (p : Participant
     }
 
     -- where memory is wanting
-    in_vain : (t : Session) → LacksMemory then_asks.taken t → after ≡ between → IsSession judges t new → IsStep judges c r new (with_participant (with_nodes c.world later) (record p { cache = after })) (given_at c.session.stage)
+    in_vain : (t : Session) → LacksMemory then_asks.taken t → after ≡ between → IsSession judges t new → IsStep judges c r new ⊥ (with_participant (with_nodes c.world later) (record p { cache = after })) (given_at c.session.stage)
     in_vain t lacking stays session =
         let h = hears_some r then_asks.taken between node question given then_asks.asks in
         let over = lacking_is_over lacking in
@@ -152,12 +152,12 @@ module _ {J : Type 0} (judges : Judges J) (c : Scene) (r : ℕ) (p : Participant
         }
 
     cut_so : (said : Option Said) (posts : List Post) (acks : List Ack) → then_asks.taken.stage ≡ Publishing said posts acks → new.is_cut ≡ true → after ≡ between
-        → IsStep judges c r new (with_participant (with_nodes c.world later) (record p { cache = after })) (given_at c.session.stage)
+        → IsStep judges c r new ⊥ (with_participant (with_nodes c.world later) (record p { cache = after })) (given_at c.session.stage)
     cut_so said posts acks at cut stays =
         let h = publishing_hears r then_asks.taken between node question given said posts acks at then_asks.asks in
         heard_so h.0 h.0 (subst (Hears hss_judged r then_asks.taken between node question given h.0) (sym stays) h.1) (refresh_goes (λ notes brought miss stage refreshes. h.2 stage)) (left_cut cut)
 
-    by_hearing : HeardIs judges mid new then_asks.taken between after node question (Ok given) → IsStep judges c r new (with_participant (with_nodes c.world later) (record p { cache = after })) (given_at c.session.stage)
+    by_hearing : HeardIs judges mid new then_asks.taken between after node question (Ok given) → IsStep judges c r new ⊥ (with_participant (with_nodes c.world later) (record p { cache = after })) (given_at c.session.stage)
     by_hearing (heard_it answer heard t is_answer hearing goes session asked) =
         heard_so heard t
         (as_ring_then judges c r p old is mid same (λ judged n. Hears judged n then_asks.taken between node question given heard after)

@@ -71,7 +71,7 @@ use Rattle.world_laws.proofs.Apart.{clash_is_decided}
 use Rattle.world_laws.proofs.Bringing.{found_named, its_view, refresh_may_turn}
 use Rattle.world_laws.proofs.Frames.{into_map}
 use Rattle.step_laws.specs.Laws.{AgentsGiveTurns, BatchesAreFetched, GivesNothing, RefusalsAreFresh, RepliesAreRead, TurnsAreSteps, TurnsMayBe}
-use Rattle.step_laws.specs.Scenes.{GivesTurn, HadTurn, IsLeft, IsSceneOf, IsStep, given_at, given_by, given_of, holder_of, memory_saves, turned_participant, turned_world}
+use Rattle.step_laws.specs.Scenes.{GivesTurn, HadTurn, IsLeft, IsSceneOf, IsStep, MayLack, given_at, given_by, given_of, holder_of, memory_saves, turned_participant, turned_world}
 use Rattle.step_laws.specs.Scenes.IsLeft.{goes_on as left_on, lacks_memory as left_lacking, is_cut as left_cut}
 use Rattle.step_laws.proofs.Read.{reply_of}
 use Rattle.step_laws.proofs.Scenes.{all_some, as_ring, found_then, keeps_then, lacking_gives, taken_same, twice_placed}
@@ -318,10 +318,10 @@ module _ {J : Type 0} (judges : Judges J) (c : Scene) (r : ℕ) (p : Participant
     module _ (turned : Turned) where
       -- the step, after which the session says that
       abbrev SaysThen : Reply → Type 0
-      SaysThen reply = IsStep judges c r new (turned_world c.world mine (Ok turned) after) (given_by reply)
+      SaysThen reply = IsStep judges c r new ⊥ (turned_world c.world mine (Ok turned) after) (given_by reply)
 
       answered_step : (reply : Reply) (saving : Option Kept) (notes : List Note) (xid : ℕ) → HasRefreshed h.taken notes (refresh_of refresh) → Asks view h.taken.message xid (asked_of asked) → IsTurn (Answered reply turned.applied) saving
-          → IsLeft judges c.session.starts (answered h.taken (said_of xid reply) notes after.agent.pending) new → SaysThen reply
+          → IsLeft judges ⊥ (answered h.taken (said_of xid reply) notes after.agent.pending) new → SaysThen reply
       answered_step reply saving notes xid done asks turn left =
           let t = turn_told_so notes xid reply turned.applied saving done asks turn in
           record {
@@ -347,7 +347,7 @@ module _ {J : Type 0} (judges : Judges J) (c : Scene) (r : ℕ) (p : Participant
       abbrev Gave : Type 0
       Gave = GivesTurn p view refresh asked c.world.now (Ok turned) after
 
-      by_answer : Gave → TurnedIs judges mid new h.taken (Ok turned) → (given : Given) × IsStep judges c r new (turned_world c.world mine (Ok turned) after) given × GivesNothing (Ok turned) given
+      by_answer : Gave → TurnedIs judges mid new h.taken (Ok turned) → (given : Given) × IsStep judges c r new ⊥ (turned_world c.world mine (Ok turned) after) given × GivesNothing (Ok turned) given
       by_answer t told = (given_by t.0, by_reply t.0 t.1.saving t.2.posts (t.1.turns, t.1.keeper) (told t.0 t.2.bytes), tt)
 
       -- the reply is the one that its bytes are
@@ -375,7 +375,7 @@ module _ {J : Type 0} (judges : Judges J) (c : Scene) (r : ℕ) (p : Participant
     -- ---- it was refused
 
     module _ (end : TurnEnd) (refusal : IsRefusal end) (saving : Option Kept) (turn : IsTurn end saving) where
-      refused_step : (t : Session) → TakesTurn c.world.now p.agent view (fails_next p.keeper) h.taken end after.agent saving t → IsLeft judges c.session.starts t new → given_at t.stage ≡ given_of None → IsStep judges c r new (world_after c.world (turned_participant mine after)) (given_of None)
+      refused_step : (t : Session) → TakesTurn c.world.now p.agent view (fails_next p.keeper) h.taken end after.agent saving t → IsLeft judges (c.session.starts < 2) t new → given_at t.stage ≡ given_of None → IsStep judges c r new (c.session.starts < 2) (world_after c.world (turned_participant mine after)) (given_of None)
       refused_step t takes left gives = record {
         next = record here { world = world_after here.world (after_turn mine after.agent saving); session = t; began = record c.began { knew = known_of c.story p.name } };
         steps = acts p h.taken cache _ is.is_by h.takes (is_refused view end after.agent saving t in_view refusal takes);
@@ -384,11 +384,11 @@ module _ {J : Type 0} (judges : Judges J) (c : Scene) (r : ℕ) (p : Participant
         gives = gives;
       }
 
-      anew_step : h.taken.starts < 2 → IsLeft judges c.session.starts (anew h.taken (anew_in hss after.agent view)) new → IsStep judges c r new (world_after c.world (turned_participant mine after)) (given_of None)
+      anew_step : h.taken.starts < 2 → IsLeft judges (c.session.starts < 2) (anew h.taken (anew_in hss after.agent view)) new → IsStep judges c r new (c.session.starts < 2) (world_after c.world (turned_participant mine after)) (given_of None)
       anew_step few left = refused_step (anew h.taken (anew_in hss after.agent view))
           (begins_anew h.notes (refresh_of refresh) call.0 (asked_of asked) end after.agent saving h.done call.1 turn.0 refusal few) left (ap given_at h.done.0)
 
-      by_refusal : (standing : ModelStanding) → standing ≡ anew_in hss after.agent view → code.IsRefused judges mid new h.taken standing → IsStep judges c r new (world_after c.world (turned_participant mine after)) (given_of None)
+      by_refusal : (standing : ModelStanding) → standing ≡ anew_in hss after.agent view → code.IsRefused judges mid new h.taken standing → IsStep judges c r new (c.session.starts < 2) (world_after c.world (turned_participant mine after)) (given_of None)
       by_refusal standing same (code_begins few session) = anew_step few (left_on (subst (λ (s : ModelStanding). IsSession judges (anew h.taken s) new) same session) (λ waits. absurd (waits free)) past)
       by_refusal standing same (code_lacks t few lacking session) = anew_step few (left_lacking t (subst (λ (n : ℕ). n < 2) starts_are few) (subst (λ (s : ModelStanding). LacksMemory (anew h.taken s) t) same lacking) session)
       by_refusal standing same (code_gives_up xid notes given other many done asks session) =
@@ -398,7 +398,7 @@ module _ {J : Type 0} (judges : Judges J) (c : Scene) (r : ℕ) (p : Participant
     -- ---- whatever it was
 
     by_turn : (turned : Result Turned TurnFault) → GivesTurn p view refresh asked c.world.now turned after → TurnedIs judges mid new h.taken turned
-        → (given : Given) × IsStep judges c r new (turned_world c.world mine turned after) given × GivesNothing turned given
+        → (given : Given) × IsStep judges c r new (MayLack c.session.starts turned) (turned_world c.world mine turned after) given × GivesNothing turned given
     by_turn (Ok turned) t told = by_answer turned t told
     by_turn (Err fault.Memory) t told = (
       given_of None,
