@@ -24,25 +24,33 @@ HasRun w number lines = (ran : Ran) × Runs (WithLaw IvyStep HadMemory) w number
 clashes_first : (w next : Played) (line : List ℕ) (lines : List (List ℕ)) (output : List ℕ) → IvyStep w (shown line) (Goes next output) → HasClash (named_bytes next.0) → ClashesOn w (line ∷ lines)
 unfolding Obeys
 clashes_first w next line lines output step clash = record {
-  front = line ∷ [];
+  front = [];
+  line = line;
   rest = lines;
-  is_front = refl;
-  text = output ++ [];
+  are = refl;
+  text = [];
+  mid = w;
+  obeyed = (refl, refl);
   last = next;
-  obeyed = (next, output, [], step, (refl, refl), refl);
+  output = output;
+  step = step;
   clash = clash;
 }
 
 -- or a later one does
-clashes_later : (w next : Played) (line : List ℕ) (lines : List (List ℕ)) (output : List ℕ) → IvyStep w (shown line) (Goes next output) → ClashesOn next lines → ClashesOn w (line ∷ lines)
+clashes_later : (w next : Played) (line : List ℕ) (lines : List (List ℕ)) (output : List ℕ) → WithLaw IvyStep HadMemory w (shown line) (Goes next output) → ClashesOn next lines → ClashesOn w (line ∷ lines)
 unfolding Obeys
 clashes_later w next line lines output step later = record {
   front = line ∷ later.front;
+  line = later.line;
   rest = later.rest;
-  is_front = ap (λ (ls : List (List ℕ)). line ∷ ls) later.is_front;
+  are = ap (λ (ls : List (List ℕ)). line ∷ ls) later.are;
   text = output ++ later.text;
-  last = later.last;
+  mid = later.mid;
   obeyed = (next, output, later.text, step, later.obeyed, refl);
+  last = later.last;
+  output = later.output;
+  step = later.step;
   clash = later.clash;
 }
 
@@ -59,7 +67,7 @@ runs_or_clashes w number (line ∷ lines) keeps few bytes mild =
     after (Goes next output) step (inr clash) later = inr (clashes_first w next line lines output step clash)
     after (Goes next output) step (inl memory) later = elim (later next output step memory) [
       | inl runs ↦ inl (behind output runs.0, (Goes next output, (step, memory), (runs.0, runs.1, refl)))
-      | inr clashes ↦ inr (clashes_later w next line lines output step clashes)
+      | inr clashes ↦ inr (clashes_later w next line lines output (step, memory) clashes)
     ]
     after Ends step how later = inl (ended, (Ends, (step, tt), refl))
     after Refuses step how later = inl (refused number, (Refuses, (step, tt), refl))

@@ -1,5 +1,5 @@
 -- Runs in which memory is never wanting: that there is one from each world without snapshots, or names clash.
-use Rattle.std.specs.Prelude.{◌≡◌, ◌≢◌, ◌≤◌, ◌⊎◌, ℕ, not, List, ◌++◌, filter, length, Contains, IfSome, Some}
+use Rattle.std.specs.Prelude.{◌≡◌, ◌≢◌, ◌≤◌, ◌⊎◌, ℕ, not, List, ◌∷◌, ◌++◌, filter, length, Contains, IfSome, Some}
 use Rattle.std.specs.List.{AllByRecursion}
 use Rattle.ivy_base.specs.Naming.{HasClash, NamesTellApart, head_key_of}
 use Rattle.log_model.specs.Vector.{seq_of}
@@ -100,14 +100,18 @@ FullLines = (w : Played) (line : List ℕ) → Keeps w → PublishFew w.0 → Ha
 
 -- ---- scripts
 
--- The first lines lead to a world that met blocks among which names clash.
+-- The first lines go on with memory there, and names tell apart; and the line behind them leads to a world that met blocks among which names clash.
 pub record ClashesOn (w : Played) (lines : List (List ℕ)) : Type 0 where
   pub front : List (List ℕ)
+  pub line : List ℕ
   pub rest : List (List ℕ)
-  pub is_front : lines ≡ front ++ rest
+  pub are : lines ≡ front ++ line ∷ rest
   pub text : List ℕ
+  pub mid : Played
+  pub obeyed : Obeys (WithLaw IvyStep HadMemory) w front text mid
   pub last : Played
-  pub obeyed : Obeys IvyStep w front text last
+  pub output : List ℕ
+  pub step : IvyStep mid (shown line) (Goes last output)
   pub clash : HasClash (named_bytes last.0)
 
 -- the one run in which memory is never wanting and names tell apart
