@@ -11,11 +11,13 @@ use Rattle.world_laws.specs.FullRuns.{Clashes, ClashesOn, FullScripts, FullStart
 use Rattle.world_laws.specs.Keeps.{Keeps}
 use Rattle.world_laws.specs.Laws.{HadMemory, MakesNoSnapshot}
 use Rattle.world_laws.proofs.BytesLines.{bytes_come, empty_has_bytes}
+use Rattle.script_model.specs.Lines.{command_of}
+use Rattle.world_laws.proofs.Existing.{can_without}
 use Rattle.world_laws.proofs.EachLine.{each_line_keeps}
 use Rattle.world_laws.proofs.FirstWorld.{empty_keeps}
 use Rattle.world_laws.proofs.FullLines.{full_lines}
 use Rattle.world_laws.proofs.OneLines.{full_runs_are_one}
-use Rattle.world_laws.proofs.Rooms.{empty_publishes_few, few_posts_come}
+use Rattle.world_laws.proofs.Rooms.{empty_publishes_few, few_posts_come, there_is_room}
 
 abbrev HasRun : Played → ℕ → List (List ℕ) → Type 0
 HasRun w number lines = (ran : Ran) × Runs (WithLaw IvyStep HadMemory) w number lines ran
@@ -58,7 +60,7 @@ runs_or_clashes : (w : Played) (number : ℕ) (lines : List (List ℕ)) → Keep
 unfolding Runs
 runs_or_clashes w number [] keeps few bytes mild = inl (refused number, refl)
 runs_or_clashes w number (line ∷ lines) keeps few bytes mild =
-    let some = full_lines w (shown line) keeps few bytes mild.0 in
+    let some = full_lines w (shown line) keeps (there_is_room w keeps few) bytes (can_without w.0 (command_of (shown line)) mild.0) in
     after some.0 some.1 some.2 (λ next output step memory.
     runs_or_clashes next (number + 1) lines (each_line_keeps w next (shown line) output keeps step) (few_posts_come w next (shown line) output keeps few mild.0 step) (bytes_come w next (shown line) output keeps bytes memory.1 step) mild.1)
   where

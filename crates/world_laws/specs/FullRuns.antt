@@ -1,5 +1,5 @@
 -- Runs in which memory is never wanting: that there is one from each world without snapshots, or names clash.
-use Rattle.std.specs.Prelude.{◌≡◌, ◌≢◌, ◌≤◌, ◌⊎◌, ℕ, not, List, ◌∷◌, ◌++◌, filter, length, Contains, IfSome, Some}
+use Rattle.std.specs.Prelude.{◌≡◌, ◌≢◌, ◌≤◌, ◌⊎◌, ℕ, not, List, ◌∷◌, ◌++◌, filter, length, IfSome, Some}
 use Rattle.std.specs.List.{AllByRecursion}
 use Rattle.ivy_base.specs.Naming.{HasClash, NamesTellApart, head_key_of}
 use Rattle.log_model.specs.Vector.{seq_of}
@@ -17,10 +17,10 @@ use Rattle.world_model.specs.Calls.{Sending, sending_of}
 use Rattle.world_model.specs.Logs.{Played}
 use Rattle.world_model.specs.Step.{IvyStep}
 use Rattle.world_model.specs.Story.{empty_story}
-use Rattle.world_model.specs.World.{World, Participant, empty_world, named_bytes}
+use Rattle.world_model.specs.World.{World, empty_world, named_bytes}
 use Rattle.world_laws.specs.FullTurns.{AreBytes}
 use Rattle.world_laws.specs.Keeps.{IsKeptSo, Keeps}
-use Rattle.world_laws.specs.Laws.{HadMemory, MakesNoSnapshot}
+use Rattle.world_laws.specs.Laws.{CanBeDone, HadMemory, MakesNoSnapshot}
 
 -- ---- room
 
@@ -41,9 +41,13 @@ EmptyPublishesFew = PublishFew empty_world
 abbrev pub FewPostsCome : Type 0
 FewPostsCome = (w next : Played) (line output : List ℕ) → Keeps w → PublishFew w.0 → MakesNoSnapshot line → IvyStep w line (Goes next output) → PublishFew next.0
 
--- So each agent has room.
+-- each agent has room
+abbrev pub HaveRoom : World → Type 0
+HaveRoom w = AllByRecursion (λ p. HasRoom p.agent) w.participants
+
+-- So they have.
 abbrev pub ThereIsRoom : Type 0
-ThereIsRoom = (w : Played) (p : Participant) → Keeps w → PublishFew w.0 → Contains w.0.participants p → HasRoom p.agent
+ThereIsRoom = (w : Played) → Keeps w → PublishFew w.0 → HaveRoom w.0
 
 -- ---- bytes
 
@@ -93,9 +97,10 @@ Clashes Ends = ⊥
 Clashes Refuses = ⊥
 Clashes Exceeds = ⊥
 
--- In such a world each line that makes no snapshot has an outcome in which memory was there and names tell apart, or one in which names clash.
+-- In such a world, where agents have room, each line has an outcome in which memory was there and names tell apart, or one in which names clash; of a line that makes a
+-- snapshot that asks that what is to be published can be saved.
 abbrev pub FullLines : Type 0
-FullLines = (w : Played) (line : List ℕ) → Keeps w → PublishFew w.0 → HasBytes w.0 → MakesNoSnapshot line
+FullLines = (w : Played) (line : List ℕ) → Keeps w → HaveRoom w.0 → HasBytes w.0 → IfSome (command_of line) (CanBeDone w.0)
     → (outcome : Outcome Played) × IvyStep w line outcome × (HadMemory w line outcome ⊎ Clashes outcome)
 
 -- ---- scripts

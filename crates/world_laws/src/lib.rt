@@ -340,10 +340,10 @@ pub fn replies_are_bytes()
     ensures lines { BytesCome }
 {}
 
-/// Laws and no code: in a world that keeps what it should, whose agents have room and whose replies are bytes, a line that makes
-/// no snapshot has an outcome in which memory was there, or one that meets blocks among which names clash. So each script that
-/// makes no snapshot has exactly one run in which memory is never wanting and names tell apart, or names clash among the blocks
-/// that a front of it meets.
+/// Laws and no code: in a world that keeps what it should, whose agents have room and whose replies are bytes, a line has an
+/// outcome in which memory was there, or one that meets blocks among which names clash; of a line that makes a snapshot that asks
+/// that what is to be published can be saved. So each script that makes no snapshot has exactly one run in which memory is never
+/// wanting and names tell apart, or that is so up to a line that meets blocks among which names clash.
 pub fn scripts_run_fully()
     ensures lines { FullLines }
     ensures scripts { FullScripts }
