@@ -1,5 +1,5 @@
 -- Where names tell apart the blocks met, a line leaves what replies gave and what open sessions were sent and will say in bytes.
-use Rattle.std.proofs.Common.{◌≡◌, ℕ, Bool, true, false, cond, List, [], ◌∷◌, ◌++◌, map, Option, Some, refl, sym, subst}
+use Rattle.std.proofs.Common.{◌≡◌, inl, inr, ℕ, Bool, true, false, cond, List, [], ◌∷◌, ◌++◌, map, Option, Some, refl, sym, subst}
 use Rattle.std.specs.Prelude.{is_some}
 use Rattle.std.specs.List.{AllByRecursion}
 use Rattle.std.specs.Str.{bytes_eq}
@@ -20,7 +20,7 @@ use Rattle.world_model.specs.Calls.FinishLine.{ends}
 use Rattle.world_model.specs.Logs.{Played}
 use Rattle.world_model.specs.Step.{Does}
 use Rattle.world_model.specs.World.{NamedSession, World, named_bytes, session_named, without_session}
-use Rattle.world_laws.specs.FullRuns.{BytesCome, EmptyHasBytes, GivesBytes, HasBytes, IsOfBytes, IsSaidWell, given_of}
+use Rattle.world_laws.specs.FullRuns.{BytesCome, EmptyHasBytes, GivesBytes, HasBytes, IsOfBytes, IsSaidWell, given_of, MessagesAreBytes, Sends}
 use Rattle.world_laws.specs.FullTurns.{AreBytes}
 use Rattle.world_laws.specs.Keeps.{Keeps}
 use Rattle.world_laws.proofs.AllLines.{does_line}
@@ -37,6 +37,15 @@ SessionOfBytes s = IsOfBytes s.session
 
 pub empty_has_bytes : EmptyHasBytes
 empty_has_bytes = record { replies = tt; sessions = tt }
+
+-- ---- what a line sends
+
+pub messages_are_bytes : MessagesAreBytes
+messages_are_bytes w line log ps s h sends is = pieces.message_bytes w.replies h.replies s.view ps s.message (fit sends) (sent_by w log ps s is).is_message
+  where
+    fit : Sends line log ps → AllByRecursion pieces.IsOfBytes ps
+    fit (inl e) = command_fits line (command.As log ps) e
+    fit (inr e) = command_fits line (command.Open e.0 log ps) e.1
 
 -- ---- what a session says
 

@@ -1,12 +1,12 @@
--- Each line that makes no snapshot has an outcome in which memory was there, or one in which names clash.
-use Rattle.std.proofs.Common.{◌≡◌, ◌≢◌, ◌⊎◌, inl, inr, ℕ, Bool, true, false, cond, List, [], ◌∷◌, ◌++◌, map, Option, Some, None, refl, sym, ap, ◌∙◌, subst, Contains}
-use Rattle.std.specs.Prelude.{MatchBool, is_some, length, nat_lt, sum_by}
+-- Where agents have room each line has an outcome in which memory was there, or one in which names clash.
+use Rattle.std.proofs.Common.{◌≡◌, ◌⊎◌, inl, inr, ℕ, Bool, true, false, cond, List, [], ◌∷◌, ◌++◌, map, Option, Some, None, refl, sym, ap, ◌∙◌, subst, Contains}
+use Rattle.std.specs.Prelude.{IfSome, MatchBool, is_some, length, nat_lt, sum_by}
 use Rattle.std.specs.List.{AllByRecursion, flat_map}
 use Rattle.std.specs.Str.{bytes_eq}
 use Rattle.ivy_base.specs.Naming.{HasClash}
 use Rattle.wire_model.specs.Rpc.{SystemError, reply}
 use Rattle.log_heads.specs.Signed.{hss_judged}
-use Rattle.log_model.proofs.Lists.{each_append, each_from, from_filter}
+use Rattle.log_model.proofs.Lists.{each, each_append, each_from, from_filter}
 use Rattle.agent_laws.specs.Laws.{HasRoom}
 use Rattle.session_model.specs.Replies.{said_no_memory}
 use Rattle.session_model.specs.Sessions.{Over, Said, Session, Stage}
@@ -29,9 +29,9 @@ use Rattle.world_model.specs.Steps.RunsOut.{is_over as runs_over, more as runs_m
 use Rattle.world_model.specs.Story.{beginning, having_begun, with_began, without_began}
 use Rattle.world_model.specs.World.{NamedSession, Participant, World, entries, named_bytes, participant, session_named, with_session, without_session}
 use Rattle.world_laws.specs.Causes.{HasCause, said_at}
-use Rattle.world_laws.specs.FullRuns.{Clashes, FullLines, HasBytes, PublishFew}
+use Rattle.world_laws.specs.FullRuns.{Clashes, FullLines, HasBytes, HaveRoom}
 use Rattle.world_laws.specs.Keeps.{HasSaid, IsAtStage, Keeps}
-use Rattle.world_laws.specs.Laws.{CanBeDone, HadMemory, HasMemoryIn, MakesNoSnapshot}
+use Rattle.world_laws.specs.Laws.{CanBeDone, HadMemory, HasMemoryIn}
 use Rattle.world_laws.proofs.Apart.{clash_is_decided}
 use Rattle.world_laws.proofs.Bringing.{found_named}
 use Rattle.world_laws.proofs.BytesLines.{IsWhich, another, as_command, finish_command, named_session_bytes, open_command, sent_bytes, step_command, which}
@@ -47,7 +47,6 @@ use Rattle.world_laws.proofs.OneSteps.{GoesWell, over_steps}
 use Rattle.world_laws.proofs.Opening.{sent_by}
 use Rattle.world_laws.proofs.PieceBytes as pieces
 use Rattle.world_laws.proofs.QuietLines.{IsOfSessions, Quietly, quiet_command, runs_same, steps_same}
-use Rattle.world_laws.proofs.Rooms.{there_is_room}
 use Rattle.world_laws.proofs.SessionLinesSteps.{runs_lead}
 use Rattle.world_laws.proofs.ShownReplies.{cause_shows, lack_shown}
 
@@ -58,11 +57,6 @@ IsFull w line outcome = HadMemory w line outcome ⊎ Clashes outcome
 -- there is such an outcome
 abbrev HasFull : Played → List ℕ → (Outcome Played → Type 0) → Type 0
 HasFull w line Does = (outcome : Outcome Played) × Does outcome × IsFull w line outcome
-
--- what makes no snapshot can be done
-can_mild : (w : World) (c : Command) → ((log : List ℕ) → c ≢ command.Snap log) → CanBeDone w c
-can_mild w (command.Snap log) mild = absurd (mild log refl)
-can_mild w _ mild = tt
 
 -- ---- the end of a session
 
@@ -135,9 +129,9 @@ replied_sessions w said = by (is_some said.message)
     by true = refl
     by false = refl
 
-module _ (w : Played) (line : List ℕ) (keeps : Keeps w) (few : PublishFew w.0) (bytes : HasBytes w.0) where
+module _ (w : Played) (line : List ℕ) (keeps : Keeps w) (room : HaveRoom w.0) (bytes : HasBytes w.0) where
   room_of : (name : List ℕ) (p : Participant) → participant w.0 name ≡ Some p → HasRoom p.agent
-  room_of name p is = there_is_room w p keeps few (found_named w.0.participants name p is).0
+  room_of name p is = each (λ (q : Participant). HasRoom q.agent) w.0.participants p room (found_named w.0.participants name p is).0
 
   -- a whole call
   as_full : (log : List ℕ) (ps : List Piece) → AllByRecursion pieces.IsOfBytes ps → (o : Option Sending) → sending_of w.0 log ps ≡ o → HasFull w line (AsLine hss_judged w o)
@@ -262,9 +256,9 @@ module _ (w : Played) (line : List ℕ) (keeps : Keeps w) (few : PublishFew w.0)
       finish_full name s is ring.0 ring.1 is_finish
 
   -- a line without sessions
-  quiet_full : (c : Command) → Fits c → ((log : List ℕ) → c ≢ command.Snap log) → (IsOfSessions c → ⊥) → HasFull w line (Does hss_judged w c)
-  quiet_full c fits mild other =
-      let some = (command_does w.0 w.1 keeps c (can_mild w.0 c mild) fits).1 w.1 keeps in
+  quiet_full : (c : Command) → Fits c → CanBeDone w.0 c → (IsOfSessions c → ⊥) → HasFull w line (Does hss_judged w c)
+  quiet_full c fits can other =
+      let some = (command_does w.0 w.1 keeps c can fits).1 w.1 keeps in
       (some.0, some.1, by some.0 (quiet_command w c other some.0 some.1))
     where
       by : (outcome : Outcome Played) → Quietly w outcome → IsFull w line outcome
@@ -273,15 +267,15 @@ module _ (w : Played) (line : List ℕ) (keeps : Keeps w) (few : PublishFew w.0)
       by Refuses quiet = inl tt
       by Exceeds quiet = inl tt
 
-  command_full : (c : Command) → command_of line ≡ Some c → Fits c → ((log : List ℕ) → c ≢ command.Snap log) → HasFull w line (Does hss_judged w c)
-  command_full c is fits mild = by c (which c) is fits mild
+  command_full : (c : Command) → command_of line ≡ Some c → Fits c → CanBeDone w.0 c → HasFull w line (Does hss_judged w c)
+  command_full c is fits can = by c (which c) is fits can
     where
-      by : (c : Command) → IsWhich c → command_of line ≡ Some c → Fits c → ((log : List ℕ) → c ≢ command.Snap log) → HasFull w line (Does hss_judged w c)
-      by _ (as_command log ps) is fits mild = as_full log ps fits (sending_of w.0 log ps) refl
-      by _ (open_command session log ps) is fits mild = open_full session (sending_of w.0 log ps)
-      by _ (step_command session count) is fits mild = step_full session count (session_named w.0 session) refl
-      by _ (finish_command session) is fits mild = end_full session is (session_named w.0 session) refl
-      by c (another other) is fits mild = quiet_full c fits mild other
+      by : (c : Command) → IsWhich c → command_of line ≡ Some c → Fits c → CanBeDone w.0 c → HasFull w line (Does hss_judged w c)
+      by _ (as_command log ps) is fits can = as_full log ps fits (sending_of w.0 log ps) refl
+      by _ (open_command session log ps) is fits can = open_full session (sending_of w.0 log ps)
+      by _ (step_command session count) is fits can = step_full session count (session_named w.0 session) refl
+      by _ (finish_command session) is fits can = end_full session is (session_named w.0 session) refl
+      by c (another other) is fits can = quiet_full c fits can other
 
   -- ---- the whole
 
@@ -317,9 +311,9 @@ module _ (w : Played) (line : List ℕ) (keeps : Keeps w) (few : PublishFew w.0)
   first (Some command.Nothing) has = within (Some command.Nothing) has
   first (Some command.End) has = (Ends, refl, inl tt)
 
-  may_do : (o : Option Command) → command_of line ≡ o → MakesNoSnapshot line → HasFull w line (MayDo w o)
-  may_do None is mild = (Refuses, refl, inl tt)
-  may_do (Some c) is mild = command_full c is (command_fits line c is) (λ log snaps. mild log (is ∙ ap Some snaps))
+  may_do : (o : Option Command) → command_of line ≡ o → IfSome o (CanBeDone w.0) → HasFull w line (MayDo w o)
+  may_do None is can = (Refuses, refl, inl tt)
+  may_do (Some c) is can = command_full c is (command_fits line c is) can
 
 pub full_lines : FullLines
-full_lines w line keeps few bytes mild = first w line keeps few bytes (command_of line) (may_do w line keeps few bytes (command_of line) refl mild)
+full_lines w line keeps room bytes can = first w line keeps room bytes (command_of line) (may_do w line keeps room bytes (command_of line) refl can)

@@ -11,11 +11,13 @@ use Rattle.world_laws.specs.FullRuns.{Clashes, ClashesOn, FullScripts, FullStart
 use Rattle.world_laws.specs.Keeps.{Keeps}
 use Rattle.world_laws.specs.Laws.{HadMemory, MakesNoSnapshot}
 use Rattle.world_laws.proofs.BytesLines.{bytes_come, empty_has_bytes}
+use Rattle.script_model.specs.Lines.{command_of}
+use Rattle.world_laws.proofs.Existing.{can_without}
 use Rattle.world_laws.proofs.EachLine.{each_line_keeps}
 use Rattle.world_laws.proofs.FirstWorld.{empty_keeps}
 use Rattle.world_laws.proofs.FullLines.{full_lines}
 use Rattle.world_laws.proofs.OneLines.{full_runs_are_one}
-use Rattle.world_laws.proofs.Rooms.{empty_publishes_few, few_posts_come}
+use Rattle.world_laws.proofs.Rooms.{empty_publishes_few, few_posts_come, there_is_room}
 
 abbrev HasRun : Played → ℕ → List (List ℕ) → Type 0
 HasRun w number lines = (ran : Ran) × Runs (WithLaw IvyStep HadMemory) w number lines ran
@@ -24,25 +26,33 @@ HasRun w number lines = (ran : Ran) × Runs (WithLaw IvyStep HadMemory) w number
 clashes_first : (w next : Played) (line : List ℕ) (lines : List (List ℕ)) (output : List ℕ) → IvyStep w (shown line) (Goes next output) → HasClash (named_bytes next.0) → ClashesOn w (line ∷ lines)
 unfolding Obeys
 clashes_first w next line lines output step clash = record {
-  front = line ∷ [];
+  front = [];
+  line = line;
   rest = lines;
-  is_front = refl;
-  text = output ++ [];
+  are = refl;
+  text = [];
+  mid = w;
+  obeyed = (refl, refl);
   last = next;
-  obeyed = (next, output, [], step, (refl, refl), refl);
+  output = output;
+  step = step;
   clash = clash;
 }
 
 -- or a later one does
-clashes_later : (w next : Played) (line : List ℕ) (lines : List (List ℕ)) (output : List ℕ) → IvyStep w (shown line) (Goes next output) → ClashesOn next lines → ClashesOn w (line ∷ lines)
+clashes_later : (w next : Played) (line : List ℕ) (lines : List (List ℕ)) (output : List ℕ) → WithLaw IvyStep HadMemory w (shown line) (Goes next output) → ClashesOn next lines → ClashesOn w (line ∷ lines)
 unfolding Obeys
 clashes_later w next line lines output step later = record {
   front = line ∷ later.front;
+  line = later.line;
   rest = later.rest;
-  is_front = ap (λ (ls : List (List ℕ)). line ∷ ls) later.is_front;
+  are = ap (λ (ls : List (List ℕ)). line ∷ ls) later.are;
   text = output ++ later.text;
-  last = later.last;
+  mid = later.mid;
   obeyed = (next, output, later.text, step, later.obeyed, refl);
+  last = later.last;
+  output = later.output;
+  step = later.step;
   clash = later.clash;
 }
 
@@ -50,7 +60,7 @@ runs_or_clashes : (w : Played) (number : ℕ) (lines : List (List ℕ)) → Keep
 unfolding Runs
 runs_or_clashes w number [] keeps few bytes mild = inl (refused number, refl)
 runs_or_clashes w number (line ∷ lines) keeps few bytes mild =
-    let some = full_lines w (shown line) keeps few bytes mild.0 in
+    let some = full_lines w (shown line) keeps (there_is_room w keeps few) bytes (can_without w.0 (command_of (shown line)) mild.0) in
     after some.0 some.1 some.2 (λ next output step memory.
     runs_or_clashes next (number + 1) lines (each_line_keeps w next (shown line) output keeps step) (few_posts_come w next (shown line) output keeps few mild.0 step) (bytes_come w next (shown line) output keeps bytes memory.1 step) mild.1)
   where
@@ -59,7 +69,7 @@ runs_or_clashes w number (line ∷ lines) keeps few bytes mild =
     after (Goes next output) step (inr clash) later = inr (clashes_first w next line lines output step clash)
     after (Goes next output) step (inl memory) later = elim (later next output step memory) [
       | inl runs ↦ inl (behind output runs.0, (Goes next output, (step, memory), (runs.0, runs.1, refl)))
-      | inr clashes ↦ inr (clashes_later w next line lines output step clashes)
+      | inr clashes ↦ inr (clashes_later w next line lines output (step, memory) clashes)
     ]
     after Ends step how later = inl (ended, (Ends, (step, tt), refl))
     after Refuses step how later = inl (refused number, (Refuses, (step, tt), refl))

@@ -71,7 +71,7 @@ fate_same (lost l) = refl
 fate_same (stopped n l is dead) = refl
 fate_same (answers n l is live) = refl
 
--- Such a fact stays.
+-- the fact stays through what is done with an agent and its keeper
 pub record IsLasting (P : Agent → Keeper → Type 0) : Type 0 where
   pub turns : (now : Moment) (a : Agent) (y : Keeper) (view : View) (fails : Bool) (s : Session) (end : TurnEnd) (after : Agent) (saving : Option Kept) (t : Session) → a.view ≡ Some view → P a y
       → TakesTurn now a view fails s end after saving t → P after (asked_to_save y saving)

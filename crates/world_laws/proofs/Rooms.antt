@@ -30,6 +30,7 @@ use Rattle.session_model.specs.Sessions.{Session}
 use Rattle.world_model.specs.Agents.{Agent, IsKept, Kept, TakesTurn, hss, kept_bytes, opened, own, own_reach}
 use Rattle.world_model.specs.Keepers.{Keeper, asked_to_save}
 use Rattle.world_model.specs.World.{Participant}
+use Rattle.agent_laws.specs.Laws.{HasRoom}
 use Rattle.world_laws.specs.FullRuns.{EmptyPublishesFew, FewPostsCome, HasFewPosts, ThereIsRoom}
 use Rattle.world_laws.specs.Keeps.{IsKeptSo, IsSavedWell}
 use Rattle.world_laws.proofs.KeptBytes.{kept_once}
@@ -252,11 +253,11 @@ few_posts_come w next line output keeps few mild step =
     record { agents = after.0; kept = after.1 }
 
 pub there_is_room : ThereIsRoom
-there_is_room w p keeps few among =
+there_is_room w keeps few = each_from (λ (p : Participant). HasRoom p.agent) w.0.participants (λ p among.
     let saved = each (IsKeptSo IsSavedWell) w.0.participants p keeps.saved among in
     let posts = each (λ (q : Participant). HasFewPosts (kept_of q.agent)) w.0.participants p few.agents among in
     let all = count_both a_head p.agent.pending in
     let records = posts.records in
     let heads = posts.heads in
     let reach = saved.3.agent.few in
-    omega (arith, all, records, heads, reach)
+    omega (arith, all, records, heads, reach))

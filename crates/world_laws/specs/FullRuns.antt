@@ -1,5 +1,5 @@
 -- Runs in which memory is never wanting: that there is one from each world without snapshots, or names clash.
-use Rattle.std.specs.Prelude.{◌≡◌, ◌≢◌, ◌≤◌, ◌⊎◌, ℕ, not, List, ◌++◌, filter, length, Contains, IfSome}
+use Rattle.std.specs.Prelude.{◌≡◌, ◌≢◌, ◌≤◌, ◌⊎◌, ℕ, not, List, ◌∷◌, ◌++◌, filter, length, IfSome, Some}
 use Rattle.std.specs.List.{AllByRecursion}
 use Rattle.ivy_base.specs.Naming.{HasClash, NamesTellApart, head_key_of}
 use Rattle.log_model.specs.Vector.{seq_of}
@@ -8,15 +8,19 @@ use Rattle.agent_laws.specs.Laws.{HasRoom}
 use Rattle.session_model.specs.Replies.{said_no_memory}
 use Rattle.session_model.specs.Sessions.{Over, Publishing, Refreshing, Said, Session, Stage}
 use Rattle.script_driver.specs.Run.{Outcome, Goes, Ends, Refuses, Exceeds, Obeys, Ran, Runs, WithLaw, shown}
+use Rattle.script_model.specs.declared.command.Command.TheVariants as command
+use Rattle.script_model.specs.declared.command.Piece.{Piece}
+use Rattle.script_model.specs.Lines.{command_of}
 use Rattle.script_model.specs.Messages.{Given}
 use Rattle.world_model.specs.Agents.{Kept, hss}
+use Rattle.world_model.specs.Calls.{Sending, sending_of}
 use Rattle.world_model.specs.Logs.{Played}
 use Rattle.world_model.specs.Step.{IvyStep}
 use Rattle.world_model.specs.Story.{empty_story}
-use Rattle.world_model.specs.World.{World, Participant, empty_world, named_bytes}
+use Rattle.world_model.specs.World.{World, empty_world, named_bytes}
 use Rattle.world_laws.specs.FullTurns.{AreBytes}
 use Rattle.world_laws.specs.Keeps.{IsKeptSo, Keeps}
-use Rattle.world_laws.specs.Laws.{HadMemory, MakesNoSnapshot}
+use Rattle.world_laws.specs.Laws.{CanBeDone, HadMemory, MakesNoSnapshot}
 
 -- ---- room
 
@@ -37,9 +41,13 @@ EmptyPublishesFew = PublishFew empty_world
 abbrev pub FewPostsCome : Type 0
 FewPostsCome = (w next : Played) (line output : List ℕ) → Keeps w → PublishFew w.0 → MakesNoSnapshot line → IvyStep w line (Goes next output) → PublishFew next.0
 
--- So each agent has room.
+-- each agent has room
+abbrev pub HaveRoom : World → Type 0
+HaveRoom w = AllByRecursion (λ p. HasRoom p.agent) w.participants
+
+-- So they have.
 abbrev pub ThereIsRoom : Type 0
-ThereIsRoom = (w : Played) (p : Participant) → Keeps w → PublishFew w.0 → Contains w.0.participants p → HasRoom p.agent
+ThereIsRoom = (w : Played) → Keeps w → PublishFew w.0 → HaveRoom w.0
 
 -- ---- bytes
 
@@ -68,6 +76,14 @@ pub record HasBytes (w : World) : Type 0 where
 abbrev pub EmptyHasBytes : Type 0
 EmptyHasBytes = HasBytes empty_world
 
+-- the line sends these pieces, in a whole call or to open a session
+abbrev pub Sends : List ℕ → List ℕ → List Piece → Type 0
+Sends line log pieces = (command_of line ≡ Some (command.As log pieces)) ⊎ ((session : List ℕ) × (command_of line ≡ Some (command.Open session log pieces)))
+
+-- They are a message of bytes, whatever the line.
+abbrev pub MessagesAreBytes : Type 0
+MessagesAreBytes = (w : World) (line log : List ℕ) (pieces : List Piece) (s : Sending) → HasBytes w → Sends line log pieces → sending_of w log pieces ≡ Some s → AreBytes s.message
+
 -- Where names tell apart the blocks met, a line leaves it so.
 abbrev pub BytesCome : Type 0
 BytesCome = (w next : Played) (line output : List ℕ) → Keeps w → HasBytes w.0 → NamesTellApart (named_bytes next.0) → IvyStep w line (Goes next output) → HasBytes next.0
@@ -81,21 +97,26 @@ Clashes Ends = ⊥
 Clashes Refuses = ⊥
 Clashes Exceeds = ⊥
 
--- In such a world each line that makes no snapshot has an outcome in which memory was there and names tell apart, or one in which names clash.
+-- In such a world, where agents have room, each line has an outcome in which memory was there and names tell apart, or one in which names clash; of a line that makes a
+-- snapshot that asks that what is to be published can be saved.
 abbrev pub FullLines : Type 0
-FullLines = (w : Played) (line : List ℕ) → Keeps w → PublishFew w.0 → HasBytes w.0 → MakesNoSnapshot line
+FullLines = (w : Played) (line : List ℕ) → Keeps w → HaveRoom w.0 → HasBytes w.0 → IfSome (command_of line) (CanBeDone w.0)
     → (outcome : Outcome Played) × IvyStep w line outcome × (HadMemory w line outcome ⊎ Clashes outcome)
 
 -- ---- scripts
 
--- The first lines lead to a world that met blocks among which names clash.
+-- The first lines go on with memory there, and names tell apart; and the line behind them leads to a world that met blocks among which names clash.
 pub record ClashesOn (w : Played) (lines : List (List ℕ)) : Type 0 where
   pub front : List (List ℕ)
+  pub line : List ℕ
   pub rest : List (List ℕ)
-  pub is_front : lines ≡ front ++ rest
+  pub are : lines ≡ front ++ line ∷ rest
   pub text : List ℕ
+  pub mid : Played
+  pub obeyed : Obeys (WithLaw IvyStep HadMemory) w front text mid
   pub last : Played
-  pub obeyed : Obeys IvyStep w front text last
+  pub output : List ℕ
+  pub step : IvyStep mid (shown line) (Goes last output)
   pub clash : HasClash (named_bytes last.0)
 
 -- the one run in which memory is never wanting and names tell apart

@@ -3,8 +3,9 @@
 //! Layer: laws, above `world_model` and `session_laws`; below the crates that play scripts.
 //! Statements, in reading order: `specs/Headline.antt` (each reply), `specs/Causes.antt` (why a session says what it
 //! says), `specs/Keeps.antt` (each world), `specs/Kinds.antt` (which lines are refused), `specs/Laws.antt` (steps and
-//! runs), `specs/FullTurns.antt` (turns that exist), `specs/Frames.antt` (what may change of a world that keeps what it
-//! should), `specs/Calm.antt` (rings that change little; some of these are stated alone).
+//! runs), `specs/FullTurns.antt` (turns that exist), `specs/FullRuns.antt` (the run in which memory is never wanting),
+//! `specs/Frames.antt` (what may change of a world that keeps what it should), `specs/Calm.antt` (rings that change little;
+//! some of these are stated alone).
 //! For the layers above, of a session in a world that keeps what it should (`Keeps`), where names tell the blocks apart: a
 //! refresh that is done brings what its heads name, and its turn may be held to the definition; its next step is that turn, and
 //! no other; a turn is refused once at most, and never where the session began with no snapshot to load and no basis.
@@ -36,7 +37,14 @@
 //! That memory may be there: `proofs/FullLoads.antt`, `proofs/FullFetches.antt` and `proofs/FullRefreshes.antt` (a refresh wants
 //! something finitely often), `proofs/FullPlans.antt` (whom a get asks), `proofs/FullGets.antt` and `proofs/FullRuns.antt` (a
 //! refresh runs out), `proofs/FullTurns.antt` (its turn, where that exists, is the next step), `proofs/FullSessions.antt`,
-//! `proofs/TurnsExisting.antt` (the turn exists) and `proofs/FullEnds.antt` (a session goes to its end).
+//! `proofs/TurnsExisting.antt` (the turn exists) and `proofs/FullEnds.antt` (a session goes to its end). For lines and scripts:
+//! `proofs/LastingLines.antt` (what holds of each agent and its keeper, and stays through turns, saves and the like, stays
+//! through each line that makes no snapshot) and `proofs/Rooms.antt` (such is that an agent publishes few posts),
+//! `proofs/PieceBytes.antt` (what a line sends is bytes), `proofs/GivenBytes.antt` (so is what a turn's reply gives),
+//! `proofs/BytesSteps.antt` and `proofs/BytesLines.antt` (steps and lines leave that so), `proofs/ShownReplies.antt` (which
+//! replies show that memory was wanting), `proofs/QuietLines.antt` (lines without sessions), `proofs/CallScenes.antt` and
+//! `proofs/FullScenes.antt` (a session at whatever stage goes on with memory there), `proofs/FullLines.antt` and
+//! `proofs/FullScripts.antt`.
 //! That there is one: `proofs/OneCourse.antt` (a trail tells what comes of a get or a put), `proofs/OneHeard.antt` (an ask
 //! has one fate, and one thing is heard of it), `proofs/OneTurns.antt` (turns), `proofs/OneSteps.antt` (steps of sessions),
 //! `proofs/OneMessages.antt` (what becomes of a message), `proofs/OneCalls.antt` (lines of calls), `proofs/OneAsks.antt` (look-ups
@@ -46,7 +54,7 @@
 
 ghost use Rattle.world_laws.specs.Calm.{AckedIsHeld, AreAny, BlocksAreGiven, HasSameRing, HeadsAreGiven, RingStays};
 ghost use Rattle.world_laws.specs.Frames.{DamageLinesKeep, JoinLinesKeep, KeeperLinesKeep, LogLinesKeep, MildChangesKeep, MoreBlocksKeep, RestartLinesKeep, RingLinesKeep, RoundLinesKeep, StillLinesKeep, StopLinesKeep, UseLinesKeep, ViewLinesKeep};
-ghost use Rattle.world_laws.specs.FullRuns.{BytesCome, EmptyHasBytes, EmptyPublishesFew, FewPostsCome, FullLines, FullScripts, FullStarts, ThereIsRoom};
+ghost use Rattle.world_laws.specs.FullRuns.{BytesCome, EmptyHasBytes, EmptyPublishesFew, FewPostsCome, FullLines, FullScripts, FullStarts, MessagesAreBytes, ThereIsRoom};
 ghost use Rattle.world_laws.specs.FullTurns.{SessionsEndOrClash, SessionsGoToTheirEnds, TurnsExist};
 ghost use Rattle.world_laws.specs.Kinds.{LineHasOneKind};
 ghost use Rattle.world_laws.specs.Laws.{AlikeTurnsAnswerAlike, AllStepsKeep, AnsweredTurnsKeep, CallLinesKeep, CallsBegin, ClashIsDecided, DoneRefreshesStep, EachLineDoesSomething, EachReplyIsOnReplay, EachScriptHasARun, EachSessionEnds, EmptyKeeps, FewerStayApart, FreshTurnsAreAnswered, FullRunsAreOne, GetsBringKeep, GetsGoOnKeep, HeadlineHolds, HeadsAreSavedFirst, HeldIsSpelled, KeptOnce, KnownIsOne, LackingKeeps, LackingStepsKeep, LeafSignsOnce, LinesKeep, ManyStepsAreOne, ManyStepsKeep, MetGrows, NoSnapshotComes, OneTruth, OpenLineKeeps, OtherLogsDontCount, OthersHaveNoTurn, PublishingIsOne, PublishingKeeps, PutsKeep, ReceivingKeeps, RefreshBrings, RefreshEndsInTurn, RefreshMayTurn, RefreshesEnd, RefreshesRunOut, RefusedTurnsKeep, SecondTurnIsAnswered, SessionsEndOnce, SessionsGoFully, SessionsStepOnce, SettlingKeeps, SnapLinesKeep, StepsAreOne, StepsKeep, StillLinesChangeNothing, TakingKeeps, TurnsAreSaved, UpperLeavesSignOnce, VainAsksKeep, WholePublishingKeeps};
@@ -325,16 +333,17 @@ pub fn there_is_room()
 {}
 
 /// Laws and no code: what replies gave to later lines, and what open sessions were sent and will say, is bytes, where names tell
-/// apart the blocks met.
+/// apart the blocks met; and so is what a line sends, whose pieces are bytes by how they are spelled.
 pub fn replies_are_bytes()
     ensures empty { EmptyHasBytes }
+    ensures messages { MessagesAreBytes }
     ensures lines { BytesCome }
 {}
 
-/// Laws and no code: in a world that keeps what it should, whose agents have room and whose replies are bytes, a line that makes
-/// no snapshot has an outcome in which memory was there, or one that meets blocks among which names clash. So each script that
-/// makes no snapshot has exactly one run in which memory is never wanting and names tell apart, or names clash among the blocks
-/// that a front of it meets.
+/// Laws and no code: in a world that keeps what it should, whose agents have room and whose replies are bytes, a line has an
+/// outcome in which memory was there, or one that meets blocks among which names clash; of a line that makes a snapshot that asks
+/// that what is to be published can be saved. So each script that makes no snapshot has exactly one run in which memory is never
+/// wanting and names tell apart, or that is so up to a line that meets blocks among which names clash.
 pub fn scripts_run_fully()
     ensures lines { FullLines }
     ensures scripts { FullScripts }
