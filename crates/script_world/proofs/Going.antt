@@ -1,5 +1,5 @@
 -- A session that goes on in worlds that have these parts.
-use Rattle.std.proofs.Common.{◌≡◌, ◌⊎◌, ⊎_elim, ℕ, List, set, get_or, refl, sym, ap, ◌∙◌, subst, Some, None}
+use Rattle.std.proofs.Common.{◌≡◌, ⊎_elim, ℕ, List, set, get_or, refl, sym, ap, ◌∙◌, subst, Some, None}
 use Rattle.std.specs.List.{position}
 use Rattle.std.specs.Str.{bytes_eq}
 use Rattle.log_heads.specs.Signed.{hss_judged}
