@@ -27,7 +27,8 @@ use step_laws::{
 use world_laws::{headline_holds, publishing_keeps};
 
 impl OpenCall {
-    /// One step of the session: an ask of a node, a turn of its agent, or a settling. A session that is over stays.
+    /// One step of the session: an ask of a node, a turn of its agent, or a settling; or it is told to be over, and from then on
+    /// stays. Less is left of it with each step until then.
     ///
     /// # Errors
     ///
