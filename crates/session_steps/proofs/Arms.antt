@@ -1,5 +1,5 @@
 -- Each arm of a step: whichever scene was shown, it is a step of it, and less is left.
-use Rattle.std.proofs.Common.{◌≡◌, ◌<◌, ◌≤◌, ◌+◌, ℕ, true, false, List, Option, Some, None, Result, Ok, Err, refl, sym, ap, ◌∙◌, subst, arith}
+use Rattle.std.proofs.Common.{◌≡◌, ◌<◌, ◌≤◌, ◌+◌, ℕ, List, Option, Some, None, Result, Ok, Err, refl, ap, ◌∙◌, arith}
 use Rattle.std.specs.Prelude.{OnOk, is_some, if◌then◌else◌}
 use Rattle.dht_ids.specs.declared.ask.Ask.{Ask}
 use Rattle.dht_ids.specs.declared.peer.Peer.{Peer}
@@ -12,7 +12,7 @@ use Rattle.ivy_session.specs.Left.{session_left}
 use Rattle.ring_nodes.specs.NodesState.{NodesState}
 use Rattle.met_blocks.specs.MetState.{MetState}
 use Rattle.script_participants.specs.ParticipantState.{ParticipantState}
-use Rattle.session_steps.specs.Showing.{CallState, Shown, StepsFrom, shown}
+use Rattle.session_steps.specs.Showing.{CallState, Shown, shown}
 use Rattle.session_steps.specs.Within.{HasAskedOf, HasNext, HasTurned, IsArm, Laws, left_to}
 use Rattle.session_steps.proofs.Asks.{asks_step}
 use Rattle.session_steps.proofs.Turns.{turns_step}

@@ -13,13 +13,13 @@ use Rattle.ivy_session.specs.declared.session.Next.{Next}
 use Rattle.ivy_session.specs.declared.session.Next.TheVariants as next
 use Rattle.ivy_session.specs.declared.session.Stage.{Stage}
 use Rattle.ivy_session.specs.declared.session.Stage.TheVariants as stage
-use Rattle.ivy_session.specs.States.{IsAt, IsSession, SessionState, is_told, is_turning, session_awaited}
+use Rattle.ivy_session.specs.States.{IsAt, SessionState, is_told, is_turning, session_awaited}
 use Rattle.ivy_session.specs.Stepping.{AsksOf, IsNext, NextIs}
 use Rattle.ivy_session.specs.Stepping.AsksOf.{gets, puts}
 use Rattle.ivy_session.specs.Stepping.NextIs.{asks, asks_again}
 use Rattle.ring_nodes.specs.NodesState.{BringsOnly, NodesState, made_peers}
 use Rattle.script_participants.specs.ParticipantState.{ParticipantState, state_of}
-use Rattle.world_model.specs.World.{Participant, peer_of}
+use Rattle.world_model.specs.World.{peer_of}
 use Rattle.world_model.specs.Steps.{Scene}
 use Rattle.world_laws.specs.Keeps.{GoesOn, OnlyPublishes}
 use Rattle.session_steps.specs.Showing.{CallState, HasScene, IsUnderWay, IsUntold, Shown, Shows, StepsTo, judges, shown}
@@ -98,7 +98,7 @@ module _ (c : Scene) (r : ℕ) (old : Shown) (way : IsUnderWay c r) (shows : Sho
   asks_step laws new after later node question h asked whole =
       let wants = wants_there h in
       let step = laws.asks judges c r shows.p old.call.session mid.session new.session between.cache after.cache node question asked.answer old.nodes later (scene_of c r old way shows is_untold) is_untold.asked wants
-          shows.nodes asked.fate asked.heard.heard asked.heard.no_turn in
+      shows.nodes asked.fate asked.heard.heard asked.heard.no_turn in
       by_step c r old way shows laws (shown new later after old.met old.now) (record shows.p { cache = after.cache }) c.world.met is_untold step
       (left_is step.left whole (λ t may lacking session. may))
       (record {

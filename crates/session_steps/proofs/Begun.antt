@@ -54,8 +54,7 @@ module _ (nodes : NodesState) (who : ParticipantState) (st : SessionState HssJud
       there : (view : View) → standing ≡ standing_in p.agent view → (s : Session) × BeginsWith w (record { by = p; view = view; message = message }) s × ShowsSession s (of_session st)
       there view stands =
           let begun = begins p.name in
-          let at = begun_at begun.1 in
-          (
+          let at = begun_at begun.1 in (
             begun.0,
             subst (λ (s : Standing). Begins p.name message (entries w) s begun.0) stands (subst (λ (ps : List Peer). Begins p.name message ps standing begun.0) (has ∙ known w is) begun.1),
             untold_so nodes some w is begun.0 st (at.0 ∙ has ∙ known w is) begun.2 free no_turn at.1,

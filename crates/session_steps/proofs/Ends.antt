@@ -4,7 +4,7 @@ use Rattle.std.specs.Prelude.{is_some}
 use Rattle.log_heads.specs.declared.judge.HssJudge.{HssJudge}
 use Rattle.dht_ids.specs.declared.post.Ack.{Ack}
 use Rattle.agent_model.specs.Others.{settled}
-use Rattle.session_model.specs.Sessions.{Cache, Over, Said, Session}
+use Rattle.session_model.specs.Sessions.{Cache, Over, Session}
 use Rattle.ivy_session.specs.declared.served.Served.{Served}
 use Rattle.ivy_session.specs.declared.session.Next.{Next}
 use Rattle.ivy_session.specs.declared.session.Next.TheVariants as next

@@ -11,7 +11,7 @@ use Rattle.log_fetch.specs.declared.note.Note.{Note as Noted}
 use Rattle.log_fetch.specs.declared.note.Note.TheVariants as note
 use Rattle.log_fetch.specs.Standings.{note_of, note_of_miss, notes_of}
 use Rattle.session_model.specs.Refreshing.{Note}
-use Rattle.session_model.specs.Sessions.{Over, Said, Session}
+use Rattle.session_model.specs.Sessions.{Over, Said}
 use Rattle.ivy_session.specs.declared.served.Served.{Served}
 use Rattle.ivy_session.specs.States.{reply_or_none, served_of}
 use Rattle.world_model.specs.Calls.{key_line, shown_end, shown_message, shown_miss, shown_note}

@@ -1,5 +1,5 @@
 -- Many steps of a call that is shown.
-use Rattle.std.proofs.Common.{◌≡◌, ◌≢◌, ◌⊎◌, inl, inr, ⊎_elim, ℕ, zero, suc, ◌<◌, false, List, Option, Some, None, refl, sym, ap, ◌∙◌, subst}
+use Rattle.std.proofs.Common.{◌≡◌, ◌⊎◌, inl, inr, ⊎_elim, ℕ, zero, suc, false, List, Option, Some, None, refl, sym, ap, ◌∙◌, subst}
 use Rattle.std.specs.Prelude.{IsTrue, is_some}
 use Rattle.log_heads.specs.Signed.{hss_judged}
 use Rattle.session_model.specs.Sessions.{Over, Said, Session}
@@ -9,13 +9,12 @@ use Rattle.world_model.specs.World.{Participant, World, participant}
 use Rattle.world_model.specs.Steps.{RunsOut, Scene, Steps, StepsOn}
 use Rattle.world_model.specs.Steps.StepsOn.{none as on_none, is_over as on_over, more as on_more}
 use Rattle.world_model.specs.Steps.RunsOut.{is_over as out_over, more as out_more}
-use Rattle.world_laws.specs.Laws.{StepsKeep}
 use Rattle.world_laws.proofs.Bringing.{found_named}
 use Rattle.world_laws.proofs.OneSteps.{over_steps}
 use Rattle.step_laws.proofs.Scenes.{twice_placed}
-use Rattle.session_steps.specs.Showing.{CallState, HasScene, IsOver, IsTold, IsUnderWay, Leaves, ManyStepsFrom, RunsOutFrom, Shown, Shows, ShowsBy, StepsFrom, StepsTo, world_left}
+use Rattle.session_steps.specs.Showing.{CallState, HasScene, IsOver, IsUnderWay, Leaves, ManyStepsFrom, RunsOutFrom, Shown, ShowsBy, StepsFrom, StepsTo, world_left}
 use Rattle.session_steps.specs.Within.{IsReached, Laws, Reaches, ReachesOn}
-use Rattle.session_steps.proofs.Scenes.{as_told, stays}
+use Rattle.session_steps.proofs.Scenes.{stays}
 
 -- ---- a scene that is over
 
@@ -63,7 +62,7 @@ module _ (laws : Laws) (c : Scene) (r : ℕ) (old now new : Shown) (Rest All Les
         world = leaves.world
             ∙ ap (λ (w : World). world_left w new.nodes next.world.met leaves.shows.p) reached.leaves.world
             ∙ left_twice c.world now.nodes new.nodes reached.mid.world.met next.world.met reached.leaves.shows.p leaves.shows.p
-                (its_name reached.mid.world reached.mid.session.by reached.leaves.shows.p reached.leaves.shows.is_by ∙ sym same ∙ sym (its_name next.world next.session.by leaves.shows.p leaves.shows.is_by));
+            (its_name reached.mid.world reached.mid.session.by reached.leaves.shows.p reached.leaves.shows.is_by ∙ sym same ∙ sym (its_name next.world next.session.by leaves.shows.p leaves.shows.is_by));
       }
 
       by : (next : Scene) → Steps hss_judged r reached.mid.session.by reached.mid next ⊎ IsOver reached.mid next → Leaves reached.mid r new next → IsReached Less All c r new

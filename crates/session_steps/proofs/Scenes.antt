@@ -1,22 +1,21 @@
 -- A scene under way that is shown, and what is shown behind a step of it.
-use Rattle.std.proofs.Common.{◌≡◌, ◌≢◌, ◌⊎◌, inl, inr, ⊎_elim, ℕ, true, false, List, Option, Some, None, refl, sym, ap, ◌∙◌, subst}
-use Rattle.ivy_base.specs.declared.operation.Moment.{Moment}
+use Rattle.std.proofs.Common.{◌≡◌, inl, inr, ℕ, false, List, Option, Some, None, refl, sym, ap, ◌∙◌, subst}
 use Rattle.log_heads.specs.Signed.{hss_judged}
 use Rattle.session_model.specs.Sessions.{Over, Said, Session}
 use Rattle.dhash_client.specs.GetHead.{Judges}
 use Rattle.session_model.specs.Courses.{LacksMemory}
 use Rattle.ivy_session.specs.declared.served.Served.{Served}
 use Rattle.ivy_session.specs.States.{HasAsked, IsSession, SessionState, is_turning}
-use Rattle.ring_nodes.specs.NodesState.{IsNodesOf, NodesState, with_nodes}
+use Rattle.ring_nodes.specs.NodesState.{IsNodesOf, with_nodes}
 use Rattle.met_blocks.specs.MetState.{AreMet}
 use Rattle.script_model.specs.Messages.{Given}
-use Rattle.script_participants.specs.ParticipantState.{ParticipantState, state_of}
+use Rattle.script_participants.specs.ParticipantState.{state_of}
 use Rattle.world_model.specs.World.{Participant, World, participant, with_participant}
 use Rattle.world_model.specs.Steps.{Scene, Steps}
 use Rattle.world_laws.proofs.Frames.{found_placed, placed_itself}
-use Rattle.step_laws.specs.Scenes.{IsLeft, IsSceneOf, IsStep, given_at}
+use Rattle.step_laws.specs.Scenes.{IsLeft, IsSceneOf, IsStep}
 use Rattle.step_laws.specs.Scenes.IsLeft.{goes_on, lacks_memory, is_cut}
-use Rattle.session_steps.specs.Showing.{CallState, IsOver, IsTold, IsUnderWay, IsUntold, Leaves, Shown, Shows, ShowsBy, ShowsSession, StepsTo, judges, world_left}
+use Rattle.session_steps.specs.Showing.{CallState, IsTold, IsUnderWay, IsUntold, Leaves, Shown, Shows, ShowsBy, ShowsSession, StepsTo, judges, world_left}
 use Rattle.session_steps.specs.Within.{Laws}
 
 -- ---- sessions

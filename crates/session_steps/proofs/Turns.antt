@@ -1,10 +1,9 @@
 -- A turn of a call that is shown.
-use Rattle.std.proofs.Common.{◌≡◌, ◌≢◌, ◌⊎◌, ⊎_elim, ℕ, ◌<◌, true, false, List, Option, Some, None, Result, Ok, Err, refl, sym, ap, ◌∙◌, subst}
+use Rattle.std.proofs.Common.{◌≡◌, ⊎_elim, ℕ, ◌<◌, true, false, List, Option, Some, None, Result, Ok, Err, refl, sym, ap, ◌∙◌, subst}
 use Rattle.std.specs.Prelude.{IfSome, IsSomeAnd}
 use Rattle.ivy_base.specs.declared.key.Key.{Key}
 use Rattle.ivy_base.specs.declared.operation.Moment.{Moment}
 use Rattle.hss_keys.specs.Signer.{Signer}
-use Rattle.log_heads.specs.Signed.{hss_judged}
 use Rattle.log_heads.specs.declared.judge.HssJudge.{HssJudge}
 use Rattle.log_model.specs.View.{View}
 use Rattle.dht_ids.specs.declared.judge.Judged.{Judged}
@@ -15,7 +14,6 @@ use Rattle.session_model.specs.Sessions.Takes.{posted, cached}
 use Rattle.session_model.specs.Sessions.TakesAll.{none as takes_none, more as takes_more}
 use Rattle.log_fetch.specs.declared.asked.Asked.{Asked}
 use Rattle.log_fetch.specs.declared.refresh.Refresh.{Refresh}
-use Rattle.log_fetch.specs.declared.standing.Standing.{Standing}
 use Rattle.log_fetch.specs.declared.turned.Turned.{Turned}
 use Rattle.log_fetch.specs.declared.turned.TurnFault.{TurnFault}
 use Rattle.log_fetch.specs.declared.turned.TurnFault.TheVariants as fault
@@ -220,7 +218,7 @@ module _ (c : Scene) (r : ℕ) (old : Shown) (way : IsUnderWay c r) (shows : Sho
     by (Ok turned) took gave told left =
         let parts = left.1 asked.0 asked.1 in
         let step = laws.read judges c r shows.p old.call.session mid.session new.session between.cache refresh asked.0 turned (holder t.mid) parts.reply way.keeps hand scene is_untold.no_turn wants asked.1 gave told t.is_told.free t.is_told.no_turn
-            parts.read.fits parts.read.spelled in
+        parts.read.fits parts.read.spelled in
         by_step c r old way shows laws then_shown (turned_with turned.applied) (met_by c.world.met t.mid.agent.pending) is_untold step
         (left_is step.left whole (λ u may lacking session. may))
         (made_so turned.applied (given_by parts.reply) (counted shows.p between.cache took.0 refresh asked.0 old.now took.1.has_turn) left.0 (λ i. record { handle = parts.handle i; verifier = parts.verifier i }))

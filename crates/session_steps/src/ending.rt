@@ -37,7 +37,10 @@ impl OpenCall {
         ensures { LeavesGiven self result }
     {
         match &self.told {
-            Some(Served::Reply(_)) => Some(mem::replace(&mut self.given, ReplyParts::of(None, None))),
+            Some(Served::Reply(_)) => Some(mem::replace(
+                &mut self.given,
+                ReplyParts::of(None, None),
+            )),
             _ => None,
         }
     }

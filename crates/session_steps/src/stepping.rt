@@ -21,13 +21,14 @@ use script_participants::Participant;
 use std::alloc::Global;
 use std::sync::ledger::Ledger;
 use step_laws::{
-    asked_nodes_are_made, asks_are_steps, done_is_over, replies_are_read, scenes_go_on, settlings_are_steps, turns_are_steps,
-    turns_may_be,
+    asked_nodes_are_made, asks_are_steps, done_is_over, replies_are_read, scenes_go_on,
+    settlings_are_steps, turns_are_steps, turns_may_be,
 };
 use world_laws::{headline_holds, publishing_keeps};
 
 impl OpenCall {
-    /// One step of the session: an ask of a node, a turn of its agent, or a settling. A session that is over stays.
+    /// One step of the session: an ask of a node, a turn of its agent, or a settling; or it is told to be over, and from then on
+    /// stays. Less is left of it with each step until then.
     ///
     /// # Errors
     ///

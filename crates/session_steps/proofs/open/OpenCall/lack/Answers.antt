@@ -1,4 +1,4 @@
-use Rattle.std.proofs.Common.{Err, refl, sym, ap}
+use Rattle.std.proofs.Common.{Err, refl, ap}
 use Rattle.log_fetch.specs.declared.turned.TurnFault.TheVariants as fault
 use Rattle.session_steps.specs.Showing.{CallState}
 use Rattle.session_steps.proofs.Parts.{told_so}

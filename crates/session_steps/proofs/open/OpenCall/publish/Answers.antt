@@ -1,4 +1,4 @@
-use Rattle.std.proofs.Common.{refl, subst, ◌∙◌}
+use Rattle.std.proofs.Common.{subst}
 use Rattle.world_model.specs.Logs.{to_publish}
 use Rattle.session_steps.specs.Showing.{ShowsSession}
 use Rattle.session_steps.proofs.Begun.{publishes_in, same_call}
