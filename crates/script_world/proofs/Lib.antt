@@ -9,3 +9,4 @@ pub mod Changing
 pub mod Making
 pub mod Beginning
 pub mod Holding
+pub mod Returning

@@ -7,7 +7,8 @@
 //! then, and the same open sessions (`DoesIn`; `PlaysIn` of a world with its story). So it is with [`Parts::ring`],
 //! [`Parts::join`], [`Parts::round`], [`Parts::stop`], [`Parts::at`], [`Parts::make_view`] (the line `view`), [`Parts::lose`],
 //! [`Parts::damage`], [`Parts::keep`], [`Parts::holds`], [`Parts::order`] and [`Parts::work`], and with [`Parts::use_view`] (the
-//! line `use`) but for the sessions, which may end (`EndsSessionsIn`). [`Parts::begin_log`] is the line `log` up to where its
+//! line `use`) but for the sessions, which may end (`EndsSessionsIn`), and with [`Parts::restart`] in worlds that keep what they
+//! should (`EndsSessionsWell`, `specs/Starting.antt`). [`Parts::begin_log`] is the line `log` up to where its
 //! agent publishes, which takes a session (`BeginsIn`, `specs/Newcomers.antt`). Each error is want of memory or 2^64 asks, after
 //! which the world is of no more use.
 //! Definitions: `specs/*.antt`, and `world_model`'s `specs/Logs.antt`, `specs/Ring.antt`, `specs/Rounds.antt` and
@@ -26,6 +27,7 @@ mod newcomers;
 mod parts;
 mod setup;
 mod shows;
+mod starting;
 mod views;
 
 pub use parts::Parts;
