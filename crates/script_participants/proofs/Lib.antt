@@ -4,3 +4,4 @@ pub mod Numbers
 pub mod Shown
 pub mod Named
 pub mod Places
+pub mod Returned

@@ -1,8 +1,9 @@
-//! How entering a view ends.
+//! How entering a view ends, and how starting again does.
 
 ghost use Rattle.script_participants.specs.Ends.{EndsFor};
+ghost use Rattle.script_participants.specs.Restarting.{IsLostFor};
 
-use ivy_agent::EnterFault;
+use ivy_agent::{EnterFault, RestartFault};
 use ivy_base::Memory;
 
 /// How entering a view ends.
@@ -16,6 +17,17 @@ pub enum EnterEnd {
     Failed,
 }
 
+/// How starting again ends.
+#[derive(Clone, Copy, Debug, PartialEq, Eq)]
+pub enum RestartEnd {
+    /// The agent has started again.
+    Restarted,
+    /// The agent is in no view. Nothing has changed.
+    Outside,
+    /// The keeper holds nothing, or no agent's bytes. Nothing has changed.
+    Lost,
+}
+
 /// How it ends for an agent that isn't in the view. The error is want of memory.
 pub(crate) fn end_of(fault: EnterFault) -> Result<EnterEnd, Memory>
     ensures { EndsFor fault result }
@@ -25,5 +37,17 @@ pub(crate) fn end_of(fault: EnterFault) -> Result<EnterEnd, Memory>
         EnterFault::NotNamed(_) => Ok(EnterEnd::Refused),
         EnterFault::Keeper => Ok(EnterEnd::Failed),
         EnterFault::Memory => Err(Memory),
+    }
+}
+
+/// How it ends for an agent that hasn't started again. The error is want of memory.
+pub(crate) fn lost_for(fault: RestartFault) -> Result<RestartEnd, Memory>
+    ensures { IsLostFor fault result }
+{
+    match fault {
+        RestartFault::Nothing => Ok(RestartEnd::Lost),
+        RestartFault::Malformed => Ok(RestartEnd::Lost),
+        RestartFault::Keeper => Ok(RestartEnd::Lost),
+        RestartFault::Memory => Err(Memory),
     }
 }

@@ -7,7 +7,9 @@
 //! lines. What they say of a world is about each world that has these participants (`HasParticipants`).
 //! [`Participant::open`] is `newcomer`. [`Participant::enter`] is `entering` where the next save fails as the keeper plans it
 //! (`specs/InView.antt`), and [`Participant::turn`] a `Turns` of the definitions by the same answer to whether the save fails
-//! (`specs/Turning.antt`); what is to be published then counts as made by [`Participant::count_made`]. [`Participant::plan_fault`]
+//! (`specs/Turning.antt`); what is to be published then counts as made by [`Participant::count_made`]. [`Participant::restart`]
+//! gives `restored` of what its keeper holds, of which what is to be published counts as made, or tells that it is in no view, or
+//! that the keeper holds the bytes of nothing that may be saved (`specs/Restarting.antt`). [`Participant::plan_fault`]
 //! is `with_fault`, [`Participant::settle`] is `settled`, [`Participant::record_made`] gives the name that a script says by a
 //! number. [`Participant::work_text`] and [`Participants::order_text`] are what the lines of these names show, and
 //! [`Participants::keys_of`] are the public keys that a view is made of. [`Participants::at`] lends one to be changed, and
@@ -18,7 +20,8 @@
 //! `specs/Faults.antt`.
 //!
 //! Costs: a participant is found by a walk over the names, and a log's name by a walk over the keys. A record that counts as made
-//! is looked for among the numbers of those that do. Entering a view makes an empty cache.
+//! is looked for among the numbers of those that do. Entering a view and starting
+//! again make an empty cache.
 #![tactic(auto)]
 
 mod end;
@@ -27,6 +30,6 @@ mod participant;
 mod participants;
 mod text;
 
-pub use end::EnterEnd;
+pub use end::{EnterEnd, RestartEnd};
 pub use participant::Participant;
 pub use participants::Participants;

@@ -16,6 +16,8 @@ ghost use Rattle.world_model.specs.Logs.{newcomer};
 ghost use Rattle.world_model.specs.World.{Participant as Seen};
 ghost use Rattle.script_participants.specs.Opening.{IsOpened};
 
+mod restarting;
+
 use crate::end::{EnterEnd, end_of};
 use crate::making::count_all;
 use crate::text::counted_line;

@@ -12,3 +12,4 @@ pub mod Holding
 pub mod Sent
 pub mod Going
 pub mod Published
+pub mod Returning

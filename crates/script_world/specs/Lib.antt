@@ -4,3 +4,4 @@ pub mod Newcomers
 pub mod Held
 pub mod Ends
 pub mod Running
+pub mod Starting

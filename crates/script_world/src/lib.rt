@@ -8,7 +8,8 @@
 //! then, and the same open sessions (`DoesIn`; `PlaysIn` of a world with its story). So it is with [`Parts::ring`],
 //! [`Parts::join`], [`Parts::round`], [`Parts::stop`], [`Parts::at`], [`Parts::make_view`] (the line `view`), [`Parts::lose`],
 //! [`Parts::damage`], [`Parts::keep`], [`Parts::holds`], [`Parts::order`] and [`Parts::work`], and with [`Parts::use_view`] (the
-//! line `use`) but for the sessions, which may end (`EndsSessionsIn`). [`Parts::begin_log`] is the line `log` up to where its
+//! line `use`) but for the sessions, which may end (`EndsSessionsIn`), and with [`Parts::restart`] in worlds that keep what they
+//! should (`EndsSessionsWell`, `specs/Starting.antt`). [`Parts::begin_log`] is the line `log` up to where its
 //! agent publishes, which takes a session (`BeginsIn`, `specs/Newcomers.antt`). Each error is want of memory or 2^64 asks, after
 //! which the world is of no more use.
 //! Sessions are calls beside the parts, by the name of their participant: [`Parts::begin_call`] begins one with what a line sends, in
@@ -34,6 +35,7 @@ mod parts;
 mod running;
 mod setup;
 mod shows;
+mod starting;
 mod views;
 
 pub use parts::Parts;
