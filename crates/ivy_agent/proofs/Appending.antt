@@ -1,16 +1,12 @@
 -- Records that go behind all others.
-use Rattle.std.proofs.Common.{◌≡◌, List, [], ◌∷◌, ◌++◌, refl, sym, ap, ◌∙◌, subst}
-use Rattle.std.specs.Prelude.{IsTrue}
+use Rattle.std.proofs.Common.{◌≡◌, List, [], ◌∷◌, ◌++◌}
 use Rattle.std.specs.List.{AllByRecursion}
-use Rattle.std.specs.Ordering.{is_lt}
 use Rattle.log_model.specs.Record.{Record}
-use Rattle.log_model.specs.Rank.{record_cmp}
 use Rattle.log_model.specs.Closed.{IsAscending}
 use Rattle.log_model.specs.Replay.{in_order}
-use Rattle.log_model.proofs.Lists.{here, there, each_append, each_from, each}
+use Rattle.log_model.proofs.Lists.{each_append}
 use Rattle.log_model.proofs.Sets.{IsBefore, ascending_in_order}
 use Rattle.record_sets.specs.Rows.{IsRow}
-use Rattle.turn_model.specs.Basis.{Holding}
 use Rattle.replay_engine.specs.Places.{AreBehind}
 use Rattle.replay_engine.specs.Engines.{Engine, holding, taken_in}
 use Rattle.agent_model.specs.Turning.{with_held}

@@ -2,7 +2,6 @@
 use Rattle.std.proofs.Common.{◌≡◌, ℕ, ◌+◌, ◌≤◌, ◌<◌, ◌^◌, Bool, true, false, cond, List, [], ◌∷◌, ◌++◌, length, Option, Some, None, refl, sym, ap, ◌∙◌, subst, arith, Contains}
 use Rattle.std.specs.Prelude.{IfSome, IsTrue, option_map}
 use Rattle.std.specs.List.{AllByRecursion}
-use Rattle.std.specs.Ordering.{eq_by_cmp}
 use Rattle.std.specs.FinMap.Entries.{find-put}
 use Rattle.ivy_base.specs.declared.key.Key.{Key}
 use Rattle.ivy_base.specs.declared.key.PubKey.{PubKey}
@@ -13,7 +12,7 @@ use Rattle.tree_model.proofs.Keys.{keys_total, same_key_itself}
 use Rattle.log_model.specs.Chain.{IsGood}
 use Rattle.log_model.specs.Rank.{own_entry}
 use Rattle.log_model.specs.Record.{Record}
-use Rattle.log_model.specs.Spelling.{HasSpelling, IsKey, most_records}
+use Rattle.log_model.specs.Spelling.{HasSpelling, most_records}
 use Rattle.log_model.specs.Vector.{Stamp, Vector, join, reach, seq_of, stamp_at}
 use Rattle.log_model.specs.View.{View, IsView, is_named}
 use Rattle.log_model.proofs.Lists.{each, each_from}
@@ -22,7 +21,6 @@ use Rattle.log_records.specs.Records.{records_of}
 use Rattle.version_vectors.specs.Vectors.{IsVector}
 use Rattle.view_blocks.specs.Faults.{HasKeys}
 use Rattle.wire_model.specs.Xdr.{IsAny}
-use Rattle.snapshot_model.specs.Blocks.{IsVectorSpelled}
 use Rattle.causal_order.specs.Over.{IsClosed}
 use Rattle.nfs_model.specs.declared.replies.Reply.{Reply}
 use Rattle.nfs_model.specs.Results.{result as bytes_of}
@@ -39,7 +37,7 @@ use Rattle.turn_answers.proofs.Fronts.{held_front, newest_is_reached}
 use Rattle.turn_answers.proofs.Records.{written_are_next}
 use Rattle.turn_taking.specs.Taking.{IsWithin}
 use Rattle.replay_engine.specs.Engines.{Engine, holding}
-use Rattle.agent_model.specs.Agent.{Agent, Kept as Saved, Signing, failed, head_post, joined, kept_of, own_key, own_reach, with_posts}
+use Rattle.agent_model.specs.Agent.{Agent, Kept as Saved, Signing, failed, joined, kept_of, own_key, own_reach}
 use Rattle.agent_model.specs.SavedBytes.{ArePostsSpelled, IsKept, kept_bytes}
 use Rattle.agent_model.specs.Standing.{going_on}
 use Rattle.agent_model.specs.Taking.{TakesNew, refresh_with, with_new}
@@ -47,12 +45,12 @@ use Rattle.agent_model.specs.Turning.{Answered, AreNext, Becomes, IsByDefinition
 use Rattle.agent_model.specs.Turning as turning
 use Rattle.ivy_agent.specs.Answering.{Answers, IsCall, MayGoOn, goes_by, replies, served_on, writes}
 use Rattle.ivy_agent.specs.Drafts.{IsDraft, kept_with}
-use Rattle.ivy_agent.specs.Holders.{Holder, IsSound, Stands, StandsIn, agent_of}
+use Rattle.ivy_agent.specs.Holders.{IsSound, Stands, StandsIn, agent_of}
 use Rattle.ivy_agent.specs.Outcomes.{Gives, kept_to}
 use Rattle.ivy_agent.specs.Saves.{Saves, saved_of}
-use Rattle.ivy_agent.specs.Taking.{MayTakeFrom, TakesAndAnswers}
+use Rattle.ivy_agent.specs.Taking.{MayTakeFrom}
 use Rattle.ivy_agent.specs.Turns.{IsAnswered}
-use Rattle.ivy_agent.specs.Writing.{HasWritten, WritesDraft, lost_reply, written_reply}
+use Rattle.ivy_agent.specs.Writing.{HasWritten, lost_reply, written_reply}
 use Rattle.log_fetch.specs.declared.turned.Turned.{Turned}
 use Rattle.ivy_agent.specs.declared.drafts.Draft.{Draft}
 use Rattle.ivy_agent.specs.declared.saving.Kept.{Kept}

@@ -1,5 +1,5 @@
 -- Vectors that a member of the view may cite, how far their joins go, and what is kept with one joined in.
-use Rattle.std.proofs.Common.{◌≡◌, ℕ, ◌≤◌, List, [], ◌∷◌, Option, Some, None, refl, sym, ap, ◌∙◌, subst, arith, Contains}
+use Rattle.std.proofs.Common.{◌≡◌, ℕ, ◌≤◌, [], ◌∷◌, Option, Some, None, refl, sym, ap, ◌∙◌, arith}
 use Rattle.std.specs.Prelude.{IsTrue}
 use Rattle.std.specs.List.{AllByRecursion}
 use Rattle.ivy_base.specs.declared.key.Key.{Key}
@@ -8,7 +8,7 @@ use Rattle.log_model.specs.View.{View, IsView, is_named}
 use Rattle.log_model.proofs.Lists.{each_from}
 use Rattle.log_model.proofs.Vectors.{Dominates-join}
 use Rattle.log_model.proofs.Weights.{Sorted, joins_reach, sorted_with_entry}
-use Rattle.version_vectors.specs.Vectors.{EntryFits, IsVector}
+use Rattle.version_vectors.specs.Vectors.{EntryFits}
 use Rattle.snapshot_model.specs.Blocks.{IsVectorSpelled}
 use Rattle.turn_laws.proofs.Entries.{at_stamp, each_join}
 use Rattle.turn_laws.proofs.Heads.{short_named}

@@ -1,14 +1,13 @@
 -- Records that were written and saved.
-use Rattle.std.proofs.Common.{◌≡◌, ℕ, Bool, false, List, [], ◌∷◌, Option, Some, None, refl, sym, ap, ◌∙◌, subst}
+use Rattle.std.proofs.Common.{◌≡◌, ℕ, Bool, false, List, Option, Some, None, refl, sym, ap, ◌∙◌, subst}
 use Rattle.std.specs.Prelude.{IfSome}
 use Rattle.ivy_base.specs.declared.operation.Op.{Op}
-use Rattle.log_model.specs.Record.{Record}
 use Rattle.log_model.specs.Vector.{Vector}
 use Rattle.log_model.specs.View.{View}
 use Rattle.log_records.specs.Records.{records_of}
 use Rattle.nfs_model.specs.Changing.{finish}
 use Rattle.record_sets.specs.Rows.{IsRow}
-use Rattle.turn_model.specs.Basis.{Holding, kept_tree}
+use Rattle.turn_model.specs.Basis.{kept_tree}
 use Rattle.tree_model.specs.Tree.{Tree}
 use Rattle.turn_model.specs.Turn.{Asked}
 use Rattle.replay_engine.specs.Places.{AreBehind}

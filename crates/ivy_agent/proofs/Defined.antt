@@ -1,11 +1,9 @@
 -- A turn on what is held is the definition's turn.
-use Rattle.std.proofs.Common.{◌≡◌, ℕ, ◌+◌, Bool, true, false, List, [], ◌∷◌, ◌++◌, map, fold, Option, Some, None, refl, sym, ap, ◌∙◌, subst, Contains}
-use Rattle.std.specs.Prelude.{◌||◌}
+use Rattle.std.proofs.Common.{◌≡◌, ℕ, Bool, true, false, List, [], ◌++◌, map, fold, Option, refl, sym, ap, ◌∙◌}
 use Rattle.std.proofs.lemmas.List.{append-nil, map-append}
 use Rattle.std.proofs.lemmas.List.Sums.{fold-append}
 use Rattle.nfs_model.specs.Changing.{finish}
 use Rattle.ivy_base.specs.declared.key.Key.{Key}
-use Rattle.ivy_base.specs.declared.key.PubKey.{PubKey}
 use Rattle.ivy_base.specs.declared.operation.Moment.{Moment}
 use Rattle.ivy_base.specs.declared.operation.Op.{Op}
 use Rattle.ivy_base.specs.Naming.{NamesTellApart, head_key_of}
@@ -18,7 +16,6 @@ use Rattle.log_model.specs.Replay.{replay}
 use Rattle.log_records.specs.declared.edge.Edge.{Edge}
 use Rattle.log_records.specs.Batches.{Batch, AreUnder}
 use Rattle.nfs_model.specs.declared.replies.Reply.{Reply}
-use Rattle.tree_model.specs.Tree.{Tree}
 use Rattle.turn_model.specs.Basis.{Basis, Holding, HoldsAll, Knows, kept_tree}
 use Rattle.turn_model.specs.Turn.{Agent as Inputs, Asked, Turned, appended, own_seq, turn_on}
 use Rattle.turn_model.proofs.Kept.{kept_tree_is_replay}
@@ -31,7 +28,7 @@ use Rattle.agent_model.specs.Agent.{Agent, Signing, joined, own}
 use Rattle.agent_model.specs.Candidates.{MayTurn}
 use Rattle.agent_model.specs.Standing.{Standing, going_on}
 use Rattle.agent_model.specs.Taking.{TakesNew, refresh_with, with_new}
-use Rattle.agent_model.specs.Turning.{IsByDefinition, IsTurnBy, IsTurnOf, inputs, inputs_before, with_held}
+use Rattle.agent_model.specs.Turning.{IsByDefinition, IsTurnBy, IsTurnOf, inputs_before, with_held}
 use Rattle.agent_laws.specs.Laws.{IsTakenBy}
 use Rattle.agent_laws.proofs.Taken.{going_is_gone_on, taken_is_by_definition}
 use Rattle.ivy_agent.specs.Writing.{lost_reply, written_reply}

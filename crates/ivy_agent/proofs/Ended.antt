@@ -1,10 +1,10 @@
 -- How a turn ends, by what an agent keeps.
-use Rattle.std.proofs.Common.{◌≡◌, ◌≤◌, ℕ, length, Bool, true, false, List, [], Option, Some, None, Ok, Err, refl, sym, ap, ◌∙◌, subst}
+use Rattle.std.proofs.Common.{◌≡◌, ◌≤◌, ℕ, length, Bool, true, false, List, Option, Some, None, Ok, Err, refl, sym, ap, ◌∙◌, subst}
 use Rattle.std.specs.Prelude.{IfSome, IsSomeAnd}
 use Rattle.ivy_base.specs.declared.key.Key.{Key}
 use Rattle.ivy_base.specs.declared.operation.Moment.{Moment}
 use Rattle.log_model.specs.Vector.{Vector}
-use Rattle.log_model.specs.View.{View, IsView}
+use Rattle.log_model.specs.View.{View}
 use Rattle.log_records.specs.Batches.{Batch}
 use Rattle.turn_model.specs.Basis.{Basis, Holding}
 use Rattle.turn_model.specs.Turn.{Asked}

@@ -1,11 +1,11 @@
 -- What a turn may go on from: what is held, or a basis that the floor knows.
-use Rattle.std.proofs.Common.{◌≡◌, ℕ, ◌≤◌, Bool, true, false, ◌&&◌, cond, List, [], Option, Some, None, refl, sym, ap, ◌∙◌, subst, arith, Contains}
+use Rattle.std.proofs.Common.{◌≡◌, ◌≤◌, Bool, true, false, ◌&&◌, cond, [], Option, Some, None, refl, sym, ap, ◌∙◌, subst, arith, Contains}
 use Rattle.std.specs.Prelude.{IfSome, IsSomeAnd, IsTrue, is_some, option_map}
 use Rattle.std.specs.List.{AllByRecursion}
 use Rattle.ivy_base.specs.declared.key.Key.{Key}
 use Rattle.ivy_base.specs.declared.key.PubKey.{PubKey}
 use Rattle.ivy_base.specs.Naming.{head_key_of}
-use Rattle.log_model.specs.Vector.{Entry, Stamp, Vector, reach, seq_of, stamp_at}
+use Rattle.log_model.specs.Vector.{Stamp, Vector, reach, seq_of, stamp_at}
 use Rattle.log_model.specs.View.{View, IsView, is_named}
 use Rattle.log_model.proofs.Lists.{each, each_from}
 use Rattle.log_records.specs.Batches.{Batch}
@@ -17,9 +17,7 @@ use Rattle.turn_laws.proofs.Whole.{at_entry}
 use Rattle.turn_model.specs.Basis.{Basis, Holding}
 use Rattle.turn_taking.specs.Taking.{IsWithin}
 use Rattle.turn_taking.proofs.Dominating.{far}
-use Rattle.wire_model.specs.Xdr.{IsAny}
-use Rattle.agent_model.specs.Agent.{Agent, Signing, joined, kept_of, own, own_key}
-use Rattle.agent_model.specs.SavedBytes.{IsKept}
+use Rattle.agent_model.specs.Agent.{Agent, Signing, joined, own}
 use Rattle.agent_model.specs.Standing.{dominates, going_on}
 use Rattle.ivy_agent.specs.Bounds.{HasBounds}
 use Rattle.ivy_agent.specs.Grounds.{IsGround, taken_basis}

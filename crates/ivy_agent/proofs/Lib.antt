@@ -28,3 +28,4 @@ pub mod Ended
 pub mod Refused
 pub mod Dropped
 pub mod Restarted
+pub mod Snapped

@@ -1,5 +1,5 @@
 -- What holds of the new records that a turn takes.
-use Rattle.std.proofs.Common.{◌≡◌, ℕ, ◌≤◌, Bool, true, false, not, List, [], ◌∷◌, ◌++◌, fold, refl, sym, ap, ◌∙◌, subst, Contains}
+use Rattle.std.proofs.Common.{◌≡◌, ◌≤◌, not, List, [], ◌∷◌, ◌++◌, refl, sym, subst, Contains}
 use Rattle.std.specs.Prelude.{IsTrue}
 use Rattle.std.specs.List.{AllByRecursion}
 use Rattle.std.specs.Ordering.{is_eq}
@@ -23,7 +23,6 @@ use Rattle.turn_model.specs.Basis.{Holding, kept_tree}
 use Rattle.turn_taking.specs.Taking.{IsWithin}
 use Rattle.turn_taking.proofs.HeldFront.{good_in}
 use Rattle.replay_engine.specs.Places.{AreNew}
-use Rattle.agent_model.specs.Agent.{joined}
 use Rattle.agent_model.specs.Standing.{Refresh}
 use Rattle.agent_model.specs.Taking.{TakesNew, with_new}
 use Rattle.ivy_agent.specs.Answering.{MayGoOn}

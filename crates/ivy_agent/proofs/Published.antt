@@ -1,6 +1,5 @@
 -- What is to be published once records are written has a spelling.
-use Rattle.std.proofs.Common.{◌≡◌, ◌<◌, ◌≤◌, ◌^◌, not, inl, inr, refl, List, [], ◌∷◌, ◌++◌, length, map, filter, sym, subst, Contains}
-use Rattle.std.specs.Prelude.{IsTrue}
+use Rattle.std.proofs.Common.{◌<◌, ◌≤◌, ◌^◌, not, inl, refl, List, [], ◌∷◌, ◌++◌, length, map, filter}
 use Rattle.std.specs.List.{All, AllByRecursion}
 use Rattle.std.proofs.lemmas.List.Elements.{All-contains}
 use Rattle.log_model.specs.Record.{Record}

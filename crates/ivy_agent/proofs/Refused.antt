@@ -1,6 +1,6 @@
 -- How a turn ends that is refused, and what a turn comes to by what it goes on from.
-use Rattle.std.proofs.Common.{◌≡◌, ℕ, Bool, true, false, List, Option, Some, None, Ok, Err, Result, refl, sym, ap, ◌∙◌, subst}
-use Rattle.std.specs.Prelude.{IfSome, IfOk}
+use Rattle.std.proofs.Common.{◌≡◌, ℕ, Bool, false, List, Option, Some, None, Ok, Err, Result, sym, ap, ◌∙◌, subst}
+use Rattle.std.specs.Prelude.{IfSome}
 use Rattle.ivy_base.specs.declared.operation.Moment.{Moment}
 use Rattle.log_model.specs.View.{View}
 use Rattle.log_records.specs.Batches.{Batch}
@@ -8,13 +8,13 @@ use Rattle.turn_model.specs.Basis.{Basis, Holding}
 use Rattle.turn_model.specs.Turn.{Asked}
 use Rattle.log_fetch.specs.declared.standing.Standing.{Standing}
 use Rattle.log_fetch.specs.Standings.{standing_of}
-use Rattle.agent_model.specs.Agent.{Agent, Signing}
+use Rattle.agent_model.specs.Agent.{Signing}
 use Rattle.agent_model.specs.Standing.{Refresh, anew_in, going_on}
 use Rattle.agent_model.specs.Taking.{refresh_with}
 use Rattle.agent_model.specs.Turning.{TurnEnd, Turns}
 use Rattle.agent_model.specs.Turning as turning
 use Rattle.ivy_agent.specs.Holders.{Holder}
-use Rattle.ivy_agent.specs.Turns.{ComesFrom, ComesTo, IsRefused, Refuses, TakesTurn, dropping}
+use Rattle.ivy_agent.specs.Turns.{ComesFrom, ComesTo, IsRefused, Refuses, TakesTurn}
 use Rattle.log_fetch.specs.declared.turned.Turned.{Turned}
 use Rattle.log_fetch.specs.declared.turned.TurnFault.{TurnFault}
 use Rattle.log_fetch.specs.declared.turned.TurnFault.TheVariants as fault

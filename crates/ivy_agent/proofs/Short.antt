@@ -1,5 +1,5 @@
 -- What a turn answers is short.
-use Rattle.std.proofs.Common.{◌≡◌, ℕ, ◌+◌, ◌≤◌, Bool, true, false, cond, List, [], ◌∷◌, ◌++◌, length, Option, Some, None, refl, sym, ap, ◌∙◌, subst, arith, length-append}
+use Rattle.std.proofs.Common.{◌≡◌, ℕ, ◌+◌, ◌≤◌, Bool, true, false, cond, List, length, Option, Some, None, sym, subst, arith, length-append}
 use Rattle.ivy_base.specs.declared.operation.Moment.{Moment}
 use Rattle.ivy_base.specs.declared.operation.Op.{Op}
 use Rattle.tree_model.specs.Tree.{Tree}
@@ -23,7 +23,7 @@ use Rattle.nfs_model.specs.Results.{before, fattr, result, status_number, tail, 
 use Rattle.nfs_laws.specs.Lengths.{AnswersFit, FinishesFit, IsShortPlan, PlansFit}
 use Rattle.turn_model.specs.Basis.{Holding, kept_tree}
 use Rattle.turn_model.specs.Turn.{Agent as Inputs, Asked, bare_tail}
-use Rattle.turn_answers.specs.Serving.{Replies, Served, Writes, is_full, serve_on, serve_plan}
+use Rattle.turn_answers.specs.Serving.{Replies, Writes, is_full, serve_on, serve_plan}
 use Rattle.turn_answers.proofs.Turns.{writes_are_planned}
 use Rattle.agent_model.specs.Agent.{Signing}
 use Rattle.agent_model.specs.Turning.{with_held}

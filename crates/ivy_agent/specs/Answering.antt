@@ -5,7 +5,7 @@ use Rattle.ivy_base.specs.Naming.{head_key_of}
 use Rattle.ivy_base.specs.declared.key.PubKey.{PubKey}
 use Rattle.ivy_base.specs.declared.operation.Moment.{Moment}
 use Rattle.ivy_base.specs.declared.operation.Op.{Op}
-use Rattle.log_model.specs.Spelling.{IsMoment, most_records}
+use Rattle.log_model.specs.Spelling.{IsMoment}
 use Rattle.log_model.specs.Vector.{Vector, seq_of}
 use Rattle.log_model.specs.View.{View, IsView, is_named}
 use Rattle.wire_model.specs.Rpc.{IsIdentity}

@@ -1,5 +1,4 @@
 -- Which trees an agent holds.
-use Rattle.std.specs.Prelude.{◌≤◌, length}
 use Rattle.tree_model.specs.Tree.{Tree}
 use Rattle.log_model.specs.Laws.{NumbersAreKeys}
 use Rattle.nfs_laws.specs.Lengths.{LinksAreShort, NamesAreKeys}

@@ -12,3 +12,4 @@ pub mod Answering
 pub mod Taking
 pub mod Turns
 pub mod Restarting
+pub mod Snapping

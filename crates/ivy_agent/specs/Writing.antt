@@ -1,5 +1,5 @@
 -- What comes of writing operations on what a turn took.
-use Rattle.std.specs.Prelude.{◌≡◌, ◌≢◌, ◌+◌, ℕ, length, Bool, true, false, List, [], if◌then◌else◌}
+use Rattle.std.specs.Prelude.{◌≡◌, ◌≢◌, ◌+◌, ℕ, length, Bool, List, [], if◌then◌else◌}
 use Rattle.ivy_base.specs.declared.operation.Moment.{Moment}
 use Rattle.ivy_base.specs.declared.operation.Op.{Op}
 use Rattle.log_model.specs.Record.{Record}

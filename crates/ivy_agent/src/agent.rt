@@ -18,6 +18,7 @@ ghost use Rattle.ivy_agent.specs.Taking.{MayTakeFrom};
 ghost use Rattle.ivy_agent.specs.Turns.{ComesFrom, ComesTo, IsFetchedIn, Refuses, TakesTurn, dropping};
 
 mod restarting;
+mod snapping;
 
 use crate::entering::{not_named, save_in};
 use crate::fault::{EnterFault, MakeFault};

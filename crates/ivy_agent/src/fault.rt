@@ -1,4 +1,4 @@
-//! What keeps an agent from being made, from starting again, and from entering a view.
+//! What keeps an agent from being made, from starting again, from entering a view, and from a snapshot.
 
 use ivy_base::Key;
 use thiserror::Error;
@@ -44,6 +44,17 @@ pub enum EnterFault {
     /// a former member's.
     #[error("the view does not take in a log that the agent knows")]
     NotNamed(Key),
+    /// The keeper failed, now or before.
+    #[error("the keeper failed")]
+    Keeper,
+    /// Want of memory. No clause ties this to a cause.
+    #[error("out of memory")]
+    Memory,
+}
+
+/// Why there is no new snapshot.
+#[derive(Clone, Copy, Debug, PartialEq, Eq, Error)]
+pub enum SnapFault {
     /// The keeper failed, now or before.
     #[error("the keeper failed")]
     Keeper,

@@ -14,7 +14,8 @@
 //! something that may be saved, and else says that it holds nothing, no agent's bytes, or failed; [`Agent::restore`] does so
 //! with bytes, and leaves the keeper as it is, and [`Agent::start_again`] does so in place, over a keeper in memory
 //! (`specs/Restarting.antt`). [`Agent::standing`] is `standing_in`,
-//! [`Agent::settle`] is `settled`; [`Agent::owner`] is its public key and [`Agent::view`] its view; [`Agent::plan_fault`]
+//! [`Agent::settle`] is `settled`; [`Agent::snap`] is `snapping`, for some answer to whether the save fails, with what is saved
+//! (`specs/Snapping.antt`), of what is held within the bounds of a snapshot (`IsBasisSpelled`); [`Agent::owner`] is its public key and [`Agent::view`] its view; [`Agent::plan_fault`]
 //! plans that a save of a keeper in memory fails. [`Agent::turn`] is a `Turns` of the definitions, for some answer to whether the save fails
 //! (`TakesTurn` in `specs/Turns.antt`; where nothing is saved, for either answer): `Behind`, `BelowTide`, or a reply with how many records were applied, the agent then,
 //! and what was saved; so where names tell the blocks apart, and for every set that the agent may know, the reply is the
@@ -33,12 +34,13 @@
 //! and saves in it, `standing` finds the newest records' edges, `settling` tells which posts are acknowledged, and `keys`
 //! compares keys. For a turn `grounds` tells what it goes on from, `taking` takes what is new and has it answered, `outcome`
 //! replies or has records written, `drafts` makes and signs these, `posting` what is published of them, `writing` holds and
-//! saves them, and `answering` makes what is given. Definitions beside those: `specs/Saves.antt` (how a save ends),
+//! saves them, and `answering` makes what is given. `snapping` makes the posts of a snapshot and has them saved. Definitions beside those: `specs/Saves.antt` (how a save ends),
 //! `specs/Edges.antt` (edges from the newest record on), and a file for each step of a turn.
 //!
 //! Costs: a save is one allocation beside those of the saved key and of the view's block, and copies each pending block once.
 //! Entering a view and starting again make an empty tree; the latter also grows the key's trees. A standing copies the
-//! view, the vectors and the pending posts, looks at the owner of each held record, and hashes each log's key once. Settling hashes a post only where an acknowledgement has its key, and
+//! view, the vectors and the pending posts, looks at the owner of each held record, and hashes each log's key once. A snapshot
+//! copies all that is held once, and compares each of its blocks with each pending one. Settling hashes a post only where an acknowledgement has its key, and
 //! takes no memory.
 #![tactic(auto)]
 
@@ -54,9 +56,10 @@ mod outcome;
 mod posting;
 mod saving;
 mod settling;
+mod snapping;
 mod standing;
 mod taking;
 pub mod writing;
 
 pub use agent::Agent;
-pub use fault::{EnterFault, MakeFault, RestartFault};
+pub use fault::{EnterFault, MakeFault, RestartFault, SnapFault};

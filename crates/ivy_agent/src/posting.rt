@@ -61,7 +61,7 @@ fn is_head(kind: PostKind) -> bool
 }
 
 /// Whether a word counts the bytes of each.
-fn are_counted(posts: &[Post]) -> bool
+pub fn are_counted(posts: &[Post]) -> bool
     ensures { IsTrue result → All (λ p. AreOpaque p.bytes) posts.now }
 {
     'posts: for post in posts {

@@ -1,12 +1,13 @@
 //! The engine.
 
-ghost use Rattle.std.specs.Prelude.{◌≡◌, ◌≢◌, ◌≤◌, ◌<◌, ◌+◌, ◌-◌, ◌%◌, ◌^◌, ◌⊎◌, [], ◌∷◌, ◌++◌, length, take, drop, map, IfOk, OnOk, OnErr};
+ghost use Rattle.std.specs.Prelude.{◌≡◌, ◌≢◌, ◌≤◌, ◌<◌, ◌+◌, ◌-◌, ◌%◌, ◌^◌, ◌⊎◌, [], ◌∷◌, ◌++◌, length, take, drop, map, option_map, IfOk, OnOk, OnErr};
 ghost use Rattle.tree_model.specs.Apply.{apply_all};
 ghost use Rattle.log_model.specs.Replay.{effect, in_order};
 ghost use Rattle.replay_engine.specs.Replays.{passed};
 ghost use Rattle.log_records.specs.Records.{records_of};
 ghost use Rattle.record_sets.specs.Rows.{IsRow};
 ghost use Rattle.turn_model.specs.Basis.{kept_tree};
+ghost use Rattle.version_vectors.specs.Ranks.{rank_of};
 ghost use Rattle.fs_tree.specs.Bases.{basis_of};
 ghost use Rattle.replay_engine.specs.Places.{AreNew, AreBehind, first_place, start_of};
 ghost use Rattle.turn_model.specs.Work.{applied_for};
@@ -92,6 +93,13 @@ impl Engine {
         ensures { result.now ≡ self.now.basis.front }
     {
         &self.front
+    }
+
+    /// The tide of the basis.
+    pub fn basis_tide(&self) -> Option<Rank>
+        ensures { option_map rank_of result ≡ self.now.basis.tide }
+    {
+        self.tide
     }
 
     /// The tree that the records make of the basis's.

@@ -1,17 +1,13 @@
-use Rattle.std.proofs.Common.{List, map, ap, sym, ◌∙◌}
+use Rattle.std.proofs.Common.{List, ap, ◌∙◌}
 use Rattle.log_records.specs.declared.record.Record.{Record}
 use Rattle.log_records.specs.Records.{records_of}
-use Rattle.dht_ids.specs.declared.post.Post.{Post}
-use Rattle.agent_model.specs.Agent.{head_post, own_key, record_post}
-use Rattle.ivy_base.specs.Naming.{head_key_of}
-use Rattle.log_model.specs.Vector.{Vector}
 use Rattle.std.specs.Prelude.{option_map, IfSome}
-use Rattle.std.proofs.Common.{Some, Option, ◌≤◌, subst}
+use Rattle.std.proofs.Common.{Option, ◌≤◌, subst}
 use Rattle.log_model.specs.Spelling.{most_records}
 use Rattle.turn_answers.specs.Newest.{newest_stamp, stamp_of, with_newest}
 use Rattle.turn_answers.specs.declared.written.Before.{Before}
 use Rattle.ivy_agent.specs.Holders.{signing}
-use Rattle.ivy_agent.proofs.Drafting.{is_draft, newest_fits, newest_some, newest_few, owner_is}
+use Rattle.ivy_agent.proofs.Drafting.{is_draft, newest_some, newest_few}
 use Rattle.ivy_agent.proofs.drafts.make_draft.Goals as goal
 
 pub front_with-requires : goal.front_with-requires

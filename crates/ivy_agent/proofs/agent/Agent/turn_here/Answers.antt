@@ -2,7 +2,7 @@ use Rattle.std.proofs.lemmas.Result.{err_from_is_err_and}
 use Rattle.log_fetch.specs.Standings.{asked_of}
 use Rattle.ivy_agent.specs.Holders.{signing}
 use Rattle.ivy_agent.specs.Turns.{IsFetchedIn}
-use Rattle.ivy_agent.proofs.Ended.{refused_here, sound_here, sound_same, turned_here}
+use Rattle.ivy_agent.proofs.Ended.{refused_here, sound_here, turned_here}
 use Rattle.ivy_agent.proofs.Going.{from_here, well_here}
 use Rattle.ivy_agent.proofs.agent.Agent.turn_here.Goals as goal
 

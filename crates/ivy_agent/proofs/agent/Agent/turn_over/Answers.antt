@@ -5,7 +5,7 @@ use Rattle.replay_engine.specs.Engines.{holding}
 use Rattle.agent_model.specs.Agent.{own}
 use Rattle.ivy_agent.specs.Holders.{signing}
 use Rattle.ivy_agent.specs.Taking.{MayTakeFrom}
-use Rattle.ivy_agent.proofs.Ended.{may_over, refused_over, sound_over, sound_same, turned_over}
+use Rattle.ivy_agent.proofs.Ended.{may_over, refused_over, sound_over, turned_over}
 use Rattle.ivy_agent.proofs.Going.{well_here}
 use Rattle.ivy_agent.proofs.agent.Agent.turn_over.Goals as goal
 
