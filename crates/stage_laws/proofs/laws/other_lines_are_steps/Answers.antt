@@ -1,6 +1,6 @@
-use Rattle.script_machine.proofs.Replies.{runs_are_runs}
-use Rattle.script_machine.proofs.Stage.{others_are_steps, what_goes_is_a_step}
-use Rattle.script_machine.proofs.laws.other_lines_are_steps.Goals as goal
+use Rattle.stage_laws.proofs.Replies.{runs_are_runs}
+use Rattle.stage_laws.proofs.Stage.{others_are_steps, what_goes_is_a_step}
+use Rattle.stage_laws.proofs.laws.other_lines_are_steps.Goals as goal
 
 pub returns-clause-lines : goal.returns-clause-lines
 returns-clause-lines c = others_are_steps

@@ -1,5 +1,5 @@
-use Rattle.script_machine.proofs.Stage.{long_lines_stop, stage_begins, stage_does_something, stage_keeps}
-use Rattle.script_machine.proofs.laws.stage_lines_keep.Goals as goal
+use Rattle.stage_laws.proofs.Stage.{long_lines_stop, stage_begins, stage_does_something, stage_keeps}
+use Rattle.stage_laws.proofs.laws.stage_lines_keep.Goals as goal
 
 pub returns-clause-begins : goal.returns-clause-begins
 returns-clause-begins c = stage_begins

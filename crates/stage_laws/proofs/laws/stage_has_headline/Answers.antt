@@ -1,5 +1,5 @@
-use Rattle.script_machine.proofs.Replies as replies
-use Rattle.script_machine.proofs.laws.stage_has_headline.Goals as goal
+use Rattle.stage_laws.proofs.Replies as replies
+use Rattle.stage_laws.proofs.laws.stage_has_headline.Goals as goal
 
 pub returns-clause-lines : goal.returns-clause-lines
 returns-clause-lines c = replies.stage_has_headline

@@ -7,7 +7,7 @@ use Rattle.world_model.specs.Step.{IvyStep}
 use Rattle.world_model.specs.Story.{empty_story}
 use Rattle.world_model.specs.World.{empty_world}
 use Rattle.world_laws.specs.Headline.{Headline}
-use Rattle.script_machine.specs.Stage.{IsOfStage, KeepsAll, StageStep}
+use Rattle.stage_laws.specs.Stage.{IsOfStage, KeepsAll, StageStep}
 
 -- ---- runs
 

@@ -7,9 +7,9 @@ use Rattle.world_model.specs.Logs.{Played}
 use Rattle.world_model.specs.Step.{IvyStep}
 use Rattle.world_laws.specs.Headline.{Headline}
 use Rattle.world_laws.proofs.HeadlineOfLines.{headline_holds}
-use Rattle.script_machine.specs.Stage.{IsOfStage, KeepsAll, StageStep}
-use Rattle.script_machine.specs.Laws.{RunsAreRuns, StageHasHeadline, StageRepliesAreOnReplay}
-use Rattle.script_machine.proofs.Stage.{others_are_steps, stage_keeps, what_goes_is_a_step}
+use Rattle.stage_laws.specs.Stage.{IsOfStage, KeepsAll, StageStep}
+use Rattle.stage_laws.specs.Laws.{RunsAreRuns, StageHasHeadline, StageRepliesAreOnReplay}
+use Rattle.stage_laws.proofs.Stage.{others_are_steps, stage_keeps, what_goes_is_a_step}
 
 pub stage_has_headline : StageHasHeadline
 stage_has_headline w line outcome keeps step c next output is goes =

@@ -1,6 +1,6 @@
 //! What holds of the step of this stage.
 
-ghost use Rattle.script_machine.specs.Laws.{
+ghost use Rattle.stage_laws.specs.Laws.{
   LongLinesStop,
   OthersAreSteps,
   RunsAreRuns,
