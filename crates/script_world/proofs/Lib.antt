@@ -1,0 +1,11 @@
+pub mod Setting
+pub mod Faulting
+pub mod NamedIn
+pub mod Keeping
+pub mod Using
+pub mod Kept
+pub mod Taking
+pub mod Changing
+pub mod Making
+pub mod Beginning
+pub mod Holding

@@ -1,0 +1,5 @@
+pub mod PartsState
+pub mod Views
+pub mod Newcomers
+pub mod Held
+pub mod Ends

@@ -1,0 +1,31 @@
+//! A script's world but for its open sessions, and the lines that need none.
+//!
+//! Layer: over the nodes of `ring_nodes`, the rounds of `ring_rounds`, the participants of `script_participants`, the views of
+//! `script_views` and the blocks of `met_blocks`, by the definitions of `world_model`; below the world that has sessions too.
+//! For the layer above: contracts see [`Parts`] as `PartsState` (`specs/PartsState.antt`). What they say is about each world of the
+//! definitions that has these parts (`HasParts`): a line does in it what the definitions say, and the world after it has the parts
+//! then, and the same open sessions (`DoesIn`; `PlaysIn` of a world with its story). So it is with [`Parts::ring`],
+//! [`Parts::join`], [`Parts::round`], [`Parts::stop`], [`Parts::at`], [`Parts::make_view`] (the line `view`), [`Parts::lose`],
+//! [`Parts::damage`], [`Parts::keep`], [`Parts::holds`], [`Parts::order`] and [`Parts::work`], and with [`Parts::use_view`] (the
+//! line `use`) but for the sessions, which may end (`EndsSessionsIn`). [`Parts::begin_log`] is the line `log` up to where its
+//! agent publishes, which takes a session (`BeginsIn`, `specs/Newcomers.antt`). Each error is want of memory or 2^64 asks, after
+//! which the world is of no more use.
+//! Definitions: `specs/*.antt`, and `world_model`'s `specs/Logs.antt`, `specs/Ring.antt`, `specs/Rounds.antt` and
+//! `specs/Faults.antt`.
+//! Lemmas: `proofs/NamedIn.antt` (what a line names), `proofs/Keeping.antt` (a participant that is named and changed),
+//! `proofs/Taking.antt` (a line that was taken as an outcome tells), and over them a file for the lines of each kind.
+//!
+//! Costs: a participant or a view is found by a walk over the names, and a node by a walk over the nodes. `holds` copies all
+//! blocks of the node.
+#![tactic(auto)]
+
+mod faults;
+mod joining;
+mod naming;
+mod newcomers;
+mod parts;
+mod setup;
+mod shows;
+mod views;
+
+pub use parts::Parts;
