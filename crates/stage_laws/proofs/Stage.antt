@@ -16,7 +16,7 @@ use Rattle.world_laws.proofs.EachLine.{each_line_keeps}
 use Rattle.world_laws.proofs.Existing.{each_line_does_something}
 use Rattle.world_laws.proofs.FirstWorld.{empty_keeps}
 use Rattle.world_laws.proofs.NoSnapshotLines.{no_snapshot_comes}
-use Rattle.stage_laws.specs.Stage.{IsOfStage, KeepsAll, StageStep, stage_command}
+use Rattle.stage_laws.specs.Stage.{IsOfStage, StageStep, stage_command}
 use Rattle.stage_laws.specs.Laws.{LongLinesStop, OthersAreSteps, StageBegins, StageDoesSomething, StageKeeps, WhatGoesIsAStep}
 
 -- ---- which lines they are
