@@ -1,5 +1,5 @@
 -- Of each member's log a candidate, and what of it was brought.
-use Rattle.std.proofs.Common.{◌≡◌, ◌⊎◌, inl, inr, ⊎_elim, ℕ, List, [], ◌∷◌, map, Some, refl, sym, ap, ◌∙◌, subst, Contains}
+use Rattle.std.proofs.Common.{◌≡◌, ◌⊎◌, inl, inr, ⊎_elim, ℕ, List, [], ◌∷◌, map, Some, refl, sym, ap, ◌∙◌, subst, Contains, Option, None}
 use Rattle.std.specs.List.{AllByRecursion}
 use Rattle.ivy_base.specs.declared.key.Key.{Key}
 use Rattle.ivy_base.specs.declared.key.PubKey.{PubKey}
@@ -12,13 +12,15 @@ use Rattle.log_model.specs.Closed.{log_of}
 use Rattle.log_model.specs.Standing.{StandsAmong, Stand}
 use Rattle.log_model.proofs.Lists.{each, each_from}
 use Rattle.turn_model.specs.Candidates.{IsPassedOver, MakeChain}
-use Rattle.turn_model.specs.Known.{EndsAt}
+use Rattle.turn_model.specs.Known.{EndsAt, IsKnown}
 use Rattle.turn_model.specs.Turn.{Candidate}
 use Rattle.candidate_laws.proofs.OneCandidate as one
 use Rattle.agent_model.specs.Standing.{Standing, Chain, Refresh}
 use Rattle.agent_model.specs.Candidates.{IsCandidateOf, misled, by_heads, records_above, BringsOf, candidate, misleading, nothing}
+use Rattle.log_records.specs.declared.edge.Edge.{Edge}
+use Rattle.log_records.specs.Batches.{GoesOnFrom, stamp_in}
 use Rattle.agent_laws.proofs.Fronts.{from_log}
-use Rattle.agent_laws.proofs.Rows.{is_above, chain_row, ends_above}
+use Rattle.agent_laws.proofs.Rows.{is_above, chain_row, ends_above, IsRow, row_above}
 
 -- the records were brought as a chain to a head of another's log: no chain to it is made, or the candidate is it
 pub record IsOfHead (met : List (List ℕ)) (view : View) (own : PubKey) (floor : Vector) (owner : PubKey) (chain records : List Record) : Type 0 where
@@ -54,6 +56,10 @@ module _ (heads : Key → List Stamp) (met : List (List ℕ)) (view : View) (own
   cases_of owner _ (by_heads chain well c) = ⊎_elim (λ mine. inl mine.1)
       (λ other. ⊎_elim (λ newest. inr (other.0, newest.0, newest.2)) (λ none. inl none.1) other.1)
       (one.cases_of heads met view s.own s.floor knew owner chain c)
+
+  -- it is a chain of the log
+  candidate_chain : IsKnown view s.floor knew → (owner : PubKey) (chain : List Record) → IsCandidateOf heads met view s knew brought.started owner chain → IsChain view owner chain
+  candidate_chain by_floor owner chain is = ⊎_elim (λ e. subst (λ (l : List Record). IsChain view owner l) (sym e) (by_floor.chains owner)) (λ w. w.2.chain_of_log) (cases_of owner chain is)
 
   module _ (same_own : s.own ≡ own) (knew_before : (r : Record) → Contains knew r → Contains known r)
       (once : (c d : Chain) → Contains brought.chains c → Contains brought.chains d → c.owner ≡ d.owner → c ≡ d) where
@@ -122,3 +128,23 @@ module _ (heads : Key → List Stamp) (met : List (List ℕ)) (view : View) (own
         let first = told owner h.0 in
         let rest = choose owners h.1 in
         (record { owner = owner; chain = first.0 } ∷ rest.0, ap (λ (os : List PubKey). owner ∷ os) rest.1, (first.1, rest.2))
+
+-- ---- rows
+
+linked_row : (view : View) (owner : PubKey) (held : Option Stamp) (edge : Option Edge) (records : List Record) → AllByRecursion (λ r. r.owner ≡ owner) records → GoesOnFrom view held edge records → IsRow view owner records
+linked_row view owner held edge [] owned g = tt
+linked_row view owner held edge (r ∷ rs) owned g = subst (λ (o : PubKey). IsRow view o (r ∷ rs)) owned.0 (g.0, g.3)
+
+-- what was brought of a log is a row
+module _ (heads : Key → List Stamp) (met : List (List ℕ)) (view : View) (s : Standing) (knew : List Record) (brought : Refresh) (by_floor : IsKnown view s.floor knew)
+    (once : (c d : Chain) → Contains brought.chains c → Contains brought.chains d → c.owner ≡ d.owner → c ≡ d) where
+  pub brought_row : (owner : PubKey) → BringsOf heads met view s knew brought owner → (c : Chain) → Contains brought.chains c → c.owner ≡ owner → IsRow view c.owner c.records
+  brought_row owner (candidate d chain stands owned is above) c within mine =
+      let n = seq_of brought.started (head_key_of owner) in
+      let row : IsRow view owner d.records =
+      subst (λ (l : List Record). IsRow view owner l) (sym above) (row_above view owner n chain (chain_row view owner chain (candidate_chain heads met view s.own s knew [] brought by_floor owner chain is))) in
+      subst (λ (x : Chain). IsRow view x.owner x.records) (once d c stands within (owned ∙ sym mine)) (subst (λ (o : PubKey). IsRow view o d.records) (sym owned) row)
+  brought_row owner (misleading d stands owned m) c within mine =
+      let row : IsRow view owner d.records = linked_row view owner (stamp_in brought.started d.records) None d.records m.taken.owned m.taken.sound.goes_on in
+      subst (λ (x : Chain). IsRow view x.owner x.records) (once d c stands within (owned ∙ sym mine)) (subst (λ (o : PubKey). IsRow view o d.records) (sym owned) row)
+  brought_row owner (nothing none is) c within mine = absurd (none c within mine)

@@ -52,22 +52,25 @@ module _ {view : View} {met : List (List ℕ)} {own : PubKey} {floor : Vector} {
   abbrev Below : Record → Type 0
   Below r = Contains g.holds.below r ⊎ Hand r
 
-  of_held : (r : Record) → Contains part r → Below r
+  pub of_held : (r : Record) → Contains part r → Below r
   of_held r c = ⊎_elim (λ d. inl d) (λ d. inr (inl d)) (in_part g r c)
 
   -- a record of a chain that extends what is held is at hand
-  of_chain : (c : Chain) (stands : Contains brought.chains c) → Extends view h.basis.front h.held c.owner c.records → (r : Record) → r.owner ≡ c.owner
-      → Contains (rest g c stands) r → Below r
-  of_chain c stands ext r owned d =
+  pub chain_hand : (c : Chain) (stands : Contains brought.chains c) → Extends view h.basis.front h.held c.owner c.records → (r : Record) → r.owner ≡ c.owner
+      → Contains (rest g c stands) r → Hand r
+  chain_hand c stands ext r owned d =
       let member = g.members c stands in
       let fresh : Contains (news h.basis.front h.held c.owner c.records) r =
       subst (λ (l : List Record). Contains l r) (sym (news_are g c.owner member c.records)) d in
-      inr (inr (
+      inr (
         c.records,
         subst (λ (l : List Record). Contains (map (within own floor) brought.chains) l) (g.uncut c stands) (in_map (within own floor) brought.chains c stands),
         subst (λ (o : PubKey). Extends view h.basis.front h.held o c.records) (sym owned) ext,
         subst (λ (o : PubKey). Contains (news h.basis.front h.held o c.records) r) (sym owned) fresh,
-      ))
+      )
+
+  of_chain : (c : Chain) (stands : Contains brought.chains c) → Extends view h.basis.front h.held c.owner c.records → (r : Record) → r.owner ≡ c.owner → Contains (rest g c stands) r → Below r
+  of_chain c stands ext r owned d = inr (chain_hand c stands ext r owned d)
 
   -- ---- what is known
 
@@ -153,7 +156,7 @@ module _ {view : View} {met : List (List ℕ)} {own : PubKey} {floor : Vector} {
   -- ---- what is at hand is known, or of a candidate
 
   -- the record is held, or of a chain that was brought and extends what is held
-  abbrev IsOfBrought : Record → Type 0
+  abbrev pub IsOfBrought : Record → Type 0
   IsOfBrought r = (c : Chain) × (stands : Contains brought.chains c) × Extends view h.basis.front h.held c.owner c.records
       × Contains (rest g c stands) r × (r.owner ≡ c.owner)
 
@@ -169,7 +172,7 @@ module _ {view : View} {met : List (List ℕ)} {own : PubKey} {floor : Vector} {
         owned,
       )
 
-  hand_cases : (r : Record) → Hand r → Contains h.held r ⊎ IsOfBrought r
+  pub hand_cases : (r : Record) → Hand r → Contains h.held r ⊎ IsOfBrought r
   hand_cases r (inl c) = inl c
   hand_cases r (inr (records, stands, ext, c)) =
       let w = from_map (within own floor) brought.chains records stands in

@@ -6,4 +6,11 @@ mod Brought
 mod Going
 mod Hand
 mod Over
+mod Largest
 pub mod Taken
+pub mod There
+pub mod Served
+pub mod Octets
+pub mod Saving
+pub mod Answering
+pub mod Existing

@@ -16,18 +16,17 @@ use Rattle.log_model.specs.Standing.{StandsAmong}
 use Rattle.log_model.proofs.Lists.{in_nothing, each, each_from}
 use Rattle.log_model.proofs.Opening.{same_owner}
 use Rattle.log_model.proofs.Sets.{same_list, chain_ascends}
-use Rattle.log_records.specs.declared.edge.Edge.{Edge}
-use Rattle.log_records.specs.Batches.{Batch, AreUnder, owner_of, stamp_in, GoesOnFrom}
 use Rattle.turn_model.specs.Basis.{Basis, Holding, HoldsAll, Knows, IsAboveTide, nothing_held}
 use Rattle.turn_model.specs.Known.{EndsAt}
-use Rattle.causal_order.specs.AtHand.{above}
 use Rattle.turn_model.specs.Turn.{Candidate, IsAtHand, IsPrefixOf}
+use Rattle.causal_order.specs.AtHand.{above, IsNewPart}
 use Rattle.agent_model.specs.Agent.{Agent, joined}
-use Rattle.agent_model.specs.Standing.{Standing, Chain, Refresh, chain_of, dominates, go_on_from, going_on, beyond}
-use Rattle.agent_model.specs.Candidates.{MayTurn, StandsWithin, IsCandidateOf}
-use Rattle.agent_model.specs.Taking.{TakesNew, refresh_with, with_new}
+use Rattle.agent_model.specs.Standing.{Standing, Chain, Refresh, dominates, go_on_from, going_on, beyond}
+use Rattle.agent_model.specs.Candidates.{MayTurn, StandsWithin, IsCandidateOf, BringsOf}
+use Rattle.agent_model.specs.Taking.{refresh_with, with_new, within}
+use Rattle.agent_model.specs.Turning.{is_behind, is_below_tide}
 use Rattle.agent_laws.specs.Laws.{IsGoneOn, IsTakenBy, OwnLogEndsAtFloor, TakenIsByDefinition}
-use Rattle.agent_laws.proofs.Brought.{IsTold, IsOfHead, choose}
+use Rattle.agent_laws.proofs.Brought.{IsTold, IsOfHead, choose, brought_row}
 use Rattle.agent_laws.proofs.Going.{IsGoing, below_known}
 use Rattle.agent_laws.proofs.Hand.{Hand, ends_last, known_at_hand, candidate_at_hand, hand_above, hand_is_known}
 use Rattle.agent_laws.proofs.Lists.{from_map}
@@ -89,19 +88,6 @@ held_part view floor known holding h (Some b) k gone loaded = ⊎_elim
     (λ e. subst (λ (x : Holding). IsHeldPart view known x) (sym e) (held_loaded view known b loaded))
     gone
 
--- ---- the chains of a batch
-
-linked_row : (view : View) (held : Option Stamp) (edge : Option Edge) (records : List Record) → GoesOnFrom view held edge records → IsRow view (owner_of records) records
-linked_row view held edge [] g = tt
-linked_row view held edge (r ∷ rs) g = (g.0, g.3)
-
-batch_rows : (view : View) (edges : Key → Option Edge) (held : Vector) (chains : List (Stamp × List Record)) → AllByRecursion (λ c. GoesOnFrom view (stamp_in held c.1) (edges (head_key_of (owner_of c.1))) c.1) chains
-    → (c : Chain) → Contains (map chain_of chains) c → IsRow view c.owner c.records
-batch_rows view edges held chains under c within_chains =
-    let w = from_map chain_of chains c within_chains in
-    let one = each (λ (x : Stamp × List Record). GoesOnFrom view (stamp_in held x.1) (edges (head_key_of (owner_of x.1))) x.1) chains w.0 under w.1 in
-    subst (λ (x : Chain). IsRow view x.owner x.records) w.2 (linked_row view (stamp_in held w.0.1) (edges (head_key_of (owner_of w.0.1))) w.0.1 one)
-
 -- ---- nothing that was brought is cut
 
 -- of the own log no record counts beyond the floor
@@ -119,14 +105,10 @@ ends_from None xs ends = ap (last_from None) ends
 ends_from (Some t) xs ends = ap (last_from None) ends.2 ∙ last_from-append None ends.0 (ends.1 ∷ []) ∙ ap Some ends.3
 
 module _ (heads : Key → List Stamp) (met : List (List ℕ)) (view : View) (own : PubKey) (floor : Vector) (holding h : Holding) (s : Standing) (knew known : List Record)
-    (batch : Batch) (basis : Option Basis) (edges : Key → Option Edge) (new : List Record) (apart : NamesTellApart met) (well : IsView view) (k : Knows view floor holding known)
-    (gone : IsGoneOn holding basis h) (may : MayTurn heads met view own s knew known (refresh_with batch basis)) (under : AreUnder view edges batch)
-    (takes : TakesNew view own floor h (refresh_with batch basis) new) where
-  abbrev brought : Refresh
-  brought = refresh_with batch basis
-
+    (brought : Refresh) (apart : NamesTellApart met) (well : IsView view) (k : Knows view floor holding known) (gone : IsGoneOn holding brought.basis h) (may : MayTurn heads met view own s knew known brought)
+    (caught_up : is_behind view own floor h brought ≡ false) (none_below : is_below_tide own floor h brought ≡ false) where
   pub held : IsHeldPart view known h
-  held = held_part view floor known holding h basis k gone may.loaded
+  held = held_part view floor known holding h brought.basis k gone may.loaded
 
   -- ---- the candidates
 
@@ -151,7 +133,7 @@ module _ (heads : Key → List Stamp) (met : List (List ℕ)) (view : View) (own
   -- ---- what was brought
 
   row_of : (c : Chain) → Contains brought.chains c → IsRow view c.owner c.records
-  row_of c stands = batch_rows view edges batch.held batch.chains under c stands
+  row_of c stands = brought_row heads met view s knew brought may.by_floor may.brings.once c.owner (each (BringsOf heads met view s knew brought) view.members c.owner may.brings.each (member_of c stands)) c stands refl
 
   within_floor : (r : Record) → Contains known r → (o : Option Stamp) → stamp_at floor (head_key_of r.owner) ≡ o → EndsAt o (log_of r.owner known) → r.seq ≤ seq_of floor (head_key_of r.owner)
   within_floor r c None e ends = absurd (in_nothing r (subst (λ (l : List Record). Contains l r) ends (in_log r.owner known r c refl)))
@@ -181,8 +163,8 @@ module _ (heads : Key → List Stamp) (met : List (List ℕ)) (view : View) (own
     part_closed = held.closed;
     of_known = held.of_known;
     all_or_none = held.all_or_none;
-    caught_up = takes.caught_up;
-    none_below = takes.above;
+    caught_up = caught_up;
+    none_below = none_below;
     members = member_of;
     rows = row_of;
     standing = λ c stands. ⊎_elim
@@ -220,34 +202,6 @@ module _ (heads : Key → List Stamp) (met : List (List ℕ)) (view : View) (own
       (λ b. candidate_at_hand going d.owner d.chain b goes_on r c)
       (is_told d stands).goes_back
 
-  abbrev taken : List Record
-  taken = below ++ in_order (h.held ++ new)
-
-  largest_part : IsClosedPart view (IsAtHand known chosen.0) taken
-  largest_part = whole_part view h.basis below well going.holds.stands OverFront (IsAtHand known chosen.0)
-      (hand_above going)
-      (λ r c. inl (below_known going r c))
-      hand_to to_hand (in_order (h.held ++ new)) takes.part.largest
-
-  all_held : HoldsAll view taken (with_new h new)
-  all_held = record {
-    below = below;
-    stands = going.holds.stands;
-    whole = refl;
-    above = each_from (IsAboveTide h.basis) (in_order (h.held ++ new)) (λ r c. hand_above going r (takes.part.largest.part r c));
-  }
-
-  pub is_taken : IsTakenBy heads met view s knew known batch.held (with_new h new) taken
-  is_taken = record {
-    candidates = chosen.0;
-    of_heads = record {
-      of_members = chosen.1;
-      each = each_from (λ (d : Candidate). IsCandidateOf heads met view s knew batch.held d.owner d.chain) chosen.0 (λ d c. (is_told d c).is_candidate);
-    };
-    largest = largest_part;
-    holds = all_held;
-  }
-
   -- ---- the own log
 
   own_known : (r : Record) → r.owner ≡ own → IsAtHand known chosen.0 r → Contains known r
@@ -257,23 +211,55 @@ module _ (heads : Key → List Stamp) (met : List (List ℕ)) (view : View) (own
       (λ b. absurd (b.other (sym (row_good view d.owner d.chain (chain_row view d.owner d.chain b.chain_of_log) r c).owned ∙ mine)))
       (is_told d stands).goes_back
 
-  own_logs : log_of own taken ≡ log_of own known
-  own_logs =
-      let closed = largest_part.closed in
-      same_list (log_of own taken) (log_of own known) (chain_ascends view own (log_of own taken) (closed.chains own)) (chain_ascends view own (log_of own known) (k.closed.chains own))
-      (λ r c. let w = from_log own taken r c in in_log own known r (own_known r w.1 (largest_part.part r w.0)) w.1)
-      (λ r c. let w = from_log own known r c in in_log own taken r (largest_part.largest known (λ q d. inl d) k.closed r w.0) w.1)
+  -- ---- what is taken
 
-  pub own_ends : Contains view.members own → stamp_at (joined (with_new h new)) (head_key_of own) ≡ stamp_at floor (head_key_of own)
-  own_ends member =
-      sym (ap (λ (v : Vector). stamp_at v (head_key_of own)) (front_is_joined view taken (with_new h new) all_held))
-      ∙ stamp_of_log view taken own well largest_part.closed member
-      ∙ ap (last_from None) own_logs
-      ∙ ends_from (stamp_at floor (head_key_of own)) (log_of own known) (k.by_floor.ends own member)
+  module _ (new : List Record) (part : IsNewPart view h.basis.front h.held (map (within own floor) brought.chains) new) where
+    abbrev taken : List Record
+    taken = below ++ in_order (h.held ++ new)
+
+    largest_part : IsClosedPart view (IsAtHand known chosen.0) taken
+    largest_part = whole_part view h.basis below well going.holds.stands OverFront (IsAtHand known chosen.0)
+        (hand_above going)
+        (λ r c. inl (below_known going r c))
+        hand_to to_hand (in_order (h.held ++ new)) part.largest
+
+    all_held : HoldsAll view taken (with_new h new)
+    all_held = record {
+      below = below;
+      stands = going.holds.stands;
+      whole = refl;
+      above = each_from (IsAboveTide h.basis) (in_order (h.held ++ new)) (λ r c. hand_above going r (part.largest.part r c));
+    }
+
+    pub is_taken : IsTakenBy heads met view s knew known brought.started (with_new h new) taken
+    is_taken = record {
+      candidates = chosen.0;
+      of_heads = record {
+        of_members = chosen.1;
+        each = each_from (λ (d : Candidate). IsCandidateOf heads met view s knew brought.started d.owner d.chain) chosen.0 (λ d c. (is_told d c).is_candidate);
+      };
+      largest = largest_part;
+      holds = all_held;
+    }
+
+    own_logs : log_of own taken ≡ log_of own known
+    own_logs =
+        let closed = largest_part.closed in
+        same_list (log_of own taken) (log_of own known) (chain_ascends view own (log_of own taken) (closed.chains own)) (chain_ascends view own (log_of own known) (k.closed.chains own))
+        (λ r c. let w = from_log own taken r c in in_log own known r (own_known r w.1 (largest_part.part r w.0)) w.1)
+        (λ r c. let w = from_log own known r c in in_log own taken r (largest_part.largest known (λ q d. inl d) k.closed r w.0) w.1)
+
+    pub own_ends : Contains view.members own → stamp_at (joined (with_new h new)) (head_key_of own) ≡ stamp_at floor (head_key_of own)
+    own_ends member =
+        sym (ap (λ (v : Vector). stamp_at v (head_key_of own)) (front_is_joined view taken (with_new h new) all_held))
+        ∙ stamp_of_log view taken own well largest_part.closed member
+        ∙ ap (last_from None) own_logs
+        ∙ ends_from (stamp_at floor (head_key_of own)) (log_of own known) (k.by_floor.ends own member)
 
 pub taken_is_by_definition : TakenIsByDefinition
 taken_is_by_definition heads met view own floor holding h s knew known batch basis edges new apart well k gone may under takes =
-    (_, is_taken heads met view own floor holding h s knew known batch basis edges new apart well k gone may under takes)
+    (_, is_taken heads met view own floor holding h s knew known (refresh_with batch basis) apart well k gone may takes.caught_up takes.above new takes.part)
 
 pub own_log_ends_at_floor : OwnLogEndsAtFloor
-own_log_ends_at_floor = own_ends
+own_log_ends_at_floor heads met view own floor holding h s knew known batch basis edges new apart well k gone may under takes =
+    own_ends heads met view own floor holding h s knew known (refresh_with batch basis) apart well k gone may takes.caught_up takes.above new takes.part

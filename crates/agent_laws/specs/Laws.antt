@@ -1,5 +1,5 @@
 -- What follows for an agent that takes a turn.
-use Rattle.std.specs.Prelude.{◌≡◌, ◌⊎◌, ℕ, List, [], Option, Some, None, Contains}
+use Rattle.std.specs.Prelude.{◌≡◌, ◌⊎◌, false, ℕ, List, [], Option, Some, None, Contains, ◌+◌, ◌<◌, ◌^◌, length}
 use Rattle.ivy_base.specs.declared.key.Key.{Key}
 use Rattle.ivy_base.specs.declared.key.PubKey.{PubKey}
 use Rattle.ivy_base.specs.Naming.{NamesTellApart, head_key_of}
@@ -8,14 +8,16 @@ use Rattle.log_model.specs.Vector.{Stamp, Vector, stamp_at}
 use Rattle.log_model.specs.Record.{Record}
 use Rattle.log_model.specs.Rank.{front}
 use Rattle.log_model.specs.Closed.{IsClosedPart}
+use Rattle.log_model.specs.Spelling.{most_records}
 use Rattle.log_records.specs.declared.edge.Edge.{Edge}
 use Rattle.log_records.specs.Batches.{Batch, AreUnder}
 use Rattle.turn_model.specs.Basis.{Basis, Holding, HoldsAll, Knows}
 use Rattle.turn_model.specs.Turn.{Candidate, IsAtHand}
-use Rattle.agent_model.specs.Agent.{joined}
-use Rattle.agent_model.specs.Standing.{Standing}
+use Rattle.agent_model.specs.Agent.{joined, Agent}
+use Rattle.agent_model.specs.Standing.{Refresh, Standing}
 use Rattle.agent_model.specs.Candidates.{AreCandidatesOf, MayTurn}
 use Rattle.agent_model.specs.Taking.{TakesNew, refresh_with, with_new}
+use Rattle.agent_model.specs.Turning.{is_behind, is_below_tide}
 
 -- The set is the largest closed part of what the agent knows and of the candidates that the refresh's heads name, and all of it is held.
 pub record IsTakenBy (heads : Key → List Stamp) (met : List (List ℕ)) (view : View) (s : Standing) (knew known : List Record) (started : Vector) (h : Holding) (taken : List Record) : Type 0 where
@@ -37,6 +39,12 @@ TakenIsByDefinition = (heads : Key → List Stamp) (met : List (List ℕ)) (view
     → AreUnder view edges batch → TakesNew view own floor h (refresh_with batch basis) new
     → (taken : List Record) × IsTakenBy heads met view s knew known batch.held (with_new h new) taken
 
+-- A turn that isn't refused has something to take, whatever its refresh brought: there is a largest closed part.
+abbrev pub ThereIsATaking : Type 0
+ThereIsATaking = (heads : Key → List Stamp) (met : List (List ℕ)) (view : View) (own : PubKey) (floor : Vector) (holding h : Holding) (s : Standing) (knew known : List Record) (brought : Refresh)
+    → NamesTellApart met → IsView view → Knows view floor holding known → IsGoneOn holding brought.basis h → MayTurn heads met view own s knew known brought
+    → is_behind view own floor h brought ≡ false → is_below_tide own floor h brought ≡ false → (new : List Record) × TakesNew view own floor h brought new
+
 -- ---- what is held, in place of the set
 
 -- Where all of a set is held, its front is what is held's.
@@ -50,3 +58,9 @@ OwnLogEndsAtFloor = (heads : Key → List Stamp) (met : List (List ℕ)) (view :
     → NamesTellApart met → IsView view → Knows view floor holding known → IsGoneOn holding basis h → MayTurn heads met view own s knew known (refresh_with batch basis)
     → AreUnder view edges batch → TakesNew view own floor h (refresh_with batch basis) new
     → Contains view.members own → stamp_at (joined (with_new h new)) (head_key_of own) ≡ stamp_at floor (head_key_of own)
+
+-- ---- room for posts
+
+-- What the agent has to publish, with a record of each number and a head, is less than a word counts.
+abbrev pub HasRoom : {S : Type 0} → Agent S → Type 0
+HasRoom a = length a.pending + most_records < 2 ^ 32

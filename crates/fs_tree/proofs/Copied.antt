@@ -1,5 +1,5 @@
 -- Inodes that are put in one after the other, in the order of their numbers.
-use Rattle.std.proofs.Common.{◌≡◌, List, [], ◌∷◌, ◌++◌, refl, sym, ap, ◌∙◌, subst}
+use Rattle.std.proofs.Common.{◌≡◌, List, [], ◌∷◌, ◌++◌, map, refl, sym, ap, ◌∙◌, subst}
 use Rattle.std.specs.declared.cmp.Ordering.TheVariants.{Less, Greater}
 use Rattle.std.specs.Ordering.{ordering_reverse}
 use Rattle.std.specs.List.{AllByRecursion}
@@ -37,3 +37,18 @@ module _ (seen : List (Key × Inode)) where
 
   pub all_copied : (copied rest : List (Key × Inode)) → copied ++ rest ≡ seen → rest ≡ [] → copied ≡ seen
   all_copied copied rest told none = sym (append-nil copied) ∙ ap (λ l. copied ++ l) (sym none) ∙ told
+
+  -- ---- their numbers
+
+  abbrev numbers_of : List (Key × Inode) → List Key
+  numbers_of es = map (λ e. e.0) es
+
+  pub none_numbered : (numbers : List Key) (rest es : List (Key × Inode)) → numbers ≡ [] → rest ≡ es → es ≡ seen → numbers ++ numbers_of rest ≡ numbers_of seen
+  none_numbered numbers rest es none all is = (λ i. none i ++ numbers_of (all i)) ∙ ap numbers_of is
+
+  pub one_numbered : (numbers more : List Key) (rest later : List (Key × Inode)) (ino : Key) (content : Inode) → numbers ++ numbers_of rest ≡ numbers_of seen → rest ≡ (ino, content) ∷ later → more ≡ numbers ++ ino ∷ [] → more ++ numbers_of later ≡ numbers_of seen
+  one_numbered numbers more rest later ino content told left pushed =
+      ap (λ l. l ++ numbers_of later) pushed ∙ append_assoc numbers (ino ∷ []) (numbers_of later) ∙ ap (λ es. numbers ++ numbers_of es) (sym left) ∙ told
+
+  pub all_numbered : (numbers : List Key) (rest : List (Key × Inode)) → numbers ++ numbers_of rest ≡ numbers_of seen → rest ≡ [] → numbers ≡ numbers_of seen
+  all_numbered numbers rest told none = sym (append-nil numbers) ∙ ap (λ es. numbers ++ numbers_of es) (sym none) ∙ told

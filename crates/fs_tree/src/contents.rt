@@ -1,6 +1,6 @@
 //! What all inodes contain, by their numbers. It knows of no names.
 
-ghost use Rattle.std.specs.Prelude.{◌≡◌, ℕ, List, Option, OnOk, OnErr, IfOk, []};
+ghost use Rattle.std.specs.Prelude.{◌≡◌, ℕ, List, Option, OnOk, OnErr, IfOk, [], map};
 ghost use Rattle.std.specs.Option.{option_copied};
 ghost use Rattle.std.specs.Map.{remove_entry};
 ghost use Rattle.std.specs.FinMap.Entries.{find as value_at, put};
@@ -74,6 +74,17 @@ impl Contents {
             copy.insert(*ino, content.copy(alloc)?)?;
         }
         Ok(copy)
+    }
+
+    /// The numbers of all inodes, ascending. The error is want of memory.
+    pub fn numbers(&self, alloc: Global) -> Result<Vec<Key>, Memory>
+        ensures { IfOk result (λ numbers. numbers.items ≡ map (λ e. e.0) self.now) }
+    {
+        let mut numbers = Vec::with_capacity(alloc, self.map.len())?;
+        'inodes: for (ino, _) in self.map.iter() {
+            numbers.push(*ino)?;
+        }
+        Ok(numbers)
     }
 
     /// Does what a Write or a SetAttrs does to the inode of that number, where there is one. The error is want of

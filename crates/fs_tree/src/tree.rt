@@ -1,6 +1,6 @@
 //! The tree: what one operation does to names and contents, and what is asked of it.
 
-ghost use Rattle.std.specs.Prelude.{◌≡◌, IfOk, OnOk, OnErr, option_map};
+ghost use Rattle.std.specs.Prelude.{◌≡◌, IfOk, OnOk, OnErr, map, option_map};
 ghost use Rattle.std.specs.Option.{option_copied};
 ghost use Rattle.ivy_base.specs.Naming.{root_number};
 ghost use Rattle.tree_model.specs.Tree.{IsInOrder, inode_at, entry, is_live, subdirectory_count, same_key};
@@ -144,6 +144,14 @@ impl Tree {
         ensures { result.now ≡ bare self.now }
     {
         &self.names
+    }
+
+    /// The numbers of all inodes, ascending. The error is want of memory.
+    pub fn numbers(&self, alloc: Global) -> Result<Vec<Key>, Memory>
+        ensures numbers { IfOk result (λ numbers. numbers.items ≡ map (λ e. e.0) self.now.inodes) }
+        ensures order { IsInOrder self.now }
+    {
+        self.contents.numbers(alloc)
     }
 
     /// The inode of that number, and all that can be asked of it.

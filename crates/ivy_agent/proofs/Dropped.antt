@@ -1,5 +1,5 @@
 -- An agent that drops what it held.
-use Rattle.std.proofs.Common.{◌≡◌, ℕ, ◌≤◌, Bool, [], Option, Some, None, refl, sym, ap, ◌∙◌, subst, arith}
+use Rattle.std.proofs.Common.{◌≡◌, ℕ, ◌≤◌, Bool, [], Option, Some, None, sym, ap, ◌∙◌, subst, arith}
 use Rattle.std.specs.Prelude.{IfSome}
 use Rattle.ivy_base.specs.declared.key.Key.{Key}
 use Rattle.log_model.specs.Vector.{Vector}
@@ -32,7 +32,7 @@ module _ {S : Type 0} (signs : Signing S) (k : Kept S) (nothing : Engine) (has_f
   })
 
   stands_then : (o : Option View) → Stands signs (agent_of k nothing None has_failed) o
-  stands_then None = record { nothing = is; none = refl }
+  stands_then None = record { nothing = is }
   stands_then (Some view) = stands_with_nothing view
 
   module _ (e : Engine) (to_load : Option Key) where

@@ -50,7 +50,7 @@ module _ {S : Type 0} (signs : Signing S) where
           posts = spelled;
           snapshot = rw no_snapshot tt;
         };
-        stands = subst (Stands signs (agent_of k engine None false)) (sym outside) (record { nothing = nothing; none = refl });
+        stands = subst (Stands signs (agent_of k engine None false)) (sym outside) (record { nothing = nothing });
       }
 
   module _ (before : S) (now : Moment) (o : Opened S) (is : IsOpening signs before now o) where

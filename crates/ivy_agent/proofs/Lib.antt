@@ -27,3 +27,4 @@ pub mod Going
 pub mod Ended
 pub mod Refused
 pub mod Dropped
+pub mod Restarted

@@ -33,7 +33,7 @@ module _ (test : Post → Bool) where
 
 module _ {S : Type 0} (signs : Signing S) (k : Kept S) (posts : List Post) (engine : Engine) (to_load : Option Key) (failed : Bool) where
   restands : (view : Option View) → Stands signs (agent_of k engine to_load failed) view → Stands signs (agent_of (record k { pending = posts }) engine to_load failed) view
-  restands None h = record { nothing = h.nothing; none = h.none }
+  restands None h = record { nothing = h.nothing }
   restands (Some view) h = record { closed = h.closed; bounds = h.bounds; base = h.base; front = h.front }
 
   pub with_posts_sound : (log : Key) (front : Vector) → IsSound signs (agent_of k engine to_load failed) log front → ArePostsSpelled posts → IsSound signs (agent_of (record k { pending = posts }) engine to_load failed) log front

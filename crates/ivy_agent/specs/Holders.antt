@@ -43,10 +43,9 @@ pub record StandsIn {S : Type 0} (signs : Signing S) (a : Agent S) (view : View)
   pub base : IsWithin view (own signs a) a.floor a.holding.basis.front
   pub front : IsWithin view (own signs a) a.floor (joined a.holding)
 
--- before a view nothing is held, and nothing is to be loaded
+-- before a view nothing is held
 pub record StandsOutside {S : Type 0} (a : Agent S) : Type 0 where
   pub nothing : a.holding ≡ nothing_held
-  pub none : a.to_load ≡ None
 
 abbrev pub Stands : {S : Type 0} → Signing S → Agent S → Option View → Type 0
 Stands signs a None = StandsOutside a

@@ -11,3 +11,4 @@ pub mod Writing
 pub mod Answering
 pub mod Taking
 pub mod Turns
+pub mod Restarting

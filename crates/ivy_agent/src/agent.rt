@@ -17,6 +17,8 @@ ghost use Rattle.ivy_agent.specs.Bounds.{HasBounds};
 ghost use Rattle.ivy_agent.specs.Taking.{MayTakeFrom};
 ghost use Rattle.ivy_agent.specs.Turns.{ComesFrom, ComesTo, IsFetchedIn, Refuses, TakesTurn, dropping};
 
+mod restarting;
+
 use crate::entering::{not_named, save_in};
 use crate::fault::{EnterFault, MakeFault};
 use crate::grounds::{Ground, ground_of};

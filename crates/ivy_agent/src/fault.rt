@@ -1,4 +1,4 @@
-//! What keeps an agent from being made, and from entering a view.
+//! What keeps an agent from being made, from starting again, and from entering a view.
 
 use ivy_base::Key;
 use thiserror::Error;
@@ -9,6 +9,23 @@ pub enum MakeFault {
     /// The key signs nothing more.
     #[error("the key is spent")]
     Spent,
+    /// The keeper failed.
+    #[error("the keeper failed")]
+    Keeper,
+    /// Want of memory. No clause ties this to a cause.
+    #[error("out of memory")]
+    Memory,
+}
+
+/// Why no agent started again.
+#[derive(Clone, Copy, Debug, PartialEq, Eq, Error)]
+pub enum RestartFault {
+    /// Nothing was saved.
+    #[error("nothing was saved")]
+    Nothing,
+    /// What was saved are no agent's bytes.
+    #[error("not a saved agent")]
+    Malformed,
     /// The keeper failed.
     #[error("the keeper failed")]
     Keeper,

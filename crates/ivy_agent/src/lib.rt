@@ -1,17 +1,21 @@
-//! A participant's agent, over a keeper that saves it and a key that signs its log: it opens its log, enters a view, stands
-//! for a session, takes turns, and settles what was published.
+//! A participant's agent, over a keeper that saves it and a key that signs its log: it opens its log or starts again from what
+//! was saved, enters a view, stands for a session, takes turns, and settles what was published.
 //!
 //! Layer: over `agent_model`, whose definitions the contracts cite, `ivy_io`, whose [`ivy_io::Keeper`] saves, `hss_keys`,
-//! whose [`hss_keys::Signs`] signs, `replay_engine`, which holds records and their tree, `log_fetch`, whose standings
-//! sessions begin with and whose refreshes turns take, `turn_taking`, which tells what is new, and `turn_answers`, which
-//! answers and writes; below whatever drives agents.
+//! whose [`hss_keys::Signs`] signs, `agent_saves`, which reads what was saved, `replay_engine`, which holds records and their
+//! tree, `log_fetch`, whose standings sessions begin with and whose refreshes turns take, `turn_taking`, which tells what is
+//! new, and `turn_answers`, which answers and writes; below whatever drives agents.
 //! For the layers above: contracts see an [`Agent`] as the agent of the definitions and its keeper (`specs/Holders.antt`).
 //! [`Agent::create`] signs one head, and gives the agent that opens its log only once it is saved; [`Agent::enter`] is
 //! `entering` of the definitions, for some answer to whether the save fails, with what is saved (`specs/Making.antt`,
 //! `specs/Entering.antt`). Both say of the keeper that it is what a save of exactly those bytes leaves, or, where nothing is
 //! saved, what it was; and that what is saved may be (`IsKept`), so that no other agent has those bytes. After a save that
-//! failed an agent saves no more. [`Agent::standing`] is `standing_in`, [`Agent::settle`] is `settled`; [`Agent::owner`] is its
-//! public key and [`Agent::view`] its view; [`Agent::plan_fault`] plans that a save of a keeper in memory fails. [`Agent::turn`] is a `Turns` of the definitions, for some answer to whether the save fails
+//! failed an agent saves no more. [`Agent::restart`] gives `restored` of what the keeper holds, where those are the bytes of
+//! something that may be saved, and else says that it holds nothing, no agent's bytes, or failed; [`Agent::restore`] does so
+//! with bytes, and leaves the keeper as it is, and [`Agent::start_again`] does so in place, over a keeper in memory
+//! (`specs/Restarting.antt`). [`Agent::standing`] is `standing_in`,
+//! [`Agent::settle`] is `settled`; [`Agent::owner`] is its public key and [`Agent::view`] its view; [`Agent::plan_fault`]
+//! plans that a save of a keeper in memory fails. [`Agent::turn`] is a `Turns` of the definitions, for some answer to whether the save fails
 //! (`TakesTurn` in `specs/Turns.antt`; where nothing is saved, for either answer): `Behind`, `BelowTide`, or a reply with how many records were applied, the agent then,
 //! and what was saved; so where names tell the blocks apart, and for every set that the agent may know, the reply is the
 //! definition's. It also says that the reply has 32,772 bytes at most, and that there was a step for each record that was
@@ -33,8 +37,8 @@
 //! `specs/Edges.antt` (edges from the newest record on), and a file for each step of a turn.
 //!
 //! Costs: a save is one allocation beside those of the saved key and of the view's block, and copies each pending block once.
-//! Entering a view makes an empty tree. A standing copies the view, the vectors and the pending posts, looks at the owner of
-//! each held record, and hashes each log's key once. Settling hashes a post only where an acknowledgement has its key, and
+//! Entering a view and starting again make an empty tree; the latter also grows the key's trees. A standing copies the
+//! view, the vectors and the pending posts, looks at the owner of each held record, and hashes each log's key once. Settling hashes a post only where an acknowledgement has its key, and
 //! takes no memory.
 #![tactic(auto)]
 
@@ -55,4 +59,4 @@ mod taking;
 pub mod writing;
 
 pub use agent::Agent;
-pub use fault::{EnterFault, MakeFault};
+pub use fault::{EnterFault, MakeFault, RestartFault};

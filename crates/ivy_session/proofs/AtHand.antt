@@ -1,5 +1,5 @@
 -- The block that is wanted, where it is at hand.
-use Rattle.std.proofs.Common.{◌≡◌, ◌≢◌, ◌<◌, not, ◌&&◌, ℕ, Bool, true, false, List, Option, Some, None, Result, Ok, Err, find, refl, sym, ap, ◌∙◌, subst}
+use Rattle.std.proofs.Common.{◌≡◌, ◌≢◌, ◌<◌, ◌≤◌, not, ◌&&◌, ℕ, Bool, true, false, List, Option, Some, None, Result, Ok, Err, find, refl, sym, ap, ◌∙◌, subst, arith}
 use Rattle.std.specs.Option.{option_map_or}
 use Rattle.ivy_base.specs.declared.key.Key.{Key}
 use Rattle.ivy_base.specs.declared.memory.Memory.{Memory}
@@ -67,3 +67,7 @@ module _ {J : Type 0} (judges : Judges J) (posts : List Post) (old mid new : Fet
   pub lacks_block : (lacks : Memory) → TakesOne judges posts mid new between after (Err lacks) → (given : Result (Unit {0}) Memory) → given ≡ Err lacks → TakesHand judges posts old new before after given
   lacks_block lacks one given e =
       subst (TakesHand judges posts old new before after) (sym e) (some_taken judges posts old mid new before between after lacks h one.0 one.1)
+
+  pub leaves_no_more : (found : Bool) → TakesOne judges posts mid new between after (Ok found) → fetch_left mid ≤ fetch_left old → fetch_left new ≤ fetch_left old
+  leaves_no_more true one no_more = let less = one.1 in omega (arith, less, no_more)
+  leaves_no_more false one no_more = subst (λ (f : Fetching J). fetch_left f ≤ fetch_left old) (sym one.0) no_more

@@ -16,3 +16,4 @@ mod Turns
 mod InPlace
 mod Refreshed
 mod TurnsInPlace
+mod Falling

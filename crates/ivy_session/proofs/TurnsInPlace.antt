@@ -9,7 +9,7 @@ use Rattle.log_fetch.specs.declared.standing.Standing.{Standing}
 use Rattle.log_fetch.specs.declared.turned.Turned.{Turned}
 use Rattle.log_fetch.specs.declared.turned.TurnFault.{TurnFault}
 use Rattle.log_fetch.specs.declared.turned.TurnFault.TheVariants as fault
-use Rattle.log_fetch.specs.Fetching.{Fetching, FetchIsAfter, fetch_awaited}
+use Rattle.log_fetch.specs.Fetching.{Fetching, FetchIsAfter, fetch_awaited, fetch_left, most_left}
 use Rattle.log_fetch.specs.Standings.{standing_of}
 use Rattle.post_publishing.specs.Publishing.{PublishingState, publishing_begun}
 use Rattle.ivy_session.specs.declared.served.Call.{Call}
@@ -95,9 +95,9 @@ module _ {J : Type 0} (judges : Judges J) (old new : SessionState J) (given : St
   no_more_starts many same = inr (many, same)
 
   pub starts_anew : old.starts < 2 → new ≡ record old { starts = old.starts + 1; notes = []; pending = given.pending } → (f : Result (Fetching J) Memory) → IfOk f (λ fetch. (fetch.judge ≡ old.judge) × (fetch.replicas ≡ old.replicas) × (fetch.entries ≡ old.entries))
-      → IfOk f (FetchIsAfter judges (standing_of given) given.held [] []) → IfOk f (λ fetch. fetch_awaited fetch ≡ None) → BeginsAnew judges old new given (result_ok f)
-  starts_anew few is (Ok f) by started free = ((few, is), record { judge = by.0; replicas = by.1; entries = by.2; started = started; free = free })
-  starts_anew few is (Err lacks) by started free = inl (few, is)
+      → IfOk f (FetchIsAfter judges (standing_of given) given.held [] []) → IfOk f (λ fetch. fetch_awaited fetch ≡ None) → IfOk f (λ fetch. fetch_left fetch < most_left) → BeginsAnew judges old new given (result_ok f)
+  starts_anew few is (Ok f) by started free left = ((few, is), record { judge = by.0; replicas = by.1; entries = by.2; started = started; free = free; left = left })
+  starts_anew few is (Err lacks) by started free left = inl (few, is)
 
 -- ---- it is over
 

@@ -10,7 +10,7 @@ use Rattle.session_model.specs.Replies.{missed_reply}
 use Rattle.log_fetch.specs.declared.fetch.Fetched.{Fetched}
 use Rattle.log_fetch.specs.declared.note.Note.{Note as Noted}
 use Rattle.log_fetch.specs.declared.standing.Standing.{Standing}
-use Rattle.log_fetch.specs.Fetching.{Fetching, FetchIsAfter, fetch_awaited}
+use Rattle.log_fetch.specs.Fetching.{Fetching, FetchIsAfter, fetch_awaited, fetch_left, most_left}
 use Rattle.log_fetch.specs.Standings.{asked_of, standing_of}
 use Rattle.post_publishing.specs.Publishing.{PublishingState, PublishingHasHeard}
 use Rattle.ivy_session.specs.declared.served.Call.{Call}
@@ -54,13 +54,14 @@ abbrev pub PutHears : PublishingState → PublishingState → Result Answer Memo
 PutHears old new given (Ok done) = (answer : Answer) × (given ≡ Ok answer) × PublishingHasHeard old new answer
 PutHears old new given (Err lacks) = Unit {0}
 
--- the fetch is for that standing, by the same judge, from as many owners and the same nodes on, and waits for no node yet
+-- the fetch is for that standing, by the same judge, from as many owners and the same nodes on, waits for no node yet, and asks only so much
 pub record IsFetchFor {J : Type 0} (judges : Judges J) (st : SessionState J) (standing : Standing) (f : Fetching J) : Type 0 where
   pub judge : f.judge ≡ st.judge
   pub replicas : f.replicas ≡ st.replicas
   pub entries : f.entries ≡ st.entries
   pub started : FetchIsAfter judges (standing_of standing) standing.held [] [] f
   pub free : fetch_awaited f ≡ None
+  pub left : fetch_left f < most_left
 
 -- it began anew with this fetch, or without memory for one; or it did so twice before, and stays as it is
 abbrev pub IsNew : {J : Type 0} → SessionState J → SessionState J → Standing → Type 0

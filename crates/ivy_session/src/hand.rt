@@ -1,6 +1,6 @@
 //! Blocks that are at hand without asking.
 
-ghost use Rattle.std.specs.Prelude.{◌≡◌, ◌≢◌, ◌<◌, ◌&&◌, not, Some, None, IfOk, OnOk, option_map, option_copied};
+ghost use Rattle.std.specs.Prelude.{◌≡◌, ◌≢◌, ◌<◌, ◌≤◌, ◌&&◌, not, Some, None, IfOk, OnOk, option_map, option_copied};
 ghost use Rattle.std.specs.List.{find};
 ghost use Rattle.agent_model.specs.Agent.{is_head};
 ghost use Rattle.tree_model.specs.Tree.{same_key};
@@ -20,7 +20,8 @@ pub fn take_all<J: Judge>(
     posts: &Posts,
     cache: &mut BlockCache,
 ) -> Result<(), Memory>
-    ensures { TakesHand J.judges posts.now fetch.old fetch.new cache.old cache.new result }
+    ensures taken { TakesHand J.judges posts.now fetch.old fetch.new cache.old cache.new result }
+    ensures left { OnOk result (fetch_left fetch.new ≤ fetch_left fetch.old) }
 {
     'blocks: while take_one(fetch, posts, cache)? {}
     Ok(())

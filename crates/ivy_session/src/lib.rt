@@ -7,15 +7,17 @@
 //! posts that were acknowledged; then it is done. Each of these is a step of the session of `session_model`
 //! (`specs/Stepping.antt`: `NextIs`, `HeardIs`, `TurnedIs`), whichever session of the definitions it may be (`specs/States.antt`:
 //! `IsSession`). As it begins, and behind each answer and turn that it is told, it waits for a node only where the get or put on
-//! its way has made asks (`HasAsked`). Want of memory before the turn is answered by SYSTEM_ERR, for which the memory was taken
+//! its way has made asks (`HasAsked`), and no turn is awaited. With each answer, turn and settling a number falls
+//! (`session_left`), which `next` never raises. Want of memory before the turn is answered by SYSTEM_ERR, for which the memory was taken
 //! first; after the turn it changes no reply, and [`Session::is_cut`] tells that posts are left.
-//! Definitions: `specs/States.antt`, `specs/Stepping.antt`; within, `specs/Taking.antt` (what a refresh takes of what is at hand,
-//! hears, and comes to), `specs/Ending.antt`, and `specs/InPlace.antt` (stages that are changed in place). Lemmas, each file on
+//! Definitions: `specs/States.antt`, `specs/Stepping.antt`, `specs/Left.antt` (that number); within, `specs/Taking.antt` (what a
+//! refresh takes of what is at hand, hears, and comes to), `specs/Ending.antt`, and `specs/InPlace.antt` (stages that are
+//! changed in place). Lemmas, each file on
 //! those before it: `proofs/Reaching.antt` and `proofs/Fetches.antt` (how a fetch stands, which is one), `proofs/Asking.antt`,
 //! `proofs/Bringing.antt`, `proofs/Nobody.antt` (where no node is known), `proofs/Begun.antt`, `proofs/Taken.antt` and
 //! `proofs/AtHand.antt` (what is at hand), `proofs/Hears.antt`, `proofs/Failing.antt`, `proofs/Advancing.antt`, over them
 //! `proofs/Calls.antt`, `proofs/Puts.antt`, `proofs/Begins.antt`, `proofs/Turns.antt`, and for stages that are changed in place
-//! `proofs/InPlace.antt`, `proofs/Refreshed.antt`, `proofs/TurnsInPlace.antt`.
+//! `proofs/InPlace.antt`, `proofs/Refreshed.antt`, `proofs/TurnsInPlace.antt`, and for the number `proofs/Falling.antt`.
 //!
 //! Costs: a block that a get brought is hashed once more, for its name in the cache. The entry nodes are copied for each fetch
 //! and for what publishes.

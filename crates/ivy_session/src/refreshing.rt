@@ -1,12 +1,12 @@
 //! The refresh of a session: how it begins, what it wants, and what it hears.
 
-ghost use Rattle.std.specs.Prelude.{◌≡◌, ◌≢◌, List, None, IfOk, IfSome, OnOk, OnErr};
+ghost use Rattle.std.specs.Prelude.{◌≡◌, ◌≢◌, ◌<◌, ◌≤◌, false, List, None, IfOk, IfSome, OnOk, OnErr};
 ghost use Rattle.ivy_base.specs.Naming.{name};
 ghost use Rattle.dht_ids.specs.declared.post.Post.{Post as Posted};
 ghost use Rattle.block_cache.specs.Blocks.{kept};
-ghost use Rattle.log_fetch.specs.Fetching.{fetch_awaited};
+ghost use Rattle.log_fetch.specs.Fetching.{fetch_awaited, fetch_left};
 ghost use Rattle.log_fetch.specs.Standings.{standing_of};
-ghost use Rattle.ivy_session.specs.States.{BeginsAs, awaited_at, begun, reply_or_none};
+ghost use Rattle.ivy_session.specs.States.{BeginsAs, awaited_at, begun, is_turning, reply_or_none};
 ghost use Rattle.ivy_session.specs.Taking.{Advances, FetchHears, IsFailure, kept_back};
 
 use crate::hand::take_all;
@@ -33,6 +33,7 @@ pub(crate) fn first_stage<J: Judge>(
     requires { standing.now.basis ≡ None }
     ensures begun { IfOk result (λ stage. BeginsAs J.judges message.now (standing_of standing.now) (begun judge replicas entries.now standing.now.pending stage)) }
     ensures free { IfOk result (λ stage. awaited_at stage ≡ None) }
+    ensures turning { IfOk result (λ stage. is_turning stage ≡ false) }
 {
     match read_message(alloc, &standing.view, message)? {
         Reading::Alone(reply) => Ok(Stage::Over(told(reply))),
@@ -72,7 +73,8 @@ pub(crate) fn advance<J: Judge>(
     posts: &Posts,
     cache: &mut BlockCache,
 ) -> Result<Want<Fetched>, Memory>
-    ensures { Advances J.judges posts.now fetch.old fetch.new cache.old cache.new result }
+    ensures wanted { Advances J.judges posts.now fetch.old fetch.new cache.old cache.new result }
+    ensures left { IfOk result (λ _. fetch_left fetch.new ≤ fetch_left fetch.old) }
 {
     take_all(fetch, posts, cache)?;
     fetch.next()
@@ -86,7 +88,8 @@ pub(crate) fn hear<J: Judge>(
     answer: Result<Answer, Memory>,
 ) -> Result<bool, Memory>
     requires { fetch_awaited fetch.old ≢ None }
-    ensures { (posts : List Posted) → FetchHears J.judges posts fetch.old fetch.new cache.old cache.new answer result }
+    ensures heard { (posts : List Posted) → FetchHears J.judges posts fetch.old fetch.new cache.old cache.new answer result }
+    ensures left { IfOk result (λ _. fetch_left fetch.new < fetch_left fetch.old) }
 {
     let block = fetch.heard(answer?)?;
     keep_back(cache, block)?;

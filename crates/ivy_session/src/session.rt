@@ -1,24 +1,25 @@
 //! The machine of a session.
 
-ghost use Rattle.std.specs.Prelude.{◌≡◌, ◌≢◌, ℕ, ◌+◌, ◌<◌, ◌≤◌, List, [], true, false, length, nat_lt, Some, None, IfOk, IfErr, IfSome, option_map};
+ghost use Rattle.std.specs.Prelude.{◌≡◌, ◌≢◌, ℕ, ◌+◌, ◌<◌, ◌≤◌, ◌^◌, List, [], true, false, length, nat_lt, Some, None, IfOk, IfErr, IfSome, option_map};
 ghost use Rattle.agent_model.specs.Standing.{Standing as ModelStanding};
 ghost use Rattle.session_model.specs.Courses.{publishing_session};
 ghost use Rattle.log_fetch.specs.Standings.{standing_of};
 ghost use Rattle.ivy_session.specs.States.{BeginsAs, IsSession, asked_at, awaited_at, begun, is_told, is_turning, session_awaited};
 ghost use Rattle.ivy_session.specs.Stepping.{IsAnewFor, IsHeard, IsNext, IsTurned};
+ghost use Rattle.ivy_session.specs.Left.{FallsLeft, LeavesNoMore, StaysLeft, most_puts, session_left};
 ghost use Rattle.ivy_session.specs.Ending.{BeginsAnew, ConcludesAs, PutHears, TellsMiss, lacking};
 ghost use Rattle.ivy_session.specs.InPlace.{EndsRefresh, FailureAt, FetchHeard, FetchWants, PutHeard, PutWants, TellsWhy, call_at, is_publishing, is_refreshing, told_at};
 ghost use Rattle.session_model.specs.Sessions.{Cache};
 ghost use Rattle.wire_model.specs.Rpc.{SystemError, reply};
-ghost use Rattle.log_fetch.specs.Fetching.{FetchIsAfter, fetch_awaited};
-ghost use Rattle.post_publishing.specs.Publishing.{publishing_awaited, publishing_begun};
+ghost use Rattle.log_fetch.specs.Fetching.{FetchIsAfter, fetch_awaited, fetch_left, most_left};
+ghost use Rattle.post_publishing.specs.Publishing.{publishing_awaited, publishing_begun, puts_left};
 
 use crate::refreshing::{advance, failure, first_stage, hear};
 use crate::served::{Call, Served, no_memory, reply_of};
 use block_cache::BlockCache;
 use call_messages::missed;
 use dhash_client::Miss;
-use dht_ids::{Acks, Answer, Ask, Judge, Peer, Peers, Posts, Want};
+use dht_ids::{Acks, Answer, Ask, Judge, Peer, Peers, Post, Posts, Want};
 use ivy_base::Memory;
 use log_fetch::{Asked, Fetch, Fetched, Notes, Refresh, Standing, TurnFault, Turned};
 use post_publishing::Publishing;
@@ -96,6 +97,7 @@ impl<J: Judge> Session<J> {
         ensures by { IfOk result (λ st. (st.judge ≡ judge) × (st.replicas ≡ replicas) × (st.entries ≡ entries)) }
         ensures begun { IfOk result (BeginsAs J.judges message.now (standing_of standing)) }
         ensures free { IfOk result (λ st. session_awaited st ≡ None) }
+        ensures turning { IfOk result (λ st. is_turning st.stage ≡ false) }
     {
         let stage = first_stage(alloc, judge, replicas, &entries, &standing, message)?;
         Ok(Session {
@@ -122,6 +124,7 @@ impl<J: Judge> Session<J> {
         ensures by { IfOk result (λ st. (st.judge ≡ judge) × (st.replicas ≡ replicas) × (st.entries ≡ entries)) }
         ensures begun { IfOk result (λ st. (by : List ℕ) (standing : ModelStanding) → IsSession J.judges (publishing_session by st.entries standing pending.now) st) }
         ensures free { IfOk result (λ st. session_awaited st ≡ None) }
+        ensures turning { IfOk result (λ st. is_turning st.stage ≡ false) }
     {
         let publishing = Publishing::start(alloc, replicas, entries.copy(alloc)?, pending)?;
         Ok(Session {
@@ -149,11 +152,13 @@ impl<J: Judge> Session<J> {
     }
 
     /// What it wants next. A block that it wants and that is pending or in the cache is taken first. An ask that wasn't yet
-    /// heard is wanted again. It isn't called while a turn is awaited, nor once it is done.
+    /// heard is wanted again. It isn't called while a turn is awaited, nor once it is done. No more is left to the session
+    /// then, and less where it wants a settling.
     pub fn next(&mut self, cache: &mut BlockCache) -> Next
         requires turning { is_turning self.old.stage ≡ false }
         requires told { is_told self.old.stage ≡ false }
-        ensures { IsNext J.judges self.old self.new cache.old cache.new result }
+        ensures wanted { IsNext J.judges self.old self.new cache.old cache.new result }
+        ensures left { LeavesNoMore self.old self.new result }
     {
         match &self.stage {
             Stage::Refreshing(..) => self.refresh(cache),
@@ -163,10 +168,12 @@ impl<J: Judge> Session<J> {
     }
 
     /// Hears what the node answered that was asked last, or that there was no memory for it. It is called once after each
-    /// ask. A block that a get gave right is kept in the cache.
+    /// ask. A block that a get gave right is kept in the cache. No turn is awaited then, and less is left to the session.
     pub fn heard(&mut self, cache: &mut BlockCache, answer: Result<Answer, Memory>)
         requires { session_awaited self.old ≢ None }
-        ensures { IsHeard J.judges self.old self.new cache.old cache.new answer }
+        ensures heard { IsHeard J.judges self.old self.new cache.old cache.new answer }
+        ensures turning { is_turning self.new.stage ≡ false }
+        ensures left { session_left self.new < session_left self.old }
     {
         match &self.stage {
             Stage::Refreshing(..) => self.hear_get(cache, answer),
@@ -175,13 +182,15 @@ impl<J: Judge> Session<J> {
     }
 
     /// Is told what came of its agent's turn. It is called once after each `Turn`. A reply has at most 32,772 bytes. No node
-    /// is to be heard then until one is asked.
+    /// is to be heard then until one is asked, and less is left to the session.
     pub fn turned(&mut self, turned: Result<Turned, TurnFault>)
         requires turning { is_turning self.old.stage ≡ true }
         requires short { IfOk turned (λ t. length t.reply ≤ 32772) }
         requires anew { IfErr turned IsAnewFor }
         ensures turned { IsTurned J.judges self.old self.new turned }
         ensures free { session_awaited self.new ≡ None }
+        ensures turning { is_turning self.new.stage ≡ false }
+        ensures left { session_left self.new < session_left self.old }
     {
         match turned {
             Ok(turned) => self.answer(&turned),
@@ -215,7 +224,8 @@ impl<J: Judge> Session<J> {
     /// Goes on with the refresh: a node is asked, or its agent's turn is wanted.
     fn refresh(&mut self, cache: &mut BlockCache) -> Next
         requires { is_refreshing self.old.stage ≡ true }
-        ensures { IsNext J.judges self.old self.new cache.old cache.new result }
+        ensures wanted { IsNext J.judges self.old self.new cache.old cache.new result }
+        ensures left { LeavesNoMore self.old self.new result }
     {
         match fetch_wants(&mut self.stage, &self.pending, cache) {
             Ok(Want::Ask(node, question)) => Next::Ask(node, question),
@@ -259,7 +269,8 @@ impl<J: Judge> Session<J> {
     /// Goes on to publish: a node is asked, or its agent is to drop what was acknowledged.
     fn put(&mut self) -> Next
         requires { is_publishing self.old.stage ≡ true }
-        ensures { (cache : Cache) → IsNext J.judges self.old self.new cache cache result }
+        ensures wanted { (cache : Cache) → IsNext J.judges self.old self.new cache cache result }
+        ensures left { LeavesNoMore self.old self.new result }
     {
         match put_wants(&mut self.stage) {
             Ok(Want::Ask(node, question)) => Next::Ask(node, question),
@@ -278,7 +289,9 @@ impl<J: Judge> Session<J> {
     fn hear_get(&mut self, cache: &mut BlockCache, answer: Result<Answer, Memory>)
         requires refreshing { is_refreshing self.old.stage ≡ true }
         requires awaited { session_awaited self.old ≢ None }
-        ensures { IsHeard J.judges self.old self.new cache.old cache.new answer }
+        ensures heard { IsHeard J.judges self.old self.new cache.old cache.new answer }
+        ensures turning { is_turning self.new.stage ≡ false }
+        ensures left { session_left self.new < session_left self.old }
     {
         match fetch_heard(&mut self.stage, cache, answer) {
             Ok(false) => {}
@@ -312,7 +325,9 @@ impl<J: Judge> Session<J> {
     fn hear_put(&mut self, answer: Result<Answer, Memory>)
         requires publishing { is_publishing self.old.stage ≡ true }
         requires awaited { session_awaited self.old ≢ None }
-        ensures { (cache : Cache) → IsHeard J.judges self.old self.new cache cache answer }
+        ensures heard { (cache : Cache) → IsHeard J.judges self.old self.new cache cache answer }
+        ensures turning { is_turning self.new.stage ≡ false }
+        ensures left { session_left self.new < session_left self.old }
     {
         match put_heard(&mut self.stage, answer) {
             Ok(()) => {}
@@ -329,6 +344,8 @@ impl<J: Judge> Session<J> {
         requires short { length turned.now.reply ≤ 32772 }
         ensures turned { IsTurned J.judges self.old self.new (Ok turned.now) }
         ensures free { session_awaited self.new ≡ None }
+        ensures turning { is_turning self.new.stage ≡ false }
+        ensures left { session_left self.new < session_left self.old }
     {
         let call = take_call(&mut self.stage);
         let told = reply_of(call, turned.reply.as_slice());
@@ -343,8 +360,10 @@ impl<J: Judge> Session<J> {
 
     /// What publishes these posts. The error is want of memory.
     fn publishing_of(&self, posts: &Posts) -> Result<Publishing, Memory>
-        ensures { IfOk result (λ publishing. publishing ≡ publishing_begun self.now.replicas self.now.entries posts.now) }
+        ensures begun { IfOk result (λ publishing. publishing ≡ publishing_begun self.now.replicas self.now.entries posts.now) }
+        ensures left { IfOk result (λ publishing. puts_left publishing ≤ most_puts) }
     {
+        are_few(posts.as_slice());
         Publishing::start(
             self.alloc,
             self.replicas,
@@ -359,6 +378,8 @@ impl<J: Judge> Session<J> {
         requires none { standing.basis ≡ None }
         ensures turned { IsTurned J.judges self.old self.new (Err (TurnFault.Behind standing)) }
         ensures free { session_awaited self.new ≡ None }
+        ensures turning { is_turning self.new.stage ≡ false }
+        ensures left { session_left self.new < session_left self.old }
     {
         let call = take_call(&mut self.stage);
         match self.fetch_anew(standing) {
@@ -396,6 +417,7 @@ impl<J: Judge> Session<J> {
         ensures by { IfOk result (λ fetch. (fetch.judge ≡ self.now.judge) × (fetch.replicas ≡ self.now.replicas) × (fetch.entries ≡ self.now.entries)) }
         ensures started { IfOk result (FetchIsAfter J.judges (standing_of standing.now) standing.now.held [] []) }
         ensures free { IfOk result (λ fetch. fetch_awaited fetch ≡ None) }
+        ensures left { IfOk result (λ fetch. fetch_left fetch < most_left) }
     {
         Fetch::start(
             self.alloc,
@@ -406,6 +428,11 @@ impl<J: Judge> Session<J> {
         )
     }
 }
+
+/// Says that posts in memory are few enough to be counted. It does nothing.
+fn are_few(posts: &[Post])
+    ensures { length posts.now < 2 ^ 63 }
+{}
 
 /// The blocks that are still to be put by that standing.
 fn pending_of(standing: Standing) -> Posts
@@ -479,7 +506,8 @@ fn fetch_wants<J: Judge>(
     cache: &mut BlockCache,
 ) -> Result<Want<Fetched>, Memory>
     requires { is_refreshing stage.old ≡ true }
-    ensures { FetchWants J.judges posts.now stage.old stage.new cache.old cache.new result }
+    ensures wanted { FetchWants J.judges posts.now stage.old stage.new cache.old cache.new result }
+    ensures left { IfOk result (λ _. StaysLeft stage.old stage.new) }
 {
     match stage {
         Stage::Refreshing(_, fetch) => advance(fetch, posts, cache),
@@ -495,7 +523,8 @@ fn fetch_heard<J: Judge>(
 ) -> Result<bool, Memory>
     requires refreshing { is_refreshing stage.old ≡ true }
     requires awaited { awaited_at stage.old ≢ None }
-    ensures { FetchHeard J.judges stage.old stage.new cache.old cache.new answer result }
+    ensures heard { FetchHeard J.judges stage.old stage.new cache.old cache.new answer result }
+    ensures left { IfOk result (λ _. FallsLeft stage.old stage.new) }
 {
     match stage {
         Stage::Refreshing(_, fetch) => hear(fetch, cache, answer),
@@ -517,7 +546,8 @@ fn failure_at<J: Judge>(stage: &mut Stage<J>) -> Option<(Miss, Notes)>
 /// What the publishing wants. The error is want of memory.
 fn put_wants<J: Judge>(stage: &mut Stage<J>) -> Result<Want<Acks>, Memory>
     requires { is_publishing stage.old ≡ true }
-    ensures { PutWants stage.old stage.new result }
+    ensures wanted { PutWants stage.old stage.new result }
+    ensures left { IfOk result (λ _. StaysLeft stage.old stage.new) }
 {
     match stage {
         Stage::Publishing(_, publishing) => publishing.next(),
@@ -529,7 +559,8 @@ fn put_wants<J: Judge>(stage: &mut Stage<J>) -> Result<Want<Acks>, Memory>
 fn put_heard<J: Judge>(stage: &mut Stage<J>, answer: Result<Answer, Memory>) -> Result<(), Memory>
     requires publishing { is_publishing stage.old ≡ true }
     requires awaited { awaited_at stage.old ≢ None }
-    ensures { PutHeard stage.old stage.new answer result }
+    ensures heard { PutHeard stage.old stage.new answer result }
+    ensures left { IfOk result (λ _. FallsLeft stage.old stage.new) }
 {
     match stage {
         Stage::Publishing(_, publishing) => put_hears(publishing, answer),
@@ -540,7 +571,8 @@ fn put_heard<J: Judge>(stage: &mut Stage<J>, answer: Result<Answer, Memory>) -> 
 /// What publishes hears an answer. The error is want of memory.
 fn put_hears(publishing: &mut Publishing, answer: Result<Answer, Memory>) -> Result<(), Memory>
     requires { publishing_awaited publishing.old ≢ None }
-    ensures { PutHears publishing.old publishing.new answer result }
+    ensures heard { PutHears publishing.old publishing.new answer result }
+    ensures left { IfOk result (λ _. puts_left publishing.new < puts_left publishing.old) }
 {
     publishing.heard(answer?)
 }

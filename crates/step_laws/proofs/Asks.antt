@@ -18,7 +18,7 @@ use Rattle.session_model.specs.Sessions.Hears.{gets_on, got, puts_on, puts}
 use Rattle.ask_laws.proofs.AskedGets.{gets_are_one}
 use Rattle.ask_laws.proofs.AskedPuts.{puts_are_one}
 use Rattle.ivy_session.specs.declared.session.Next.TheVariants as next
-use Rattle.ivy_session.specs.States.{HasAsked, IsSession, SessionState, session_awaited}
+use Rattle.ivy_session.specs.States.{HasAsked, IsSession, SessionState, is_turning, session_awaited}
 use Rattle.ivy_session.specs.Stepping.{AsksOf, HeardIs, IsSameSession, NextIs}
 use Rattle.ivy_session.specs.Stepping.AsksOf.{gets as asks_get, puts as asks_put}
 use Rattle.ivy_session.specs.Stepping.HeardIs.{hears as heard_it, lacks_memory as no_memory_heard, is_cut as cut_heard}
@@ -115,7 +115,8 @@ module _ {J : Type 0} (judges : Judges J) (c : Scene) (r : ℕ) (p : Participant
   -- ---- the step
 
   module _ (mid new : SessionState J) (between after : Cache) (node : Peer) (question : Ask) (given : Answer) (before later : NodesState) (same : IsSameSession old mid) (then_asks : AsksThen mid between node question)
-      (nodes : IsNodesOf c.world before) (fate : (w : World) → IsNodesOf w before → FateOf hss_judged w node question given (with_nodes w later)) where
+      (nodes : IsNodesOf c.world before) (fate : (w : World) → IsNodesOf w before → FateOf hss_judged w node question given (with_nodes w later))
+      (past : is_turning new.stage ≡ false) where
     abbrev here : Scene
     here = with_cache hss_judged r c p then_asks.taken between
 
@@ -128,7 +129,7 @@ module _ {J : Type 0} (judges : Judges J) (c : Scene) (r : ℕ) (p : Participant
     same_world : with_participant (with_nodes here.world later) (record p { cache = after }) ≡ with_participant (with_nodes c.world later) (record p { cache = after })
     same_world = twice_placed (with_nodes c.world later) mine (record p { cache = after }) refl
 
-    heard_so : (heard t : Session) → Hears hss_judged r then_asks.taken between node question given heard after → Fails heard t → IsLeft judges c.session.starts t new → IsStep judges c r new (with_participant (with_nodes c.world later) (record p { cache = after })) (given_at c.session.stage)
+    heard_so : (heard t : Session) → Hears hss_judged r then_asks.taken between node question given heard after → Fails heard t → IsLeft judges ⊥ t new → IsStep judges c r new ⊥ (with_participant (with_nodes c.world later) (record p { cache = after })) (given_at c.session.stage)
     heard_so heard t hearing goes left = record {
       next = record { world = with_participant (with_nodes here.world later) (record p { cache = after }); story = ask_told c.story p.name then_asks.taken t; session = t; began = c.began };
       steps = acts p then_asks.taken between _ is.is_by then_asks.takes (acts_asks node question given (with_nodes here.world later) heard t after fate_now hearing goes);
@@ -138,30 +139,30 @@ module _ {J : Type 0} (judges : Judges J) (c : Scene) (r : ℕ) (p : Participant
     }
 
     -- where memory is wanting
-    in_vain : (t : Session) → LacksMemory then_asks.taken t → after ≡ between → IsSession judges t new → IsStep judges c r new (with_participant (with_nodes c.world later) (record p { cache = after })) (given_at c.session.stage)
+    in_vain : (t : Session) → LacksMemory then_asks.taken t → after ≡ between → IsSession judges t new → IsStep judges c r new ⊥ (with_participant (with_nodes c.world later) (record p { cache = after })) (given_at c.session.stage)
     in_vain t lacking stays session =
         let h = hears_some r then_asks.taken between node question given then_asks.asks in
         let over = lacking_is_over lacking in
         record {
           next = record here { world = with_nodes here.world later; session = t };
           steps = acts p then_asks.taken between _ is.is_by then_asks.takes (asks_in_vain node question given (with_nodes here.world later) h.0 t h.1 fate_now h.2 lacking);
-          left = left_on session (λ waits. absurd (waits (over_waits_for_none judges t new over.0 session over.1)));
+          left = left_on session (λ waits. absurd (waits (over_waits_for_none judges t new over.0 session over.1))) past;
           world = ap (λ (cache : Cache). with_participant (with_nodes c.world later) (record p { cache = cache })) (sym stays);
           gives = (lacking_gives lacking).0 ∙ sym (lacking_gives lacking).1 ∙ taken_gives then_asks.takes;
         }
 
     cut_so : (said : Option Said) (posts : List Post) (acks : List Ack) → then_asks.taken.stage ≡ Publishing said posts acks → new.is_cut ≡ true → after ≡ between
-        → IsStep judges c r new (with_participant (with_nodes c.world later) (record p { cache = after })) (given_at c.session.stage)
+        → IsStep judges c r new ⊥ (with_participant (with_nodes c.world later) (record p { cache = after })) (given_at c.session.stage)
     cut_so said posts acks at cut stays =
         let h = publishing_hears r then_asks.taken between node question given said posts acks at then_asks.asks in
         heard_so h.0 h.0 (subst (Hears hss_judged r then_asks.taken between node question given h.0) (sym stays) h.1) (refresh_goes (λ notes brought miss stage refreshes. h.2 stage)) (left_cut cut)
 
-    by_hearing : HeardIs judges mid new then_asks.taken between after node question (Ok given) → IsStep judges c r new (with_participant (with_nodes c.world later) (record p { cache = after })) (given_at c.session.stage)
+    by_hearing : HeardIs judges mid new then_asks.taken between after node question (Ok given) → IsStep judges c r new ⊥ (with_participant (with_nodes c.world later) (record p { cache = after })) (given_at c.session.stage)
     by_hearing (heard_it answer heard t is_answer hearing goes session asked) =
         heard_so heard t
         (as_ring_then judges c r p old is mid same (λ judged n. Hears judged n then_asks.taken between node question given heard after)
         (subst (λ (a : Answer). Hears (judges mid.judge) mid.replicas then_asks.taken between node question a heard after) (sym (same_answer given answer is_answer)) hearing))
-        goes (left_on session asked)
+        goes (left_on session asked past)
     by_hearing (no_memory_heard t lacking stays session) = in_vain t lacking stays session
     by_hearing (cut_heard said posts acks at cut stays session) = cut_so said posts acks at cut stays
 
@@ -169,6 +170,6 @@ pub next_asked_are_made : {J : Type 0} → NextAskedAreMade J
 next_asked_are_made judges c r p old mid between node question is goes wanted = next_made judges c r p old is mid between node question goes (wanted.1 c.session is.session)
 
 pub asks_are_steps : {J : Type 0} → AsksAreSteps J
-asks_are_steps judges c r p old mid new between after node question given before later is asked wanted nodes fate heard =
+asks_are_steps judges c r p old mid new between after node question given before later is asked wanted nodes fate heard past =
     let then_asks = asks_then judges c r p old is mid between node question asked (wanted.1 c.session is.session) in
-    by_hearing judges c r p old is mid new between after node question given before later wanted.0 then_asks nodes fate (heard.1 then_asks.taken node question then_asks.awaited then_asks.session)
+    by_hearing judges c r p old is mid new between after node question given before later wanted.0 then_asks nodes fate past (heard.1 then_asks.taken node question then_asks.awaited then_asks.session)

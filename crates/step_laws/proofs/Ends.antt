@@ -20,21 +20,21 @@ use Rattle.step_laws.specs.Laws.{DoneIsOver, SettlingsAreSteps}
 use Rattle.step_laws.specs.Scenes.{IsDone, IsSceneOf, IsStep, given_at}
 use Rattle.step_laws.specs.Scenes.IsDone.{was_over, lacks_memory as done_lacking, is_cut as done_cut}
 use Rattle.step_laws.specs.Scenes.IsLeft.{goes_on as left_on}
-use Rattle.step_laws.proofs.Scenes.{as_ring, lacking_gives, taken_same, takes_later, twice_placed}
-use Rattle.step_laws.proofs.Waiting.{over_waits_for_none}
+use Rattle.step_laws.proofs.Scenes.{as_ring, lacking_gives, some_gives, taken_same, takes_later, twice_placed}
+use Rattle.step_laws.proofs.Waiting.{over_waits_for_no_turn, over_waits_for_none}
 
 publishing_now : (s : Session) (said : Option Said) (posts : List Post) (acks : List Ack) → s.stage ≡ Publishing said posts acks → s.stage ≡ Refreshing → ⊥
 publishing_now s said posts acks at e = cc (sym at ∙ e)
 
 module _ {J : Type 0} (judges : Judges J) (c : Scene) (r : ℕ) (p : Participant) (old : SessionState J) (is : IsSceneOf judges c r p old) where
   module _ (new : SessionState J) (after : Cache) where
-    settles_so : (acks : List Ack) → NextIs judges old new c.session p.cache after (next.Settle acks) → IsStep judges c r new (with_participant c.world (record p { agent = settled p.agent acks; cache = after })) (given_at c.session.stage)
+    settles_so : (acks : List Ack) → NextIs judges old new c.session p.cache after (next.Settle acks) → IsStep judges c r new ⊥ (with_participant c.world (record p { agent = settled p.agent acks; cache = after })) (given_at c.session.stage)
     settles_so acks (next_settles said _ at free stays session) =
         let is_at : c.session.stage ≡ Publishing said [] acks = ⊎_elim (λ e. e) (λ nobody. absurd (is.some_entry nobody.0)) at in
         record {
           next = record c { world = with_participant (with_participant c.world p) (record p { agent = settled p.agent acks }); session = record c.session { stage = Over said } };
           steps = acts p c.session p.cache _ is.is_by (takes_later c.session p.cache (publishing_now c.session said [] acks is_at)) (acts_settles (settled p.agent acks) _ (settles_all said acks is_at));
-          left = left_on session (λ waits. absurd (waits (over_waits_for_none judges (record c.session { stage = Over said }) new said session refl)));
+          left = left_on session (λ waits. absurd (waits (over_waits_for_none judges (record c.session { stage = Over said }) new said session refl))) (over_waits_for_no_turn judges (record c.session { stage = Over said }) new said session refl);
           world = twice_placed c.world p (record p { agent = settled p.agent acks }) refl ∙ ap (λ (cache : Cache). with_participant c.world (record p { agent = settled p.agent acks; cache = cache })) (sym stays);
           gives = sym (ap given_at is_at);
         }
@@ -43,7 +43,7 @@ module _ {J : Type 0} (judges : Judges J) (c : Scene) (r : ℕ) (p : Participant
     done_so _ (is_over said at stays noted) = was_over said at refl noted stays
     done_so _ (next_lacks t u said takes lacking at noted) =
         done_lacking (with_cache hss_judged r c p u after) said
-        (lacks_memory p t u after is.is_by (as_ring judges c r p old is (λ judged n. TakesSome judged n c.session p.cache t after) takes) lacking) at refl (lacking_gives lacking).0 noted refl
+        (lacks_memory p t u after is.is_by (as_ring judges c r p old is (λ judged n. TakesSome judged n c.session p.cache t after) takes) lacking) at refl ((lacking_gives lacking).0 ∙ sym (lacking_gives lacking).1 ∙ some_gives takes) noted refl
     done_so _ (next_cut said posts acks at cut noted stays) = done_cut cut
     done_so _ (is_unrouted t told takes nobody) = absurd (is.some_entry (subst (λ (s : Session). s.entries ≡ []) (taken_same takes) nobody.none))
 

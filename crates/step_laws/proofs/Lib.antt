@@ -1,6 +1,6 @@
 mod Calls
 mod Asked
-mod Scenes
+pub mod Scenes
 pub mod Waiting
 mod Asks
 mod Read

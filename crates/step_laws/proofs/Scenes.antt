@@ -98,6 +98,11 @@ lacking_gives (lacks notes shown given end xid asked at refreshed asks rest fron
 pub taken_gives : {judged : Key → List ℕ → Option Judged} {r : ℕ} {s t : Session} {cache after : Cache} → TakesAll judged r s cache t after → given_at t.stage ≡ given_at s.stage
 taken_gives takes = ap (λ (u : Session). given_at u.stage) (taken_same takes)
 
+pub some_gives : {judged : Key → List ℕ → Option Judged} {r : ℕ} {s t : Session} {cache after : Cache} → TakesSome judged r s cache t after → given_at t.stage ≡ given_at s.stage
+some_gives some_none = refl
+some_gives (some_more (posted key bytes wants free is) rest) = some_gives rest
+some_gives (some_more (cached key bytes wants free not is) rest) = some_gives rest
+
 -- ---- of a scene
 
 module _ {J : Type 0} (judges : Judges J) (c : Scene) (r : ℕ) (p : Participant) (old : SessionState J) (is : IsSceneOf judges c r p old) where

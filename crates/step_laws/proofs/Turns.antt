@@ -71,7 +71,7 @@ use Rattle.world_laws.proofs.Apart.{clash_is_decided}
 use Rattle.world_laws.proofs.Bringing.{found_named, its_view, refresh_may_turn}
 use Rattle.world_laws.proofs.Frames.{into_map}
 use Rattle.step_laws.specs.Laws.{AgentsGiveTurns, BatchesAreFetched, GivesNothing, RefusalsAreFresh, RepliesAreRead, TurnsAreSteps, TurnsMayBe}
-use Rattle.step_laws.specs.Scenes.{GivesTurn, HadTurn, IsLeft, IsSceneOf, IsStep, given_at, given_by, given_of, holder_of, memory_saves, turned_participant, turned_world}
+use Rattle.step_laws.specs.Scenes.{GivesTurn, HadTurn, IsLeft, IsSceneOf, IsStep, MayLack, given_at, given_by, given_of, holder_of, memory_saves, turned_participant, turned_world}
 use Rattle.step_laws.specs.Scenes.IsLeft.{goes_on as left_on, lacks_memory as left_lacking, is_cut as left_cut}
 use Rattle.step_laws.proofs.Read.{reply_of}
 use Rattle.step_laws.proofs.Scenes.{all_some, as_ring, found_then, keeps_then, lacking_gives, taken_same, twice_placed}
@@ -242,7 +242,7 @@ module _ {J : Type 0} (judges : Judges J) (c : Scene) (r : ℕ) (p : Participant
   -- ---- the step
 
   module _ (turning_before : is_turning old.stage ≡ false) (mid new : SessionState J) (cache : Cache) (refresh : Refresh) (asked : Asked) (h : TurnsThen mid cache refresh) (is_asked : asked_at mid.stage ≡ Some asked) (after : Holder Keeper Signer)
-      (free : session_awaited new ≡ None) where
+      (free : session_awaited new ≡ None) (past : is_turning new.stage ≡ false) where
     abbrev here : Scene
     here = with_cache hss_judged r c p h.taken cache
 
@@ -318,10 +318,10 @@ module _ {J : Type 0} (judges : Judges J) (c : Scene) (r : ℕ) (p : Participant
     module _ (turned : Turned) where
       -- the step, after which the session says that
       abbrev SaysThen : Reply → Type 0
-      SaysThen reply = IsStep judges c r new (turned_world c.world mine (Ok turned) after) (given_by reply)
+      SaysThen reply = IsStep judges c r new ⊥ (turned_world c.world mine (Ok turned) after) (given_by reply)
 
       answered_step : (reply : Reply) (saving : Option Kept) (notes : List Note) (xid : ℕ) → HasRefreshed h.taken notes (refresh_of refresh) → Asks view h.taken.message xid (asked_of asked) → IsTurn (Answered reply turned.applied) saving
-          → IsLeft judges c.session.starts (answered h.taken (said_of xid reply) notes after.agent.pending) new → SaysThen reply
+          → IsLeft judges ⊥ (answered h.taken (said_of xid reply) notes after.agent.pending) new → SaysThen reply
       answered_step reply saving notes xid done asks turn left =
           let t = turn_told_so notes xid reply turned.applied saving done asks turn in
           record {
@@ -342,12 +342,12 @@ module _ {J : Type 0} (judges : Judges J) (c : Scene) (r : ℕ) (p : Participant
       by_reply : (reply : Reply) (saving : Option Kept) → turned.posts ≡ after.agent.pending → IsTurn (Answered reply turned.applied) saving → code.IsAnswered judges mid new h.taken turned reply → SaysThen reply
       by_reply reply saving posts turn a =
           answered_step reply saving a.notes a.xid (done_so a.notes a.given a.refreshed) (asks_so a.xid a.asked a.asks) turn
-          (⊎_elim (λ session. left_on (subst (λ (pending : List Post). IsSession judges (answered h.taken (said_of a.xid reply) a.notes pending) new) posts session) (λ waits. absurd (waits free))) (λ cut. left_cut cut.0) a.publishes)
+          (⊎_elim (λ session. left_on (subst (λ (pending : List Post). IsSession judges (answered h.taken (said_of a.xid reply) a.notes pending) new) posts session) (λ waits. absurd (waits free)) past) (λ cut. left_cut cut.0) a.publishes)
 
       abbrev Gave : Type 0
       Gave = GivesTurn p view refresh asked c.world.now (Ok turned) after
 
-      by_answer : Gave → TurnedIs judges mid new h.taken (Ok turned) → (given : Given) × IsStep judges c r new (turned_world c.world mine (Ok turned) after) given × GivesNothing (Ok turned) given
+      by_answer : Gave → TurnedIs judges mid new h.taken (Ok turned) → (given : Given) × IsStep judges c r new ⊥ (turned_world c.world mine (Ok turned) after) given × GivesNothing (Ok turned) given
       by_answer t told = (given_by t.0, by_reply t.0 t.1.saving t.2.posts (t.1.turns, t.1.keeper) (told t.0 t.2.bytes), tt)
 
       -- the reply is the one that its bytes are
@@ -375,7 +375,7 @@ module _ {J : Type 0} (judges : Judges J) (c : Scene) (r : ℕ) (p : Participant
     -- ---- it was refused
 
     module _ (end : TurnEnd) (refusal : IsRefusal end) (saving : Option Kept) (turn : IsTurn end saving) where
-      refused_step : (t : Session) → TakesTurn c.world.now p.agent view (fails_next p.keeper) h.taken end after.agent saving t → IsLeft judges c.session.starts t new → given_at t.stage ≡ given_of None → IsStep judges c r new (world_after c.world (turned_participant mine after)) (given_of None)
+      refused_step : (t : Session) → TakesTurn c.world.now p.agent view (fails_next p.keeper) h.taken end after.agent saving t → IsLeft judges (c.session.starts < 2) t new → given_at t.stage ≡ given_of None → IsStep judges c r new (c.session.starts < 2) (world_after c.world (turned_participant mine after)) (given_of None)
       refused_step t takes left gives = record {
         next = record here { world = world_after here.world (after_turn mine after.agent saving); session = t; began = record c.began { knew = known_of c.story p.name } };
         steps = acts p h.taken cache _ is.is_by h.takes (is_refused view end after.agent saving t in_view refusal takes);
@@ -384,28 +384,28 @@ module _ {J : Type 0} (judges : Judges J) (c : Scene) (r : ℕ) (p : Participant
         gives = gives;
       }
 
-      anew_step : h.taken.starts < 2 → IsLeft judges c.session.starts (anew h.taken (anew_in hss after.agent view)) new → IsStep judges c r new (world_after c.world (turned_participant mine after)) (given_of None)
+      anew_step : h.taken.starts < 2 → IsLeft judges (c.session.starts < 2) (anew h.taken (anew_in hss after.agent view)) new → IsStep judges c r new (c.session.starts < 2) (world_after c.world (turned_participant mine after)) (given_of None)
       anew_step few left = refused_step (anew h.taken (anew_in hss after.agent view))
           (begins_anew h.notes (refresh_of refresh) call.0 (asked_of asked) end after.agent saving h.done call.1 turn.0 refusal few) left (ap given_at h.done.0)
 
-      by_refusal : (standing : ModelStanding) → standing ≡ anew_in hss after.agent view → code.IsRefused judges mid new h.taken standing → IsStep judges c r new (world_after c.world (turned_participant mine after)) (given_of None)
-      by_refusal standing same (code_begins few session) = anew_step few (left_on (subst (λ (s : ModelStanding). IsSession judges (anew h.taken s) new) same session) (λ waits. absurd (waits free)))
+      by_refusal : (standing : ModelStanding) → standing ≡ anew_in hss after.agent view → code.IsRefused judges mid new h.taken standing → IsStep judges c r new (c.session.starts < 2) (world_after c.world (turned_participant mine after)) (given_of None)
+      by_refusal standing same (code_begins few session) = anew_step few (left_on (subst (λ (s : ModelStanding). IsSession judges (anew h.taken s) new) same session) (λ waits. absurd (waits free)) past)
       by_refusal standing same (code_lacks t few lacking session) = anew_step few (left_lacking t (subst (λ (n : ℕ). n < 2) starts_are few) (subst (λ (s : ModelStanding). LacksMemory (anew h.taken s) t) same lacking) session)
       by_refusal standing same (code_gives_up xid notes given other many done asks session) =
           refused_step (ended h.taken (said_no_memory xid) notes None)
-          (gives_up notes (refresh_of refresh) xid (asked_of asked) end after.agent saving (done_so notes given done) (asks_so xid other asks) turn.0 refusal many) (left_on session (λ waits. absurd (waits free))) refl
+          (gives_up notes (refresh_of refresh) xid (asked_of asked) end after.agent saving (done_so notes given done) (asks_so xid other asks) turn.0 refusal many) (left_on session (λ waits. absurd (waits free)) past) refl
 
     -- ---- whatever it was
 
     by_turn : (turned : Result Turned TurnFault) → GivesTurn p view refresh asked c.world.now turned after → TurnedIs judges mid new h.taken turned
-        → (given : Given) × IsStep judges c r new (turned_world c.world mine turned after) given × GivesNothing turned given
+        → (given : Given) × IsStep judges c r new (MayLack c.session.starts turned) (turned_world c.world mine turned after) given × GivesNothing turned given
     by_turn (Ok turned) t told = by_answer turned t told
     by_turn (Err fault.Memory) t told = (
       given_of None,
       record {
         next = with_cache hss_judged r c p told.0 cache;
         steps = lacks_memory p h.taken told.0 cache is.is_by (all_some h.takes) told.1;
-        left = left_on told.2 (λ waits. absurd (waits free));
+        left = left_on told.2 (λ waits. absurd (waits free)) past;
         world = refl;
         gives = (lacking_gives told.1).0;
       },
@@ -418,19 +418,19 @@ pub turns_may_be : {J : Type 0} → TurnsMayBe J
 turns_may_be judges c r p old mid cache refresh keeps hand is wanted = may_be judges c r p old is keeps hand mid cache refresh (turns_then judges c r p old is keeps hand mid cache refresh (wanted.1 c.session is.session))
 
 pub turns_are_steps : {J : Type 0} → TurnsAreSteps J
-turns_are_steps judges c r p old mid new cache refresh asked turned after keeps hand is turning wanted is_asked had told free =
+turns_are_steps judges c r p old mid new cache refresh asked turned after keeps hand is turning wanted is_asked had told free past =
     let h = turns_then judges c r p old is keeps hand mid cache refresh (wanted.1 c.session is.session) in
-    by_turn judges c r p old is keeps hand turning mid new cache refresh asked h is_asked after free turned
+    by_turn judges c r p old is keeps hand turning mid new cache refresh asked h is_asked after free past turned
     (subst (λ (o : Option View). IfSome o (λ view. GivesTurn p view refresh asked c.world.now turned after))
-    (in_view judges c r p old is keeps hand turning mid new cache refresh asked h is_asked after free) had)
+    (in_view judges c r p old is keeps hand turning mid new cache refresh asked h is_asked after free past) had)
     (told.1 h.taken h.session)
 
 pub replies_are_read : AnswersAreReplies → PlansAreReplies → FinishesAreReplies → SetsMakeTrees → {J : Type 0} → RepliesAreRead J
-replies_are_read answers_are plans_are finishes_are sets_make judges c r p old mid new cache refresh asked turned after read keeps hand is turning wanted is_asked had told free fits same =
+replies_are_read answers_are plans_are finishes_are sets_make judges c r p old mid new cache refresh asked turned after read keeps hand is turning wanted is_asked had told free past fits same =
     let h = turns_then judges c r p old is keeps hand mid cache refresh (wanted.1 c.session is.session) in
-    by_read judges c r p old is keeps hand turning mid new cache refresh asked h is_asked after free turned answers_are plans_are finishes_are sets_make read fits same
+    by_read judges c r p old is keeps hand turning mid new cache refresh asked h is_asked after free past turned answers_are plans_are finishes_are sets_make read fits same
     (subst (λ (o : Option View). IfSome o (λ view. GivesTurn p view refresh asked c.world.now (Ok turned) after))
-    (in_view judges c r p old is keeps hand turning mid new cache refresh asked h is_asked after free) had)
+    (in_view judges c r p old is keeps hand turning mid new cache refresh asked h is_asked after free past) had)
     (told.1 h.taken h.session)
 
 -- ---- after a refusal

@@ -38,7 +38,7 @@ use Rattle.world_model.specs.Keepers.{Keeper}
 use Rattle.world_model.specs.World.{World, Participant, participant, peer_of, with_participant}
 use Rattle.world_model.specs.Steps.{Scene, Steps}
 use Rattle.world_laws.specs.Keeps.{GoesOn, IsInHand, Keeps, OnlyPublishes}
-use Rattle.step_laws.specs.Scenes.{GivesTurn, GivesTurnThere, IsDone, IsSceneOf, IsStep, given_at, given_by, given_of, holder_of, memory_saves, turned_world}
+use Rattle.step_laws.specs.Scenes.{GivesTurn, GivesTurnThere, IsDone, IsSceneOf, IsStep, MayLack, given_at, given_by, given_of, holder_of, memory_saves, turned_world}
 
 -- ---- scenes
 
@@ -67,8 +67,8 @@ NextAskedAreMade J = (judges : Judges J) (c : Scene) (r : ℕ) (p : Participant)
 abbrev pub AsksAreSteps : Type 0 → Type 0
 AsksAreSteps J = (judges : Judges J) (c : Scene) (r : ℕ) (p : Participant) (old mid new : SessionState J) (between after : Cache) (node : Peer) (question : Ask) (answer : Answer) (before later : NodesState)
     → IsSceneOf judges c r p old → HasAsked old c.session → IsNext judges old mid p.cache between (next.Ask node question)
-    → IsNodesOf c.world before → ((w : World) → IsNodesOf w before → FateOf hss_judged w node question answer (with_nodes w later)) → IsHeard judges mid new between after (Ok answer)
-    → IsStep judges c r new (with_participant (with_nodes c.world later) (record p { cache = after })) (given_at c.session.stage)
+    → IsNodesOf c.world before → ((w : World) → IsNodesOf w before → FateOf hss_judged w node question answer (with_nodes w later)) → IsHeard judges mid new between after (Ok answer) → is_turning new.stage ≡ false
+    → IsStep judges c r new ⊥ (with_participant (with_nodes c.world later) (record p { cache = after })) (given_at c.session.stage)
 
 -- ---- turns
 
@@ -102,23 +102,23 @@ GivesNothing (Err fault) given = given ≡ given_of None
 abbrev pub TurnsAreSteps : Type 0 → Type 0
 TurnsAreSteps J = (judges : Judges J) (c : Scene) (r : ℕ) (p : Participant) (old mid new : SessionState J) (cache : Cache) (refresh : Refresh) (asked : Asked) (turned : Result Turned TurnFault) (after : Holder Keeper Signer)
     → Keeps (c.world, c.story) → IsInHand c r → IsSceneOf judges c r p old → is_turning old.stage ≡ false → IsNext judges old mid p.cache cache (next.Turn refresh)
-    → asked_at mid.stage ≡ Some asked → GivesTurnThere p refresh asked c.world.now turned after → IsTurned judges mid new turned → session_awaited new ≡ None
-    → (given : Given) × IsStep judges c r new (turned_world c.world (record p { cache = cache }) turned after) given × GivesNothing turned given
+    → asked_at mid.stage ≡ Some asked → GivesTurnThere p refresh asked c.world.now turned after → IsTurned judges mid new turned → session_awaited new ≡ None → is_turning new.stage ≡ false
+    → (given : Given) × IsStep judges c r new (MayLack c.session.starts turned) (turned_world c.world (record p { cache = cache }) turned after) given × GivesNothing turned given
 
 -- Where the bytes of its turn are read as a reply of the call's procedure, that is what the session says then.
 abbrev pub RepliesAreRead : Type 0 → Type 0
 RepliesAreRead J = (judges : Judges J) (c : Scene) (r : ℕ) (p : Participant) (old mid new : SessionState J) (cache : Cache) (refresh : Refresh) (asked : Asked) (turned : Turned) (after : Holder Keeper Signer) (read : Reply)
     → Keeps (c.world, c.story) → IsInHand c r → IsSceneOf judges c r p old → is_turning old.stage ≡ false → IsNext judges old mid p.cache cache (next.Turn refresh)
-    → asked_at mid.stage ≡ Some asked → GivesTurnThere p refresh asked c.world.now (Ok turned) after → IsTurned judges mid new (Ok turned) → session_awaited new ≡ None
+    → asked_at mid.stage ≡ Some asked → GivesTurnThere p refresh asked c.world.now (Ok turned) after → IsTurned judges mid new (Ok turned) → session_awaited new ≡ None → is_turning new.stage ≡ false
     → IsFittingReply asked.args read → turned.reply ≡ bytes_of read
-    → IsStep judges c r new (turned_world c.world (record p { cache = cache }) (Ok turned) after) (given_by read)
+    → IsStep judges c r new ⊥ (turned_world c.world (record p { cache = cache }) (Ok turned) after) (given_by read)
 
 -- ---- the end
 
 -- That its agent drops what was acknowledged is a step.
 abbrev pub SettlingsAreSteps : Type 0 → Type 0
 SettlingsAreSteps J = (judges : Judges J) (c : Scene) (r : ℕ) (p : Participant) (old new : SessionState J) (after : Cache) (acks : List Ack)
-    → IsSceneOf judges c r p old → IsNext judges old new p.cache after (next.Settle acks) → IsStep judges c r new (with_participant c.world (record p { agent = settled p.agent acks; cache = after })) (given_at c.session.stage)
+    → IsSceneOf judges c r p old → IsNext judges old new p.cache after (next.Settle acks) → IsStep judges c r new ⊥ (with_participant c.world (record p { agent = settled p.agent acks; cache = after })) (given_at c.session.stage)
 
 -- A session in code is done where it is over, or memory is wanting.
 abbrev pub DoneIsOver : Type 0 → Type 0

@@ -1,5 +1,5 @@
 -- Scenes of a world that code shows, and the steps that its calls are: an ask of a node, a turn, a settling, or the end.
-use Rattle.std.specs.Prelude.{◌≡◌, ◌≢◌, ℕ, ◌<◌, true, Bool, List, [], Option, Some, None, Result, Ok, Err, IfSome}
+use Rattle.std.specs.Prelude.{◌≡◌, ◌≢◌, ℕ, ◌<◌, true, false, Bool, List, [], Option, Some, None, Result, Ok, Err, IfSome}
 use Rattle.ivy_base.specs.declared.operation.Moment.{Moment}
 use Rattle.hss_keys.specs.Signer.{Signer}
 use Rattle.log_model.specs.View.{View}
@@ -22,7 +22,7 @@ use Rattle.log_fetch.specs.Standings.{asked_of, notes_of, refresh_of, standing_o
 use Rattle.ivy_agent.specs.Holders.{Holder}
 use Rattle.ivy_agent.specs.Turns.{Gives}
 use Rattle.ivy_session.specs.declared.served.Served.{Served}
-use Rattle.ivy_session.specs.States.{HasAsked, IsSession, SessionState, served_of}
+use Rattle.ivy_session.specs.States.{HasAsked, IsSession, SessionState, is_turning, served_of}
 use Rattle.world_model.specs.Agents.{Kept, hss}
 use Rattle.world_model.specs.Keepers.{Keeper, asked_to_save, fails_next}
 use Rattle.world_model.specs.World.{World, Participant, participant, with_participant}
@@ -56,18 +56,18 @@ given_by reply = record { handle = handle_given reply; verifier = verifier_given
 
 -- ---- a step
 
--- The session in code is that one, and waits for a node only where the get or put on its way has made asks; or memory was wanting behind it: it is over without a turn, where it hadn't begun anew
--- twice before the step, or publishes no more.
-pub data IsLeft {J : Type 0} (judges : Judges J) (starts_before : ℕ) (s : Session) (st : SessionState J) : Type 0 where
-  goes_on : IsSession judges s st → HasAsked st s → IsLeft judges starts_before s st
-  lacks_memory : (t : Session) → starts_before < 2 → LacksMemory s t → IsSession judges t st → IsLeft judges starts_before s st
-  is_cut : st.is_cut ≡ true → IsLeft judges starts_before s st
+-- The session in code is that one, waits for a node only where the get or put on its way has made asks, and no turn is awaited; or memory was wanting behind it: where that may be it is over without a
+-- turn, or it publishes no more.
+pub data IsLeft {J : Type 0} (judges : Judges J) (may_lack : Type 0) (s : Session) (st : SessionState J) : Type 0 where
+  goes_on : IsSession judges s st → HasAsked st s → is_turning st.stage ≡ false → IsLeft judges may_lack s st
+  lacks_memory : (t : Session) → may_lack → LacksMemory s t → IsSession judges t st → IsLeft judges may_lack s st
+  is_cut : st.is_cut ≡ true → IsLeft judges may_lack s st
 
 -- some step of the scene's session leaves that world and that session in code, and what is said then gives that
-pub record IsStep {J : Type 0} (judges : Judges J) (c : Scene) (r : ℕ) (st : SessionState J) (after : World) (given : Given) : Type 0 where
+pub record IsStep {J : Type 0} (judges : Judges J) (c : Scene) (r : ℕ) (st : SessionState J) (may_lack : Type 0) (after : World) (given : Given) : Type 0 where
   pub next : Scene
   pub steps : Steps hss_judged r c.session.by c next
-  pub left : IsLeft judges c.session.starts next.session st
+  pub left : IsLeft judges may_lack next.session st
   pub world : next.world ≡ after
   pub gives : given_at next.session.stage ≡ given
 
@@ -75,7 +75,7 @@ pub record IsStep {J : Type 0} (judges : Judges J) (c : Scene) (r : ℕ) (st : S
 pub data IsDone {J : Type 0} (c : Scene) (r : ℕ) (p : Participant) (st : SessionState J) (after : Cache) (told : Served) : Type 0 where
   was_over : (said : Option Said) → c.session.stage ≡ Over said → told ≡ served_of said → st.notes ≡ notes_of c.session.notes c.session.missed → after ≡ p.cache → IsDone c r p st after told
   lacks_memory : (next : Scene) (said : Said) → Steps hss_judged r c.session.by c next → next.session.stage ≡ Over (Some said) → told ≡ served_of (Some said)
-      → given_at next.session.stage ≡ given_of None → st.notes ≡ notes_of next.session.notes next.session.missed → next.world ≡ with_participant c.world (record p { cache = after }) → IsDone c r p st after told
+      → given_at next.session.stage ≡ given_at c.session.stage → st.notes ≡ notes_of next.session.notes next.session.missed → next.world ≡ with_participant c.world (record p { cache = after }) → IsDone c r p st after told
   is_cut : st.is_cut ≡ true → IsDone c r p st after told
 
 -- ---- a turn
@@ -105,6 +105,13 @@ module _ (p : Participant) (view : View) (refresh : Refresh) (asked : Asked) (no
 -- in the view of its agent
 abbrev pub GivesTurnThere : Participant → Refresh → Asked → Moment → Result Turned TurnFault → Holder Keeper Signer → Type 0
 GivesTurnThere p refresh asked now turned after = IfSome p.agent.view (λ view. GivesTurn p view refresh asked now turned after)
+
+-- memory may be wanting behind it where it was refused, and the session hadn't begun anew twice before
+abbrev pub MayLack : ℕ → Result Turned TurnFault → Type 0
+MayLack starts (Ok turned) = ⊥
+MayLack starts (Err fault.Memory) = ⊥
+MayLack starts (Err (fault.Behind standing)) = starts < 2
+MayLack starts (Err (fault.BelowTide standing)) = starts < 2
 
 -- the participant then: what its agent has to publish counts as made
 abbrev pub turned_participant : Participant → Holder Keeper Signer → Participant

@@ -9,7 +9,7 @@
 //! (`settlings_are_steps`); and what is done was over, or memory is wanting (`done_is_over`). Each step tells the world then, but
 //! for the story, the session in code, and what its reply gives to later lines (`IsStep`); where that is the scene's, the scene
 //! after it is one of the session again (`scenes_go_on`), which waits for a node only where asks were made, as `asks_are_steps`
-//! needs.
+//! needs, and for no turn.
 //! Definitions: `specs/Scenes.antt`; statements: `specs/Laws.antt`. Lemmas: `proofs/Calls.antt` (what stays of a call),
 //! `proofs/Asked.antt` (whom a session asks), `proofs/Scenes.antt` (what is at hand was taken), `proofs/Waiting.antt` (which
 //! sessions wait for nobody), `proofs/Asks.antt`, `proofs/Read.antt` (the reply of a turn is the one that its bytes are),

@@ -93,7 +93,7 @@ pub mod OneRing
 pub mod OneLines
 mod NoSnapshotSaved
 mod NoSnapshotTurns
-mod NoSnapshotSteps
+mod LastingLines
 pub mod NoSnapshotLines
 pub mod SnapBounds
 pub mod SnapSpelled
@@ -119,3 +119,6 @@ mod FullGets
 pub mod FullRuns
 pub mod FullTurns
 pub mod FullSessions
+pub mod TurnsExisting
+pub mod FullEnds
+mod Rooms

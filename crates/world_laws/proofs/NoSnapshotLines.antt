@@ -1,304 +1,91 @@
 -- A line that makes no snapshot leaves a world without one so.
-use Rattle.std.proofs.Common.{◌≡◌, ◌≢◌, ℕ, ◌+◌, Bool, true, false, cond, ◌&&◌, List, [], ◌∷◌, ◌++◌, Option, Some, None, refl, sym, ap, ◌∙◌, subst}
-use Rattle.std.specs.Prelude.{◌==◌, is_some, nat_le, nat_lt}
-use Rattle.std.specs.List.{AllByRecursion}
-use Rattle.ivy_base.specs.declared.key.Key.{Key}
-use Rattle.ivy_base.specs.declared.key.PubKey.{PubKey}
-use Rattle.ivy_io.specs.Keepers as memory
-use Rattle.hash_signature_model.specs.declared.set.Set.{Set}
-use Rattle.hss_keys.specs.Saved.{IsSigner}
-use Rattle.log_heads.specs.Signed.{hss_judged}
-use Rattle.log_model.proofs.Lists.{each, each_append, each_from}
-use Rattle.log_model.specs.View.{View, IsView}
-use Rattle.view_blocks.specs.Faults.{HasKeys}
+use Rattle.std.proofs.Common.{◌≡◌, ℕ, Bool, not, List, [], ◌∷◌, filter, Option, Some, None, refl, sym, ◌∙◌, subst, arith}
+use Rattle.std.specs.List.{AllByRecursion, list_any}
+use Rattle.log_model.proofs.Lists.{each, each_from, from_filter}
 use Rattle.turn_model.specs.Basis.{fresh_basis}
-use Rattle.dht_ids.specs.declared.ask.Answer.{Answer}
-use Rattle.dht_ids.specs.declared.ask.Ask.{Ask}
-use Rattle.dht_ids.specs.declared.peer.Peer.{Peer}
-use Rattle.node_store.specs.Stores.{Blocks, with_byte}
-use Rattle.round_laws.proofs.Rounding.{leaves_the_rest}
-use Rattle.agent_model.specs.Agent.{entered, failed, kept_of}
-use Rattle.agent_model.specs.Views.{Entered, KeeperFailed, NotMember, entering_with, is_own_member, not_named}
-use Rattle.session_model.specs.Sessions.{Said, Session}
-use Rattle.script_driver.specs.Run.{Ends, Exceeds, Goes, Outcome, Refuses}
-use Rattle.script_model.specs.declared.command.Command.{Command}
-use Rattle.script_model.specs.declared.command.Command.TheVariants as command
-use Rattle.script_model.specs.Lines.{command_of}
-use Rattle.world_model.specs.Agents.{Entering, IsKept, Kept, hss, opened}
-use Rattle.world_model.specs.Keepers.{fails_next}
-use Rattle.world_model.specs.Nodes.{Node}
-use Rattle.world_model.specs.World.{World, NamedView, Participant, participant, view_named, with_node, with_participant, without_session}
-use Rattle.world_model.specs.Fates.{Fates}
-use Rattle.world_model.specs.Fates.Fates.{more as fates_more, none as fates_none}
-use Rattle.world_model.specs.Ring.{JoinLine, RingLine, stop_line}
-use Rattle.world_model.specs.Ring.RingLine.{exceeds as ring_exceeds, makes as ring_makes, refused as ring_refused}
-use Rattle.world_model.specs.Ring.JoinLine.{alone as join_alone, before_ring as join_before_ring, exceeds as join_exceeds, fails as join_fails, joins as join_joins, known as join_known}
-use Rattle.world_model.specs.Rounds.{RoundLine}
-use Rattle.world_model.specs.Rounds.RoundLine.{before_ring as round_before_ring, goes as round_goes}
-use Rattle.world_model.specs.Logs.{LogLine, Played, RestartLine, ViewLine, after_entering, at_line, beside, fresh_signer, goes_if, keep_by, keep_line, newcomer, use_by}
-use Rattle.world_model.specs.Logs.LogLine.{before_ring as log_before_ring, begins as log_begins, known as log_known}
-use Rattle.world_model.specs.Logs.ViewLine.{exceeds as view_exceeds, known as view_known, makes as view_makes, no_former as view_no_former, no_members as view_no_members, one_head_key as view_one_head_key}
-use Rattle.world_model.specs.Logs.RestartLine.{nobody as restart_nobody, outside as restart_outside, starts as restart_starts}
-use Rattle.world_model.specs.Calls.{AsLine, FinishLine, OpenLine, Sending, StepLine, replied}
-use Rattle.world_model.specs.Calls.AsLine.{calls as whole_calls, sends_nothing as whole_sends_nothing}
-use Rattle.world_model.specs.Calls.OpenLine.{is_open as opening_is_open, opens as opening_opens, sends_nothing as opening_sends_nothing}
-use Rattle.world_model.specs.Calls.StepLine.{not_open as stepping_not_open, out_of_range as stepping_out_of_range, steps as stepping_steps}
-use Rattle.world_model.specs.Calls.FinishLine.{ends as finishing_ends, not_open as finishing_not_open}
-use Rattle.world_model.specs.Faults.{damage_by, damage_line, damaged_to, holds_by, holds_line, holds_text, key_named, lose_line, node_named, order_line, order_text, showing, work_line, work_text}
-use Rattle.world_model.specs.Step.{Does, Untold}
-use Rattle.world_laws.specs.Keeps.{AreParticipants, HasNoSnapshot, IsKeptSo, IsSavedWell, Keeps}
+use Rattle.dht_ids.specs.declared.post.Post.{Post}
+use Rattle.agent_model.specs.Agent.{entered, kept_of}
+use Rattle.agent_model.specs.Others.{is_of}
+use Rattle.agent_model.specs.SavedBytes.{ArePostsSpelled}
+use Rattle.session_model.specs.Courses.{Settles}
+use Rattle.session_model.specs.Courses.Settles.{settles as settles_all}
+use Rattle.session_model.specs.Sessions.{Session}
+use Rattle.world_model.specs.Agents.{Agent, IsKept, Kept, opened, kept_bytes}
+use Rattle.world_model.specs.Keepers.{Keeper}
+use Rattle.world_model.specs.Logs.{Played}
+use Rattle.world_model.specs.World.{Participant}
+use Rattle.world_laws.specs.Keeps.{HasNoSnapshot, IsKeptSo, IsSavedWell, Keeps}
 use Rattle.world_laws.specs.Laws.{NoSnapshotComes}
-use Rattle.world_laws.proofs.AllLines.{does_line}
-use Rattle.world_laws.proofs.Bringing.{found_named}
-use Rattle.world_laws.proofs.Lines.{ToSuch}
-use Rattle.world_laws.proofs.LogLines.{kept_whole}
-use Rattle.world_laws.proofs.SignedHeads.{so_of}
-use Rattle.world_laws.proofs.UseLines.{view_in, whole}
-use Rattle.world_laws.proofs.LineFits.{Fits, command_fits}
-use Rattle.world_laws.proofs.NoSnapshotTurns.{saved_none}
-use Rattle.world_laws.proofs.NoSnapshotSteps.{AreBare, BareOf, fate_same, found_bare, placed_bare, runs_bare, steps_bare}
+use Rattle.world_laws.proofs.KeptBytes.{kept_once}
+use Rattle.world_laws.proofs.LastingLines.{AllLast, IsLasting, lines_last}
+use Rattle.world_laws.proofs.NoSnapshotTurns.{IsBare, saved_none, taking_bare}
+use Rattle.world_laws.proofs.Publishing.{short_filter}
+
+-- ---- settling
+
+pub fewer_spelled : (test : Post → Bool) (posts : List Post) → ArePostsSpelled posts → ArePostsSpelled (filter test posts)
+fewer_spelled test posts h = record {
+  few = let short = short_filter test posts in omega (arith, short, h.few);
+  each = each_from _ (filter test posts) (λ p c. each _ posts p h.each (from_filter test posts p c).0);
+}
+
+settled_bare : (a after : Agent) (y : Keeper) (s t : Session) → IsBare a y → Settles a s after t → IsBare after y
+settled_bare a _ y s _ bare (settles_all said acks at) = record {
+  whole = record {
+    signer = bare.whole.signer;
+    some = bare.whole.some;
+    few = bare.whole.few;
+    floor = bare.whole.floor;
+    view = bare.whole.view;
+    posts = fewer_spelled (λ (p : Post). not (list_any (λ ack. is_of ack p) acks)) a.pending bare.whole.posts;
+    snapshot = bare.whole.snapshot;
+  };
+  kept = bare.kept;
+  snapshot = bare.snapshot;
+  to_load = bare.to_load;
+  basis = bare.basis;
+}
+
+-- ---- entering, and starting again
+
+some_bytes : (a b : List ℕ) → Some a ≡ Some b → a ≡ b
+some_bytes a b e = cc e
+
+pub bare_lasts : IsLasting IsBare
+bare_lasts = record {
+  turns = taking_bare;
+  settles = settled_bare;
+  keeper = λ a y z same bare. record { whole = bare.whole; kept = (bare.kept.0, bare.kept.1, same ∙ bare.kept.2, bare.kept.3); snapshot = bare.snapshot; to_load = bare.to_load; basis = bare.basis };
+  restarts = λ a y k bare whole held.
+      let same : bare.kept.0 ≡ k = kept_once bare.kept.0 k bare.kept.1 whole (some_bytes (kept_bytes bare.kept.0) (kept_bytes k) (sym bare.kept.2 ∙ held)) in
+      let none : k.snapshot ≡ None = subst (λ (l : Kept). l.snapshot ≡ None) same bare.kept.3 in
+      record { whole = whole; kept = bare.kept; snapshot = none; to_load = none; basis = refl };
+  enters = λ a y view bare may.
+      let saved = saved_none y (Some (kept_of (entered a view))) bare.kept (may, refl) in (
+        record { whole = may; kept = saved; snapshot = refl; to_load = refl; basis = refl },
+        record { whole = bare.whole; kept = saved; snapshot = bare.snapshot; to_load = bare.to_load; basis = bare.basis },
+      );
+  opens = λ signer now may. record { whole = may; kept = (kept_of (opened signer now), may, refl, refl); snapshot = refl; to_load = refl; basis = refl };
+}
 
 -- ---- worlds
 
-bare_before : (w : Played) → Keeps w → HasNoSnapshot w.0 → AreBare w.0.participants
-bare_before w keeps none = each_from BareOf w.0.participants (λ p among.
+bare_before : (w : Played) → Keeps w → HasNoSnapshot w.0 → AllLast IsBare bare_lasts w.0.participants
+bare_before w keeps none = each_from (λ (p : Participant). IsBare p.agent p.keeper) w.0.participants (λ p among.
     let so = each (IsKeptSo (λ q k. k.snapshot ≡ None)) w.0.participants p none.kept among in
     let agent = each (λ (q : Participant). (q.agent.snapshot ≡ None) × (q.agent.to_load ≡ None) × (q.agent.holding.basis ≡ fresh_basis)) w.0.participants p none.agents among in
     let saved = each (IsKeptSo IsSavedWell) w.0.participants p keeps.saved among in
     record { whole = saved.3.agent; kept = so; snapshot = agent.0; to_load = agent.1; basis = agent.2 })
 
-none_kept : (ps : List Participant) → AreBare ps → AllByRecursion (IsKeptSo (λ p k. k.snapshot ≡ None)) ps
+none_kept : (ps : List Participant) → AllLast IsBare bare_lasts ps → AllByRecursion (IsKeptSo (λ p k. k.snapshot ≡ None)) ps
 none_kept [] all = tt
 none_kept (p ∷ ps) all = (all.0.kept, none_kept ps all.1)
 
-none_held : (ps : List Participant) → AreBare ps → AllByRecursion (λ p. (p.agent.snapshot ≡ None) × (p.agent.to_load ≡ None) × (p.agent.holding.basis ≡ fresh_basis)) ps
+none_held : (ps : List Participant) → AllLast IsBare bare_lasts ps → AllByRecursion (λ p. (p.agent.snapshot ≡ None) × (p.agent.to_load ≡ None) × (p.agent.holding.basis ≡ fresh_basis)) ps
 none_held [] all = tt
 none_held (p ∷ ps) all = ((all.0.snapshot, all.0.to_load, all.0.basis), none_held ps all.1)
 
--- ---- outcomes
-
-abbrev IsBareWorld : Played → Type 0
-IsBareWorld w = AreBare w.0.participants
-
-abbrev OnGoes : Outcome World → Type 0
-OnGoes (Goes next output) = AreBare next.participants
-OnGoes Ends = Unit {0}
-OnGoes Refuses = Unit {0}
-OnGoes Exceeds = Unit {0}
-
-by_beside : (w : Played) (o : Outcome World) → OnGoes o → ToSuch IsBareWorld (beside w.1 o)
-by_beside w (Goes next output) h = h
-by_beside w Ends h = tt
-by_beside w Refuses h = tt
-by_beside w Exceeds h = tt
-
-by_function : (w : Played) (o : Outcome World) (outcome : Outcome Played) → outcome ≡ beside w.1 o → OnGoes o → ToSuch IsBareWorld outcome
-by_function w o outcome does h = subst (λ (x : Outcome Played). ToSuch IsBareWorld x) (sym does) (by_beside w o h)
-
-untold : (w : Played) (Line : Outcome World → Type 0) → ((o : Outcome World) → Line o → OnGoes o) → (outcome : Outcome Played) → Untold w Line outcome → ToSuch IsBareWorld outcome
-untold w Line each outcome does = by_function w does.0 outcome does.2 (each does.0 does.1)
-
-of_goes_if : (next : World) (t : Bool) → AreBare next.participants → OnGoes (goes_if t next)
-of_goes_if next true h = h
-of_goes_if next false h = tt
-
--- ---- lines of the ring and of nodes
-
-fates_same : {w next : World} {asks : List (Peer × (Ask × Answer))} → Fates hss_judged w asks next → next.participants ≡ w.participants
-fates_same fates_none = refl
-fates_same (fates_more to question answer fate rest) = fates_same rest ∙ fate_same fate
-
-of_ring : (w : World) (count r : ℕ) (o : Outcome World) → AreBare w.participants → RingLine w count r o → OnGoes o
-of_ring w count r _ all (ring_refused h) = tt
-of_ring w count r _ all (ring_exceeds h g) = tt
-of_ring w count r _ all (ring_makes nodes h g settled) = all
-
-of_join : (w : World) (number : ℕ) (replicas : Option ℕ) (o : Outcome World) → AreBare w.participants → JoinLine hss_judged w number replicas o → OnGoes o
-of_join w number _ _ all join_before_ring = tt
-of_join w number _ _ all (join_known r h) = tt
-of_join w number _ _ all (join_exceeds r h g) = tt
-of_join w number _ _ all (join_alone r h g none) = all
-of_join w number _ _ all (join_joins r through p ps next h g least looks) = subst AreBare (sym (fates_same looks.fates)) all
-of_join w number _ _ all (join_fails r through found next h g least looks nobody) = subst AreBare (sym (fates_same looks.fates)) all
-
-of_round : (w : World) (replicas : Option ℕ) (o : Outcome World) → AreBare w.participants → RoundLine hss_judged w replicas o → OnGoes o
-of_round w _ _ all round_before_ring = tt
-of_round w _ _ all (round_goes r next round) = subst AreBare (sym (ap (λ (v : World). v.participants) (leaves_the_rest hss_judged r w next round).0)) all
-
-of_stop : (w : World) (n : Option Node) → AreBare w.participants → OnGoes (stop_line w n)
-of_stop w None all = tt
-of_stop w (Some n) all = by n.is_live
-  where
-    by : (t : Bool) → OnGoes (cond t (Goes (with_node w (record n { is_live = false })) []) Refuses)
-    by true = all
-    by false = tt
-
-of_damaged : (w : World) (n : Node) (key : Key) (blocks : Option Blocks) → AreBare w.participants → OnGoes (damaged_to w n key blocks)
-of_damaged w n key None all = tt
-of_damaged w n key (Some blocks) all = all
-
-of_damage : (w : World) (n : Option Node) (key : Option Key) (offset byte : ℕ) → AreBare w.participants → OnGoes (damage_by w n key offset byte)
-of_damage w (Some n) (Some key) offset byte all = of_damaged w n key (with_byte key offset byte n.blocks) all
-of_damage w (Some n) None offset byte all = tt
-of_damage w None key offset byte all = tt
-
--- ---- lines that show something
-
-of_holds : (w : World) (n : Option Node) → AreBare w.participants → OnGoes (holds_by w n)
-of_holds w None all = tt
-of_holds w (Some n) all = by n.is_live
-  where
-    by : (t : Bool) → OnGoes (cond t (Goes w (holds_text n)) Refuses)
-    by true = all
-    by false = tt
-
-of_showing : (w : World) (text : Participant → List ℕ) (p : Option Participant) → AreBare w.participants → OnGoes (showing w text p)
-of_showing w text None all = tt
-of_showing w text (Some p) all = by (is_some p.agent.view)
-  where
-    by : (t : Bool) → OnGoes (cond t (Goes w (text p)) Refuses)
-    by true = all
-    by false = tt
-
--- ---- lines of participants
-
-of_view : {w : Played} {name : List ℕ} {members former : Option (List PubKey)} {o : Outcome Played} → IsBareWorld w → ViewLine hss_judged w name members former o → ToSuch IsBareWorld o
-of_view all (view_known h) = tt
-of_view all view_no_members = tt
-of_view all view_no_former = tt
-of_view all (view_one_head_key members former h) = tt
-of_view all (view_exceeds members former h g large) = tt
-of_view all (view_makes members former r view next h g small ringed is put) = subst AreBare (sym (fates_same put.fates)) all
-
-of_keep : (w : World) (log : List ℕ) (o : Option Participant) (count : ℕ) (new : Bool) → participant w log ≡ o → AreBare w.participants → OnGoes (keep_by w o count new)
-of_keep w log None count new is all = tt
-of_keep w log (Some p) count new is all =
-    of_goes_if (with_participant w (record p { keeper = planned })) (nat_lt 0 count) (placed_bare (record p { keeper = planned }) w.participants
-    (record { whole = bare.whole; kept = (bare.kept.0, bare.kept.1, same_kept (count == 0) ∙ bare.kept.2, bare.kept.3); snapshot = bare.snapshot; to_load = bare.to_load; basis = bare.basis }) all)
-  where
-    planned : memory.KeeperState
-    planned = memory.with_plan p.keeper count new
-
-    bare : BareOf p
-    bare = found_bare w log p is all
-
-    same_kept : (b : Bool) → (cond b p.keeper (memory.with_fault p.keeper (p.keeper.saves + count) new)).kept ≡ p.keeper.kept
-    same_kept true = refl
-    same_kept false = refl
-
-of_restart : {w : Played} (log : List ℕ) {p : Option Participant} {o : Outcome Played} → participant w.0 log ≡ p → IsBareWorld w → RestartLine w p o → ToSuch IsBareWorld o
-of_restart log is all restart_nobody = tt
-of_restart log is all (restart_outside p out) = tt
-of_restart {w = w} log is all (restart_starts p view k set in_view is_kept held known) =
-    let bare = found_bare w.0 log p is all in
-    let none : k.snapshot ≡ None = so_of (λ (q : Participant) (l : Kept). l.snapshot ≡ None) p k bare.kept is_kept held in
-    placed_bare _ w.0.participants (record { whole = is_kept; kept = bare.kept; snapshot = none; to_load = none; basis = refl }) all
-
--- an agent that enters a view, or whose save for it fails
-module _ (w : Played) (keeps : Keeps w) (all : IsBareWorld w) (p : Participant) (is_p : participant w.0 p.name ≡ Some p) (view : View) (legal : IsView view) (keys : HasKeys view) (ours : AreParticipants w.0 view) where
-  bare_p : BareOf p
-  bare_p = found_bare w.0 p.name p is_p all
-
-  entering_bare : is_own_member hss p.agent view ≡ true → not_named p.agent view ≡ None → (has_failed fails : Bool)
-      → ToSuch IsBareWorld (let came = cond {A = Entering × Option Kept} has_failed (KeeperFailed p.agent, None) (cond fails (KeeperFailed (failed p.agent)) (Entered (entered p.agent view)), Some (kept_of (entered p.agent view))) in after_entering w p view came.0 came.1)
-  entering_bare member accepted true fails = placed_bare p w.0.participants bare_p all
-  entering_bare member accepted false true =
-      let may = whole w keeps p is_p view legal keys ours member accepted in
-      placed_bare _ w.0.participants (record { whole = bare_p.whole; kept = saved_none p.keeper (Some (kept_of (entered p.agent view))) bare_p.kept (may, refl); snapshot = bare_p.snapshot; to_load = bare_p.to_load; basis = bare_p.basis }) all
-  entering_bare member accepted false false =
-      let may = whole w keeps p is_p view legal keys ours member accepted in
-      placed_bare _ w.0.participants (record { whole = may; kept = saved_none p.keeper (Some (kept_of (entered p.agent view))) bare_p.kept (may, refl); snapshot = refl; to_load = refl; basis = refl }) all
-
-  use_bare : ToSuch IsBareWorld (use_by w (Some p) (Some view))
-  use_bare = by (is_own_member hss p.agent view) refl (not_named p.agent view) refl
-    where
-      by : (m : Bool) → is_own_member hss p.agent view ≡ m → (n : Option Key) → not_named p.agent view ≡ n
-          → ToSuch IsBareWorld (let came = cond {A = Entering × Option Kept} m (entering_with p.agent view (fails_next p.keeper) n) (NotMember, None) in after_entering w p view came.0 came.1)
-      by false stranger n names = tt
-      by true member (Some log) names = tt
-      by true member None names = entering_bare member names p.agent.has_failed (fails_next p.keeper)
-
-of_use : (w : Played) → Keeps w → IsBareWorld w → (log name : List ℕ) (o : Option Participant) → participant w.0 log ≡ o → (v : Option View) → view_named w.0 name ≡ v → ToSuch IsBareWorld (use_by w o v)
-of_use w keeps all log name None is v named = tt
-of_use w keeps all log name (Some p) is None named = tt
-of_use w keeps all log name (Some p) is (Some view) named =
-    use_bare w keeps all p (ap (participant w.0) (found_named w.0.participants log p is).1 ∙ is) view fits.0 fits.1 fits.2
-  where
-    fits : IsView view × HasKeys view × AreParticipants w.0 view
-    fits =
-        let found = view_in w.0.views name view named in
-        subst (λ x. IsView x × HasKeys x × AreParticipants w.0 x) found.2 (each (λ (x : NamedView). IsView x.view × HasKeys x.view × AreParticipants w.0 x.view) w.0.views found.0 keeps.met.views found.1)
-
--- ---- lines of calls
-
-of_replied : (w : World) (said : Said) → AreBare w.participants → AreBare (replied w said).participants
-of_replied w said all = by (is_some said.message)
-  where
-    by : (t : Bool) → AreBare (cond t (record w { replies = w.replies ++ record { handle = said.handle; verifier = said.verifier } ∷ [] }) w).participants
-    by true = all
-    by false = all
-
-of_open : {w : Played} {name : List ℕ} {sent : Option Sending} {o : Outcome Played} → IsBareWorld w → OpenLine hss_judged w name sent o → ToSuch IsBareWorld o
-of_open all opening_sends_nothing = tt
-of_open all (opening_is_open s h) = tt
-of_open all (opening_opens s t h begins) = all
-
-of_log : {w : Played} {name id seed : List ℕ} {sets : List Set} {o : Outcome Played} → Keeps w → IsSigner (fresh_signer id seed sets) → IsBareWorld w → LogLine hss_judged w name id seed sets o → ToSuch IsBareWorld o
-of_log keeps signer all (log_before_ring h) = tt
-of_log keeps signer all (log_known h) = tt
-of_log {w = w} {name = name} {id = id} {seed = seed} {sets = sets} keeps signer all (log_begins r p next ringed new is published) =
-    subst (λ (v : Played). IsBareWorld v) (sym published.2) (runs_bare (each_append BareOf w.0.participants (p ∷ []) all (subst BareOf (sym is) bare, tt)) published.1)
-  where
-    may : IsKept (kept_of (opened (fresh_signer id seed sets) w.0.now))
-    may = kept_whole (fresh_signer id seed sets) signer refl w.0.now keeps.moment
-
-    bare : BareOf (newcomer name (opened (fresh_signer id seed sets) w.0.now))
-    bare = record { whole = may; kept = (kept_of (opened (fresh_signer id seed sets) w.0.now), may, refl, refl); snapshot = refl; to_load = refl; basis = refl }
-
-of_as : {w : Played} {sent : Option Sending} {o : Outcome Played} → IsBareWorld w → AsLine hss_judged w sent o → ToSuch IsBareWorld o
-of_as all whole_sends_nothing = tt
-of_as all (whole_calls s r t end said ringed begins runs over) = of_replied end.world said (runs_bare all runs)
-
-of_step : {w : Played} {name : List ℕ} {count : ℕ} {s : Option Session} {o : Outcome Played} → IsBareWorld w → StepLine hss_judged w name count s o → ToSuch IsBareWorld o
-of_step all stepping_not_open = tt
-of_step all (stepping_out_of_range s h) = tt
-of_step all (stepping_steps s r end h ringed steps) = steps_bare all steps
-
-of_finish : {w : Played} {name : List ℕ} {s : Option Session} {o : Outcome Played} → IsBareWorld w → FinishLine hss_judged w name s o → ToSuch IsBareWorld o
-of_finish all finishing_not_open = tt
-of_finish {name = name} all (finishing_ends s r end said ringed runs over) = of_replied (record end.world { sessions = (without_session end.world name).sessions }) said (runs_bare all runs)
-
--- ---- the whole
-
-of_command : (w : Played) → Keeps w → IsBareWorld w → (c : Command) → Fits c → ((log : List ℕ) → c ≢ command.Snap log)
-    → (outcome : Outcome Played) → Does hss_judged w c outcome → ToSuch IsBareWorld outcome
-of_command w keeps all (command.Ring nodes replicas) fits none outcome does = untold w (RingLine w.0 nodes replicas) (λ o h. of_ring w.0 nodes replicas o all h) outcome does
-of_command w keeps all (command.Log log id seed sets) fits none outcome does = of_log keeps fits all does
-of_command w keeps all (command.View view members former) fits none outcome does = of_view all does
-of_command w keeps all (command.Use log view) fits none outcome does =
-    subst (λ (o : Outcome Played). ToSuch IsBareWorld o) (sym does) (of_use w keeps all log view (participant w.0 log) refl (view_named w.0 view) refl)
-of_command w keeps all (command.At sec nsec) fits none outcome does = by_function w (at_line w.0 sec nsec) outcome does (of_goes_if _ (nat_lt sec 4294967296 && nat_lt nsec 1000000000) all)
-of_command w keeps all (command.As log pieces) fits none outcome does = of_as all does
-of_command w keeps all (command.Open session log pieces) fits none outcome does = of_open all does
-of_command w keeps all (command.Step session count) fits none outcome does = of_step all does
-of_command w keeps all (command.Finish session) fits none outcome does = of_finish all does
-of_command w keeps all (command.Join number) fits none outcome does = untold w (JoinLine hss_judged w.0 number w.0.replicas) (λ o h. of_join w.0 number w.0.replicas o all h) outcome does
-of_command w keeps all (command.Stop node) fits none outcome does = by_function w (stop_line w.0 (node_named w.0 node)) outcome does (of_stop w.0 (node_named w.0 node) all)
-of_command w keeps all command.Round fits none outcome does = untold w (RoundLine hss_judged w.0 w.0.replicas) (λ o h. of_round w.0 w.0.replicas o all h) outcome does
-of_command w keeps all (command.Lose count) fits none outcome does = by_function w (lose_line w.0 count) outcome does (of_goes_if _ (nat_lt 0 count && nat_le count 1000000) all)
-of_command w keeps all (command.Damage node key offset byte) fits none outcome does =
-    by_function w (damage_line w.0 node key offset byte) outcome does (of_damage w.0 (node_named w.0 node) (key_named w.0 key) offset byte all)
-of_command w keeps all (command.Snap log) fits none outcome does = absurd (none log refl)
-of_command w keeps all (command.Restart log) fits none outcome does = of_restart log refl all does
-of_command w keeps all (command.Keep log count new) fits none outcome does = by_function w (keep_line w.0 log count new) outcome does (of_keep w.0 log (participant w.0 log) count new refl all)
-of_command w keeps all (command.Holds node) fits none outcome does = by_function w (holds_line w.0 node) outcome does (of_holds w.0 (node_named w.0 node) all)
-of_command w keeps all (command.Order log) fits none outcome does = by_function w (order_line w.0 log) outcome does (of_showing w.0 (order_text w.0) (participant w.0 log) all)
-of_command w keeps all (command.Work log) fits none outcome does = by_function w (work_line w.0 log) outcome does (of_showing w.0 work_text (participant w.0 log) all)
-of_command w keeps all command.Nothing fits none outcome does = subst (λ (o : Outcome Played). ToSuch IsBareWorld o) (sym does) all
-of_command w keeps all command.End fits none outcome does = subst (λ (o : Outcome Played). ToSuch IsBareWorld o) (sym does) tt
-
 pub no_snapshot_comes : NoSnapshotComes
 no_snapshot_comes w next line output keeps none mild step =
-    let done = does_line w next output (command_of line) step in
-    let after = of_command w keeps (bare_before w keeps none) done.0 (command_fits line done.0 done.1) (λ log is. mild log (done.1 ∙ ap Some is)) (Goes next output) done.2 in
+    let after = lines_last IsBare bare_lasts w next line output keeps (bare_before w keeps none) mild step in
     record { kept = none_kept next.0.participants after; agents = none_held next.0.participants after }

@@ -17,8 +17,11 @@ use Rattle.agent_model.specs.Turning.{MayTake, MayWrite, with_held, written_by}
 use Rattle.agent_model.specs.Turning.Becomes.{loses, reads, saves}
 use Rattle.world_model.specs.Agents.{Agent, IsKept, hss, own, own_reach}
 use Rattle.world_laws.specs.Laws.{TurnsAreSaved}
-use Rattle.world_laws.proofs.TurnsFloors.{IsSpelledIn, records_no_more, records_spelled}
-use Rattle.world_laws.proofs.TurnsSigning.{kept_still, kept_then, next_each}
+use Rattle.log_model.proofs.Lists.{each, here}
+use Rattle.log_model.specs.Chain.{IsGood}
+use Rattle.std.proofs.lemmas.List.Elements.{Contains-append_right}
+use Rattle.world_laws.proofs.TurnsFloors.{IsSpelledIn, joined_second, records_no_more, records_reach, records_spelled}
+use Rattle.world_laws.proofs.TurnsSigning.{kept_still, kept_then, next_each, next_last}
 use Rattle.ring_model.proofs.Lists.{all_weaker}
 
 joined_with : (h : Holding) (written : List Record) → joined (with_held h written) ≡ fold join (joined h) (map full_vector written)
@@ -48,6 +51,17 @@ module _ (view : View) (a : Agent) (h : Holding) (in_view : a.view ≡ Some view
         (records_no_more view its_view.0 (own a) its_view.2 most_records (joined h) written (let least = take.own_log in let few = kept.few in omega (arith, least, few)) may.good
         (all_weaker (λ (r : Record). r.seq ≤ own_reach a + length written) (λ (r : Record). r.seq ≤ most_records) written (λ r le. let few = may.few in omega (arith, le, few)) far)))
         (a.signer.made + 1) (let left = may.is_left in omega (arith, left)) (written_by hss a h before last).pending may.posts
+
+    -- its floor goes as far as what is written
+    pub reached : own_reach a + length written ≤ seq_of (join a.floor (joined (with_held h written))) (head_key_of (own a))
+    reached =
+        let among : Contains written last = Contains-append_right before (last ∷ []) last (here last []) in
+        let at = next_last (own_reach a) before last may.next in
+        let far = records_reach view its_view.0 (own a) its_view.2 (joined h) written last among (each (IsGood view (own a)) written last may.good among) in
+        let wide = subst (IsSpelledIn view) (sym (joined_with h written)) (records_spelled view its_view.0 (own a) its_view.2 (joined h) written spelled may.good) in
+        let further = joined_second (head_key_of (own a)) a.floor (joined (with_held h written)) wide.spelled.in_order in
+        let same = ap (λ (v : Vector). seq_of v (head_key_of (own a))) (joined_with h written) in
+        omega (arith, at, far, further, same)
 
 pub turns_are_saved : TurnsAreSaved
 turns_are_saved view a _ h fails _ _ in_view kept take reads = (taken view a h in_view kept take, tt)

@@ -5,3 +5,5 @@ pub mod Kinds
 pub mod Laws
 pub mod Frames
 pub mod Calm
+pub mod FullTurns
+pub mod FullRuns

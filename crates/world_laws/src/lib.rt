@@ -3,8 +3,8 @@
 //! Layer: laws, above `world_model` and `session_laws`; below the crates that play scripts.
 //! Statements, in reading order: `specs/Headline.antt` (each reply), `specs/Causes.antt` (why a session says what it
 //! says), `specs/Keeps.antt` (each world), `specs/Kinds.antt` (which lines are refused), `specs/Laws.antt` (steps and
-//! runs), `specs/Frames.antt` (what may change of a world that keeps what it should), `specs/Calm.antt` (rings that
-//! change little; some of these are stated alone).
+//! runs), `specs/FullTurns.antt` (turns that exist), `specs/Frames.antt` (what may change of a world that keeps what it
+//! should), `specs/Calm.antt` (rings that change little; some of these are stated alone).
 //! For the layers above, of a session in a world that keeps what it should (`Keeps`), where names tell the blocks apart: a
 //! refresh that is done brings what its heads name, and its turn may be held to the definition; its next step is that turn, and
 //! no other; a turn is refused once at most, and never where the session began with no snapshot to load and no basis.
@@ -35,7 +35,8 @@
 //! `proofs/CalmRounds.antt` (stops, joins and rounds).
 //! That memory may be there: `proofs/FullLoads.antt`, `proofs/FullFetches.antt` and `proofs/FullRefreshes.antt` (a refresh wants
 //! something finitely often), `proofs/FullPlans.antt` (whom a get asks), `proofs/FullGets.antt` and `proofs/FullRuns.antt` (a
-//! refresh runs out), `proofs/FullTurns.antt` (its turn, where that exists, is the next step) and `proofs/FullSessions.antt`.
+//! refresh runs out), `proofs/FullTurns.antt` (its turn, where that exists, is the next step), `proofs/FullSessions.antt`,
+//! `proofs/TurnsExisting.antt` (the turn exists) and `proofs/FullEnds.antt` (a session goes to its end).
 //! That there is one: `proofs/OneCourse.antt` (a trail tells what comes of a get or a put), `proofs/OneHeard.antt` (an ask
 //! has one fate, and one thing is heard of it), `proofs/OneTurns.antt` (turns), `proofs/OneSteps.antt` (steps of sessions),
 //! `proofs/OneMessages.antt` (what becomes of a message), `proofs/OneCalls.antt` (lines of calls), `proofs/OneAsks.antt` (look-ups
@@ -45,6 +46,8 @@
 
 ghost use Rattle.world_laws.specs.Calm.{AckedIsHeld, AreAny, BlocksAreGiven, HasSameRing, HeadsAreGiven, RingStays};
 ghost use Rattle.world_laws.specs.Frames.{DamageLinesKeep, JoinLinesKeep, KeeperLinesKeep, LogLinesKeep, MildChangesKeep, MoreBlocksKeep, RestartLinesKeep, RingLinesKeep, RoundLinesKeep, StillLinesKeep, StopLinesKeep, UseLinesKeep, ViewLinesKeep};
+ghost use Rattle.world_laws.specs.FullRuns.{EmptyPublishesFew, FewPostsCome, ThereIsRoom};
+ghost use Rattle.world_laws.specs.FullTurns.{SessionsEndOrClash, SessionsGoToTheirEnds, TurnsExist};
 ghost use Rattle.world_laws.specs.Kinds.{LineHasOneKind};
 ghost use Rattle.world_laws.specs.Laws.{AlikeTurnsAnswerAlike, AllStepsKeep, AnsweredTurnsKeep, CallLinesKeep, CallsBegin, ClashIsDecided, DoneRefreshesStep, EachLineDoesSomething, EachReplyIsOnReplay, EachScriptHasARun, EachSessionEnds, EmptyKeeps, FewerStayApart, FreshTurnsAreAnswered, FullRunsAreOne, GetsBringKeep, GetsGoOnKeep, HeadlineHolds, HeadsAreSavedFirst, HeldIsSpelled, KeptOnce, KnownIsOne, LackingKeeps, LackingStepsKeep, LeafSignsOnce, LinesKeep, ManyStepsAreOne, ManyStepsKeep, MetGrows, NoSnapshotComes, OneTruth, OpenLineKeeps, OtherLogsDontCount, OthersHaveNoTurn, PublishingIsOne, PublishingKeeps, PutsKeep, ReceivingKeeps, RefreshBrings, RefreshEndsInTurn, RefreshMayTurn, RefreshesEnd, RefreshesRunOut, RefusedTurnsKeep, SecondTurnIsAnswered, SessionsEndOnce, SessionsGoFully, SessionsStepOnce, SettlingKeeps, SnapLinesKeep, StepsAreOne, StepsKeep, StillLinesChangeNothing, TakingKeeps, TurnsAreSaved, UpperLeavesSignOnce, VainAsksKeep, WholePublishingKeeps};
 
@@ -302,4 +305,21 @@ pub fn refreshes_end()
     ensures runs { RefreshesRunOut }
     ensures step { DoneRefreshesStep }
     ensures sessions { SessionsGoFully }
+{}
+
+/// Laws and no code: of a message that is bytes, where names tell the blocks apart, a refresh that is done has a turn: it is behind
+/// or below the tide, or there is what it takes, and it replies or writes. That the agent has room for more posts is premised.
+/// So a session in hand that refreshes goes to its end with memory there, or names clash on the way.
+pub fn turns_exist()
+    ensures turns { TurnsExist }
+    ensures sessions { SessionsGoToTheirEnds }
+    ensures ends { SessionsEndOrClash }
+{}
+
+/// Laws and no code: while no snapshot is made an agent has no more to publish than a record of each number and a head, so it has
+/// room for more.
+pub fn there_is_room()
+    ensures empty { EmptyPublishesFew }
+    ensures lines { FewPostsCome }
+    ensures room { ThereIsRoom }
 {}

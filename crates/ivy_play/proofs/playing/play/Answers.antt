@@ -28,6 +28,9 @@ returns-in-Ok-Refused-clause-complete g c = played (RefusedAt _) _ _ _ _ _ ((rw 
 pub returns-in-Err-Read-clause-front : goal.returns-in-Err-Read-clause-front
 returns-in-Err-Read-clause-front g c = told_front _ _ _ (c.run_script.ensures.front empty_world c.new-world.ensures tt)
 
+pub returns-in-Err-Read-clause-read_fault : goal.returns-in-Err-Read-clause-read_fault
+returns-in-Err-Read-clause-read_fault g c = λ four. ((rw c.in-Err-Read.field-0-is at c.in-Err-Read.ensures.fails) empty_world c.new-world.ensures tt).1
+
 pub returns-in-Err-Read-clause-waits : goal.returns-in-Err-Read-clause-waits
 returns-in-Err-Read-clause-waits g c = λ four. stops_short _ _ _ _ ((rw c.in-Err-Read.field-0-is at c.in-Err-Read.ensures.waits) empty_world c.new-world.ensures tt)
 
@@ -36,6 +39,9 @@ returns-in-Err-Read-clause-complete g c = of_the_full_run _ _ (λ ran no_read no
 
 pub returns-in-Err-Write-clause-front : goal.returns-in-Err-Write-clause-front
 returns-in-Err-Write-clause-front g c = told_front _ _ _ (c.run_script.ensures.front empty_world c.new-world.ensures tt)
+
+pub returns-in-Err-Write-clause-write_fault : goal.returns-in-Err-Write-clause-write_fault
+returns-in-Err-Write-clause-write_fault g c = λ five. ((rw c.in-Err-Write.field-0-is at c.in-Err-Write.ensures.fails) empty_world c.new-world.ensures tt).1
 
 pub returns-in-Err-Write-clause-less : goal.returns-in-Err-Write-clause-less
 returns-in-Err-Write-clause-less g c = λ five. told_less _ _ _ ((rw c.in-Err-Write.field-0-is at c.in-Err-Write.ensures.fails) empty_world c.new-world.ensures tt).0
@@ -48,6 +54,12 @@ returns-in-Err-Memory-clause-front g c = told_front _ _ _ (c.run_script.ensures.
 
 pub returns-in-Err-Memory-clause-complete : goal.returns-in-Err-Memory-clause-complete
 returns-in-Err-Memory-clause-complete g c = of_the_full_run _ _ (λ ran no_read no_write. inr (inl refl))
+
+pub returns-in-Err-Read-clause-alike : goal.returns-in-Err-Read-clause-alike
+returns-in-Err-Read-clause-alike g c = λ ending each no_read no_write. absurd (no_read ((rw c.in-Err-Read.field-0-is at c.in-Err-Read.ensures.fails) empty_world c.new-world.ensures tt).1)
+
+pub returns-in-Err-Write-clause-alike : goal.returns-in-Err-Write-clause-alike
+returns-in-Err-Write-clause-alike g c = λ ending each no_read no_write. absurd (no_write ((rw c.in-Err-Write.field-0-is at c.in-Err-Write.ensures.fails) empty_world c.new-world.ensures tt).1)
 
 pub returns-in-Ok-Ended-clause-alike : goal.returns-in-Ok-Ended-clause-alike
 returns-in-Ok-Ended-clause-alike g c = ends_alike Ended _ _ _ _ _ ((rw c.in-Ok-Ended.field-0-is at c.in-Ok-Ended.ensures.told) empty_world c.new-world.ensures tt)

@@ -9,5 +9,5 @@ hear_put-requires-clause-publishing g c =
     subst (λ (x : SessionState g.row.J.Denot). is_publishing x.stage ≡ true) c.self.view_is
     (is_to_put c.self.inside.stage c.in_default.not-Refreshing (subst (λ (x : SessionState g.row.J.Denot). session_awaited x ≢ None) (sym c.self.view_is) c.requires))
 
-pub returns-in_default : goal.returns-in_default
-returns-in_default g c = c.hear_put.ensures c.args.cache.now
+pub returns-in_default-clause-heard : goal.returns-in_default-clause-heard
+returns-in_default-clause-heard g c = c.hear_put.ensures.heard c.args.cache.now

@@ -2,6 +2,7 @@ use Rattle.std.proofs.Common.{◌≡◌, true, sym, subst}
 use Rattle.ivy_session.specs.States.{SessionState, is_turning}
 use Rattle.ivy_session.specs.Stepping.{IsTurned}
 use Rattle.ivy_session.proofs.TurnsInPlace.{lack_at_turn, turned_behind, turned_below, turning_call}
+use Rattle.ivy_session.proofs.Falling.{Falls, turn_lacks}
 use Rattle.ivy_session.proofs.session.Session.turned.Goals as goal
 
 pub lack-requires : goal.lack-requires
@@ -25,3 +26,17 @@ pub returns-in-Err-BelowTide-clause-turned : goal.returns-in-Err-BelowTide-claus
 returns-in-Err-BelowTide-clause-turned g c =
     turned_below g.J.Judge.judges c.args.self.now c.begin_anew-in-Err-BelowTide.new.self c.args.turned c.in-Err-BelowTide.field-0 c.in-Err-BelowTide.standing c.in-Err-BelowTide.is c.in-Err-BelowTide.field-0-is
     c.begin_anew-in-Err-BelowTide.ensures.turned
+
+pub returns-in-Err-Memory-clause-turning : goal.returns-in-Err-Memory-clause-turning
+returns-in-Err-Memory-clause-turning g c =
+    let i = c.self.inside in
+    let st : SessionState g.row.J.Denot = record { judge = i.judge; replicas = i.replicas; entries = i.entries; pending = i.pending; starts = i.starts; notes = i.notes; is_cut = i.is_cut; stage = i.stage } in
+    (subst (λ (x : SessionState g.row.J.Denot). Falls x (record st { stage = c.lack.new.stage })) c.self.view_is
+    (turn_lacks st i.stage (subst (λ (x : SessionState g.row.J.Denot). is_turning x.stage ≡ true) (sym c.self.view_is) c.requires.turning) c.lack.new.stage c.lack.ensures)).0
+
+pub returns-in-Err-Memory-clause-left : goal.returns-in-Err-Memory-clause-left
+returns-in-Err-Memory-clause-left g c =
+    let i = c.self.inside in
+    let st : SessionState g.row.J.Denot = record { judge = i.judge; replicas = i.replicas; entries = i.entries; pending = i.pending; starts = i.starts; notes = i.notes; is_cut = i.is_cut; stage = i.stage } in
+    (subst (λ (x : SessionState g.row.J.Denot). Falls x (record st { stage = c.lack.new.stage })) c.self.view_is
+    (turn_lacks st i.stage (subst (λ (x : SessionState g.row.J.Denot). is_turning x.stage ≡ true) (sym c.self.view_is) c.requires.turning) c.lack.new.stage c.lack.ensures)).1

@@ -1,0 +1,116 @@
+//! Saved bytes part by part, before the signer is loaded.
+
+ghost use Rattle.std.specs.Prelude.{◌≡◌, length, IfOk, IfErr, OnErr};
+ghost use Rattle.wire_model.specs.Xdr.{optional, IsAny};
+ghost use Rattle.wire_model.specs.OneReading.{IsFront, HasNoFront};
+ghost use Rattle.log_model.specs.Spelling.{IsKey};
+ghost use Rattle.log_records.specs.Parts.{constant_bytes, key_bytes, IsOptional};
+ghost use Rattle.agent_saves.specs.Parts.{IsTold, mark, told, told_bytes};
+ghost use Rattle.agent_saves.specs.Refusals.{Refuses, RefusesFront};
+
+use crate::fault::{Malformed, Refusal};
+use crate::posts::read_posts;
+use crate::view::read_view;
+use dht_ids::Posts;
+use ivy_base::Key;
+use std::alloc::Global;
+use version_vectors::Vector;
+use view_blocks::View;
+use xdr_codec::XdrRead;
+
+/// What saved bytes begin with.
+const MAGIC: [u8; 4] = *b"IVK1";
+
+/// The parts of saved bytes.
+#[derive(Drop)]
+pub struct Parts<'a> {
+    /// The signer's own saved bytes.
+    pub signer: &'a [u8],
+    /// The view that was entered.
+    pub view: Option<View>,
+    /// How far the own log goes.
+    pub reach: u32,
+    /// How far each log was ever known.
+    pub floor: Vector,
+    /// The blocks that are still to be published.
+    pub pending: Posts,
+    /// The name of the newest snapshot.
+    pub snapshot: Option<Key>,
+}
+
+/// The parts that are all of the bytes.
+pub fn read_whole(alloc: Global, bytes: &[u8]) -> Result<Parts<'_>, Refusal>
+    ensures fits { IfOk result (λ parts. IsTold (told parts)) }
+    ensures bytes { IfOk result (λ parts. bytes.now ≡ told_bytes (told parts)) }
+    ensures err { IfErr result (Refuses IsTold told_bytes bytes.now) }
+{
+    let mut reader = XdrRead::new(bytes);
+    let parts = read_parts(alloc, &mut reader)?;
+    reader.finish()?;
+    Ok(parts)
+}
+
+/// The parts at the front.
+fn read_parts<'a>(alloc: Global, reader: &mut XdrRead<'a>) -> Result<Parts<'a>, Refusal>
+    ensures ok { IfOk result (λ parts. IsFront IsTold told_bytes reader.old (told parts) reader.new) }
+    ensures err { IfErr result (RefusesFront IsTold told_bytes reader.old) }
+{
+    read_mark(reader)?;
+    let signer = reader.opaque(u32::MAX)?;
+    let view = read_view(alloc, reader)?;
+    let reach = reader.u32()?;
+    let floor = Vector::read(alloc, reader, u32::MAX)?;
+    let pending = read_posts(alloc, reader)?;
+    let snapshot = read_name(reader)?;
+    Ok(Parts {
+        signer,
+        view,
+        reach,
+        floor,
+        pending,
+        snapshot,
+    })
+}
+
+/// What all saved bytes begin with.
+fn read_mark(reader: &mut XdrRead) -> Result<(), Malformed>
+    ensures ok { IfOk result (λ u. IsFront IsAny (constant_bytes mark) reader.old u reader.new) }
+    ensures err { OnErr result (HasNoFront IsAny (constant_bytes mark) reader.old) }
+{
+    if reader.fixed(4)? != MAGIC.as_slice() {
+        return Err(Malformed);
+    }
+    Ok(())
+}
+
+/// A key: 20 bytes.
+pub fn read_key(reader: &mut XdrRead) -> Result<Key, Malformed>
+    ensures ok { IfOk result (λ key. IsFront IsKey key_bytes reader.old key reader.new) }
+    ensures err { OnErr result (HasNoFront IsKey key_bytes reader.old) }
+{
+    let item = reader.fixed(20)?;
+    Ok(key_of(item))
+}
+
+/// The key of these bytes.
+fn key_of(item: &[u8]) -> Key
+    requires { length item.now ≡ 20 }
+    ensures same { result.0 ≡ item.now }
+    ensures fits { IsKey result }
+{
+    let mut bytes = [0; 20];
+    bytes.copy_from_slice(item);
+    Key(bytes)
+}
+
+/// A name, where there is one, behind whether there is.
+fn read_name(reader: &mut XdrRead) -> Result<Option<Key>, Malformed>
+    ensures ok { IfOk result (λ name. IsFront (IsOptional IsKey) (optional key_bytes) reader.old name reader.new) }
+    ensures err { OnErr result (HasNoFront (IsOptional IsKey) (optional key_bytes) reader.old) }
+{
+    if reader.boolean()? {
+        Ok(Some(read_key(reader)?))
+    } else {
+        Ok(None)
+    }
+}

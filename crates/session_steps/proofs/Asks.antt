@@ -1,0 +1,119 @@
+-- What is wanted next of a call that is shown, and an ask of it.
+use Rattle.std.proofs.Common.{◌≡◌, ◌≢◌, ◌⊎◌, inl, inr, ⊎_elim, ℕ, Bool, true, false, cond, List, map, Option, Some, None, refl, sym, ap, ◌∙◌, subst}
+use Rattle.log_heads.specs.Signed.{hss_judged}
+use Rattle.log_heads.specs.declared.judge.HssJudge.{HssJudge}
+use Rattle.ring_model.specs.Members.{IsAmong}
+use Rattle.dht_ids.specs.declared.ask.Ask.{Ask}
+use Rattle.dht_ids.specs.declared.ask.Ask.TheVariants as ask
+use Rattle.dht_ids.specs.declared.peer.Peer.{Peer}
+use Rattle.dht_ids.specs.declared.post.Post.{Post}
+use Rattle.agent_model.specs.Agent.{is_head}
+use Rattle.session_model.specs.Sessions.{Cache, Session, put_question}
+use Rattle.ivy_session.specs.declared.session.Next.{Next}
+use Rattle.ivy_session.specs.declared.session.Next.TheVariants as next
+use Rattle.ivy_session.specs.declared.session.Stage.{Stage}
+use Rattle.ivy_session.specs.declared.session.Stage.TheVariants as stage
+use Rattle.ivy_session.specs.States.{IsAt, IsSession, SessionState, is_told, is_turning, session_awaited}
+use Rattle.ivy_session.specs.Stepping.{AsksOf, IsNext, NextIs}
+use Rattle.ivy_session.specs.Stepping.AsksOf.{gets, puts}
+use Rattle.ivy_session.specs.Stepping.NextIs.{asks, asks_again}
+use Rattle.ring_nodes.specs.NodesState.{BringsOnly, NodesState, made_peers}
+use Rattle.script_participants.specs.ParticipantState.{ParticipantState, state_of}
+use Rattle.world_model.specs.World.{Participant, peer_of}
+use Rattle.world_model.specs.Steps.{Scene}
+use Rattle.world_laws.specs.Keeps.{GoesOn, OnlyPublishes}
+use Rattle.session_steps.specs.Showing.{CallState, HasScene, IsUnderWay, IsUntold, Shown, Shows, StepsTo, judges, shown}
+use Rattle.session_steps.specs.Within.{HasAskedOf, HasNext, Laws, MayAsk}
+use Rattle.session_steps.proofs.Scenes.{by_step, left_is, scene_of, untold}
+
+-- ---- before it is known what is wanted
+
+not_told : (s : Session) (st : SessionState HssJudge) (at : Stage HssJudge) → IsAt judges s st at → is_told at ≡ false
+not_told s st (stage.Refreshing call fetch) is = refl
+not_told s st (stage.Turning call) is = refl
+not_told s st (stage.Publishing told posts) is = refl
+not_told s st (stage.Over told) is = refl
+not_told s st stage.Told is = absurd is
+
+-- the session may be asked what it wants
+pub may_want : (old : Shown) → HasScene old → old.call.told ≡ None → (is_turning old.call.session.stage ≡ false) × (is_told old.call.session.stage ≡ false)
+may_want old scene none =
+    let is = untold scene.0.session old.call none scene.3.session in
+    (is.no_turn, not_told scene.0.session old.call.session old.call.session.stage is.session.at)
+
+-- ---- whom it asks
+
+-- a question of a session is no notice
+module _ (made : List Peer) where
+  put_brings : (p : Post) → BringsOnly made (put_question p)
+  put_brings p = by (is_head p.kind)
+    where
+      by : (b : Bool) → BringsOnly made (cond b (ask.PutHead p.key p.bytes) (ask.PutBlock p.key p.bytes))
+      by true = tt
+      by false = tt
+
+  asks_bring : (r : ℕ) (s : Session) (node : Peer) (question : Ask) → AsksOf hss_judged r s node question → BringsOnly made question
+  asks_bring r s node question (gets want wants next) = ⊎_elim (λ route. subst (BringsOnly made) (sym route) tt) (λ get. subst (BringsOnly made) (sym get) tt) next.is_of
+  asks_bring r s node question (puts said p posts acks at next) = ⊎_elim (λ route. subst (BringsOnly made) (sym route) tt) (λ put. subst (BringsOnly made) (sym put) (put_brings p)) next.is_of
+
+awaits : {node : Peer} {question : Ask} (o : Option (Peer × Ask)) → o ≡ Some (node, question) → o ≢ None
+awaits o is none = cc (sym none ∙ is)
+
+next_brings : (made : List Peer) {old new : SessionState HssJudge} {s : Session} {before after : Cache} {node : Peer} {question : Ask} → NextIs judges old new s before after (next.Ask node question)
+    → BringsOnly made question × (session_awaited new ≢ None)
+next_brings made {old = old} {new = new} (asks t node question takes session awaited of) = (asks_bring made old.replicas t node question of, awaits (session_awaited new) awaited)
+next_brings made {old = old} {new = new} {s = s} (asks_again node question waits awaited session of same) = (asks_bring made old.replicas s node question of, awaits (session_awaited new) awaited)
+
+-- ---- what is wanted of a scene that is shown
+
+module _ (c : Scene) (r : ℕ) (old : Shown) (way : IsUnderWay c r) (shows : Shows c r old) (none : old.call.told ≡ None) (mid : CallState) (between : ParticipantState) where
+  -- the scene's participant had that cache
+  pub wants_there : {wanted : Next} → HasNext old.call mid old.who between wanted → IsNext judges old.call.session mid.session shows.p.cache between.cache wanted
+  wants_there {wanted} h = subst (λ (who : ParticipantState). IsNext judges old.call.session mid.session who.cache between.cache wanted) (sym shows.who) h.wants
+
+  pub goes : GoesOn c.world r c.session ⊎ OnlyPublishes c.world r c.session
+  goes = ⊎_elim (λ hand. inl hand.goes_on) (λ only. inr only) way.hand
+
+  -- the participant has another cache, and nothing else changed
+  pub with_cache : {wanted : Next} → HasNext old.call mid old.who between wanted → state_of (record shows.p { cache = between.cache }) ≡ between
+  with_cache h = ap (λ (who : ParticipantState). record who { cache = between.cache }) shows.who ∙ sym h.who
+
+  is_untold : IsUntold c.session old.call
+  is_untold = untold c.session old.call none shows.session
+
+  pub asked_may_be : Laws → (node : Peer) (question : Ask) → HasNext old.call mid old.who between (next.Ask node question) → MayAsk mid old.nodes node question
+  asked_may_be laws node question h =
+      let wants = wants_there h in
+      let brings = next_brings (made_peers old.nodes) (wants.1 c.session is_untold.session) in
+      record {
+        made = subst (λ nodes. IsAmong node (map peer_of nodes)) shows.nodes.0
+            (laws.made judges c r shows.p old.call.session mid.session between.cache node question (scene_of c r old way shows is_untold) goes wants);
+        brings = brings.0;
+        waits = brings.1;
+      }
+
+  -- the ask is a step
+  pub asks_step : Laws → (new : CallState) (after : ParticipantState) (later : NodesState) (node : Peer) (question : Ask) → HasNext old.call mid old.who between (next.Ask node question)
+      → HasAskedOf node question mid new old.nodes later between after → new.session.is_cut ≡ false → StepsTo c r (shown new later after old.met old.now)
+  asks_step laws new after later node question h asked whole =
+      let wants = wants_there h in
+      let step = laws.asks judges c r shows.p old.call.session mid.session new.session between.cache after.cache node question asked.answer old.nodes later (scene_of c r old way shows is_untold) is_untold.asked wants
+          shows.nodes asked.fate asked.heard.heard asked.heard.no_turn in
+      by_step c r old way shows laws (shown new later after old.met old.now) (record shows.p { cache = after.cache }) c.world.met is_untold step
+      (left_is step.left whole (λ t may lacking session. may))
+      (record {
+        world = refl;
+        named = refl;
+        who = ap (λ (who : ParticipantState). record who { cache = after.cache }) (with_cache h) ∙ sym asked.heard.who;
+        are_met = shows.met;
+        now = refl;
+        replicas = asked.heard.heard.0.1 ∙ wants.0.1 ∙ shows.replicas;
+        no_turn = asked.heard.no_turn;
+        gives = ap (λ (call : CallState). call.given) asked.heard.call ∙ ap (λ (call : CallState). call.given) h.call ∙ is_untold.gives;
+        untold = ap (λ (call : CallState). call.told) asked.heard.call ∙ ap (λ (call : CallState). call.told) h.call ∙ none;
+      })
+
+-- some scene is shown
+pub may_ask : Laws → (old : Shown) → HasScene old → old.call.told ≡ None → (mid : CallState) (between : ParticipantState) (node : Peer) (question : Ask) → HasNext old.call mid old.who between (next.Ask node question)
+    → MayAsk mid old.nodes node question
+may_ask laws old scene none mid between node question h = asked_may_be scene.0 scene.1 old scene.2 scene.3 none mid between laws node question h

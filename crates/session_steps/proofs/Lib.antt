@@ -1,0 +1,10 @@
+mod Scenes
+mod Asks
+mod Over
+mod Turns
+mod Ends
+mod Many
+mod Begun
+mod Lines
+mod Parts
+mod Arms

@@ -1,0 +1,83 @@
+//! Inodes, each with all that it contains.
+
+ghost use Rattle.std.specs.Prelude.{◌≡◌, [], ◌∷◌, ◌≤◌, length, map, IfOk, OnOk};
+ghost use Rattle.std.specs.List.{AllByRecursion};
+ghost use Rattle.tree_model.specs.Tree.{listing};
+ghost use Rattle.snapshot_model.specs.Reading.{HasBounds};
+ghost use Rattle.snapshot_model.specs.Spelling.{inode_made, made_name, size_of, target_of};
+ghost use Rattle.snapshot_store.specs.Puts.{IsInodeBounded, PutsList, put_all};
+
+use crate::blocks::Blocks;
+use crate::items::put_items;
+use crate::levels::Levels;
+use dir_replay::Names;
+use fs_tree::Tree;
+use inode_replay::Content;
+use ivy_base::{Key, Kind, Memory};
+use snapshot_blocks::{InodeBlock, Listed};
+use std::alloc::Global;
+
+/// Puts all inodes of the tree, in the order of their numbers, and the list over them. The error is want of memory.
+pub fn put_inodes(alloc: Global, blocks: &mut Blocks, tree: &Tree) -> Result<Listed, Memory>
+    requires bounds { AllByRecursion (IsInodeBounded tree.now) tree.now.inodes }
+    requires few { length tree.now.inodes ≤ 134217728 }
+    ensures { IfOk result (PutsList blocks.old (map (inode_made tree.now) tree.now.inodes) blocks.new) }
+{
+    let numbers = tree.numbers(alloc)?;
+    let mut levels = Levels::new(alloc);
+    'inodes: for number in &numbers {
+        let Some(content) = tree.content(number) else {
+            unreachable!()
+        };
+        let name = put_inode(alloc, blocks, tree.names(), number, content)?;
+        levels.push(alloc, blocks, name)?;
+    }
+    let list = levels.finish(alloc, blocks)?;
+    Ok(list)
+}
+
+/// Puts the inode of that number behind all that it contains, and gives the name of its block. The error is want of memory.
+fn put_inode(
+    alloc: Global,
+    blocks: &mut Blocks,
+    names: &Names,
+    number: &Key,
+    content: &Content,
+) -> Result<Key, Memory>
+    requires bounds { HasBounds content.now }
+    requires few { length (listing names.now number.now) ≤ 4294967296 }
+    ensures blocks { OnOk result (blocks.new ≡ put_all blocks.old (inode_made names.now (number.now, content.now) ∷ [])) }
+    ensures named { IfOk result (λ key. key ≡ made_name (inode_made names.now (number.now, content.now))) }
+{
+    let items = put_items(alloc, blocks, names, number, content)?;
+    let inode = InodeBlock {
+        number: *number,
+        kind: content.kind(),
+        attributes: content.attr(),
+        size: size_of(content),
+        target: target_of(content),
+        items,
+    };
+    let name = blocks.add(inode.write(alloc)?)?;
+    Ok(name)
+}
+
+/// A file's size, and 0 of anything else.
+fn size_of(content: &Content) -> u64
+    ensures { result ≡ size_of content.now.body content.now.kind }
+{
+    match content.kind() {
+        Kind::Reg => content.size(),
+        Kind::Dir | Kind::Lnk => 0,
+    }
+}
+
+/// A link's text, and nothing of anything else.
+fn target_of(content: &Content) -> &[u8]
+    ensures { result.now ≡ target_of content.now.body content.now.kind }
+{
+    match content.kind() {
+        Kind::Lnk => content.target(),
+        Kind::Reg | Kind::Dir => &[],
+    }
+}
