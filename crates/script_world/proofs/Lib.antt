@@ -9,3 +9,6 @@ pub mod Changing
 pub mod Making
 pub mod Beginning
 pub mod Holding
+pub mod Sent
+pub mod Going
+pub mod Published

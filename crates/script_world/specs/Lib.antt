@@ -3,3 +3,4 @@ pub mod Views
 pub mod Newcomers
 pub mod Held
 pub mod Ends
+pub mod Running

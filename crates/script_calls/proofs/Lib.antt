@@ -1,0 +1,4 @@
+pub mod Opened
+pub mod Hands
+pub mod Lines
+pub mod Joined
