@@ -13,15 +13,12 @@ use Rattle.world_model.specs.World.{World, NamedSession}
 use Rattle.world_laws.specs.Keeps.{HasRing, Keeps}
 use Rattle.script_world.specs.PartsState.{DoesIn, PartsState, PlaysIn}
 use Rattle.script_calls.specs.WorldState.{AreOpenAs, KeepsAll, LineDoes, OpenState, WorldState}
+use Rattle.script_calls.proofs.Opened.{moved}
 use Rattle.script_calls.proofs.StayingRing.{Stays, StaysPlayed}
 
 -- the world in code with these parts and these open sessions
 abbrev pub state : PartsState → List OpenState → WorldState
 state parts sessions = record { parts = parts; sessions = sessions }
-
--- open sessions are the same in a world of the same sessions, of which as many own a key
-stay_open : (opened : List OpenState) (w next : World) → next.sessions ≡ w.sessions → next.replicas ≡ w.replicas → AreOpenAs w.replicas w.sessions opened → AreOpenAs next.replicas next.sessions opened
-stay_open opened w next sessions replicas are = rw (sessions, replicas) are
 
 module _ (opened : List OpenState) (before after : PartsState) where
   -- a line that the story doesn't tell of
@@ -42,7 +39,7 @@ module _ (opened : List OpenState) (before after : PartsState) where
     untold_in taken.Exceeded keep does w shows keeps = (Exceeds, does w.0 shows.parts, refl)
 
     stays_keep : ((w : World) (outcome : Outcome World) → Does w outcome → Stays w.replicas outcome) → KeepsOpen
-    stays_keep stays w next output keeps does same are = stay_open opened w.0 next same (stays w.0 (Goes next output) does) are
+    stays_keep stays w next output keeps does same are = moved next.replicas w.0.replicas next.sessions w.0.sessions opened (stays w.0 (Goes next output) does) same are
 
     pub untold_line : {E : Type 0} (result : Result Taken E) → ((w : World) (outcome : Outcome World) → Does w outcome → Stays w.replicas outcome) → IfOk result (λ how. DoesIn Does before how after)
         → IfOk result (λ how. LineDoes Line (state before opened) how (state after opened))
@@ -57,7 +54,7 @@ module _ (opened : List OpenState) (before after : PartsState) where
     pub function_in : (how : Taken) → ((w : World) → Stays w.replicas (line w)) → DoesIn (λ w outcome. outcome ≡ line w) before how after → LineDoes ByLine (state before opened) how (state after opened)
     function_in (taken.Went output) stays does w shows keeps =
         let goes = does w.0 shows.parts in
-        ((goes.0, w.1), ap (beside w.1) goes.1, record { parts = goes.2.0; sessions = stay_open opened w.0 goes.0 goes.2.1 (subst (Stays w.0.replicas) (sym goes.1) (stays w.0)) shows.sessions })
+        ((goes.0, w.1), ap (beside w.1) goes.1, record { parts = goes.2.0; sessions = moved goes.0.replicas w.0.replicas goes.0.sessions w.0.sessions opened (subst (Stays w.0.replicas) (sym goes.1) (stays w.0)) goes.2.1 shows.sessions })
     function_in taken.Ended stays does w shows keeps = ap (beside w.1) (does w.0 shows.parts)
     function_in taken.Refused stays does w shows keeps = ap (beside w.1) (does w.0 shows.parts)
     function_in taken.Exceeded stays does w shows keeps = ap (beside w.1) (does w.0 shows.parts)
@@ -72,7 +69,7 @@ module _ (opened : List OpenState) (before after : PartsState) where
     played_in : (how : Taken) → ((w : Played) (outcome : Outcome Played) → Does w outcome → StaysPlayed w.0.replicas outcome) → PlaysIn Does before how after → LineDoes Does (state before opened) how (state after opened)
     played_in (taken.Went output) stays does w shows keeps =
         let goes = does w shows.parts in
-        (goes.0, goes.1, record { parts = goes.2.0; sessions = stay_open opened w.0 goes.0.0 goes.2.1 (stays w (Goes goes.0 output.items) goes.1) shows.sessions })
+        (goes.0, goes.1, record { parts = goes.2.0; sessions = moved goes.0.0.replicas w.0.replicas goes.0.0.sessions w.0.sessions opened (stays w (Goes goes.0 output.items) goes.1) goes.2.1 shows.sessions })
     played_in taken.Ended stays does w shows keeps = does w shows.parts
     played_in taken.Refused stays does w shows keeps = does w shows.parts
     played_in taken.Exceeded stays does w shows keeps = does w shows.parts

@@ -1,13 +1,12 @@
 //! A script's world takes the script's lines.
 
 ghost use Rattle.std.specs.Prelude.{◌≡◌, IfOk, Some, None};
-ghost use Rattle.log_heads.specs.Signed.{hss_judged};
-ghost use Rattle.world_model.specs.Step.{Does, MayDo, MayDoFirst};
+ghost use Rattle.world_model.specs.Logs.{Played};
+ghost use Rattle.world_model.specs.Step.{MayDo, MayDoFirst};
 ghost use Rattle.world_laws.proofs.LineFits.{Fits};
 ghost use Rattle.script_calls.specs.WorldState.{HasWorld, LineDoes, ShowsWorld};
 ghost use Rattle.stage_laws.specs.Stage.{StageStep, stage_command};
 ghost use Rattle.script_machine.specs.Limits.{is_full, meets_limit};
-ghost use Rattle.world_model.specs.Logs.{Played};
 
 use command_lines::read_command;
 use ivy_base::Memory;
