@@ -2,3 +2,5 @@ pub mod Opened
 pub mod Hands
 pub mod Lines
 pub mod Joined
+mod StayingRing
+mod OtherLines

@@ -4,7 +4,7 @@ use Rattle.script_driver.specs.declared.machine.Taken.{Taken}
 use Rattle.script_driver.specs.Run.{Outcome}
 use Rattle.world_model.specs.Logs.{Played}
 use Rattle.world_model.specs.World.{NamedSession}
-use Rattle.world_laws.specs.Keeps.{HasNoSnapshot, Keeps}
+pub use Rattle.stage_laws.specs.Stage.{KeepsAll}
 use Rattle.session_steps.specs.Showing.{CallState, ShowsSession}
 use Rattle.script_world.specs.PartsState.{HasParts, IsTaken, PartsState}
 
@@ -35,10 +35,6 @@ AreOpenAs replicas _ _ = ⊥
 pub record ShowsWorld (s : WorldState) (w : Played) : Type 0 where
   pub parts : HasParts w.0 s.parts
   pub sessions : AreOpenAs w.0.replicas w.0.sessions s.sessions
-
--- a world that keeps what it should, without a snapshot
-abbrev pub KeepsAll : Played → Type 0
-KeepsAll w = Keeps w × HasNoSnapshot w.0
 
 -- it may be some such world
 abbrev pub HasWorld : WorldState → Type 0

@@ -1,6 +1,7 @@
 //! What a world has but for its open sessions.
 
-ghost use Rattle.std.specs.Prelude.{◌≡◌};
+ghost use Rattle.std.specs.Prelude.{◌≡◌, length};
+ghost use Rattle.std.specs.List.{sum_by};
 
 use command_messages::ReplyParts;
 use ivy_base::{Bytes, Moment};
@@ -51,7 +52,7 @@ impl Model for Parts {
 }
 
 impl Parts {
-    ghost use Rattle.world_model.specs.World.{empty_world};
+    ghost use Rattle.world_model.specs.World.{World, empty_world};
     ghost use Rattle.script_world.specs.PartsState.{HasParts};
 
     /// The parts of the empty world. It takes no memory.
@@ -67,5 +68,12 @@ impl Parts {
             moment: Moment { sec: 0, nsec: 0 },
             met: MetBlocks::new(alloc),
         }
+    }
+
+    /// How many bytes all blocks have that were met.
+    pub fn bytes_met(&self) -> u64
+        ensures { (w : World) → HasParts w self.now → result ≡ sum_by (λ block. length block) w.met }
+    {
+        self.met.bytes()
     }
 }

@@ -94,11 +94,11 @@ pub mod OneLines
 mod NoSnapshotSaved
 mod NoSnapshotTurns
 mod LastingLines
-mod NoSnapshotLines
+pub mod NoSnapshotLines
 pub mod SnapBounds
 pub mod SnapSpelled
 mod SnapLines
-mod EachLine
+pub mod EachLine
 pub mod CalmNodes
 pub mod CalmPuts
 pub mod CalmStates

@@ -1,0 +1,36 @@
+//! What holds of the step of this stage.
+
+ghost use Rattle.stage_laws.specs.Laws.{
+  LongLinesStop,
+  OthersAreSteps,
+  RunsAreRuns,
+  StageBegins,
+  StageDoesSomething,
+  StageHasHeadline,
+  StageKeeps,
+  StageRepliesAreOnReplay,
+  WhatGoesIsAStep,
+};
+
+/// Laws and no code: a script begins in a world that keeps what it should, without a snapshot; each line of this stage that goes
+/// on leaves such a world, each has an outcome in such a world, and one that is too long doesn't go on.
+pub fn stage_lines_keep()
+    ensures begins { StageBegins }
+    ensures keeps { StageKeeps }
+    ensures does { StageDoesSomething }
+    ensures stops { LongLinesStop }
+{}
+
+/// Laws and no code: a line that makes no snapshot and starts no agent again does what it may do by the step of all lines, and
+/// nothing else, so a script of such lines has the same runs by both; and a line that goes on is such a line.
+pub fn other_lines_are_steps()
+    ensures lines { OthersAreSteps }
+    ensures runs { RunsAreRuns }
+    ensures goes { WhatGoesIsAStep }
+{}
+
+/// Laws and no code: in such a world the headline holds of each line of this stage, and so of each line of a run.
+pub fn stage_has_headline()
+    ensures lines { StageHasHeadline }
+    ensures runs { StageRepliesAreOnReplay }
+{}
