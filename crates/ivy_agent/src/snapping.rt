@@ -19,10 +19,10 @@ use crate::posting::are_counted;
 use crate::saving::{Kept, SaveFault, save};
 use dht_ids::{Post, PostKind, Posts};
 use hss_keys::Signs;
-use ivy_base::{Bytes, Key, Memory, name_of};
+use ivy_base::{Key, Memory};
 use ivy_io::Keeper;
 use replay_engine::Engine;
-use snapshot_store::make;
+use snapshot_store::{Block, make};
 use std::alloc::Global;
 use std::mem::replace;
 use version_vectors::{Rank, Vector};
@@ -79,7 +79,7 @@ fn tide_of(engine: &Engine) -> Result<Option<Rank>, Memory>
 
 /// Those that are pending, and behind them the posts of the blocks that aren't. The error is want of memory; it also comes where
 /// a word counts neither the posts nor the bytes of one that is new.
-fn with_blocks(alloc: Global, pending: &Posts, blocks: Vec<Bytes>) -> Result<Posts, Memory>
+fn with_blocks(alloc: Global, pending: &Posts, blocks: Vec<Block>) -> Result<Posts, Memory>
     ensures posts { IfOk result (λ posts. posts ≡ pending.now ++ posts_of_new pending.now blocks.items) }
     ensures few { IfOk result (λ posts. length posts < 2 ^ 32) }
     ensures new { OnOk result (All (λ p. AreOpaque p.bytes) (posts_of_new pending.now blocks.items)) }
@@ -97,7 +97,7 @@ fn with_blocks(alloc: Global, pending: &Posts, blocks: Vec<Bytes>) -> Result<Pos
 }
 
 /// The posts of the blocks that aren't pending. The error is want of memory.
-fn new_posts(alloc: Global, pending: &[Post], blocks: Vec<Bytes>) -> Result<Vec<Post>, Memory>
+fn new_posts(alloc: Global, pending: &[Post], blocks: Vec<Block>) -> Result<Vec<Post>, Memory>
     ensures { IfOk result (λ posts. posts.items ≡ posts_of_new pending.now blocks.items) }
 {
     let mut posts = Vec::new(alloc);
@@ -133,13 +133,14 @@ fn is_block(kind: PostKind) -> bool
     }
 }
 
-/// The post of a block.
-fn post_of(block: Bytes) -> Post
+/// The post of a block, whose name it keeps.
+fn post_of(block: Block) -> Post
     ensures { result ≡ block_post block }
 {
+    let (key, bytes) = block.into_parts();
     Post {
-        key: name_of(block.as_slice()),
-        bytes: block,
+        key,
+        bytes,
         kind: PostKind::Block,
     }
 }
