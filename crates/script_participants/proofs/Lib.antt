@@ -5,3 +5,4 @@ pub mod Shown
 pub mod Named
 pub mod Places
 pub mod Returned
+pub mod Snapped

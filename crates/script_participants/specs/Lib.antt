@@ -3,6 +3,7 @@ pub mod Opening
 pub mod Ends
 pub mod InView
 pub mod Restarting
+pub mod Snapping
 pub mod Turning
 pub mod RecordLines
 pub mod Lending

@@ -17,6 +17,7 @@ ghost use Rattle.world_model.specs.World.{Participant as Seen};
 ghost use Rattle.script_participants.specs.Opening.{IsOpened};
 
 mod restarting;
+mod snapping;
 
 use crate::end::{EnterEnd, end_of};
 use crate::making::count_all;
