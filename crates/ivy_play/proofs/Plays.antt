@@ -1,77 +1,61 @@
--- A run of the step is one in which each reply is on the replay; and where memory isn't wanting it is the only one.
-use Rattle.std.proofs.Common.{◌≡◌, ℕ, ◌^◌, List, ◌++◌, take, Option, Some, None, ap, ◌∙◌, inl, inr, ◌⊎◌, arith}
+-- A run of the step is one of which the headline holds; and it is the one full run, or tells why it isn't.
+use Rattle.std.proofs.Common.{◌≡◌, ◌⊎◌, inl, inr, ℕ, List, ◌++◌, Option, Some, None, refl, ap}
 use Rattle.std.specs.Prelude.{IfSome}
-use Rattle.ivy_base.specs.Naming.{NamesTellApart}
-use Rattle.ivy_io.specs.Known.{then}
-use Rattle.script_driver.specs.Lines.{lines_of}
 use Rattle.script_driver.specs.Run.{Ran, Ending, WithLaw}
 use Rattle.script_driver.specs.Told.{run_of, ran_of, TellsAll, TellsFront, TellsLess, StopsShort}
 use Rattle.script_driver.proofs.RunLaws.{stops_with_law}
-use Rattle.log_model.proofs.Lists.{in_nothing}
-use Rattle.play_model.specs.World.{empty_world}
-use Rattle.play_model.specs.Step.{IvyStep}
-use Rattle.play_replies.specs.Headline.{Headline}
-use Rattle.play_replies.specs.Laws.{EmptyIsValid}
-use Rattle.play_replies.specs.Valid.{IsValid}
-use Rattle.play_replies.proofs.KeptWorlds.{line_keeps}
-use Rattle.play_replies.proofs.Served.{replies_are_served}
-use Rattle.play_replies.proofs.Runs.{each_reply_is_on_replay}
-use Rattle.play_runs.proofs.FullRuns.{each_script_has_a_full_run}
-use Rattle.play_runs.proofs.Runs.{full_runs_are_one, want_is_shown}
+use Rattle.world_laws.specs.Headline.{Headline}
+use Rattle.stage_laws.specs.Stage.{KeepsAll, StageStep}
+use Rattle.stage_laws.proofs.FullRuns.{stage_runs_fully, stage_runs_tell}
+use Rattle.stage_laws.proofs.Replies.{stage_has_headline, stage_replies_are_on_replay}
+use Rattle.stage_laws.proofs.Stage.{stage_begins, stage_keeps}
 use Rattle.ivy_play.specs.Status.{status_of}
-use Rattle.ivy_play.specs.Playing.{ivy_runs, IsTheFullRun, IsPlayed}
+use Rattle.ivy_play.specs.Playing.{beginning, ivy_runs, script_lines, IsPlayed, RunsFully}
 
-empty_is_valid : EmptyIsValid
-empty_is_valid = record { participants = tt; apart = tt; views = tt; heads = tt; moment = record { sec = omega arith; nsec = omega arith } }
+pub begins : KeepsAll beginning
+begins = stage_begins
 
-nothing_is_apart : NamesTellApart empty_world.blocks.found
-nothing_is_apart b c holds = absurd (in_nothing b holds)
-
-pub with_headline : (left : Option (List ℕ)) (ran : Ran) → run_of IvyStep empty_world left ran → ivy_runs left ran
+pub with_headline : (left : Option (List ℕ)) (ran : Ran) → run_of StageStep beginning left ran → ivy_runs left ran
 with_headline None ran runs = tt
-with_headline (Some script) ran runs = each_reply_is_on_replay empty_world 1 (lines_of (take (2 ^ 40) script)) ran empty_is_valid runs
+with_headline (Some script) ran runs = stage_replies_are_on_replay beginning 1 (script_lines script) ran stage_begins runs
 
-pub told_all : (ending : Ending) (left held holds : Option (List ℕ)) → TellsAll ending (run_of IvyStep empty_world left) held holds → TellsAll ending (ivy_runs left) held holds
+pub told_all : (ending : Ending) (left held holds : Option (List ℕ)) → TellsAll ending (run_of StageStep beginning left) held holds → TellsAll ending (ivy_runs left) held holds
 told_all ending left held holds t = record { told = t.told; run = with_headline left (ran_of t.told ending) t.run; sink = t.sink }
 
-abbrev pub told_front : (left held holds : Option (List ℕ)) → TellsFront (run_of IvyStep empty_world left) held holds → TellsFront (ivy_runs left) held holds
+abbrev pub told_front : (left held holds : Option (List ℕ)) → TellsFront (run_of StageStep beginning left) held holds → TellsFront (ivy_runs left) held holds
 told_front left held holds t = record { told = t.told; untold = t.untold; ending = t.ending; run = with_headline left (ran_of (t.told ++ t.untold) t.ending) t.run; sink = t.sink }
 
-pub told_less : (left held holds : Option (List ℕ)) → TellsLess (run_of IvyStep empty_world left) held holds → TellsLess (ivy_runs left) held holds
+pub told_less : (left held holds : Option (List ℕ)) → TellsLess (run_of StageStep beginning left) held holds → TellsLess (ivy_runs left) held holds
 told_less left held holds t = record { front = told_front left held holds t.front; less = t.less }
 
-pub stops_short : (before left held holds : Option (List ℕ)) → StopsShort IvyStep empty_world before left held holds → StopsShort (WithLaw IvyStep Headline) empty_world before left held holds
-stops_short before left held holds = stops_with_law IvyStep Headline IsValid replies_are_served line_keeps empty_world before left held holds empty_is_valid
+pub stops_short : (before left held holds : Option (List ℕ)) → StopsShort StageStep beginning before left held holds → StopsShort (WithLaw StageStep Headline) beginning before left held holds
+stops_short before left held holds = stops_with_law StageStep Headline KeepsAll stage_has_headline stage_keeps beginning before left held holds stage_begins
 
--- there is one full run
-the_full_run : (script : List ℕ) → (ran : Ran) × IsTheFullRun script ran
-the_full_run script =
-    let lines = lines_of (take (2 ^ 40) script) in
-    let full = each_script_has_a_full_run empty_world 1 lines empty_is_valid in
-    (full.0, record { is = full.1; one = λ other is. full_runs_are_one empty_world 1 lines other full.0 nothing_is_apart is full.1 })
+-- each script has its one full run, or names clash
+pub runs_fully : (left : Option (List ℕ)) → IfSome left RunsFully
+runs_fully None = tt
+runs_fully (Some script) = stage_runs_fully 1 (script_lines script)
 
--- what holds of each run holds of that one
-pub of_the_full_run : (left : Option (List ℕ)) (P : Ran → Type 0) → ((ran : Ran) → P ran) → IfSome left (λ script. (ran : Ran) × IsTheFullRun script ran × P ran)
-of_the_full_run None P each = tt
-of_the_full_run (Some script) P each = (let full = the_full_run script in (full.0, full.1, each full.0))
-
--- what was told is the one full run, or a call lacked memory
-pub played : (ending : Ending) (left held holds : Option (List ℕ)) (A B : Type 0) → TellsAll ending (run_of IvyStep empty_world left) held holds
-    → IfSome left (λ script. (ran : Ran) × IsTheFullRun script ran × (A → B → IsPlayed ran (status_of ending) held holds))
+-- what was told is a run, which is the full one or tells why it isn't
+pub played : (ending : Ending) (left held holds : Option (List ℕ)) (A B : Type 0) → TellsAll ending (run_of StageStep beginning left) held holds
+    → IfSome left (λ script. A → B → IsPlayed script (status_of ending) held holds)
 played ending None held holds A B t = tt
-played ending (Some script) held holds A B t =
-    let full = the_full_run script in (
-      full.0,
-      full.1,
-      λ a b. elim (want_is_shown empty_world 1 (lines_of (take (2 ^ 40) script)) (ran_of t.told ending) t.run) [
-        | inl sure ↦
-            let same : ran_of t.told ending ≡ full.0 = full.1.one (ran_of t.told ending) sure in
-            inl (ap (λ (r : Ran). status_of r.ending) same, t.sink ∙ ap (λ (r : Ran). then held r.text) same)
-        | inr piece ↦ inr (inr (t.told, t.sink, piece))
-      ],
-    )
+played ending (Some script) held holds A B t = λ a b. inl (ran_of t.told ending, stage_runs_tell beginning 1 (script_lines script) (ran_of t.told ending) stage_begins t.run, refl, t.sink)
+
+-- where a count rose nothing more is said; and memory may be wanting to the player
+pub read_rose : (left held holds : Option (List ℕ)) (status : ℕ) (Read Write : Type 0) → Read → IfSome left (λ script. (Read → ⊥) → (Write → ⊥) → IsPlayed script status held holds)
+read_rose None held holds status Read Write rose = tt
+read_rose (Some script) held holds status Read Write rose = λ no_read no_write. absurd (no_read rose)
+
+pub write_rose : (left held holds : Option (List ℕ)) (status : ℕ) (Read Write : Type 0) → Write → IfSome left (λ script. (Read → ⊥) → (Write → ⊥) → IsPlayed script status held holds)
+write_rose None held holds status Read Write rose = tt
+write_rose (Some script) held holds status Read Write rose = λ no_read no_write. absurd (no_write rose)
+
+pub lacked : (left held holds : Option (List ℕ)) (Read Write : Type 0) → IfSome left (λ script. (Read → ⊥) → (Write → ⊥) → IsPlayed script 6 held holds)
+lacked None held holds Read Write = tt
+lacked (Some script) held holds Read Write = λ no_read no_write. inr refl
 
 -- a run that was told whole ends as each run does
-pub ends_alike : (given : Ending) (left held holds : Option (List ℕ)) (A B : Type 0) → TellsAll given (run_of IvyStep empty_world left) held holds
+pub ends_alike : (given : Ending) (left held holds : Option (List ℕ)) (A B : Type 0) → TellsAll given (run_of StageStep beginning left) held holds
     → (ending : Ending) → ((ran : Ran) → ivy_runs left ran → ran.ending ≡ ending) → A → B → (status_of given ≡ status_of ending) ⊎ (status_of given ≡ 6)
 ends_alike given left held holds A B t ending each a b = inl (ap status_of (each (ran_of t.told given) (with_headline left (ran_of t.told given) t.run)))

@@ -2,29 +2,36 @@
 use Rattle.std.specs.Prelude.{◌≡◌, ◌⊎◌, ℕ, ◌^◌, List, take, Option}
 use Rattle.ivy_io.specs.Known.{then}
 use Rattle.script_driver.specs.Lines.{lines_of}
-use Rattle.script_driver.specs.Run.{Ran, Runs, WithLaw, HasPiece}
+use Rattle.script_driver.specs.Run.{Ran, Runs, WithLaw}
 use Rattle.script_driver.specs.Told.{run_of}
-use Rattle.play_model.specs.World.{empty_world}
-use Rattle.play_model.specs.Step.{IvyStep, HasMemory, LacksShown}
-use Rattle.play_replies.specs.Headline.{Headline}
+use Rattle.world_model.specs.Logs.{Played}
+use Rattle.world_model.specs.Story.{empty_story}
+use Rattle.world_model.specs.World.{empty_world}
+use Rattle.world_laws.specs.Headline.{Headline}
+use Rattle.stage_laws.specs.FullRuns.{HasMemoryAlong, HasOneFullRun, LacksOrClashes, RunComesTo}
+use Rattle.stage_laws.specs.Stage.{StageStep}
 use Rattle.ivy_play.specs.Status.{status_of}
 
--- the runs of what a source has left, in each of which each reply is on the replay of a closed set of verified records
+-- a script begins in the empty world, of which nothing is told
+abbrev pub beginning : Played
+beginning = (empty_world, empty_story)
+
+-- the lines of a script: those of its first 2^40 bytes
+abbrev pub script_lines : List ℕ → List (List ℕ)
+script_lines script = lines_of (take (2 ^ 40) script)
+
+-- the runs of what a source has left, of each line of which the headline holds
 abbrev pub ivy_runs : Option (List ℕ) → Ran → Type 0
-ivy_runs left = run_of (WithLaw IvyStep Headline) empty_world left
+ivy_runs left = run_of (WithLaw StageStep Headline) beginning left
 
--- a run of the script in which no call is refused for want of memory
-abbrev pub IsFullRun : List ℕ → Ran → Type 0
-IsFullRun script ran = Runs (WithLaw IvyStep HasMemory) empty_world 1 (lines_of (take (2 ^ 40) script)) ran
+-- there is one run of the script in which memory is always there, or names clash on the way
+abbrev pub RunsFully : List ℕ → Type 0
+RunsFully script = HasOneFullRun beginning 1 (script_lines script)
 
--- the only one
-pub record IsTheFullRun (script : List ℕ) (ran : Ran) : Type 0 where
-  pub is : IsFullRun script ran
-  pub one : (other : Ran) → IsFullRun script other → other ≡ ran
+-- memory was always there in the run, which so is that one; or it comes to a line where memory was wanting for a call, or names clash
+abbrev pub IsFullOrTells : List ℕ → Ran → Type 0
+IsFullOrTells script ran = HasMemoryAlong beginning 1 (script_lines script) ran ⊎ RunComesTo LacksOrClashes beginning 1 (script_lines script) ran
 
--- The status and what was written are those of the run; or memory was wanting, to the player or to a call.
-abbrev pub IsPlayed : Ran → ℕ → Option (List ℕ) → Option (List ℕ) → Type 0
-IsPlayed ran status held holds =
-    ((status ≡ status_of ran.ending) × (holds ≡ then held ran.text))
-    ⊎ (status ≡ 6)
-    ⊎ ((told : List ℕ) × (holds ≡ then held told) × HasPiece LacksShown told)
+-- The status and what was written are those of such a run; or memory was wanting to the player.
+abbrev pub IsPlayed : List ℕ → ℕ → Option (List ℕ) → Option (List ℕ) → Type 0
+IsPlayed script status held holds = ((ran : Ran) × IsFullOrTells script ran × (status ≡ status_of ran.ending) × (holds ≡ then held ran.text)) ⊎ (status ≡ 6)

@@ -4,15 +4,14 @@ ghost use Rattle.std.specs.Prelude.{◌≡◌, ◌⊎◌, ◌≤◌, ℕ, List, 
 ghost use Rattle.ivy_io.specs.Causes.{Rose};
 ghost use Rattle.script_driver.specs.Run.{Ran, Ending, Ended, RefusedAt, LimitAt, WithLaw};
 ghost use Rattle.script_driver.specs.Told.{TellsAll, TellsFront, TellsLess, StopsShort};
-ghost use Rattle.play_model.specs.Step.{IvyStep};
-ghost use Rattle.play_model.specs.World.{empty_world};
-ghost use Rattle.play_replies.specs.Headline.{Headline};
-ghost use Rattle.ivy_play.specs.Playing.{ivy_runs, IsTheFullRun, IsPlayed};
+ghost use Rattle.world_laws.specs.Headline.{Headline};
+ghost use Rattle.stage_laws.specs.Stage.{StageStep};
+ghost use Rattle.ivy_play.specs.Playing.{beginning, ivy_runs, IsPlayed, RunsFully};
 ghost use Rattle.ivy_play.specs.Status.{status_of};
 
 use ivy_io::{Sink, Source};
-use ivy_world::World;
 use script_driver::{Fault, Stop, run_script};
+use script_machine::ScriptMachine;
 use std::alloc::Global;
 
 /// How a program ended.
@@ -27,9 +26,10 @@ pub type Status = u8;
 /// before the next one is looked at; a line that is refused shows `refused N`, with its number from 1, and one that meets a
 /// limit `limit N`; either ends the run. What follows the line `end` isn't looked at.
 ///
-/// A run is defined line by line, by the step of `play_model`. In every run each call is answered by its message alone, or by
-/// the answer of NFS version 3 (RFC 1813) on the replay, from nothing, of one causally closed set of verified records, or
-/// memory was wanting for it (`Headline` of `play_replies`).
+/// A run is defined line by line, by the step of `world_model` (`StageStep` of `stage_laws`). In every run, whatever sessions stand
+/// open beside each other, whatever asks are lost and blocks spoilt, each reply of a turn is the answer of NFS version 3 (RFC 1813)
+/// on the replay, from nothing, of one causally closed set of verified records, and any other reply has its cause (`Headline`
+/// of `world_laws`).
 pub fn play<Q: Source, W: Sink>(alloc: Global, source: &mut Q, sink: &mut W) -> Status
     ensures statuses { (result ≡ 0) ⊎ (result ≡ 3) ⊎ (result ≡ 4) ⊎ (result ≡ 5) ⊎ (result ≡ 6) ⊎ (result ≡ 7) }
 
@@ -53,24 +53,26 @@ pub fn play<Q: Source, W: Sink>(alloc: Global, source: &mut Q, sink: &mut W) -> 
         (ivy_runs (Q.left source.old)) (W.contents sink.old) (W.contents sink.new) }
     // After a read fault the run isn't over: the bytes that were read are whole lines, each of which was obeyed and went on, and
     // a part of a line, and what was written is what the lines show.
-    ensures waits { result ≡ 4 → StopsShort (WithLaw IvyStep Headline) empty_world
+    ensures waits { result ≡ 4 → StopsShort (WithLaw StageStep Headline) beginning
         (Q.left source.old) (Q.left source.new) (W.contents sink.old) (W.contents sink.new) }
 
     // Where neither count rose and each run ends alike, the status is that of the run, unless memory was wanting.
     ensures alike { (ending : Ending) → ((ran : Ran) → ivy_runs (Q.left source.old) ran → ran.ending ≡ ending) →
         ¬ Rose (Q.faults source.old) (Q.faults source.new) → ¬ Rose (W.faults sink.old) (W.faults sink.new) →
         (result ≡ status_of ending) ⊎ (result ≡ 6) }
-    // There is one run in which memory is never wanting. Where neither count rose, the status and what was written are
-    // those of this run, unless memory was wanting.
-    ensures complete { IfSome (Q.left source.old) (λ script. (ran : Ran) × IsTheFullRun script ran × (
+    // There is one run in which memory is always there, or names clash on the way.
+    ensures fully { IfSome (Q.left source.old) RunsFully }
+    // Where neither count rose, the status and what was written are those of that run, or of one in which memory was wanting for a
+    // call or names clash; or memory was wanting to the player.
+    ensures complete { IfSome (Q.left source.old) (λ script.
         ¬ Rose (Q.faults source.old) (Q.faults source.new) → ¬ Rose (W.faults sink.old) (W.faults sink.new) →
-        IsPlayed ran result (W.contents sink.old) (W.contents sink.new))) }
+        IsPlayed script result (W.contents sink.old) (W.contents sink.new)) }
 
     ensures reads { Q.faults source.old ≤ Q.faults source.new }
     ensures writes { W.faults sink.old ≤ W.faults sink.new }
 {
-    let mut world = World::new(alloc);
-    match run_script(alloc, &mut world, source, sink) {
+    let mut machine = ScriptMachine::new(alloc);
+    match run_script(alloc, &mut machine, source, sink) {
         Ok(Stop::Ended) => 0,
         Ok(Stop::Refused(_)) => 3,
         Err(Fault::Read) => 4,

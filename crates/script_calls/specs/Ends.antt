@@ -1,5 +1,6 @@
--- How a participant's session in code ends; and lines that show nothing.
-use Rattle.std.specs.Prelude.{◌≡◌, ℕ, Bool, true, false, List, [], ◌∷◌, Some}
+-- How a participant's session in code ends; lines that show nothing, and which sessions they leave open.
+use Rattle.std.specs.Prelude.{◌≡◌, ℕ, Bool, true, false, not, List, [], ◌∷◌, filter, Some, if◌then◌else◌}
+use Rattle.std.specs.Str.{bytes_eq}
 use Rattle.log_heads.specs.Signed.{hss_judged}
 use Rattle.script_driver.specs.declared.machine.Taken.{Taken}
 use Rattle.script_driver.specs.declared.machine.Taken.TheVariants as taken
@@ -11,6 +12,7 @@ use Rattle.world_model.specs.World.{NamedSession}
 use Rattle.world_laws.specs.Keeps.{IsInHand}
 use Rattle.script_world.specs.PartsState.{GoesOn, PartsState}
 use Rattle.script_world.specs.Running.{IsSceneIn}
+use Rattle.script_calls.specs.WorldState.{OpenState}
 
 -- All steps up to the end of a session in hand lead to a scene that has said something, which is shown. The world has these parts once that counts for later
 -- lines, whichever sessions are open then.
@@ -38,3 +40,7 @@ shows_nothing (taken.Went text) = is_nothing text.items
 shows_nothing taken.Ended = false
 shows_nothing taken.Refused = false
 shows_nothing taken.Exceeded = false
+
+-- what a line of a participant leaves of the open sessions: where it goes on and shows nothing, that participant's are gone
+abbrev pub left_open : List ℕ → Taken → List OpenState → List OpenState
+left_open log how sessions = if shows_nothing how then filter (λ o. not (bytes_eq o.by log)) sessions else sessions

@@ -6,8 +6,8 @@
 //! nor the heads that left an agent, and a session in code may be many. Each of its functions is a line of a script, which does
 //! in each world that it may be, and that keeps what it should, what the definitions say (`LineDoes`): [`World::call`] is the line
 //! `as`, [`World::open`], [`World::step`] and [`World::finish`] (the line `end`) are those of open sessions, [`World::begin_log`] is
-//! `log` and [`World::use_view`] is `use`; the lines that need no session are those of its parts. Each error is want of memory, after
-//! which the world is of no more use.
+//! `log`, [`World::use_view`] is `use` and [`World::restart`] is `restart`; the lines that need no session are those of its parts.
+//! Each error is want of memory, after which the world is of no more use.
 //! Definitions: `specs/WorldState.antt`, `specs/Ends.antt`, and `world_model`'s.
 //! Lemmas: `proofs/Opened.antt` (the open sessions of a world and of the code's), `proofs/Hands.antt` (sessions that are in hand),
 //! `proofs/Lines.antt` (lines of calls), `proofs/Joined.antt` (lines of participants), `proofs/StayingRing.antt` (lines that leave as

@@ -4,8 +4,9 @@ ghost use Rattle.std.specs.Prelude.{◌≡◌, not, filter, IfOk};
 ghost use Rattle.std.specs.Str.{bytes_eq};
 ghost use Rattle.hss_keys.specs.Saved.{AreLevels};
 ghost use Rattle.log_heads.specs.Signed.{hss_judged};
-ghost use Rattle.world_model.specs.Logs.{LogLine, use_line};
-ghost use Rattle.script_calls.specs.Ends.{shows_nothing};
+ghost use Rattle.world_model.specs.Logs.{LogLine, RestartLine, use_line};
+ghost use Rattle.world_model.specs.World.{participant};
+ghost use Rattle.script_calls.specs.Ends.{left_open, shows_nothing};
 ghost use Rattle.script_calls.specs.WorldState.{HasWorld, LineDoes};
 
 use crate::world::World;
@@ -43,11 +44,28 @@ impl World {
         ensures { IfOk result (λ taken. LineDoes (λ w outcome. outcome ≡ use_line w log.now view.now) self.old taken self.new) }
     {
         let taken = self.parts.use_view(alloc, log, view)?;
-        // Where its keeper fails something is shown, and its sessions stay.
-        if shows_nothing(&taken) {
+        self.end_sessions(log, &taken);
+        Ok(taken)
+    }
+
+    /// The line `restart`: a participant's agent starts again from what its keeper saved, and its sessions are gone then. The error
+    /// is want of memory.
+    pub fn restart(&mut self, alloc: Global, log: &[u8]) -> Result<Taken, Memory>
+        ensures { IfOk result (λ taken. LineDoes (λ w outcome. RestartLine w (participant w.0 log.now) outcome) self.old taken self.new) }
+    {
+        let taken = self.parts.restart(alloc, log)?;
+        self.end_sessions(log, &taken);
+        Ok(taken)
+    }
+
+    /// That participant's open sessions are gone where its line went on. Where its keeper fails something is shown, and they stay.
+    fn end_sessions(&mut self, log: &[u8], taken: &Taken)
+        ensures parts { self.new.parts ≡ self.old.parts }
+        ensures sessions { self.new.sessions ≡ left_open log.now taken.now self.old.sessions }
+    {
+        if shows_nothing(taken) {
             self.close_all_of(log);
         }
-        Ok(taken)
     }
 
     /// The open sessions of that participant are gone.

@@ -25,7 +25,6 @@ ByLimit w o outcome full = MatchBool full (outcome ≡ Exceeds) (MayDo w o outco
 doing : (w : Played) (c : Command) (outcome : Outcome Played) → false ≡ meets_limit w c → MayDo w (stage_command (Some c)) outcome → MayDoFirst w (stage_command (Some c)) outcome
 doing w command.End outcome few does = does
 doing w (command.Snap log) outcome few does = subst (ByLimit w None outcome) few does
-doing w (command.Restart log) outcome few does = subst (ByLimit w None outcome) few does
 doing w c outcome few does = subst (ByLimit w (Some c) outcome) few does
 
 -- where the limit isn't met the line does what its command does

@@ -87,7 +87,7 @@ impl ScriptMachine {
         self.world.bytes_met() > MOST_BYTES
     }
 
-    /// Obeys a command. A line that makes a snapshot, or starts an agent again, is refused. The error is want of memory.
+    /// Obeys a command. A line that makes a snapshot is refused. The error is want of memory.
     fn obey(&mut self, alloc: Global, command: Command) -> Result<Taken, Memory>
         requires fits { Fits command }
         requires kept { HasWorld self.old }
@@ -134,7 +134,8 @@ impl ScriptMachine {
                 offset,
                 byte,
             } => self.world.damage(alloc, &node, &key, offset, byte),
-            Command::Snap { log: _ } | Command::Restart { log: _ } => Ok(Taken::Refused),
+            Command::Snap { log: _ } => Ok(Taken::Refused),
+            Command::Restart { log } => self.world.restart(alloc, log.as_slice()),
             Command::Keep { log, count, new } => {
                 self.world.keep(alloc, log.as_slice(), count, new)
             }

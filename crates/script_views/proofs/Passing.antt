@@ -6,8 +6,9 @@ use Rattle.view_blocks.specs.declared.fault.ViewFault.{ViewFault}
 use Rattle.view_blocks.specs.declared.fault.ViewFault.TheVariants.{Memory}
 use Rattle.view_blocks.specs.Faults.{FailsAs}
 use Rattle.view_blocks.proofs.Refusals.{legal_passes}
-use Rattle.play_model.specs.World.{in_key_order, view_of_keys}
-use Rattle.play_replies.proofs.MadeViews.{made_view_is_view}
+use Rattle.world_model.specs.Logs.{in_key_order}
+use Rattle.script_views.specs.Made.{view_of_keys}
+use Rattle.world_laws.proofs.MadeViews.{made_view_is_view}
 
 has_one : (ks : List PubKey) → ks ≢ [] → 1 ≤ length ks
 has_one [] h = absurd (h refl)

@@ -14,8 +14,8 @@ use Rattle.std.proofs.lemmas.Map.Lookups.{exact_bytes}
 use Rattle.ivy_base.specs.declared.key.PubKey.{PubKey}
 use Rattle.ivy_base.specs.Naming.{owner_cmp}
 use Rattle.log_model.proofs.Owners.{owners_total}
-use Rattle.play_model.specs.World.{with_key, in_key_order}
-use Rattle.play_replies.proofs.Elements.{each_weaker}
+use Rattle.world_model.specs.Logs.{with_key, in_key_order}
+use Rattle.ring_model.proofs.Lists.{all_weaker}
 
 abbrev is_below : PubKey → PubKey → Bool
 is_below k l = is_lt (owner_cmp k l)
@@ -36,7 +36,7 @@ not_below_itself : (k : PubKey) → is_below k k ≡ false
 not_below_itself k = ap is_lt (tied_itself owners_total k)
 
 lower_floor : (k l : PubKey) (ms : List PubKey) → is_below l k ≡ false → IsFloor l ms → IsFloor k ms
-lower_floor k l ms h f = each_weaker (λ m. is_below m l ≡ false) (λ m. is_below m k ≡ false) ms (λ m g. ranks.chain m l k g h) f
+lower_floor k l ms h f = all_weaker (λ m. is_below m l ≡ false) (λ m. is_below m k ≡ false) ms (λ m g. ranks.chain m l k g h) f
 
 -- ---- sums over keys
 

@@ -2,10 +2,9 @@
 
 ghost use Rattle.std.specs.Prelude.{◌≡◌, ◌≢◌, ◌≤◌, ◌++◌, [], true, length, IfOk};
 ghost use Rattle.log_model.specs.View.{have_own_head_keys};
-ghost use Rattle.play_model.specs.World.{in_key_order, view_of_keys};
-ghost use Rattle.script_views.specs.Made.{IsMade};
+ghost use Rattle.world_model.specs.Logs.{in_key_order};
+ghost use Rattle.script_views.specs.Made.{IsMade, view_of_keys};
 
-use block_map::Block;
 use ivy_base::{Memory, PubKey, head_key};
 use std::alloc::Global;
 use std::collections::BTreeSet;
@@ -21,8 +20,8 @@ pub enum Made {
     Refused,
     /// There are more than 16 members or former logs.
     TooMany,
-    /// The view, and its block.
-    View(View, Block),
+    /// The view.
+    View(View),
 }
 
 /// The view of these members and former members, whose keys may come in any order. The error is want of memory.
@@ -36,9 +35,7 @@ pub fn make_view(alloc: Global, members: Vec<PubKey>, former: Vec<PubKey>) -> Re
     if members.len() > MOST || former.len() > MOST {
         return Ok(Made::TooMany);
     }
-    let view = view_in_order(alloc, members, former)?;
-    let block = Block::of(view.write(alloc)?);
-    Ok(Made::View(view, block))
+    Ok(Made::View(view_in_order(alloc, members, former)?))
 }
 
 /// Whether no two of the keys have one head key. Each head key is computed once. The error is want of memory.

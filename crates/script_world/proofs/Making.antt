@@ -1,43 +1,27 @@
 -- A view that a line makes.
 use Rattle.std.proofs.Common.{◌≡◌, ◌≢◌, ◌≤◌, ◌<◌, ◌⊎◌, inl, inr, ℕ, Bool, true, false, ◌||◌, List, [], ◌∷◌, ◌++◌, length, map, fold, refl, sym, ap, ◌∙◌, subst, Option, Some, None, Result}
 use Rattle.std.specs.Prelude.{find, is_some, nat_lt, option_map}
-use Rattle.std.specs.FinMap.Entries.{by_order}
 use Rattle.std.specs.Str.{bytes_eq}
 use Rattle.std.proofs.lemmas.Bool.{le-ltb, lt-ltb}
 use Rattle.ivy_base.specs.declared.key.Key.{Key}
 use Rattle.ivy_base.specs.declared.key.PubKey.{PubKey}
-use Rattle.ivy_base.specs.Naming.{owner_cmp}
 use Rattle.log_model.specs.View.{View, have_own_head_keys, view_block, view_name}
 use Rattle.dht_ids.specs.declared.ask.Ask.TheVariants as ask
 use Rattle.dht_ids.specs.declared.judge.Judged.{Judged}
 use Rattle.dhash_client.specs.declared.miss.Miss.{Miss}
-use Rattle.play_model.specs.World.{view_of_keys}
-use Rattle.play_model.specs.World as plain
 use Rattle.script_driver.specs.Run.{Outcome, Goes, Refuses, Exceeds}
 use Rattle.script_model.specs.Words.{◌>>=◌}
 use Rattle.world_model.specs.Agents.{own}
-use Rattle.world_model.specs.Logs.{Played, ViewLine, acked_view, in_key_order, is_too_large, keys_of, with_key, with_view}
+use Rattle.world_model.specs.Logs.{Played, ViewLine, acked_view, is_too_large, keys_of, with_view}
 use Rattle.world_model.specs.Logs.ViewLine.{exceeds, makes, no_former, no_members, one_head_key}
 use Rattle.world_model.specs.World.{NamedView, Participant, World, empty_world, meets, participant, view_named}
 use Rattle.met_blocks.specs.MetState.{AreMet, MetState}
 use Rattle.ring_nodes.specs.Looking.{PutsSo}
 use Rattle.ring_nodes.specs.NodesState.{IsNodesOf, NodesState, with_nodes}
 use Rattle.script_participants.specs.ParticipantState.{HasParticipants, ParticipantState, state_of}
+use Rattle.script_views.specs.Made.{view_of_keys}
 use Rattle.script_world.specs.PartsState.{AreKept, GoesOn, HasParts, PartsState}
 use Rattle.script_world.specs.Views.{PutsView}
-
--- ---- keys in order, by either definition
-
-with_key_is : (ls : List PubKey) (k : PubKey) → plain.with_key ls k ≡ with_key ls k
-with_key_is [] k = refl
-with_key_is (l ∷ ls) k = ap (λ (rest : List PubKey). by_order (owner_cmp k l) (k ∷ l ∷ ls) (k ∷ l ∷ ls) (l ∷ rest)) (with_key_is ls k)
-
-fold_is : (ls ks : List PubKey) → fold plain.with_key ls ks ≡ fold with_key ls ks
-fold_is ls [] = refl
-fold_is ls (k ∷ ks) = ap (λ (l : List PubKey). fold plain.with_key l ks) (with_key_is ls k) ∙ fold_is (with_key ls k) ks
-
-view_is_of : (members former : List PubKey) → view_of_keys members former ≡ record { members = in_key_order members; former = in_key_order former }
-view_is_of members former = λ i. record { members = fold_is [] members i; former = fold_is [] former i }
 
 -- ---- the keys of logs
 
@@ -133,7 +117,7 @@ module _ (judged : Key → List ℕ → Option Judged) (w : Played) (s : PartsSt
           let next : Played = (its.0, record w.1 { acked = w.1.acked ++ acked_view made its.1.came }) in (
             next,
             subst (λ (o : List ℕ). Line (Goes next o)) (sym nothing)
-                (told (Goes next []) (makes ms fs r made its.0 unknown apart small (has.replicas ∙ ring) (made_is ∙ view_is_of ms fs) its.1)),
+                (told (Goes next []) (makes ms fs r made its.0 unknown apart small (has.replicas ∙ ring) made_is its.1)),
             its.2,
           )
 

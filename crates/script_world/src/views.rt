@@ -45,7 +45,7 @@ impl Parts {
         match make_view(alloc, members, former)? {
             Made::Refused => Ok(Taken::Refused),
             Made::TooMany => Ok(Taken::Exceeded),
-            Made::View(view, _) => {
+            Made::View(view) => {
                 self.put_view(alloc, judge, replicas, name, view)?;
                 Ok(Taken::Went(Vec::new(alloc)))
             }

@@ -14,26 +14,26 @@ pub near_is : {A E : Type 0} {B : Type 0} (r : Result (List (A × B) × ℕ) E) 
 near_is r es fs h i e f n = subst (λ j. IfOk r (IsNear fs j)) f (subst (λ l. IfOk r (IsNear l h)) e n)
 
 module _ {K V : Type 0} (f : Fork K V) (now : List (K × V) × ℕ) (is : seen (Some f) ≡ now) where
-  pub entries_are : f.left.0 ++ (f.key.value, f.value.value) ∷ f.right.0 ≡ now.0
+  pub entries_are : f.left.0 ++ (f.key, f.value.value) ∷ f.right.0 ≡ now.0
   entries_are = ap (λ t. t.0) is
 
   pub height_is : f.height ≡ now.1
   height_is = ap (λ t. t.1) is
 
   pub lengths : length f.left.0 + suc (length f.right.0) ≡ length now.0
-  lengths = sym (length-append f.left.0 ((f.key.value, f.value.value) ∷ f.right.0)) ∙ ap length entries_are
+  lengths = sym (length-append f.left.0 ((f.key, f.value.value) ∷ f.right.0)) ∙ ap length entries_are
 
   pub shorter : (length f.left.0 < length now.0) × (length f.right.0 < length now.0)
   shorter = (omega (arith, lengths), omega (arith, lengths))
 
   -- a side that was made anew
-  pub near_left : {E : Type 0} (es goal : List (K × V)) (t : List (K × V) × ℕ) → IsNear es f.left.1 t → es ++ (f.key.value, f.value.value) ∷ f.right.0 ≡ goal → (r : Result (List (K × V) × ℕ) E)
-      → IfOk r (IsNear (t.0 ++ (f.key.value, f.value.value) ∷ f.right.0) f.height) → IfOk r (IsNear goal now.1)
-  near_left es goal t n e r = near_is r _ _ _ _ (ap (λ l. l ++ (f.key.value, f.value.value) ∷ f.right.0) n.0 ∙ e) height_is
+  pub near_left : {E : Type 0} (es goal : List (K × V)) (t : List (K × V) × ℕ) → IsNear es f.left.1 t → es ++ (f.key, f.value.value) ∷ f.right.0 ≡ goal → (r : Result (List (K × V) × ℕ) E)
+      → IfOk r (IsNear (t.0 ++ (f.key, f.value.value) ∷ f.right.0) f.height) → IfOk r (IsNear goal now.1)
+  near_left es goal t n e r = near_is r _ _ _ _ (ap (λ l. l ++ (f.key, f.value.value) ∷ f.right.0) n.0 ∙ e) height_is
 
-  pub near_right : {E : Type 0} (es goal : List (K × V)) (t : List (K × V) × ℕ) → IsNear es f.right.1 t → f.left.0 ++ (f.key.value, f.value.value) ∷ es ≡ goal → (r : Result (List (K × V) × ℕ) E)
-      → IfOk r (IsNear (f.left.0 ++ (f.key.value, f.value.value) ∷ t.0) f.height) → IfOk r (IsNear goal now.1)
-  near_right es goal t n e r = near_is r _ _ _ _ (ap (λ l. f.left.0 ++ (f.key.value, f.value.value) ∷ l) n.0 ∙ e) height_is
+  pub near_right : {E : Type 0} (es goal : List (K × V)) (t : List (K × V) × ℕ) → IsNear es f.right.1 t → f.left.0 ++ (f.key, f.value.value) ∷ es ≡ goal → (r : Result (List (K × V) × ℕ) E)
+      → IfOk r (IsNear (f.left.0 ++ (f.key, f.value.value) ∷ t.0) f.height) → IfOk r (IsNear goal now.1)
+  near_right es goal t n e r = near_is r _ _ _ _ (ap (λ l. f.left.0 ++ (f.key, f.value.value) ∷ l) n.0 ∙ e) height_is
 
   -- ---- no more entries than can be counted
 
@@ -57,7 +57,7 @@ module _ {K V : Type 0} (f : Fork K V) (now : List (K × V) × ℕ) (is : seen (
   -- it is the node's own where the left side is empty
   pub first_gone : ([], 0) ≡ f.left → IsBalanced (Some f) → (t : List (K × V) × ℕ) → t ≡ f.right → IsNear (drop 1 now.0) now.1 t
   first_gone empty b t e =
-      let behind : f.right.0 ≡ drop 1 now.0 = ap (λ (l : List (K × V) × ℕ). drop 1 (l.0 ++ (f.key.value, f.value.value) ∷ f.right.0)) empty ∙ ap (drop 1) entries_are in
+      let behind : f.right.0 ≡ drop 1 now.0 = ap (λ (l : List (K × V) × ℕ). drop 1 (l.0 ++ (f.key, f.value.value) ∷ f.right.0)) empty ∙ ap (drop 1) entries_are in
       let none : 0 ≡ f.left.1 = ap (λ (l : List (K × V) × ℕ). l.1) empty in
       let high : t.1 ≡ f.right.1 = ap (λ (l : List (K × V) × ℕ). l.1) e in
       (ap (λ (l : List (K × V) × ℕ). l.0) e ∙ behind, (omega (arith, none, high, b.0, b.1.0, b.1.1, height_is), omega (arith, none, high, b.0, b.1.0, b.1.1, height_is)))
@@ -67,48 +67,48 @@ module _ {K V : Type 0} (f : Fork K V) (now : List (K × V) × ℕ) (is : seen (
   drop_front (x ∷ xs) ys h = refl
 
   -- else the left side's
-  pub first_left_gone : 0 < length f.left.0 → drop 1 f.left.0 ++ (f.key.value, f.value.value) ∷ f.right.0 ≡ drop 1 now.0
+  pub first_left_gone : 0 < length f.left.0 → drop 1 f.left.0 ++ (f.key, f.value.value) ∷ f.right.0 ≡ drop 1 now.0
   first_left_gone some = drop_front f.left.0 _ some ∙ ap (drop 1) entries_are
 
   module _ (R : K → K → Ordering) (o : IsTotalOrder R) (sorted : T (is_sorted R now.0)) where
-    whole : T (is_sorted R (f.left.0 ++ (f.key.value, f.value.value) ∷ f.right.0))
+    whole : T (is_sorted R (f.left.0 ++ (f.key, f.value.value) ∷ f.right.0))
     whole = subst (λ l. T (is_sorted R l)) (sym entries_are) sorted
 
     pub sorted_sides : T (is_sorted R f.left.0) × T (is_sorted R f.right.0)
     sorted_sides = (sides.sorted_left R f.left.0 _ whole, sides.sorted_right R f.left.0 f.right.0 _ whole)
 
     module _ (k : K) where
-      pub found_left : R k f.key.value ≡ Less → value_at R k f.left.0 ≡ value_at R k now.0
+      pub found_left : R k f.key ≡ Less → value_at R k f.left.0 ≡ value_at R k now.0
       found_left lt = sym (sides.find_left R o k f.left.0 f.right.0 _ whole lt) ∙ ap (λ l. value_at R k l) entries_are
 
-      pub found_here : R k f.key.value ≡ Equal → Some f.value.value ≡ value_at R k now.0
+      pub found_here : R k f.key ≡ Equal → Some f.value.value ≡ value_at R k now.0
       found_here eq = sym (sides.find_here R o k f.left.0 f.right.0 _ whole eq) ∙ ap (λ l. value_at R k l) entries_are
 
-      pub found_right : R k f.key.value ≡ Greater → value_at R k f.right.0 ≡ value_at R k now.0
+      pub found_right : R k f.key ≡ Greater → value_at R k f.right.0 ≡ value_at R k now.0
       found_right gt = sym (sides.find_right R o k f.left.0 f.right.0 _ whole gt) ∙ ap (λ l. value_at R k l) entries_are
 
-      pub put_left : (v : V) → R k f.key.value ≡ Less → put R k v f.left.0 ++ (f.key.value, f.value.value) ∷ f.right.0 ≡ put R k v now.0
+      pub put_left : (v : V) → R k f.key ≡ Less → put R k v f.left.0 ++ (f.key, f.value.value) ∷ f.right.0 ≡ put R k v now.0
       put_left v lt = sym (sides.put_left R o k f.left.0 f.right.0 _ whole v lt) ∙ ap (λ l. put R k v l) entries_are
 
-      pub put_here : (v : V) → R k f.key.value ≡ Equal → f.left.0 ++ (f.key.value, v) ∷ f.right.0 ≡ put R k v now.0
+      pub put_here : (v : V) → R k f.key ≡ Equal → f.left.0 ++ (f.key, v) ∷ f.right.0 ≡ put R k v now.0
       put_here v eq = sym (sides.put_here R o k f.left.0 f.right.0 _ whole v eq) ∙ ap (λ l. put R k v l) entries_are
 
-      pub put_right : (v : V) → R k f.key.value ≡ Greater → f.left.0 ++ (f.key.value, f.value.value) ∷ put R k v f.right.0 ≡ put R k v now.0
+      pub put_right : (v : V) → R k f.key ≡ Greater → f.left.0 ++ (f.key, f.value.value) ∷ put R k v f.right.0 ≡ put R k v now.0
       put_right v gt = sym (sides.put_right R o k f.left.0 f.right.0 _ whole v gt) ∙ ap (λ l. put R k v l) entries_are
 
-      pub without_left : R k f.key.value ≡ Less → where_key R (λ x. not (eq_by_cmp R k x)) f.left.0 ++ (f.key.value, f.value.value) ∷ f.right.0 ≡ where_key R (λ x. not (eq_by_cmp R k x)) now.0
+      pub without_left : R k f.key ≡ Less → where_key R (λ x. not (eq_by_cmp R k x)) f.left.0 ++ (f.key, f.value.value) ∷ f.right.0 ≡ where_key R (λ x. not (eq_by_cmp R k x)) now.0
       without_left lt = sym (sides.without_left R o k f.left.0 f.right.0 _ whole lt) ∙ ap (λ l. where_key R (λ x. not (eq_by_cmp R k x)) l) entries_are
 
-      pub without_here : R k f.key.value ≡ Equal → f.left.0 ++ f.right.0 ≡ where_key R (λ x. not (eq_by_cmp R k x)) now.0
+      pub without_here : R k f.key ≡ Equal → f.left.0 ++ f.right.0 ≡ where_key R (λ x. not (eq_by_cmp R k x)) now.0
       without_here eq = sym (sides.without_here R o k f.left.0 f.right.0 _ whole eq) ∙ ap (λ l. where_key R (λ x. not (eq_by_cmp R k x)) l) entries_are
 
-      pub without_right : R k f.key.value ≡ Greater → f.left.0 ++ (f.key.value, f.value.value) ∷ where_key R (λ x. not (eq_by_cmp R k x)) f.right.0 ≡ where_key R (λ x. not (eq_by_cmp R k x)) now.0
+      pub without_right : R k f.key ≡ Greater → f.left.0 ++ (f.key, f.value.value) ∷ where_key R (λ x. not (eq_by_cmp R k x)) f.right.0 ≡ where_key R (λ x. not (eq_by_cmp R k x)) now.0
       without_right gt = sym (sides.without_right R o k f.left.0 f.right.0 _ whole gt) ∙ ap (λ l. where_key R (λ x. not (eq_by_cmp R k x)) l) entries_are
 
-      pub from_left : is_le (R k f.key.value) ≡ true → where_key R (λ x. is_le (R k x)) f.left.0 ++ (f.key.value, f.value.value) ∷ f.right.0 ≡ where_key R (λ x. is_le (R k x)) now.0
-      from_left le = sym (sides.from_left R o k f.left.0 f.right.0 _ whole (R k f.key.value) refl le) ∙ ap (λ l. where_key R (λ x. is_le (R k x)) l) entries_are
+      pub from_left : is_le (R k f.key) ≡ true → where_key R (λ x. is_le (R k x)) f.left.0 ++ (f.key, f.value.value) ∷ f.right.0 ≡ where_key R (λ x. is_le (R k x)) now.0
+      from_left le = sym (sides.from_left R o k f.left.0 f.right.0 _ whole (R k f.key) refl le) ∙ ap (λ l. where_key R (λ x. is_le (R k x)) l) entries_are
 
-      pub from_right : R k f.key.value ≡ Greater → where_key R (λ x. is_le (R k x)) f.right.0 ≡ where_key R (λ x. is_le (R k x)) now.0
+      pub from_right : R k f.key ≡ Greater → where_key R (λ x. is_le (R k x)) f.right.0 ≡ where_key R (λ x. is_le (R k x)) now.0
       from_right gt = sym (sides.from_right R o k f.left.0 f.right.0 _ whole gt) ∙ ap (λ l. where_key R (λ x. is_le (R k x)) l) entries_are
 
 -- a tree with a node at its top has entries

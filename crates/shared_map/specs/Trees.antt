@@ -20,7 +20,7 @@ module _ {K V : Type 0} where
   -- the entries in order, and the height
   abbrev pub seen : Option (Fork K V) → List (K × V) × ℕ
   seen None = ([], 0)
-  seen (Some f) = (f.left.0 ++ (f.key.value, f.value.value) ∷ f.right.0, f.height)
+  seen (Some f) = (f.left.0 ++ (f.key, f.value.value) ∷ f.right.0, f.height)
 
   -- the height is one above the higher side's, and those differ by at most one
   abbrev pub IsBalanced : Option (Fork K V) → Type 0

@@ -7,22 +7,23 @@ ghost use Rattle.std.specs.FinMap.Entries.{find as value_at, put, where_key, is_
 ghost use Rattle.shared_map.specs.Trees.{IsBalanced, IsNear};
 
 use crate::joining::{balanced, joined, with_left, with_right, with_value};
+use crate::key::{MapKey, Sought};
 use crate::tree::{Fork, Tree};
 use ivy_base::Memory;
 use std::alloc::Global;
 use std::cmp::Ordering;
 use std::sync::Arc;
 
-impl<K: Ord + Drop, V: Drop> Tree<K, V> {
+impl<K: MapKey + Drop, V: Drop> Tree<K, V> {
     /// The value under the key.
-    pub fn get(&self, key: &K) -> Option<&Arc<V>>
-        requires { T (is_sorted K.cmp self.now.0) }
-        ensures { option_map (λ v. v.now.value) result ≡ value_at K.cmp key.now self.now.0 }
+    pub fn get<Q: Sought<K>>(&self, key: &Q) -> Option<&Arc<V>>
+        requires { T (is_sorted K.order self.now.0) }
+        ensures { option_map (λ v. v.now.value) result ≡ value_at K.order (Q.key key.now) self.now.0 }
     {
         let Some(at) = self.top() else {
             return None;
         };
-        match key.cmp(&at.key) {
+        match key.compare_with(&at.key) {
             Ordering::Less => at.left.get(key),
             Ordering::Equal => Some(&at.value),
             Ordering::Greater => at.right.get(key),
@@ -31,14 +32,14 @@ impl<K: Ord + Drop, V: Drop> Tree<K, V> {
 
     /// The entries with the value under the key. The error is want of memory.
     pub fn with(&self, alloc: Global, key: K, value: Arc<V>) -> Result<Tree<K, V>, Memory>
-        requires ordered { T (is_sorted K.cmp self.now.0) }
+        requires ordered { T (is_sorted K.order self.now.0) }
         requires few { length self.now.0 + 1 < 2 ^ 64 }
-        ensures { IfOk result (IsNear (put K.cmp key value.value self.now.0) self.now.1) }
+        ensures { IfOk result (IsNear (put K.order key value.value self.now.0) self.now.1) }
     {
         let Some(at) = self.top() else {
             return alone(alloc, key, value);
         };
-        match key.cmp(&at.key) {
+        match key.compare(&at.key) {
             Ordering::Less => {
                 let left = at.left.with(alloc, key, value)?;
                 with_left(alloc, at, left)
@@ -52,15 +53,15 @@ impl<K: Ord + Drop, V: Drop> Tree<K, V> {
     }
 
     /// The entries but the one of that key. The error is want of memory.
-    pub fn without(&self, alloc: Global, key: &K) -> Result<Tree<K, V>, Memory>
-        requires ordered { T (is_sorted K.cmp self.now.0) }
+    pub fn without<Q: Sought<K>>(&self, alloc: Global, key: &Q) -> Result<Tree<K, V>, Memory>
+        requires ordered { T (is_sorted K.order self.now.0) }
         requires few { length self.now.0 < 2 ^ 64 }
-        ensures { IfOk result (IsNear (where_key K.cmp (λ k. not (eq_by_cmp K.cmp key.now k)) self.now.0) self.now.1) }
+        ensures { IfOk result (IsNear (where_key K.order (λ k. not (eq_by_cmp K.order (Q.key key.now) k)) self.now.0) self.now.1) }
     {
         let Some(at) = self.top() else {
             return Ok(Tree::new());
         };
-        match key.cmp(&at.key) {
+        match key.compare_with(&at.key) {
             Ordering::Less => {
                 let left = at.left.without(alloc, key)?;
                 with_left(alloc, at, left)
@@ -74,11 +75,11 @@ impl<K: Ord + Drop, V: Drop> Tree<K, V> {
     }
 }
 
-impl<K: Drop, V: Drop> Tree<K, V> {
+impl<K: MapKey + Drop, V: Drop> Tree<K, V> {
     /// The first entry.
-    pub fn first(&self) -> Option<(&Arc<K>, &Arc<V>)>
+    pub fn first(&self) -> Option<(&K, &Arc<V>)>
         ensures none { IfNone result (self.now ≡ ([], 0)) }
-        ensures some { IfSome result (λ e. self.now.0 ≡ (e.0.now.value, e.1.now.value) ∷ drop 1 self.now.0) }
+        ensures some { IfSome result (λ e. self.now.0 ≡ (e.0.now, e.1.now.value) ∷ drop 1 self.now.0) }
     {
         let Some(at) = self.top() else {
             return None;
@@ -109,12 +110,14 @@ impl<K: Drop, V: Drop> Tree<K, V> {
 fn alone<K: Drop, V: Drop>(alloc: Global, key: K, value: Arc<V>) -> Result<Tree<K, V>, Memory>
     ensures { IfOk result (λ t. t ≡ ((key, value.value) ∷ [], 1)) }
 {
-    let key = Arc::new(alloc, key)?;
     joined(alloc, Tree::new(), key, value, Tree::new())
 }
 
 // The node's entries but its own. The error is want of memory.
-fn without_top<K: Drop, V: Drop>(alloc: Global, at: &Fork<K, V>) -> Result<Tree<K, V>, Memory>
+fn without_top<K: MapKey + Drop, V: Drop>(
+    alloc: Global,
+    at: &Fork<K, V>,
+) -> Result<Tree<K, V>, Memory>
     requires sides { IsBalanced (Some at.now) }
     requires few { length at.now.left.0 + length at.now.right.0 + 1 < 2 ^ 64 }
     ensures { IfOk result (IsNear (at.now.left.0 ++ at.now.right.0) at.now.height) }
@@ -123,5 +126,5 @@ fn without_top<K: Drop, V: Drop>(alloc: Global, at: &Fork<K, V>) -> Result<Tree<
         return at.left.copy();
     };
     let right = at.right.without_first(alloc)?;
-    balanced(alloc, at.left.copy()?, key.clone()?, value.clone()?, right)
+    balanced(alloc, at.left.copy()?, key.share()?, value.clone()?, right)
 }

@@ -3,13 +3,14 @@
 ghost use Rattle.std.specs.Prelude.{◌≡◌, ◌+◌, ◌^◌, ◌<◌, ◌≤◌, max, ◌∷◌, ◌++◌, length, IfOk, Some};
 ghost use Rattle.shared_map.specs.Trees.{IsBalanced, IsLow, IsNear, IsSettled, DifferByAtMost};
 
+use crate::key::MapKey;
 use crate::tree::{Fork, Tree};
 use ivy_base::Memory;
 use std::alloc::Global;
 use std::sync::Arc;
 
 /// The node's entries with others before its own. The error is want of memory.
-pub fn with_left<K: Drop, V: Drop>(
+pub fn with_left<K: MapKey + Drop, V: Drop>(
     alloc: Global,
     at: &Fork<K, V>,
     left: Tree<K, V>,
@@ -17,19 +18,19 @@ pub fn with_left<K: Drop, V: Drop>(
     requires sides { IsBalanced (Some at.now) }
     requires level { DifferByAtMost 1 left.1 at.now.left.1 }
     requires few { length left.0 + length at.now.right.0 + 1 < 2 ^ 64 }
-    ensures { IfOk result (IsNear (left.0 ++ (at.now.key.value, at.now.value.value) ∷ at.now.right.0) at.now.height) }
+    ensures { IfOk result (IsNear (left.0 ++ (at.now.key, at.now.value.value) ∷ at.now.right.0) at.now.height) }
 {
     balanced(
         alloc,
         left,
-        at.key.clone()?,
+        at.key.share()?,
         at.value.clone()?,
         at.right.copy()?,
     )
 }
 
 /// The node's entries with others behind its own. The error is want of memory.
-pub fn with_right<K: Drop, V: Drop>(
+pub fn with_right<K: MapKey + Drop, V: Drop>(
     alloc: Global,
     at: &Fork<K, V>,
     right: Tree<K, V>,
@@ -37,31 +38,31 @@ pub fn with_right<K: Drop, V: Drop>(
     requires sides { IsBalanced (Some at.now) }
     requires level { DifferByAtMost 1 right.1 at.now.right.1 }
     requires few { length at.now.left.0 + length right.0 + 1 < 2 ^ 64 }
-    ensures { IfOk result (IsNear (at.now.left.0 ++ (at.now.key.value, at.now.value.value) ∷ right.0) at.now.height) }
+    ensures { IfOk result (IsNear (at.now.left.0 ++ (at.now.key, at.now.value.value) ∷ right.0) at.now.height) }
 {
     balanced(
         alloc,
         at.left.copy()?,
-        at.key.clone()?,
+        at.key.share()?,
         at.value.clone()?,
         right,
     )
 }
 
 /// The node's entries with another value under its key. The error is want of memory.
-pub fn with_value<K: Drop, V: Drop>(
+pub fn with_value<K: MapKey + Drop, V: Drop>(
     alloc: Global,
     at: &Fork<K, V>,
     value: Arc<V>,
 ) -> Result<Tree<K, V>, Memory>
     requires sides { IsBalanced (Some at.now) }
     requires few { length at.now.left.0 + length at.now.right.0 + 1 < 2 ^ 64 }
-    ensures { IfOk result (IsNear (at.now.left.0 ++ (at.now.key.value, value.value) ∷ at.now.right.0) at.now.height) }
+    ensures { IfOk result (IsNear (at.now.left.0 ++ (at.now.key, value.value) ∷ at.now.right.0) at.now.height) }
 {
     joined(
         alloc,
         at.left.copy()?,
-        at.key.clone()?,
+        at.key.share()?,
         value,
         at.right.copy()?,
     )
@@ -80,13 +81,13 @@ fn height_above<K: Drop, V: Drop>(left: &Tree<K, V>, right: &Tree<K, V>) -> u8
 pub fn joined<K: Drop, V: Drop>(
     alloc: Global,
     left: Tree<K, V>,
-    key: Arc<K>,
+    key: K,
     value: Arc<V>,
     right: Tree<K, V>,
 ) -> Result<Tree<K, V>, Memory>
     requires level { DifferByAtMost 1 left.1 right.1 }
     requires few { length left.0 + length right.0 + 1 < 2 ^ 64 }
-    ensures { IfOk result (λ t. t ≡ (left.0 ++ (key.value, value.value) ∷ right.0, max left.1 right.1 + 1)) }
+    ensures { IfOk result (λ t. t ≡ (left.0 ++ (key, value.value) ∷ right.0, max left.1 right.1 + 1)) }
 {
     let height = height_above(&left, &right);
     let fork = Arc::new(
@@ -103,16 +104,16 @@ pub fn joined<K: Drop, V: Drop>(
 }
 
 /// The entries of two sides whose heights differ by two at most, with one between them. The error is want of memory.
-pub fn balanced<K: Drop, V: Drop>(
+pub fn balanced<K: MapKey + Drop, V: Drop>(
     alloc: Global,
     left: Tree<K, V>,
-    key: Arc<K>,
+    key: K,
     value: Arc<V>,
     right: Tree<K, V>,
 ) -> Result<Tree<K, V>, Memory>
     requires level { DifferByAtMost 2 left.1 right.1 }
     requires few { length left.0 + length right.0 + 1 < 2 ^ 64 }
-    ensures { IfOk result (λ t. (t.0 ≡ left.0 ++ (key.value, value.value) ∷ right.0) × IsSettled left.1 right.1 t.1) }
+    ensures { IfOk result (λ t. (t.0 ≡ left.0 ++ (key, value.value) ∷ right.0) × IsSettled left.1 right.1 t.1) }
 {
     let (on_left, on_right) = (left.height(), right.height());
     if on_left > on_right.saturating_add(1) {
@@ -125,16 +126,16 @@ pub fn balanced<K: Drop, V: Drop>(
 }
 
 // The same, of a left side that is two higher. The error is want of memory.
-fn from_left<K: Drop, V: Drop>(
+fn from_left<K: MapKey + Drop, V: Drop>(
     alloc: Global,
     left: Tree<K, V>,
-    key: Arc<K>,
+    key: K,
     value: Arc<V>,
     right: Tree<K, V>,
 ) -> Result<Tree<K, V>, Memory>
     requires higher { left.1 ≡ right.1 + 2 }
     requires few { length left.0 + length right.0 + 1 < 2 ^ 64 }
-    ensures { IfOk result (λ t. (t.0 ≡ left.0 ++ (key.value, value.value) ∷ right.0) × (left.1 ≤ t.1) × (t.1 ≤ left.1 + 1)) }
+    ensures { IfOk result (λ t. (t.0 ≡ left.0 ++ (key, value.value) ∷ right.0) × (left.1 ≤ t.1) × (t.1 ≤ left.1 + 1)) }
 {
     let Some(at) = left.top() else { unreachable!() };
     if at.left.height() >= at.right.height() {
@@ -142,7 +143,7 @@ fn from_left<K: Drop, V: Drop>(
         return joined(
             alloc,
             at.left.copy()?,
-            at.key.clone()?,
+            at.key.share()?,
             at.value.clone()?,
             right,
         );
@@ -154,24 +155,24 @@ fn from_left<K: Drop, V: Drop>(
     let left = joined(
         alloc,
         at.left.copy()?,
-        at.key.clone()?,
+        at.key.share()?,
         at.value.clone()?,
         inner.left.copy()?,
     )?;
-    joined(alloc, left, inner.key.clone()?, inner.value.clone()?, right)
+    joined(alloc, left, inner.key.share()?, inner.value.clone()?, right)
 }
 
 // The same, of a right side that is two higher. The error is want of memory.
-fn from_right<K: Drop, V: Drop>(
+fn from_right<K: MapKey + Drop, V: Drop>(
     alloc: Global,
     left: Tree<K, V>,
-    key: Arc<K>,
+    key: K,
     value: Arc<V>,
     right: Tree<K, V>,
 ) -> Result<Tree<K, V>, Memory>
     requires higher { right.1 ≡ left.1 + 2 }
     requires few { length left.0 + length right.0 + 1 < 2 ^ 64 }
-    ensures { IfOk result (λ t. (t.0 ≡ left.0 ++ (key.value, value.value) ∷ right.0) × (right.1 ≤ t.1) × (t.1 ≤ right.1 + 1)) }
+    ensures { IfOk result (λ t. (t.0 ≡ left.0 ++ (key, value.value) ∷ right.0) × (right.1 ≤ t.1) × (t.1 ≤ right.1 + 1)) }
 {
     let Some(at) = right.top() else {
         unreachable!()
@@ -181,7 +182,7 @@ fn from_right<K: Drop, V: Drop>(
         return joined(
             alloc,
             left,
-            at.key.clone()?,
+            at.key.share()?,
             at.value.clone()?,
             at.right.copy()?,
         );
@@ -193,9 +194,9 @@ fn from_right<K: Drop, V: Drop>(
     let right = joined(
         alloc,
         inner.right.copy()?,
-        at.key.clone()?,
+        at.key.share()?,
         at.value.clone()?,
         at.right.copy()?,
     )?;
-    joined(alloc, left, inner.key.clone()?, inner.value.clone()?, right)
+    joined(alloc, left, inner.key.share()?, inner.value.clone()?, right)
 }

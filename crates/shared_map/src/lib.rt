@@ -1,14 +1,16 @@
 //! An ordered map whose copies share what they have in common, so that a copy costs no more than a pointer.
 //!
-//! Layer: over `ivy_base`, of which it takes the error alone; below whatever keeps maps of which older states live on.
-//! For the layers above: contracts see a [`SharedMap`] as the list of its entries in the order of their keys, which is the
-//! order of the kit's `BTreeMap` at the same key, and each method says by the words of the kit's finite maps (`find`, `put`,
-//! `where_key` of `FinMap.Entries`) what it makes of that list; [`SharedMap::len`] and [`SharedMap::get`] say that its keys
-//! ascend. Where memory is short a map stays as it was. Lemmas to cite: `proofs/Sides`, what a search, a change and a
-//! removal make of entries on both sides of one, over any total order.
+//! Layer: over `ivy_base`, of which it takes the error and the keys; below whatever keeps maps of which older states live on.
+//! For the layers above: contracts see a [`SharedMap`] as the list of its entries in the order of their keys, and each method
+//! says by the words of the kit's finite maps (`find`, `put`, `where_key` of `FinMap.Entries`) what it makes of that list;
+//! [`SharedMap::len`] and [`SharedMap::get`] say that its keys ascend. Where memory is short a map stays as it was. A
+//! [`MapKey`] has a total order and gives an equal key, since a node that is made anew keeps its key; what is [`Sought`] is
+//! a key or a borrowed form of one; an [`EntryTest`] is a test of entries. Lemmas to cite: `proofs/Sides`, what a search, a
+//! change and a removal make of entries on both sides of one, over any total order.
 //!
 //! Inside, `tree` is a tree whose parts have many owners and are never changed, `joining` puts trees together so that they
-//! stay balanced, `finding` goes down to a key, `listing` borrows entries in a row, and `map` keeps the keys in order.
+//! stay balanced, `finding` goes down to a key, `listing` borrows entries in a row, `testing` looks at each entry, `key` says
+//! what a key is, and `map` keeps the keys in order.
 //! Definitions: `specs/Trees.antt`. Heights are part of the invariant: the two sides of each node differ by one at most, and
 //! the height is at most one above twice the binary logarithm of the number of entries and one, whatever the order of
 //! insertions and removals, so at most 129.
@@ -21,8 +23,12 @@
 
 mod finding;
 mod joining;
+mod key;
 mod listing;
 mod map;
+mod testing;
 mod tree;
 
+pub use key::{MapKey, Sought};
 pub use map::SharedMap;
+pub use testing::EntryTest;

@@ -4,9 +4,9 @@ ghost use Rattle.std.specs.Prelude.{◌≡◌, ◌≤◌, [], ◌∷◌, ◌++�
 ghost use Rattle.std.specs.Ordering.{is_le};
 ghost use Rattle.std.specs.FinMap.Entries.{where_key, is_sorted};
 
+use crate::key::{MapKey, Sought};
 use crate::tree::{Fork, Tree};
 use ivy_base::Memory;
-use std::cmp::Ordering;
 
 impl<K: Drop, V: Drop> Tree<K, V> {
     /// Puts the entries at the end of the list, as far as it then has so many at most. The error is want of memory.
@@ -23,22 +23,22 @@ impl<K: Drop, V: Drop> Tree<K, V> {
     }
 }
 
-impl<K: Ord + Drop, V: Drop> Tree<K, V> {
+impl<K: MapKey + Drop, V: Drop> Tree<K, V> {
     /// The same with the entries from a key on alone. The error is want of memory.
-    pub fn list_from<'a>(
+    pub fn list_from<'a, Q: Sought<K>>(
         &'a self,
-        key: &K,
+        key: &Q,
         most: usize,
         list: &mut Vec<(&'a K, &'a V)>,
     ) -> Result<(), Memory>
-        requires ordered { T (is_sorted K.cmp self.now.0) }
+        requires ordered { T (is_sorted K.order self.now.0) }
         requires few { length list.old.items ≤ most }
-        ensures { OnOk result (map {B = K × V} (λ e. (e.0.now, e.1.now)) list.new.items ≡ take most (map {B = K × V} (λ e. (e.0.now, e.1.now)) list.old.items ++ where_key K.cmp (λ k. is_le (K.cmp key.now k)) self.now.0)) }
+        ensures { OnOk result (map {B = K × V} (λ e. (e.0.now, e.1.now)) list.new.items ≡ take most (map {B = K × V} (λ e. (e.0.now, e.1.now)) list.old.items ++ where_key K.order (λ k. is_le (K.order (Q.key key.now) k)) self.now.0)) }
     {
         let Some(at) = self.top() else {
             return Ok(());
         };
-        if key.cmp(&at.key).is_gt() {
+        if key.compare_with(&at.key).is_gt() {
             return at.right.list_from(key, most, list);
         }
         at.left.list_from(key, most, list)?;
@@ -54,10 +54,10 @@ fn list_one<'a, K: Drop, V: Drop>(
     list: &mut Vec<(&'a K, &'a V)>,
 ) -> Result<(), Memory>
     requires { length list.old.items ≤ most }
-    ensures { OnOk result (map {B = K × V} (λ e. (e.0.now, e.1.now)) list.new.items ≡ take most (map {B = K × V} (λ e. (e.0.now, e.1.now)) list.old.items ++ (at.now.key.value, at.now.value.value) ∷ [])) }
+    ensures { OnOk result (map {B = K × V} (λ e. (e.0.now, e.1.now)) list.new.items ≡ take most (map {B = K × V} (λ e. (e.0.now, e.1.now)) list.old.items ++ (at.now.key, at.now.value.value) ∷ [])) }
 {
     if list.len() < most {
-        list.push((&*at.key, &*at.value))?;
+        list.push((&at.key, &*at.value))?;
     }
     Ok(())
 }

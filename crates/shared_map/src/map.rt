@@ -1,10 +1,13 @@
 //! The map.
 
 ghost use Rattle.std.specs.Prelude.{◌≡◌, ◌↔◌, [], T, IsTrue, length, map, take, not, IfOk, OnOk, OnErr};
+ghost use Rattle.std.specs.List.{list_any};
 ghost use Rattle.std.specs.Option.{option_copied, option_map};
 ghost use Rattle.std.specs.Ordering.{eq_by_cmp, is_le};
 ghost use Rattle.std.specs.FinMap.Entries.{find as value_at, put, where_key, is_sorted};
 
+use crate::key::{MapKey, Sought};
+use crate::testing::EntryTest;
 use crate::tree::Tree;
 use ivy_base::Memory;
 use std::alloc::Global;
@@ -16,12 +19,12 @@ use std::sync::Arc;
 ///
 /// Contracts see the list of its entries, in the order of their keys.
 #[derive(Drop)]
-pub struct SharedMap<K: Ord, V> {
+pub struct SharedMap<K: MapKey, V> {
     tree: Tree<K, V>,
     count: usize,
 }
 
-impl<K: Ord, V> Model for SharedMap<K, V> {
+impl<K: MapKey, V> Model for SharedMap<K, V> {
     ghost use Rattle.std.specs.Prelude.{◌≡◌, List, T, length};
     ghost use Rattle.std.specs.FinMap.Entries.{is_sorted};
 
@@ -29,10 +32,10 @@ impl<K: Ord, V> Model for SharedMap<K, V> {
 
     ghost view = { λ m. m.tree.0 };
 
-    ghost invariant = { λ m. T (is_sorted K.cmp m.tree.0) × (m.count ≡ length m.tree.0) };
+    ghost invariant = { λ m. T (is_sorted K.order m.tree.0) × (m.count ≡ length m.tree.0) };
 }
 
-impl<K: Ord + Drop, V: Drop> SharedMap<K, V> {
+impl<K: MapKey + Drop, V: Drop> SharedMap<K, V> {
     /// An empty map.
     pub fn new() -> SharedMap<K, V>
         ensures { result ≡ [] }
@@ -46,7 +49,7 @@ impl<K: Ord + Drop, V: Drop> SharedMap<K, V> {
     /// How many entries there are.
     pub fn len(&self) -> usize
         ensures count { result ≡ length self.now }
-        ensures ordered { T (is_sorted K.cmp self.now) }
+        ensures ordered { T (is_sorted K.order self.now) }
     {
         self.count
     }
@@ -59,9 +62,9 @@ impl<K: Ord + Drop, V: Drop> SharedMap<K, V> {
     }
 
     /// The value under the key.
-    pub fn get(&self, key: &K) -> Option<&V>
-        ensures value { option_copied result ≡ value_at K.cmp key.now self.now }
-        ensures ordered { T (is_sorted K.cmp self.now) }
+    pub fn get<Q: Sought<K>>(&self, key: &Q) -> Option<&V>
+        ensures value { option_copied result ≡ value_at K.order (Q.key key.now) self.now }
+        ensures ordered { T (is_sorted K.order self.now) }
     {
         match self.tree.get(key) {
             None => None,
@@ -83,8 +86,8 @@ impl<K: Ord + Drop, V: Drop> SharedMap<K, V> {
     /// Lets the key stand for the value, and answers the value that it stood for. A key that is equal to one of the map
     /// leaves that in its place. The error is want of memory, and then nothing has changed.
     pub fn insert(&mut self, alloc: Global, key: K, value: V) -> Result<Option<Arc<V>>, Memory>
-        ensures old { IfOk result (λ old. option_map (λ v. v.value) old ≡ value_at K.cmp key self.old) }
-        ensures ok { OnOk result (self.new ≡ put K.cmp key value self.old) }
+        ensures old { IfOk result (λ old. option_map (λ v. v.value) old ≡ value_at K.order key self.old) }
+        ensures ok { OnOk result (self.new ≡ put K.order key value self.old) }
         ensures err { OnErr result (self.new ≡ self.old) }
     {
         if self.count == usize::MAX {
@@ -101,9 +104,9 @@ impl<K: Ord + Drop, V: Drop> SharedMap<K, V> {
 
     /// Takes the key out, and answers the value that it stood for. The error is want of memory, and then nothing has
     /// changed; a key that isn't there takes none.
-    pub fn remove(&mut self, alloc: Global, key: &K) -> Result<Option<Arc<V>>, Memory>
-        ensures old { IfOk result (λ old. option_map (λ v. v.value) old ≡ value_at K.cmp key.now self.old) }
-        ensures ok { OnOk result (self.new ≡ where_key K.cmp (λ k. not (eq_by_cmp K.cmp key.now k)) self.old) }
+    pub fn remove<Q: Sought<K>>(&mut self, alloc: Global, key: &Q) -> Result<Option<Arc<V>>, Memory>
+        ensures old { IfOk result (λ old. option_map (λ v. v.value) old ≡ value_at K.order (Q.key key.now) self.old) }
+        ensures ok { OnOk result (self.new ≡ where_key K.order (λ k. not (eq_by_cmp K.order (Q.key key.now) k)) self.old) }
         ensures err { OnErr result (self.new ≡ self.old) }
     {
         let Some(old) = self.shared(key)? else {
@@ -112,6 +115,13 @@ impl<K: Ord + Drop, V: Drop> SharedMap<K, V> {
         self.tree = self.tree.without(alloc, key)?;
         self.count -= 1;
         Ok(Some(old))
+    }
+
+    /// Whether an entry passes the test.
+    pub fn any<P: EntryTest<K, V>>(&self, test: &P) -> bool
+        ensures { result ≡ list_any (P.passes test.now) self.now }
+    {
+        self.tree.any(test)
     }
 
     /// All entries, in the keys' order. The error is want of memory.
@@ -125,13 +135,13 @@ impl<K: Ord + Drop, V: Drop> SharedMap<K, V> {
 
     /// The first entries, so many at most, of those whose keys are not below the one given, in the keys' order. The
     /// error is want of memory.
-    pub fn entries_from<'a>(
+    pub fn entries_from<'a, Q: Sought<K>>(
         &'a self,
         alloc: Global,
-        key: &K,
+        key: &Q,
         most: usize,
     ) -> Result<Vec<(&'a K, &'a V)>, Memory>
-        ensures { IfOk result (λ list. map {B = K × V} (λ e. (e.0.now, e.1.now)) list.items ≡ take most (where_key K.cmp (λ k. is_le (K.cmp key.now k)) self.now)) }
+        ensures { IfOk result (λ list. map {B = K × V} (λ e. (e.0.now, e.1.now)) list.items ≡ take most (where_key K.order (λ k. is_le (K.order (Q.key key.now) k)) self.now)) }
     {
         let mut list = Vec::new(alloc);
         self.tree.list_from(key, most, &mut list)?;
@@ -139,8 +149,8 @@ impl<K: Ord + Drop, V: Drop> SharedMap<K, V> {
     }
 
     // The value under the key, with one owner more.
-    fn shared(&self, key: &K) -> Result<Option<Arc<V>>, Memory>
-        ensures { IfOk result (λ value. option_map (λ v. v.value) value ≡ value_at K.cmp key.now self.now) }
+    fn shared<Q: Sought<K>>(&self, key: &Q) -> Result<Option<Arc<V>>, Memory>
+        ensures { IfOk result (λ value. option_map (λ v. v.value) value ≡ value_at K.order (Q.key key.now) self.now) }
     {
         match self.tree.get(key) {
             None => Ok(None),

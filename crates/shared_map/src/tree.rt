@@ -21,7 +21,7 @@ pub struct Tree<K, V> {
 #[derive(Drop)]
 pub struct Fork<K, V> {
     pub left: Tree<K, V>,
-    pub key: Arc<K>,
+    pub key: K,
     pub value: Arc<V>,
     pub height: u8,
     pub right: Tree<K, V>,

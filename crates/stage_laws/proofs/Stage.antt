@@ -21,9 +21,9 @@ use Rattle.stage_laws.specs.Laws.{LongLinesStop, OthersAreSteps, StageBegins, St
 
 -- ---- which lines they are
 
--- what a line asks for is neither of the two
+-- what a line asks for is no snapshot
 abbrev pub IsOther : Option Command → Type 0
-IsOther o = (log : List ℕ) → (o ≢ Some (command.Snap log)) × (o ≢ Some (command.Restart log))
+IsOther o = (log : List ℕ) → o ≢ Some (command.Snap log)
 
 -- it is one that the stage takes as it is
 pub record IsTakenSo (w : World) (o : Option Command) : Type 0 where
@@ -33,13 +33,11 @@ pub record IsTakenSo (w : World) (o : Option Command) : Type 0 where
 
 pub taken_or_none : (w : World) (o : Option Command) → IsTakenSo w o ⊎ (stage_command o ≡ None)
 taken_or_none w (Some (command.Snap log)) = inr refl
-taken_or_none w (Some (command.Restart log)) = inr refl
-taken_or_none w None = inl (record { same = refl; other = λ log. (λ e. cc e, λ e. cc e); can = tt })
-taken_or_none w (Some c) = inl (record { same = refl; other = λ log. (λ e. cc e, λ e. cc e); can = tt })
+taken_or_none w None = inl (record { same = refl; other = λ log e. cc e; can = tt })
+taken_or_none w (Some c) = inl (record { same = refl; other = λ log e. cc e; can = tt })
 
 pub same_of_other : (o : Option Command) → IsOther o → stage_command o ≡ o
-same_of_other (Some (command.Snap log)) other = absurd ((other log).0 refl)
-same_of_other (Some (command.Restart log)) other = absurd ((other log).1 refl)
+same_of_other (Some (command.Snap log)) other = absurd (other log refl)
 same_of_other o other = refl
 
 pub others_are_steps : OthersAreSteps
@@ -65,7 +63,7 @@ what_goes_is_a_step w next line output step = ⊎_elim by_same by_none (taken_or
 pub stage_keeps : StageKeeps
 stage_keeps w next line output keeps step =
     let goes = what_goes_is_a_step w next line output step in
-    (each_line_keeps w next line output keeps.0 goes.1, no_snapshot_comes w next line output keeps.0 keeps.1 (λ log. (goes.0 log).0) goes.1)
+    (each_line_keeps w next line output keeps.0 goes.1, no_snapshot_comes w next line output keeps.0 keeps.1 goes.0 goes.1)
 
 pub stage_begins : StageBegins
 stage_begins = (empty_keeps, record { kept = tt; agents = tt })

@@ -28,15 +28,15 @@ LongLinesStop = (w next : Played) (line output : List ℕ) → line_limit < leng
 
 -- ---- the step of all lines
 
--- A line that is neither of the two does what it does there, and nothing else.
+-- A line that makes no snapshot does what it does there, and nothing else.
 abbrev pub OthersAreSteps : Type 0
 OthersAreSteps = (w : Played) (line : List ℕ) (outcome : Outcome Played) → IsOfStage line → StageStep w line outcome ↔ IvyStep w line outcome
 
--- So the runs of a script without the two are its runs there.
+-- So the runs of a script of such lines are its runs there.
 abbrev pub RunsAreRuns : Type 0
 RunsAreRuns = (w : Played) (number : ℕ) (lines : List (List ℕ)) (ran : Ran) → AllByRecursion (λ line. IsOfStage (shown line)) lines → Runs StageStep w number lines ran ↔ Runs IvyStep w number lines ran
 
--- A line that goes on is neither of the two.
+-- A line that goes on makes no snapshot.
 abbrev pub WhatGoesIsAStep : Type 0
 WhatGoesIsAStep = (w next : Played) (line output : List ℕ) → StageStep w line (Goes next output) → IsOfStage line × IvyStep w line (Goes next output)
 

@@ -1,4 +1,4 @@
--- The step of this stage: what a line may do where those that make a snapshot, or start an agent again, are refused.
+-- The step of this stage: what a line may do where one that makes a snapshot is refused.
 use Rattle.std.specs.Prelude.{◌≢◌, ℕ, List, Option, Some, None}
 use Rattle.script_driver.specs.Run.{Outcome}
 use Rattle.script_model.specs.declared.command.Command.{Command}
@@ -8,19 +8,18 @@ use Rattle.world_model.specs.Logs.{Played}
 use Rattle.world_model.specs.Step.{MayDoFirst}
 use Rattle.world_laws.specs.Keeps.{HasNoSnapshot, Keeps}
 
--- the command that a line is for now: those two are none
+-- the command that a line is for now: that one is none
 abbrev pub stage_command : Option Command → Option Command
 stage_command (Some (command.Snap log)) = None
-stage_command (Some (command.Restart log)) = None
 stage_command c = c
 
 -- what a line may do
 abbrev pub StageStep : Played → List ℕ → Outcome Played → Type 0
 StageStep w line outcome = MayDoFirst w (stage_command (command_of line)) outcome
 
--- the line makes no snapshot, and starts no agent again
+-- the line makes no snapshot
 abbrev pub IsOfStage : List ℕ → Type 0
-IsOfStage line = (log : List ℕ) → (command_of line ≢ Some (command.Snap log)) × (command_of line ≢ Some (command.Restart log))
+IsOfStage line = (log : List ℕ) → command_of line ≢ Some (command.Snap log)
 
 -- a world that keeps what it should, without a snapshot
 abbrev pub KeepsAll : Played → Type 0

@@ -1,5 +1,6 @@
 //! What holds of the step of this stage.
 
+ghost use Rattle.stage_laws.specs.FullRuns.{StageRunsFully, StageRunsTell};
 ghost use Rattle.stage_laws.specs.Laws.{
   LongLinesStop,
   OthersAreSteps,
@@ -21,8 +22,8 @@ pub fn stage_lines_keep()
     ensures stops { LongLinesStop }
 {}
 
-/// Laws and no code: a line that makes no snapshot and starts no agent again does what it may do by the step of all lines, and
-/// nothing else, so a script of such lines has the same runs by both; and a line that goes on is such a line.
+/// Laws and no code: a line that makes no snapshot does what it may do by the step of all lines, and nothing else, so a script of
+/// such lines has the same runs by both; and a line that goes on is such a line.
 pub fn other_lines_are_steps()
     ensures lines { OthersAreSteps }
     ensures runs { RunsAreRuns }
@@ -33,4 +34,11 @@ pub fn other_lines_are_steps()
 pub fn stage_has_headline()
     ensures lines { StageHasHeadline }
     ensures runs { StageRepliesAreOnReplay }
+{}
+
+/// Laws and no code: each script has exactly one run by this step in which memory is always there and names tell apart what was met,
+/// or names clash on the way; and any other run comes to a line where memory was wanting for a call, or names clash.
+pub fn stage_runs_fully()
+    ensures fully { StageRunsFully }
+    ensures tell { StageRunsTell }
 {}

@@ -51,7 +51,7 @@ use Rattle.world_laws.proofs.SessionLinesSteps.{runs_lead}
 use Rattle.world_laws.proofs.ShownReplies.{cause_shows, lack_shown}
 
 -- where the line goes on, memory was there and names tell apart, or names clash
-abbrev IsFull : Played → List ℕ → Outcome Played → Type 0
+abbrev pub IsFull : Played → List ℕ → Outcome Played → Type 0
 IsFull w line outcome = HadMemory w line outcome ⊎ Clashes outcome
 
 -- there is such an outcome
@@ -92,7 +92,7 @@ module _ (r : ℕ) (c end : Scene) (well : GoesWell r c) (runs : RunsOut hss_jud
       by (Some said) over some cause = record { said = said; over = over; shown = λ before xid rest e. lacking before said over cause xid rest e }
 
 -- a session that is over stays
-over_stays : {r : ℕ} {name : List ℕ} {count : ℕ} {c next : Scene} → StepsOn hss_judged r name count c next → (o : Option Said) → c.session.stage ≡ Over o → next.session ≡ c.session
+pub over_stays : {r : ℕ} {name : List ℕ} {count : ℕ} {c next : Scene} → StepsOn hss_judged r name count c next → (o : Option Said) → c.session.stage ≡ Over o → next.session ≡ c.session
 over_stays steps_none o over = refl
 over_stays (steps_over said at) o over = refl
 over_stays {r = r} (steps_more step rest) o over = absurd (over_steps r step o over)
@@ -100,11 +100,11 @@ over_stays {r = r} (steps_more step rest) o over = absurd (over_steps r step o o
 -- ---- lines
 
 -- nothing is shown
-no_text : (xid : ℕ) (rest : List ℕ) → [] ≡ reply_line (reply xid SystemError) ++ rest → ⊥
+pub no_text : (xid : ℕ) (rest : List ℕ) → [] ≡ reply_line (reply xid SystemError) ++ rest → ⊥
 no_text xid rest e = cc e
 
 -- a line that goes on, with memory there
-full : (w : Played) (line : List ℕ) (next : Played) (output : List ℕ) → HasMemoryIn w.0 next.0 line output → IsFull w line (Goes next output)
+pub full : (w : Played) (line : List ℕ) (next : Played) (output : List ℕ) → HasMemoryIn w.0 next.0 line output → IsFull w line (Goes next output)
 full w line next output memory = elim (clash_is_decided (named_bytes next.0)) [
   | inl apart ↦ inl (memory, apart)
   | inr clash ↦ inr clash
@@ -116,18 +116,36 @@ full_or w line next output (inl memory) = full w line next output memory
 full_or w line next output (inr clash) = inr clash
 
 -- the sessions of a world that are as they were
-abbrev AreAsBefore : World → List NamedSession → Type 0
+abbrev pub AreAsBefore : World → List NamedSession → Type 0
 AreAsBefore w ss = AllByRecursion (λ s. (xid : ℕ) → s.session.stage ≡ Over (Some (said_no_memory xid)) → Contains w.sessions s) ss
 
-as_before : (w : World) (ss : List NamedSession) → ((s : NamedSession) → Contains ss s → Contains w.sessions s) → AreAsBefore w ss
+pub as_before : (w : World) (ss : List NamedSession) → ((s : NamedSession) → Contains ss s → Contains w.sessions s) → AreAsBefore w ss
 as_before w ss h = each_from (λ s. (xid : ℕ) → s.session.stage ≡ Over (Some (said_no_memory xid)) → Contains w.sessions s) ss (λ s c xid over. h s c)
 
-replied_sessions : (w : World) (said : Said) → (replied w said).sessions ≡ w.sessions
+pub replied_sessions : (w : World) (said : Said) → (replied w said).sessions ≡ w.sessions
 replied_sessions w said = by (is_some said.message)
   where
     by : (t : Bool) → (cond t (record w { replies = w.replies ++ record { handle = said.handle; verifier = said.verifier } ∷ [] }) w).sessions ≡ w.sessions
     by true = refl
     by false = refl
+
+-- an open session in its place
+module _ (w : World) (name : List ℕ) where
+  -- it stands among the open ones
+  pub it_stands : (s : Session) → session_named w name ≡ Some s → Contains w.sessions (record { name = name; session = s })
+  it_stands s is =
+      let x = found_session w.sessions name s is in
+      let same : x.0 ≡ record { name = name; session = s } = (λ i. record { name = x.2 i; session = x.3 i }) in
+      subst (Contains w.sessions) same x.1
+
+  pub put_before : (t : Session) (xs : List NamedSession) → ((xid : ℕ) → t.stage ≡ Over (Some (said_no_memory xid)) → Contains w.sessions (record { name = name; session = t })) → AreAsBefore w xs
+      → AreAsBefore w (map (λ (x : NamedSession). cond (bytes_eq x.name name) (record { name = name; session = t }) x) xs)
+  put_before t [] mine all = tt
+  put_before t (x ∷ xs) mine all = (by (bytes_eq x.name name), put_before t xs mine all.1)
+    where
+      by : (b : Bool) → (xid : ℕ) → (cond b (record { name = name; session = t }) x).session.stage ≡ Over (Some (said_no_memory xid)) → Contains w.sessions (cond b (record { name = name; session = t }) x)
+      by true = mine
+      by false = all.0
 
 module _ (w : Played) (line : List ℕ) (keeps : Keeps w) (room : HaveRoom w.0) (bytes : HasBytes w.0) where
   room_of : (name : List ℕ) (p : Participant) → participant w.0 name ≡ Some p → HasRoom p.agent
@@ -188,22 +206,6 @@ module _ (w : Played) (line : List ℕ) (keeps : Keeps w) (room : HaveRoom w.0) 
     here_runs : RunsWell r (open_scene w name s)
     here_runs = scene_runs r (open_scene w name s) here_well (named_session_bytes w keeps bytes name s is) (λ p is_p. room_of s.by p is_p)
 
-    -- it stands among the open ones
-    it_stands : Contains w.0.sessions (record { name = name; session = s })
-    it_stands =
-        let x = found_session w.0.sessions name s is in
-        let same : x.0 ≡ record { name = name; session = s } = (λ i. record { name = x.2 i; session = x.3 i }) in
-        subst (Contains w.0.sessions) same x.1
-
-    put_before : (t : Session) (xs : List NamedSession) → ((xid : ℕ) → t.stage ≡ Over (Some (said_no_memory xid)) → Contains w.0.sessions (record { name = name; session = t })) → AreAsBefore w.0 xs
-        → AreAsBefore w.0 (map (λ (x : NamedSession). cond (bytes_eq x.name name) (record { name = name; session = t }) x) xs)
-    put_before t [] mine all = tt
-    put_before t (x ∷ xs) mine all = (by (bytes_eq x.name name), put_before t xs mine all.1)
-      where
-        by : (b : Bool) → (xid : ℕ) → (cond b (record { name = name; session = t }) x).session.stage ≡ Over (Some (said_no_memory xid)) → Contains w.0.sessions (cond b (record { name = name; session = t }) x)
-        by true = mine
-        by false = all.0
-
     steps_full : (count : ℕ) → is_step_count count ≡ true → HasFull w line (StepLine hss_judged w name count (Some s))
     steps_full count counts =
         let to = scene_steps r count (open_scene w name s) here_runs in
@@ -213,7 +215,7 @@ module _ (w : Played) (line : List ℕ) (keeps : Keeps w) (room : HaveRoom w.0) 
           full_or w line next [] (elim to.2 [
             | inl before ↦ inl (record {
               shown = λ xid rest e. absurd (no_text xid rest e);
-              sessions = put_before to.0.session to.0.world.sessions (λ xid over. subst (λ (u : Session). Contains w.0.sessions (record { name = name; session = u })) (sym (over_stays to.1 (Some (said_no_memory xid)) (before xid over))) it_stands)
+              sessions = put_before w.0 name to.0.session to.0.world.sessions (λ xid over. subst (λ (u : Session). Contains w.0.sessions (record { name = name; session = u })) (sym (over_stays to.1 (Some (said_no_memory xid)) (before xid over))) (it_stands w.0 name s is))
                   (as_before w.0 to.0.world.sessions (λ x c. subst (λ (ss : List NamedSession). Contains ss x) (steps_same to.1).1 c));
             })
             | inr clash ↦ inr clash
@@ -228,7 +230,7 @@ module _ (w : Played) (line : List ℕ) (keeps : Keeps w) (room : HaveRoom w.0) 
           ends s r here_runs.0 end.said ringed here_runs.1 end.over,
           full_or w line next (shown_end here_runs.0.session end.said) (elim here_runs.2 [
             | inl before ↦ inl (record {
-              shown = λ xid rest e. (record { name = name; session = s }, it_stands, is_finish, end.shown before xid rest e);
+              shown = λ xid rest e. (record { name = name; session = s }, it_stands w.0 name s is, is_finish, end.shown before xid rest e);
               sessions = as_before w.0 (replied (without_session here_runs.0.world name) end.said).sessions (λ x c.
                   let left = subst (λ (ss : List NamedSession). Contains ss x) (replied_sessions (without_session here_runs.0.world name) end.said) c in
                   subst (λ (ss : List NamedSession). Contains ss x) (runs_same here_runs.1).1 (from_filter _ here_runs.0.world.sessions x left).0);

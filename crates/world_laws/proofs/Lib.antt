@@ -121,14 +121,15 @@ pub mod FullTurns
 pub mod FullSessions
 pub mod TurnsExisting
 pub mod FullEnds
-mod Rooms
+pub mod Rooms
 mod PieceBytes
 mod GivenBytes
-mod ShownReplies
+pub mod ShownReplies
 mod BytesSteps
 mod QuietLines
 mod CallScenes
-mod BytesLines
+pub mod BytesLines
 mod FullScenes
-mod FullLines
-mod FullScripts
+pub mod FullLines
+pub mod FullScripts
+pub mod MemoryDecided

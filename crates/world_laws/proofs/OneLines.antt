@@ -282,6 +282,10 @@ module _ (w : Played) (line : List ℕ) (keeps : Keeps w) where
   outcomes_alike Exceeds Refuses same does doing m n = absurd (refused_or_limited (sym same))
   outcomes_alike Exceeds Exceeds same does doing m n = refl
 
+-- the outcomes of a line in which memory was there are one
+pub lines_alike : (w : Played) (line : List ℕ) → Keeps w → (first second : Outcome Played) → IvyStep w line first → IvyStep w line second → HadMemory w line first → HadMemory w line second → first ≡ second
+lines_alike w line keeps first second a b = outcomes_alike w line keeps first second (line_has_one_kind w line first a ∙ sym (line_has_one_kind w line second b)) a b
+
 pub full_runs_are_one : FullRunsAreOne
 full_runs_are_one = single_run_kept Keeps (WithLaw IvyStep HadMemory) (λ w next line output keeps step. each_line_keeps w next line output keeps step.0)
-    (λ w line first second keeps a b. outcomes_alike w line keeps first second (line_has_one_kind w line first a.0 ∙ sym (line_has_one_kind w line second b.0)) a.0 b.0 a.1 b.1)
+    (λ w line first second keeps a b. lines_alike w line keeps first second a.0 b.0 a.1 b.1)

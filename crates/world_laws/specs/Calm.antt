@@ -1,6 +1,6 @@
--- Scripts whose ring changes little, and what they may rely on: what was put stays (CFS, SOSP 2001, section 5.1). Of calm scripts it is proved that the ring stays; of those
--- with the same ring, that what was acknowledged is held and given. The other laws are stated alone.
-use Rattle.std.specs.Prelude.{◌≡◌, ◌≢◌, if◌then◌else◌, ℕ, ◌+◌, ◌<◌, ◌≤◌, true, false, List, [], ◌∷◌, ◌++◌, length, is_some, IfSome, ◌↔◌, Contains, Option, Some, None, Result, Ok}
+-- Scripts whose ring changes little, and what they may rely on: what was put stays (CFS, SOSP 2001, section 5.1). Of calm scripts it is proved that the ring stays, and of those
+-- with the same ring, that what was acknowledged is held and given. That this is so with any lines is proved in `durability_laws`.
+use Rattle.std.specs.Prelude.{◌≡◌, if◌then◌else◌, ℕ, ◌+◌, ◌<◌, ◌≤◌, true, false, List, [], ◌∷◌, ◌++◌, length, IfSome, Contains, Option, Some, Result, Ok}
 use Rattle.std.specs.List.{AllByRecursion}
 use Rattle.std.specs.Option.{option_map_or}
 use Rattle.ivy_base.specs.declared.key.Key.{Key}
@@ -24,22 +24,14 @@ use Rattle.script_model.specs.declared.command.Command.{Command}
 use Rattle.script_model.specs.declared.command.Command.TheVariants as command
 use Rattle.script_model.specs.declared.command.NodeWord.{NodeWord}
 use Rattle.script_model.specs.Lines.{command_of}
-use Rattle.script_model.specs.declared.command.Piece.{Piece}
 use Rattle.log_model.specs.Spelling.{IsMoment}
-use Rattle.log_model.specs.Closed.{log_of}
-use Rattle.log_model.specs.Record.{Record}
-use Rattle.log_model.specs.View.{View}
 use Rattle.agent_model.specs.Agent.{is_head}
 use Rattle.world_model.specs.Agents.{own}
-use Rattle.session_model.specs.Sessions.{Said, Session}
-use Rattle.world_model.specs.Calls.{shown_end}
-use Rattle.world_model.specs.Rounds.{IsRoundOf}
-use Rattle.world_model.specs.World.{World, Participant, empty_world, entries, participant, named_bytes, view_named}
-use Rattle.world_model.specs.Story.{HadTurn, empty_story, known_of}
+use Rattle.world_model.specs.World.{World, Participant, empty_world, entries, named_bytes}
+use Rattle.world_model.specs.Story.{empty_story}
 use Rattle.world_model.specs.Logs.{Played}
 use Rattle.round_laws.specs.Holding.{rank_in as rank_by}
-use Rattle.round_laws.specs.RingOf.{IsCoveredIn, IsSettledIn, lives_in}
-use Rattle.world_laws.specs.Headline.{IsOnReplay}
+use Rattle.round_laws.specs.RingOf.{IsCoveredIn, IsSettledIn}
 use Rattle.world_model.specs.Fates.{Fates, asking}
 use Rattle.world_model.specs.Ring.{RingLine, live_in_order}
 use Rattle.world_model.specs.Step.{IvyStep}
@@ -124,39 +116,3 @@ abbrev pub HeadsAreGiven : (List (List ℕ) → Type 0) → Type 0
 HeadsAreGiven AreSo = (r : ℕ) (w : Played) (next : World) (count : ℕ) (lines : List (List ℕ)) (p : Post) (looks asks : Told) (came : Result (List Judged) Miss) → AreSo lines → IsCalmAt r w (Stopped count) lines → Contains w.1.acked p → is_head p.kind ≡ true
     → Fates hss_judged w.0 (asking (ask.Route p.key) looks ++ asking (ask.Get p.key) asks) next → IsGetOfHead (hss_judged p.key) p.key r (entries w.0) (told_all (ask.Route p.key) looks ++ told_all (ask.Get p.key) asks) came
     → (heads : List Judged) × (j : Judged) × (came ≡ Ok heads) × Contains heads j × (post_rank p ≤ j.seq)
-
--- right after a round, be it that of a join, a live node holds exactly the blocks that a live node held before it and of which it is an owner
-abbrev pub RoundMovesBlocks : (List (List ℕ) → Type 0) → Type 0
-RoundMovesBlocks AreSo = (r : ℕ) (w : Played) (next : World) (since : Since) (lines : List (List ℕ)) (m : Peer) (key : Key) → AreSo lines → IsCalmAt r w since lines → w.0.sessions ≡ [] → IsRoundOf hss_judged r w.0 next → lives_in next m ≡ true
-    → (is_some (rank_in next key m) ≡ true) ↔ (IsAmong m (owners place r (live_in_order w.0) (number key)) × (p : Peer) × (lives_in w.0 p ≡ true) × (is_some (rank_in w.0 key p) ≡ true))
-
--- ---- completeness
-
--- no session of a participant is open that enters a view or starts again
-abbrev pub HasNoneOpen : World → Command → Type 0
-HasNoneOpen w (command.Use log view) = AllByRecursion (λ s. s.session.by ≢ log) w.sessions
-HasNoneOpen w (command.Restart log) = AllByRecursion (λ s. s.session.by ≢ log) w.sessions
-HasNoneOpen w _ = Unit {0}
-
--- so at each line between two worlds
-pub data Tidily : Played → List (List ℕ) → Played → Type 0 where
-  none : {w : Played} → Tidily w [] w
-  more : {w mid next : Played} {line : List ℕ} {lines : List (List ℕ)} (c : Command) (output : List ℕ) → command_of line ≡ Some c → HasNoneOpen w.0 c → IvyStep w line (Goes mid output) → Tidily mid lines next → Tidily w (line ∷ lines) next
-
--- Each log has a key of its own, each participant enters one view, and all members of a view that was entered have entered it.
-pub record IsTidy (w : World) (lines : List (List ℕ)) (caller : List ℕ) : Type 0 where
-  pub own_keys : (p q : Participant) → Contains w.participants p → Contains w.participants q → own p.agent ≡ own q.agent → p ≡ q
-  pub once : (line later log view other : List ℕ) → Contains lines line → Contains lines later → command_of line ≡ Some (command.Use log view) → command_of later ≡ Some (command.Use log other)
-      → view_named w view ≡ view_named w other
-  pub entered : (p q : Participant) (view : View) → participant w caller ≡ Some p → p.agent.view ≡ Some view → Contains w.participants q → Contains view.members (own q.agent) → q.agent.view ≡ Some view
-
--- the record was written by a member of the view
-abbrev pub IsWritten : Played → View → Record → Type 0
-IsWritten w view one = (q : Participant) × Contains w.0.participants q × Contains view.members (own q.agent) × Contains (log_of (own q.agent) (known_of w.1 q.name)) one
-
--- In such a script no whole call fails for want of a block. While no session is open the set that its turn takes is all records that the members have written so far.
-abbrev pub CallsAreServed : (List (List ℕ) → Type 0) → Type 0
-CallsAreServed AreSo = (r : ℕ) (w next : Played) (count : ℕ) (lines : List (List ℕ)) (line name output : List ℕ) (pieces : List Piece) → AreSo lines → (calm : IsCalmAt r w (Stopped count) lines) → Tidily (calm.made, calm.before.1) lines w → IsTidy w.0 lines name
-    → command_of line ≡ Some (command.As name pieces) → IvyStep w line (Goes next output)
-    → ((session : Session) (said : Said) → output ≡ shown_end session said → session.missed ≡ None)
-    × ((h : HadTurn) (turn : IsOnReplay h) (one : Record) → w.0.sessions ≡ [] → next.1.turns ≡ w.1.turns ++ h ∷ [] → Contains turn.taken one ↔ IsWritten w h.view one)

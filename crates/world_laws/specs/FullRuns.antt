@@ -1,7 +1,8 @@
 -- Runs in which memory is never wanting: that there is one from each world without snapshots, or names clash.
-use Rattle.std.specs.Prelude.{◌≡◌, ◌≢◌, ◌≤◌, ◌⊎◌, ℕ, not, List, ◌∷◌, ◌++◌, filter, length, IfSome, Some}
+use Rattle.std.specs.Prelude.{◌≡◌, ◌≢◌, ◌≤◌, ◌⊎◌, ℕ, not, List, ◌∷◌, ◌++◌, Contains, filter, length, IfSome, Option, Some}
 use Rattle.std.specs.List.{AllByRecursion}
 use Rattle.ivy_base.specs.Naming.{HasClash, NamesTellApart, head_key_of}
+use Rattle.wire_model.specs.Rpc.{SystemError, reply}
 use Rattle.log_model.specs.Vector.{seq_of}
 use Rattle.agent_model.specs.Agent.{is_head, kept_of, own_key}
 use Rattle.agent_laws.specs.Laws.{HasRoom}
@@ -13,11 +14,11 @@ use Rattle.script_model.specs.declared.command.Piece.{Piece}
 use Rattle.script_model.specs.Lines.{command_of}
 use Rattle.script_model.specs.Messages.{Given}
 use Rattle.world_model.specs.Agents.{Kept, hss}
-use Rattle.world_model.specs.Calls.{Sending, sending_of}
+use Rattle.world_model.specs.Calls.{Sending, reply_line, sending_of}
 use Rattle.world_model.specs.Logs.{Played}
 use Rattle.world_model.specs.Step.{IvyStep}
 use Rattle.world_model.specs.Story.{empty_story}
-use Rattle.world_model.specs.World.{World, empty_world, named_bytes}
+use Rattle.world_model.specs.World.{World, empty_world, named_bytes, session_named}
 use Rattle.world_laws.specs.FullTurns.{AreBytes}
 use Rattle.world_laws.specs.Keeps.{IsKeptSo, Keeps}
 use Rattle.world_laws.specs.Laws.{CanBeDone, HadMemory, MakesNoSnapshot}
@@ -102,6 +103,34 @@ Clashes Exceeds = ⊥
 abbrev pub FullLines : Type 0
 FullLines = (w : Played) (line : List ℕ) → Keeps w → HaveRoom w.0 → HasBytes w.0 → IfSome (command_of line) (CanBeDone w.0)
     → (outcome : Outcome Played) × IvyStep w line outcome × (HadMemory w line outcome ⊎ Clashes outcome)
+
+-- ---- want of memory
+
+-- what is shown begins with the reply for want of memory
+abbrev pub ShowsLack : List ℕ → Type 0
+ShowsLack output = (xid : ℕ) × (rest : List ℕ) × (output ≡ reply_line (reply xid SystemError) ++ rest)
+
+-- an open session, which wasn't over, is over for want of memory
+pub record EndsForMemory (w next : World) : Type 0 where
+  pub name : List ℕ
+  pub before : Session
+  pub after : Session
+  pub xid : ℕ
+  pub was : session_named w name ≡ Some before
+  pub not_over : (said : Option Said) → before.stage ≢ Over said
+  pub stands : Contains next.sessions (record { name = name; session = after })
+  pub over : after.stage ≡ Over (Some (said_no_memory xid))
+
+-- memory was wanting for a call, which the line's output or an open session tells
+abbrev pub LackedMemory : Played → List ℕ → Outcome Played → Type 0
+LackedMemory w line (Goes next output) = ShowsLack output ⊎ EndsForMemory w.0 next.0
+LackedMemory w line Ends = ⊥
+LackedMemory w line Refuses = ⊥
+LackedMemory w line Exceeds = ⊥
+
+-- Of each outcome of a line in such a world memory was there and names tell apart, or memory was wanting, or names clash.
+abbrev pub MemoryIsDecided : Type 0
+MemoryIsDecided = (w : Played) (line : List ℕ) (outcome : Outcome Played) → Keeps w → IvyStep w line outcome → HadMemory w line outcome ⊎ (LackedMemory w line outcome ⊎ Clashes outcome)
 
 -- ---- scripts
 

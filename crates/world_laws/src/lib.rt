@@ -4,8 +4,8 @@
 //! Statements, in reading order: `specs/Headline.antt` (each reply), `specs/Causes.antt` (why a session says what it
 //! says), `specs/Keeps.antt` (each world), `specs/Kinds.antt` (which lines are refused), `specs/Laws.antt` (steps and
 //! runs), `specs/FullTurns.antt` (turns that exist), `specs/FullRuns.antt` (the run in which memory is never wanting),
-//! `specs/Frames.antt` (what may change of a world that keeps what it should), `specs/Calm.antt` (rings that change little;
-//! some of these are stated alone).
+//! `specs/Frames.antt` (what may change of a world that keeps what it should), `specs/Calm.antt` (rings that change
+//! little).
 //! For the layers above, of a session in a world that keeps what it should (`Keeps`), where names tell the blocks apart: a
 //! refresh that is done brings what its heads name, and its turn may be held to the definition; its next step is that turn, and
 //! no other; a turn is refused once at most, and never where the session began with no snapshot to load and no basis.
@@ -42,7 +42,7 @@
 //! through each line that makes no snapshot) and `proofs/Rooms.antt` (such is that an agent publishes few posts),
 //! `proofs/PieceBytes.antt` (what a line sends is bytes), `proofs/GivenBytes.antt` (so is what a turn's reply gives),
 //! `proofs/BytesSteps.antt` and `proofs/BytesLines.antt` (steps and lines leave that so), `proofs/ShownReplies.antt` (which
-//! replies show that memory was wanting), `proofs/QuietLines.antt` (lines without sessions), `proofs/CallScenes.antt` and
+//! replies show that memory was wanting), `proofs/MemoryDecided.antt` (whether it was is decided), `proofs/QuietLines.antt` (lines without sessions), `proofs/CallScenes.antt` and
 //! `proofs/FullScenes.antt` (a session at whatever stage goes on with memory there), `proofs/FullLines.antt` and
 //! `proofs/FullScripts.antt`.
 //! That there is one: `proofs/OneCourse.antt` (a trail tells what comes of a get or a put), `proofs/OneHeard.antt` (an ask
@@ -54,7 +54,7 @@
 
 ghost use Rattle.world_laws.specs.Calm.{AckedIsHeld, AreAny, BlocksAreGiven, HasSameRing, HeadsAreGiven, RingStays};
 ghost use Rattle.world_laws.specs.Frames.{DamageLinesKeep, JoinLinesKeep, KeeperLinesKeep, LogLinesKeep, MildChangesKeep, MoreBlocksKeep, RestartLinesKeep, RingLinesKeep, RoundLinesKeep, StillLinesKeep, StopLinesKeep, UseLinesKeep, ViewLinesKeep};
-ghost use Rattle.world_laws.specs.FullRuns.{BytesCome, EmptyHasBytes, EmptyPublishesFew, FewPostsCome, FullLines, FullScripts, FullStarts, MessagesAreBytes, ThereIsRoom};
+ghost use Rattle.world_laws.specs.FullRuns.{BytesCome, EmptyHasBytes, EmptyPublishesFew, FewPostsCome, FullLines, FullScripts, FullStarts, MemoryIsDecided, MessagesAreBytes, ThereIsRoom};
 ghost use Rattle.world_laws.specs.FullTurns.{SessionsEndOrClash, SessionsGoToTheirEnds, TurnsExist};
 ghost use Rattle.world_laws.specs.Kinds.{LineHasOneKind};
 ghost use Rattle.world_laws.specs.Laws.{AlikeTurnsAnswerAlike, AllStepsKeep, AnsweredTurnsKeep, CallLinesKeep, CallsBegin, ClashIsDecided, DoneRefreshesStep, EachLineDoesSomething, EachReplyIsOnReplay, EachScriptHasARun, EachSessionEnds, EmptyKeeps, FewerStayApart, FreshTurnsAreAnswered, FullRunsAreOne, GetsBringKeep, GetsGoOnKeep, HeadlineHolds, HeadsAreSavedFirst, HeldIsSpelled, KeptOnce, KnownIsOne, LackingKeeps, LackingStepsKeep, LeafSignsOnce, LinesKeep, ManyStepsAreOne, ManyStepsKeep, MetGrows, NoSnapshotComes, OneTruth, OpenLineKeeps, OtherLogsDontCount, OthersHaveNoTurn, PublishingIsOne, PublishingKeeps, PutsKeep, ReceivingKeeps, RefreshBrings, RefreshEndsInTurn, RefreshMayTurn, RefreshesEnd, RefreshesRunOut, RefusedTurnsKeep, SecondTurnIsAnswered, SessionsEndOnce, SessionsGoFully, SessionsStepOnce, SettlingKeeps, SnapLinesKeep, StepsAreOne, StepsKeep, StillLinesChangeNothing, TakingKeeps, TurnsAreSaved, UpperLeavesSignOnce, VainAsksKeep, WholePublishingKeeps};
@@ -348,4 +348,10 @@ pub fn scripts_run_fully()
     ensures lines { FullLines }
     ensures scripts { FullScripts }
     ensures starts { FullStarts }
+{}
+
+/// A law and no code: of each outcome of a line in a world that keeps what it should memory was there and names tell apart what was
+/// met, or memory was wanting for a call, or names clash.
+pub fn memory_is_decided()
+    ensures { MemoryIsDecided }
 {}

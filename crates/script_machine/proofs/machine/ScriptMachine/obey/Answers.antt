@@ -39,6 +39,9 @@ returns-in-Lose c = rw (← c.self.view_is, c.in-Lose.is) c.lose.ensures
 pub returns-in-Damage : goal.returns-in-Damage
 returns-in-Damage c = rw (← c.self.view_is, c.in-Damage.is) c.damage.ensures
 
+pub returns-in-Restart : goal.returns-in-Restart
+returns-in-Restart c = rw (← c.self.view_is, c.in-Restart.is, ← c.as_slice-in-Restart.ensures) c.restart.ensures
+
 pub returns-in-Keep : goal.returns-in-Keep
 returns-in-Keep c = rw (← c.self.view_is, c.in-Keep.is, ← c.as_slice-in-Keep.ensures) c.keep.ensures
 

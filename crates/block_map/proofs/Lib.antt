@@ -1,4 +1,0 @@
-pub mod Places
-pub mod Others
-pub mod Raised
-pub mod Sealed

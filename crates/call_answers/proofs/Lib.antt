@@ -1,3 +1,0 @@
-mod Callers
-mod GoodCalls
-mod Told

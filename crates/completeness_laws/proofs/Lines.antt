@@ -1,0 +1,89 @@
+-- Each line of a calm script with the same ring leaves it so.
+use Rattle.std.proofs.Common.{◌≡◌, ℕ, List, refl, sym, subst}
+use Rattle.std.specs.Prelude.{IfSome}
+use Rattle.ivy_base.specs.Naming.{NamesTellApart}
+use Rattle.log_heads.specs.Signed.{hss_judged}
+use Rattle.script_driver.specs.Run.{Ends, Goes, Outcome}
+use Rattle.script_model.specs.Lines.{command_of}
+use Rattle.script_model.specs.declared.command.Command.{Command}
+use Rattle.script_model.specs.declared.command.Command.TheVariants as command
+use Rattle.world_model.specs.Calls.{sending_of}
+use Rattle.world_model.specs.Logs.{Played, keys_of, use_line}
+use Rattle.world_model.specs.Step.{Does}
+use Rattle.world_model.specs.World.{named_bytes, participant, session_named, view_named}
+use Rattle.world_laws.specs.Calm.{Calmly, HasSameRing, IsQuiet, Since}
+use Rattle.world_laws.specs.Calm.Calmly.{more as calmly_more, none as calmly_none}
+use Rattle.world_laws.specs.Keeps.{Keeps}
+use Rattle.world_laws.specs.Laws.{IsStill, LinesKeep}
+use Rattle.world_laws.proofs.AllLines.{does_line}
+use Rattle.world_laws.proofs.LineFits.{Fits, command_fits}
+use Rattle.world_laws.proofs.Lines.{ToSuch}
+use Rattle.world_laws.proofs.Still.{still_lines}
+use Rattle.completeness_laws.proofs.CallLines.{as_so, finish_so, open_so, step_so}
+use Rattle.completeness_laws.proofs.KeysStay.{names_stay}
+use Rattle.completeness_laws.proofs.LogLines.{log_so}
+use Rattle.completeness_laws.proofs.RestartLines.{restart_so}
+use Rattle.completeness_laws.proofs.SnapLines.{snap_so}
+use Rattle.completeness_laws.proofs.Steps.{met_apart}
+use Rattle.completeness_laws.proofs.UseLines.{IsThenBacked, use_so}
+use Rattle.completeness_laws.proofs.ViewLines.{view_so}
+use Rattle.completeness_laws.proofs.Worlds.{IsBackedWorld}
+
+-- ---- lines that show something, or set the moment
+
+still_so : (w next : Played) (c : Command) (output : List ℕ) → IsStill c → Does hss_judged w c (Goes next output) → IsBackedWorld w.0 w.1 → IsBackedWorld next.0 next.1
+still_so w next c output still does h =
+    let same = still_lines w next c output still does in
+    subst (λ st. IsBackedWorld next.0 st) (sym same.0) (subst (λ v. IsBackedWorld v w.1) (sym same.1) (record { nodes = h.nodes; agents = h.agents; sessions = h.sessions; put_met = h.put_met; received = h.received }))
+
+-- ---- all of them
+
+module _ (w next : Played) (output : List ℕ) (keeps : Keeps w) (kept : Keeps next) (apart : NamesTellApart (named_bytes next.0)) (h : IsBackedWorld w.0 w.1) where
+  such : (o : Outcome Played) → ToSuch IsThenBacked o → o ≡ Goes next output → IsBackedWorld next.0 next.1
+  such o s e = (subst (ToSuch IsThenBacked) e s) kept apart
+
+  pub command_so : (c : Command) → IsQuiet c → Fits c → Does hss_judged w c (Goes next output) → IsBackedWorld next.0 next.1
+  command_so (command.Ring nodes replicas) quiet fits does = absurd quiet
+  command_so (command.Log log id seed sets) quiet fits does = log_so w keeps log id seed sets fits next output does (met_apart 0 next.0 apart) h
+  command_so (command.View view members former) quiet fits does = view_so w view (keys_of w.0 members) (keys_of w.0 former) next output does h
+  command_so (command.Use log view) quiet fits does = such (use_line w log view) (use_so w keeps log (participant w.0 log) (view_named w.0 view) refl h) (sym does)
+  command_so (command.At sec nsec) quiet fits does = still_so w next (command.At sec nsec) output tt does h
+  command_so (command.As log pieces) quiet fits does = as_so w keeps h log pieces (sending_of w.0 log pieces) refl next output does apart
+  command_so (command.Open session log pieces) quiet fits does = open_so w keeps h session (sending_of w.0 log pieces) next output does
+  command_so (command.Step session count) quiet fits does = step_so w keeps h session count (session_named w.0 session) refl next output does apart
+  command_so (command.Finish session) quiet fits does = finish_so w keeps h session (session_named w.0 session) refl next output does apart
+  command_so (command.Join number) quiet fits does = absurd quiet
+  command_so (command.Stop node) quiet fits does = absurd quiet
+  command_so command.Round quiet fits does = absurd quiet
+  command_so (command.Lose count) quiet fits does = absurd quiet
+  command_so (command.Damage node key offset byte) quiet fits does = absurd quiet
+  command_so (command.Snap log) quiet fits does = such (Goes next output) (snap_so w keeps log (participant w.0 log) refl (Goes next output) does h) refl
+  command_so (command.Restart log) quiet fits does = such (Goes next output) (restart_so w keeps log (participant w.0 log) refl (Goes next output) does h) refl
+  command_so (command.Keep log count new) quiet fits does = absurd quiet
+  command_so (command.Holds node) quiet fits does = still_so w next (command.Holds node) output tt does h
+  command_so (command.Order log) quiet fits does = still_so w next (command.Order log) output tt does h
+  command_so (command.Work log) quiet fits does = still_so w next (command.Work log) output tt does h
+  command_so command.Nothing quiet fits does = still_so w next command.Nothing output tt does h
+  command_so command.End quiet fits does = absurd (goes_or_ends does)
+    where
+      goes_or_ends : Goes next output ≡ Ends → ⊥
+      goes_or_ends e = cc e
+
+-- ---- runs
+
+module _ (lines_keep : LinesKeep) where
+  -- names that tell apart in the end did so before
+  apart_first : {r : ℕ} {v w : Played} {since after : Since} {lines : List (List ℕ)} → Calmly r v since lines w after → HasSameRing lines → Keeps v → NamesTellApart (named_bytes w.0) → NamesTellApart (named_bytes v.0)
+  apart_first calmly_none same keeps apart = apart
+  apart_first (calmly_more {w = v} {mid = mid} {line = line} c output is calm step rest) same keeps apart =
+      let done = does_line v mid output (command_of line) step in
+      names_stay v mid done.0 line output keeps (subst (λ o. IfSome o IsQuiet) done.1 same.0) step done.2 (apart_first rest same.1 (lines_keep v mid line output keeps step) apart)
+
+  pub runs_backed : {r : ℕ} {v w : Played} {since after : Since} {lines : List (List ℕ)} → Calmly r v since lines w after → HasSameRing lines → Keeps v → NamesTellApart (named_bytes w.0) → IsBackedWorld v.0 v.1 → IsBackedWorld w.0 w.1
+  runs_backed calmly_none same keeps apart h = h
+  runs_backed (calmly_more {w = v} {mid = mid} {line = line} c output is calm step rest) same keeps apart h =
+      let done = does_line v mid output (command_of line) step in
+      let kept = lines_keep v mid line output keeps step in
+      let here = apart_first rest same.1 kept apart in
+      runs_backed rest same.1 kept apart
+      (command_so v mid output keeps kept here h done.0 (subst (λ o. IfSome o IsQuiet) done.1 same.0) (command_fits line done.0 done.1) done.2)

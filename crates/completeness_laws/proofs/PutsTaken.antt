@@ -1,0 +1,62 @@
+-- A node that is asked to hold a post that was met, and that fits its key, holds it then, or a head that is newer.
+use Rattle.std.proofs.Common.{◌≡◌, ℕ, Bool, true, false, cond, List, Option, Some, None, refl, sym, ap, ◌∙◌, nat_le}
+use Rattle.std.specs.Prelude.{is_some}
+use Rattle.std.specs.Option.{option_or}
+use Rattle.ivy_base.specs.declared.key.Key.{Key}
+use Rattle.ivy_base.specs.Naming.{name}
+use Rattle.round_laws.specs.RingOf.{links_in}
+use Rattle.round_laws.proofs.Nodes.{ties}
+use Rattle.round_laws.proofs.Rounding.{shapes_of}
+use Rattle.log_heads.specs.Signed.{hss_judged}
+use Rattle.dht_ids.specs.declared.ask.Ask.TheVariants as ask
+use Rattle.dht_ids.specs.declared.ask.StoreFault.{StoreFault}
+use Rattle.dht_ids.specs.declared.ask.StoreFault.TheVariants.{Older, WrongName}
+use Rattle.dht_ids.specs.declared.judge.Judged.{Judged}
+use Rattle.dht_ids.specs.declared.post.Post.{Post}
+use Rattle.dhash_client.specs.Puts.{holds}
+use Rattle.agent_model.specs.Agent.{is_head}
+use Rattle.node_store.specs.Stores.{content, content_fault, full, head, not_judged, number_at, older}
+use Rattle.session_model.specs.Sessions.{put_question}
+use Rattle.world_model.specs.Nodes.{Node, answered, stored}
+use Rattle.world_laws.specs.Calm.{HasSameRing}
+use Rattle.world_laws.specs.Laws.{LinesKeep}
+use Rattle.world_laws.proofs.CalmHeld.{still_world}
+use Rattle.world_laws.proofs.CalmNodes.{who_answers}
+use Rattle.completeness_laws.specs.Completeness.{FitsItsKey, PutsAreTaken}
+use Rattle.completeness_laws.proofs.StoreRoom.{room_at}
+
+module _ (n : Node) (key : Key) (bytes : List ℕ) where
+  pub content_taken : name bytes ≡ key → full key (content bytes) n.blocks ≡ None → holds (answered hss_judged n (ask.PutBlock key bytes)).0 ≡ true
+  content_taken named room = ap (λ f. holds (stored n key (content bytes) f).0) fault
+    where
+      fault : content_fault key bytes n.blocks ≡ None
+      fault = ap (λ b. option_or (cond b None (Some WrongName)) (full key (content bytes) n.blocks)) (ties key (name bytes) (sym named)) ∙ room
+
+  pub head_taken : is_some (hss_judged key bytes) ≡ true → full key (head bytes) n.blocks ≡ None → holds (answered hss_judged n (ask.PutHead key bytes)).0 ≡ true
+  head_taken judged room = by (hss_judged key bytes) (number_at hss_judged key n.blocks) judged
+    where
+      stored_so : (f : Option StoreFault) → f ≡ None → holds (stored n key (head bytes) f).0 ≡ true
+      stored_so f e = ap (λ (g : Option StoreFault). holds (stored n key (head bytes) g).0) e
+
+      newer : (b : Bool) (seq : ℕ) → holds (stored n key (head bytes) (option_or (cond b (Some (Older seq)) None) (full key (head bytes) n.blocks))).0 ≡ true
+      newer true seq = refl
+      newer false seq = stored_so (full key (head bytes) n.blocks) room
+
+      by : (o : Option Judged) (m : Option ℕ) → is_some o ≡ true → holds (stored n key (head bytes) (option_or (not_judged o) (option_or (older m o) (full key (head bytes) n.blocks)))).0 ≡ true
+      by None m e = cc e
+      by (Some j) None e = stored_so (full key (head bytes) n.blocks) room
+      by (Some j) (Some seq) e = newer (nat_le j.seq seq) seq
+
+pub post_taken : (n : Node) (p : Post) → FitsItsKey p → full p.key (content p.bytes) n.blocks ≡ None → full p.key (head p.bytes) n.blocks ≡ None → holds (answered hss_judged n (put_question p)).0 ≡ true
+post_taken n p fits content_room head_room = by (is_head p.kind) refl
+  where
+    by : (b : Bool) → is_head p.kind ≡ b → holds (answered hss_judged n (cond b (ask.PutHead p.key p.bytes) (ask.PutBlock p.key p.bytes))).0 ≡ true
+    by true e = head_taken n p.key p.bytes (fits.head e) head_room
+    by false e = content_taken n p.key p.bytes (fits.content e) content_room
+
+pub puts_are_taken : LinesKeep → PutsAreTaken HasSameRing
+puts_are_taken lines_keep r w next count lines p to given same calm fits met good fate =
+    let world = still_world lines_keep r w _ lines same calm in
+    let made = world.run.made in
+    let a = who_answers r (shapes_of made) (links_in made) made.asked world.run.first.ring w.0 next to (put_question p) given world.still fate in
+    ap holds a.gives ∙ post_taken a.node p good (room_at r w world to.id a.node p.key (content p.bytes) fits a.at met) (room_at r w world to.id a.node p.key (head p.bytes) fits a.at met)

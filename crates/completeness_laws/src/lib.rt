@@ -1,0 +1,44 @@
+//! What a calm script makes sure of, so that its calls are served: of which records puts were acknowledged.
+//!
+//! Layer: laws and no code, above `world_laws`.
+//! Records are put before the head that names them, and the head only where each of them was acknowledged. So behind each head that
+//! a node holds all records were put, and so were all that an agent knows but for its own that it has still to publish
+//! ([`heads_name_what_was_put`]); by `world_laws` what was put is held and given, so that a refresh misses nothing where of each log
+//! a head was put ([`calls_miss_nothing`]).
+//! No store is full while what was met is within its limit, and so each put of it is acknowledged ([`stores_take_what_is_put`]).
+//! Definitions and statements: `specs/Put.antt`; `specs/Completeness.antt` (no call fails for want of a block; stated alone so far:
+//! that of each log a head was put, and that a turn takes all that was written).
+//! Lemmas: `proofs/UpTo.antt` (records up to a head), `proofs/HeldHeads.antt` (asks), `proofs/Stages.antt` (sessions that publish),
+//! `proofs/Backed.antt` (agents and keepers), `proofs/Worlds.antt` (worlds, and one participant in place of another),
+//! `proofs/Turns.antt`, `proofs/Steps.antt`, `proofs/CallLines.antt`, `proofs/Publishes.antt`, `proofs/LogLines.antt`,
+//! `proofs/UseLines.antt`, `proofs/RestartLines.antt`, `proofs/SnapLines.antt`, `proofs/ViewLines.antt` and `proofs/Lines.antt` (each
+//! leaves that so), `proofs/KeysStay.antt` (no line forgets a block or a public key), `proofs/Walks.antt` (what a refresh needs to miss
+//! nothing), `proofs/Known.antt` (what an agent knows), `proofs/Calls.antt`, `proofs/CallSteps.antt` and `proofs/Served.antt` (the run
+//! of a call's line), `proofs/StoreRoom.antt`, `proofs/PutsTaken.antt` and `proofs/PutsAcked.antt` (stores and puts). Nothing here runs,
+//! so there are no costs.
+#![tactic(auto)]
+
+ghost use Rattle.world_laws.specs.Calm.{HasSameRing};
+ghost use Rattle.completeness_laws.specs.Completeness.{CallsMissNothingBehindHeads, PutsAreAcknowledged, PutsAreTaken, StoresHaveRoom};
+ghost use Rattle.completeness_laws.specs.Put.{HeadsNameWhatWasPut, KnownIsPutOrPending};
+
+/// Laws and no code: in a calm script in which no node joins or stops and no round is made a put was acknowledged of each record up
+/// to the one that a head names which a node holds, and of each record that a participant knows, but for its own that it has still to
+/// publish.
+pub fn heads_name_what_was_put()
+    ensures heads { HeadsNameWhatWasPut HasSameRing }
+    ensures known { KnownIsPutOrPending HasSameRing }
+{}
+
+/// A law and no code: in such a script no whole call fails for want of a block, where of each log a put of a head was acknowledged.
+pub fn calls_miss_nothing()
+    ensures { CallsMissNothingBehindHeads HasSameRing }
+{}
+
+/// A law and no code: while the blocks that were met are within their limit no store is full in such a script, a node takes each put of
+/// one of them as content under its name, or as a head that is judged and newer, and a whole put of it is acknowledged.
+pub fn stores_take_what_is_put()
+    ensures room { StoresHaveRoom HasSameRing }
+    ensures taken { PutsAreTaken HasSameRing }
+    ensures acknowledged { PutsAreAcknowledged HasSameRing }
+{}

@@ -1,0 +1,61 @@
+-- In calm scripts a get gives what was acknowledged.
+use Rattle.std.proofs.Common.{◌≡◌, inl, inr, ℕ, cond, ◌++◌, refl, sym, ap, ◌∙◌, subst, Contains}
+use Rattle.std.proofs.lemmas.List.Elements.{Contains-append_left}
+use Rattle.ring_model.proofs.Lists.{all-both}
+use Rattle.log_heads.specs.Signed.{hss_judged}
+use Rattle.dht_ids.specs.declared.ask.Ask.TheVariants as ask
+use Rattle.dht_ids.specs.declared.post.Post.{Post}
+use Rattle.dhash_client.specs.Course.{Told, told_all}
+use Rattle.dhash_client.specs.GetBlock.{IsGetOfBlock}
+use Rattle.dhash_client.specs.GetHead.{IsGetOfHead}
+use Rattle.node_store.specs.declared.kind.Kind.{Kind}
+use Rattle.node_store.specs.declared.kind.Kind.TheVariants.{Content, Head}
+use Rattle.world_model.specs.World.{World}
+use Rattle.world_model.specs.Fates.{Fates, asking}
+use Rattle.world_model.specs.Logs.{Played}
+use Rattle.round_laws.specs.Holding.{rank}
+use Rattle.world_laws.specs.Calm.{AreAny, BlocksAreGiven, HeadsAreGiven, Stopped, post_rank}
+use Rattle.world_laws.proofs.CalmHeld.{post_rank_is}
+use Rattle.world_laws.proofs.CalmNodes.{IsHeld}
+use Rattle.world_laws.proofs.CalmPuts.{block_of, kind_of}
+use Rattle.durability_laws.proofs.Stretches.{IsAckHeld}
+use Rattle.durability_laws.proofs.Lines.{entries_are}
+use Rattle.durability_laws.proofs.Commands.{fates_split}
+use Rattle.durability_laws.proofs.Gets.{AreGot, IsOwnedAs, block_given, gets_go, head_given}
+use Rattle.durability_laws.proofs.Worlds.{IsStanding, acked_on, on}
+use Rattle.durability_laws.proofs.Runs.{state_at}
+
+module _ (r count : ℕ) (w : Played) (s : IsStanding r count w.0 w.1) (p : Post) (acked : Contains w.1.acked p) where
+  held : IsAckHeld (on r count w s) w.0 p
+  held = acked_on r count w s p acked
+
+  owned : (kind : Kind) → kind_of p ≡ kind → IsOwnedAs (on r count w s) w.0 p.key kind (post_rank p)
+  owned kind e = record {
+    owner = held.owner;
+    owns = held.owns;
+    holds = subst (λ v. IsHeld w.0 p.key kind v held.owner) (sym (post_rank_is p)) (subst (λ k. IsHeld w.0 p.key k (rank hss_judged p.key (block_of p)) held.owner) e held.holds.held);
+  }
+
+  got : (next : World) (looks asks : Told) → Fates hss_judged w.0 (asking (ask.Route p.key) looks ++ asking (ask.Get p.key) asks) next → AreGot (on r count w s) w.0 (told_all (ask.Route p.key) looks ++ told_all (ask.Get p.key) asks)
+  got next looks asks fates =
+      let parts = fates_split (on r count w s) (ask.Route p.key) looks (asking (ask.Get p.key) asks) (asking (ask.Route p.key) looks ++ asking (ask.Get p.key) asks) w.0 next refl fates in
+      let one = gets_go (on r count w s) (ask.Route p.key) p.key (inl refl) looks (asking (ask.Route p.key) looks) w.0 w.0 parts.0 refl parts.1 s.still s.good.orderly (λ key kind least m i. i) in
+      let other = gets_go (on r count w s) (ask.Get p.key) p.key (inr refl) asks (asking (ask.Get p.key) asks) w.0 parts.0 next refl parts.2 one.still one.orderly one.held in
+      all-both _ (told_all (ask.Route p.key) looks) (told_all (ask.Get p.key) asks) one.got other.got
+
+pub blocks_are_given : BlocksAreGiven AreAny
+blocks_are_given r w next count lines p looks asks came any calm acked content fates get =
+    let s = state_at r w (Stopped count) lines calm in
+    let h = (held r count w s p acked).holds in
+    block_given (on r count w s) w.0 w.0 p.key (post_rank p) p.bytes (told_all (ask.Route p.key) looks ++ told_all (ask.Get p.key) asks) came
+    (owned r count w s p acked Content (ap (λ b. cond b Head Content) content)) s.still (got r count w s p acked next looks asks fates) (h.met, h.named content)
+    (λ b c. calm.apart b p.bytes (Contains-append_left w.0.met _ b c.0) (Contains-append_left w.0.met _ p.bytes h.met) (c.1 ∙ sym (h.named content)))
+    (subst (λ es. IsGetOfBlock p.key r es (told_all (ask.Route p.key) looks ++ told_all (ask.Get p.key) asks) came) (entries_are (on r count w s) w.0 s.still) get)
+
+pub heads_are_given : HeadsAreGiven AreAny
+heads_are_given r w next count lines p looks asks came any calm acked head fates get =
+    let s = state_at r w (Stopped count) lines calm in
+    let given = head_given (on r count w s) w.0 w.0 p.key (post_rank p) (told_all (ask.Route p.key) looks ++ told_all (ask.Get p.key) asks) came
+    (owned r count w s p acked Head (ap (λ b. cond b Head Content) head)) s.still (got r count w s p acked next looks asks fates)
+    (subst (λ es. IsGetOfHead (hss_judged p.key) p.key r es (told_all (ask.Route p.key) looks ++ told_all (ask.Get p.key) asks) came) (entries_are (on r count w s) w.0 s.still) get) in
+    (given.heads, given.one, given.came_is, given.among, given.newer)

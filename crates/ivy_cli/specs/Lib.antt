@@ -1,0 +1,3 @@
+pub mod Words
+pub mod Loads
+pub mod Runs

@@ -1,0 +1,5 @@
+pub mod GeneratorLemmas
+pub mod Ascending
+pub mod FrontLemmas
+mod Examples
+mod ReplyLemmas

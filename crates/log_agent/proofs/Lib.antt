@@ -1,9 +1,0 @@
-mod Answered
-mod Known
-mod NewlyKnown
-mod Opening
-mod Seen
-mod Taken
-mod Turning
-mod Written
-mod Fronts

@@ -1,4 +1,0 @@
-pub mod Runs
-pub mod Others
-pub mod Messages
-pub mod FullRuns

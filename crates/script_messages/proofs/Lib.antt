@@ -1,3 +1,0 @@
-mod Groups
-mod LengthLemmas
-mod Pieces

@@ -1,5 +1,0 @@
-use Rattle.std.proofs.Common.{refl}
-use Rattle.script_messages.proofs.spelling.put_piece.Goals as goal
-
-pub returns-in_ok-put_head-in-Call : goal.returns-in_ok-put_head-in-Call
-returns-in_ok-put_head-in-Call c = rw (c.in-Call.is, c.in_ok-put_head-in-Call.ensures) refl

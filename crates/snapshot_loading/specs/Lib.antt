@@ -1,0 +1,3 @@
+pub mod Roles
+pub mod Loading
+pub mod Laws

@@ -1,0 +1,11 @@
+pub mod Forests
+pub mod Full
+pub mod Even
+pub mod Same
+pub mod Lists
+pub mod OneForest
+pub mod Inodes
+pub mod Bases
+pub mod Canon
+pub mod Whole
+pub mod Ends

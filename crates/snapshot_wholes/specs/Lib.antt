@@ -1,0 +1,4 @@
+pub mod Forests
+pub mod Inodes
+pub mod Wholes
+pub mod Laws

@@ -1,9 +1,0 @@
-pub mod Walking
-pub mod Reading
-pub mod Held
-pub mod Behind
-pub mod Taking
-pub mod Bringing
-pub mod Gathering
-pub mod Edges
-pub mod Cases

@@ -1,3 +1,0 @@
-pub mod Refreshed
-pub mod Walked
-pub mod Brought
