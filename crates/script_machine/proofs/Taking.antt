@@ -12,7 +12,7 @@ use Rattle.script_model.specs.declared.command.Command.TheVariants as command
 use Rattle.script_model.specs.Lines.{command_of}
 use Rattle.world_model.specs.Logs.{Played}
 use Rattle.world_model.specs.Step.{MayDo, MayDoFirst}
-use Rattle.script_calls.specs.WorldState.{KeepsAll, LineDoes, ShowsWorld, WorldState}
+use Rattle.script_machine.specs.WorldState.{KeepsAll, LineDoes, ShowsWorld, WorldState}
 use Rattle.stage_laws.specs.Stage.{StageStep, stage_command}
 use Rattle.script_machine.specs.Limits.{meets_limit}
 

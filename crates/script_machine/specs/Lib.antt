@@ -1,1 +1,3 @@
+pub mod WorldState
+pub mod Ends
 pub mod Limits

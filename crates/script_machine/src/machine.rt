@@ -4,13 +4,13 @@ ghost use Rattle.std.specs.Prelude.{◌≡◌, IfOk, Some, None};
 ghost use Rattle.world_model.specs.Logs.{Played};
 ghost use Rattle.world_model.specs.Step.{MayDo, MayDoFirst};
 ghost use Rattle.world_laws.proofs.LineFits.{Fits};
-ghost use Rattle.script_calls.specs.WorldState.{HasWorld, LineDoes, ShowsWorld};
+ghost use Rattle.script_machine.specs.WorldState.{HasWorld, LineDoes, ShowsWorld};
 ghost use Rattle.stage_laws.specs.Stage.{StageStep, stage_command};
 ghost use Rattle.script_machine.specs.Limits.{is_full, meets_limit};
 
+use crate::world::World;
 use command_lines::read_command;
 use ivy_base::Memory;
-use script_calls::World;
 use script_driver::{Machine, Taken};
 use script_model::Command;
 use std::alloc::Global;
@@ -26,7 +26,7 @@ pub struct ScriptMachine {
 }
 
 impl Model for ScriptMachine {
-    ghost use Rattle.script_calls.specs.WorldState.{WorldState};
+    ghost use Rattle.script_machine.specs.WorldState.{WorldState};
 
     ghost Value = { WorldState };
 
@@ -152,7 +152,7 @@ impl ScriptMachine {
 fn let_go(_command: Command) {}
 
 impl Machine for ScriptMachine {
-    ghost use Rattle.script_calls.specs.WorldState.{KeepsAll};
+    ghost use Rattle.script_machine.specs.WorldState.{KeepsAll};
     ghost use Rattle.stage_laws.proofs.Stage.{long_lines_stop, stage_does_something, stage_keeps};
 
     ghost Whole = { Played };

@@ -1,4 +1,5 @@
 pub mod PartsState
+pub mod CallsState
 pub mod Views
 pub mod Newcomers
 pub mod Held

@@ -39,3 +39,6 @@ mod starting;
 mod views;
 
 pub use parts::Parts;
+
+// a call under way, which the parts go on with
+pub use session_steps::OpenCall;

@@ -17,7 +17,7 @@ use Rattle.world_model.specs.Calls.{BeginsWith}
 use Rattle.world_model.specs.Logs.{empty_view, to_publish}
 use Rattle.world_model.specs.World.{Participant, World, entries}
 use Rattle.world_laws.proofs.WholePublishing.{some_entries}
-use Rattle.step_laws.specs.Scenes.{given_at, given_of}
+use Rattle.session_steps.specs.Scenes.{given_at, given_of}
 use Rattle.session_steps.specs.Showing.{BeginsIn, CallState, IsUntold, ShowsSession, judges}
 
 -- the call of that session, which has said nothing yet

@@ -14,8 +14,8 @@ use Rattle.ivy_session.specs.Stepping.NextIs.{settles}
 use Rattle.script_participants.specs.ParticipantState.{ParticipantState, state_of}
 use Rattle.world_model.specs.Steps.{Scene}
 use Rattle.world_model.specs.World.{Participant, World, with_participant}
-use Rattle.step_laws.specs.Scenes.{IsDone, IsSceneOf, given_at}
-use Rattle.step_laws.specs.Scenes.IsDone.{was_over, lacks_memory, is_cut}
+use Rattle.session_steps.specs.Scenes.{IsDone, IsSceneOf, given_at}
+use Rattle.session_steps.specs.Scenes.IsDone.{was_over, lacks_memory, is_cut}
 use Rattle.session_steps.specs.Showing.{CallState, IsTold, IsUnderWay, IsUntold, Shown, Shows, ShowsBy, ShowsSession, StepsFrom, StepsTo, judges, shown}
 use Rattle.session_steps.specs.Within.{HasNext, Laws}
 use Rattle.session_steps.proofs.Scenes.{as_told, by_step, left_is, same_nodes, scene_of, stayed, stays, stepped, untold}

@@ -11,7 +11,7 @@ use Rattle.world_model.specs.Steps.StepsOn.{none as on_none, is_over as on_over,
 use Rattle.world_model.specs.Steps.RunsOut.{is_over as out_over, more as out_more}
 use Rattle.world_laws.proofs.Bringing.{found_named}
 use Rattle.world_laws.proofs.OneSteps.{over_steps}
-use Rattle.step_laws.proofs.Scenes.{twice_placed}
+use Rattle.session_steps.proofs.SceneSteps.{twice_placed}
 use Rattle.session_steps.specs.Showing.{CallState, HasScene, IsOver, IsUnderWay, Leaves, ManyStepsFrom, RunsOutFrom, Shown, ShowsBy, StepsFrom, StepsTo, world_left}
 use Rattle.session_steps.specs.Within.{IsReached, Laws, Reaches, ReachesOn}
 use Rattle.session_steps.proofs.Scenes.{stays}

@@ -13,8 +13,8 @@ use Rattle.script_participants.specs.ParticipantState.{state_of}
 use Rattle.world_model.specs.World.{Participant, World, participant, with_participant}
 use Rattle.world_model.specs.Steps.{Scene, Steps}
 use Rattle.world_laws.proofs.Frames.{found_placed, placed_itself}
-use Rattle.step_laws.specs.Scenes.{IsLeft, IsSceneOf, IsStep}
-use Rattle.step_laws.specs.Scenes.IsLeft.{goes_on, lacks_memory, is_cut}
+use Rattle.session_steps.specs.Scenes.{IsLeft, IsSceneOf, IsStep}
+use Rattle.session_steps.specs.Scenes.IsLeft.{goes_on, lacks_memory, is_cut}
 use Rattle.session_steps.specs.Showing.{CallState, IsTold, IsUnderWay, IsUntold, Leaves, Shown, Shows, ShowsBy, ShowsSession, StepsTo, judges, world_left}
 use Rattle.session_steps.specs.Within.{Laws}
 

@@ -35,7 +35,7 @@ use Rattle.world_model.specs.Keepers.{Keeper}
 use Rattle.world_model.specs.Steps.{Scene, met_by, world_after}
 use Rattle.world_model.specs.World.{Participant, World, with_participant}
 use Rattle.world_laws.specs.Keeps.{IsAtPuts, IsInHand}
-use Rattle.step_laws.specs.Scenes.{GivesTurn, GivesTurnThere, HadTurn, IsSceneOf, IsStep, given_at, given_by, given_of, turned_participant}
+use Rattle.session_steps.specs.Scenes.{GivesTurn, GivesTurnThere, HadTurn, IsSceneOf, IsStep, given_at, given_by, given_of, turned_participant}
 use Rattle.session_steps.specs.Showing.{CallState, HasScene, IsUnderWay, IsUntold, Shown, Shows, StepsTo, judges, shown}
 use Rattle.session_steps.specs.Within.{BeginsAnew, CountsAsMade, HasNext, HasTurned, Laws, LeftBy, MayTurn}
 use Rattle.session_steps.proofs.Scenes.{IsLeftSo, by_step, left_is, same_nodes, scene_of, untold}

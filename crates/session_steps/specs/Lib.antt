@@ -1,3 +1,5 @@
+pub mod Scenes
+pub mod Laws
 pub mod Showing
 pub mod Ending
 pub mod Within

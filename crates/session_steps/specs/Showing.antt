@@ -6,7 +6,7 @@ use Rattle.log_heads.specs.declared.judge.HssJudge.{HssJudge}
 use Rattle.dhash_client.specs.GetHead.{Judges}
 use Rattle.session_model.specs.Sessions.{Over, Said, Session}
 use Rattle.log_fetch.specs.Standings.{notes_of}
-use Rattle.ivy_session.specs.declared.served.Served.{Served}
+pub use Rattle.ivy_session.specs.declared.served.Served.{Served}
 use Rattle.ivy_session.specs.States.{HasAsked, IsSession, SessionState, is_turning, served_of}
 use Rattle.ring_nodes.specs.NodesState.{IsNodesOf, NodesState, with_nodes}
 use Rattle.met_blocks.specs.MetState.{AreMet, MetState}
@@ -16,7 +16,7 @@ use Rattle.world_model.specs.Calls.{BeginsWith}
 use Rattle.world_model.specs.World.{Participant, World, participant, with_participant}
 use Rattle.world_model.specs.Steps.{RunsOut, Scene, Steps, StepsOn}
 use Rattle.world_laws.specs.Keeps.{IsInHand, Keeps, OnlyPublishes}
-use Rattle.step_laws.specs.Scenes.{given_at}
+use Rattle.session_steps.specs.Scenes.{given_at}
 
 -- whatever the judge is, heads are judged by their signatures
 abbrev pub judges : Judges HssJudge

@@ -28,7 +28,7 @@ use Rattle.world_model.specs.Fates.{FateOf}
 use Rattle.world_model.specs.Steps.{RunsOut, Scene, StepsOn, met_by}
 use Rattle.world_model.specs.World.{World}
 use Rattle.world_laws.specs.Laws.{PublishingKeeps, StepsKeep}
-use Rattle.step_laws.specs.Laws.{AsksAreSteps, DoneIsOver, NextAskedAreMade, RepliesAreRead, SettlingsAreSteps, StepsAreOfOneCall, TurnsAreSteps, TurnsMayBe}
+use Rattle.session_steps.specs.Laws.{AsksAreSteps, DoneIsOver, NextAskedAreMade, RepliesAreRead, SettlingsAreSteps, StepsAreOfOneCall, TurnsAreSteps, TurnsMayBe}
 use Rattle.session_steps.specs.Showing.{CallState, IsUnderWay, Leaves, Shown, Shows, StepsFrom, judges}
 
 -- ---- the laws

@@ -20,7 +20,7 @@ use ring_nodes::RingNodes;
 use script_participants::Participant;
 use std::alloc::Global;
 use std::sync::ledger::Ledger;
-use step_laws::{
+use crate::laws::{
     asked_nodes_are_made, asks_are_steps, done_is_over, replies_are_read, scenes_go_on,
     settlings_are_steps, turns_are_steps, turns_may_be,
 };

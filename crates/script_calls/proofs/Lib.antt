@@ -1,6 +1,0 @@
-pub mod Opened
-pub mod Hands
-pub mod Lines
-pub mod Joined
-mod StayingRing
-mod OtherLines

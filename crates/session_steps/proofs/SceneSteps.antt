@@ -1,0 +1,122 @@
+-- A scene whose session is one in code: what is at hand was taken, and it is in hand still.
+use Rattle.std.proofs.Common.{◌≡◌, ◌≢◌, ℕ, Bool, true, false, cond, List, [], ◌∷◌, map, Option, Some, None, refl, sym, ap, ◌∙◌, subst}
+use Rattle.std.specs.Prelude.{IfSome}
+use Rattle.std.specs.Str.{bytes_eq}
+use Rattle.std.proofs.lemmas.Slice.Eq.{bytes_eq-Decides}
+use Rattle.ivy_base.specs.declared.key.Key.{Key}
+use Rattle.log_heads.specs.Signed.{hss_judged}
+use Rattle.dht_ids.specs.declared.ask.Answer.{Answer}
+use Rattle.dht_ids.specs.declared.ask.Ask.{Ask}
+use Rattle.dht_ids.specs.declared.judge.Judged.{Judged}
+use Rattle.dht_ids.specs.declared.peer.Peer.{Peer}
+use Rattle.dht_ids.specs.declared.post.Ack.{Ack}
+use Rattle.dht_ids.specs.declared.post.Post.{Post}
+use Rattle.dhash_client.specs.GetHead.{Judges}
+use Rattle.session_model.specs.Sessions.{Cache, Hears, Refreshing, Said, Session, Takes, TakesAll, TakesSome, acknowledged, after_put}
+use Rattle.session_model.specs.Courses.{Fails, LacksMemory}
+use Rattle.session_model.specs.Courses.Fails.{fails as refresh_fails, goes_on as refresh_goes}
+use Rattle.session_model.specs.Courses.LacksMemory.{lacks}
+use Rattle.session_model.specs.Sessions.Hears.{gets_on, got, puts_on, puts}
+use Rattle.session_model.specs.Sessions.Takes.{posted, cached}
+use Rattle.session_model.specs.Sessions.TakesAll.{none as takes_none, more as takes_more}
+use Rattle.session_model.specs.Sessions.TakesSome.{none as some_none, more as some_more}
+use Rattle.session_laws.specs.Going.{SnapshotsAreDecided}
+use Rattle.ivy_session.specs.States.{SessionState}
+use Rattle.ivy_session.specs.Stepping.{IsSameSession}
+use Rattle.ivy_session.specs.Taking.{IsSameCall}
+use Rattle.world_model.specs.World.{World, Participant, participant, with_participant}
+use Rattle.world_model.specs.Steps.{Scene, with_cache}
+use Rattle.world_laws.specs.Keeps.{IsInHand, Keeps}
+use Rattle.world_laws.proofs.Frames.{found_placed}
+use Rattle.world_laws.proofs.TakingOn.{taking_keeps}
+use Rattle.session_steps.specs.Scenes.{IsSceneOf, given_at, given_of}
+
+-- ---- participants
+
+-- of two with one name in the same place the later counts
+pub twice_placed : (w : World) (p q : Participant) → p.name ≡ q.name → with_participant (with_participant w p) q ≡ with_participant w q
+twice_placed w p q named = ap (λ (ps : List Participant). record w { participants = ps }) (each w.participants)
+  where
+    one : (o : Participant) (b : Bool) → bytes_eq o.name p.name ≡ b → cond (bytes_eq (cond b p o).name q.name) q (cond b p o) ≡ cond (bytes_eq o.name q.name) q o
+    one o true e =
+        let same : o.name ≡ q.name = (bytes_eq-Decides o.name p.name).0 e ∙ named in
+        ap (λ (t : Bool). cond t q p) ((bytes_eq-Decides p.name q.name).1 named) ∙ sym (ap (λ (t : Bool). cond t q o) ((bytes_eq-Decides o.name q.name).1 same))
+    one o false e = refl
+
+    each : (ps : List Participant) → map (λ o. cond (bytes_eq o.name q.name) q o) (map (λ o. cond (bytes_eq o.name p.name) p o) ps) ≡ map (λ o. cond (bytes_eq o.name q.name) q o) ps
+    each [] = refl
+    each (o ∷ ps) = λ i. one o (bytes_eq o.name p.name) refl i ∷ each ps i
+
+-- ---- what is at hand
+
+-- where an ask was heard, nothing is taken
+pub asking_takes : {judged : Key → List ℕ → Option Judged} {r : ℕ} {s t : Session} {cache after : Cache} → s.current ≢ [] → Takes judged r s cache t after → ⊥
+asking_takes busy (posted key bytes wants free is) = busy free
+asking_takes busy (cached key bytes wants free not is) = busy free
+
+pub takes_while_asking : {judged : Key → List ℕ → Option Judged} {r : ℕ} (s : Session) (cache : Cache) → s.current ≢ [] → TakesAll judged r s cache s cache
+takes_while_asking s cache busy = takes_none (λ t after takes. asking_takes busy takes)
+
+-- at another stage than that of a refresh nothing is taken
+pub later_takes : {judged : Key → List ℕ → Option Judged} {r : ℕ} {s t : Session} {cache after : Cache} → (s.stage ≡ Refreshing → ⊥) → Takes judged r s cache t after → ⊥
+later_takes later (posted key bytes wants free is) = later wants.0
+later_takes later (cached key bytes wants free not is) = later wants.0
+
+pub takes_later : {judged : Key → List ℕ → Option Judged} {r : ℕ} (s : Session) (cache : Cache) → (s.stage ≡ Refreshing → ⊥) → TakesAll judged r s cache s cache
+takes_later s cache later = takes_none (λ t after takes. later_takes later takes)
+
+-- it is the same call
+pub taken_same : {judged : Key → List ℕ → Option Judged} {r : ℕ} {s t : Session} {cache after : Cache} → TakesAll judged r s cache t after → IsSameCall s t
+taken_same (takes_none none) = refl
+taken_same (takes_more (posted key bytes wants free is) rest) = taken_same rest
+taken_same (takes_more (cached key bytes wants free not is) rest) = taken_same rest
+
+pub all_some : {judged : Key → List ℕ → Option Judged} {r : ℕ} {s t : Session} {cache after : Cache} → TakesAll judged r s cache t after → TakesSome judged r s cache t after
+all_some (takes_none none) = some_none
+all_some (takes_more first rest) = some_more first (all_some rest)
+
+-- ---- what is said
+
+pub put_gives : (said : Option Said) (p : Post) (posts : List Post) (acks : List Ack) (held : Bool) → given_at (after_put said p posts acks held) ≡ given_of said
+put_gives said p posts acks true = refl
+put_gives said p posts acks false = refl
+
+pub hears_gives : {judged : Key → List ℕ → Option Judged} {r : ℕ} {s t : Session} {cache after : Cache} {node : Peer} {question : Ask} {given : Answer} → Hears judged r s cache node question given t after
+    → given_at t.stage ≡ given_at s.stage
+hears_gives (gets_on want wants next part) = refl
+hears_gives (got want brought wants next whole) = refl
+hears_gives (puts_on said p posts acks at next part) = refl
+hears_gives (puts said p posts acks came at next whole) = put_gives said p posts acks (acknowledged came) ∙ sym (ap given_at at)
+
+pub fails_gives : {s t : Session} → Fails s t → given_at t.stage ≡ given_at s.stage
+fails_gives (refresh_fails notes given miss xid asked at refreshes asks) = sym (ap given_at at)
+fails_gives (refresh_goes not) = refl
+
+pub lacking_gives : {s t : Session} → LacksMemory s t → (given_at t.stage ≡ given_of None) × (given_at s.stage ≡ given_of None)
+lacking_gives (lacks notes shown given end xid asked at refreshed asks rest front) = (refl, ap given_at at)
+
+pub taken_gives : {judged : Key → List ℕ → Option Judged} {r : ℕ} {s t : Session} {cache after : Cache} → TakesAll judged r s cache t after → given_at t.stage ≡ given_at s.stage
+taken_gives takes = ap (λ (u : Session). given_at u.stage) (taken_same takes)
+
+pub some_gives : {judged : Key → List ℕ → Option Judged} {r : ℕ} {s t : Session} {cache after : Cache} → TakesSome judged r s cache t after → given_at t.stage ≡ given_at s.stage
+some_gives some_none = refl
+some_gives (some_more (posted key bytes wants free is) rest) = some_gives rest
+some_gives (some_more (cached key bytes wants free not is) rest) = some_gives rest
+
+-- ---- of a scene
+
+module _ {J : Type 0} (judges : Judges J) (c : Scene) (r : ℕ) (p : Participant) (old : SessionState J) (is : IsSceneOf judges c r p old) where
+  -- by the ring's judge and so many owners
+  pub as_ring : (P : (Key → List ℕ → Option Judged) → ℕ → Type 0) → P (judges old.judge) old.replicas → P hss_judged r
+  as_ring P h = subst (λ (judged : Key → List ℕ → Option Judged). P judged r) is.judge (subst (λ (n : ℕ). P (judges old.judge) n) is.replicas h)
+
+  pub as_ring_then : (mid : SessionState J) → IsSameSession old mid → (P : (Key → List ℕ → Option Judged) → ℕ → Type 0) → P (judges mid.judge) mid.replicas → P hss_judged r
+  as_ring_then mid same P h = as_ring P (subst (λ (j : J). P (judges j) old.replicas) same.0 (subst (λ (n : ℕ). P (judges mid.judge) n) same.1 h))
+
+  module _ (keeps : Keeps (c.world, c.story)) (t : Session) (cache : Cache) (takes : TakesAll hss_judged r c.session p.cache t cache) where
+    pub found_then : participant (with_participant c.world (record p { cache = cache })) t.by ≡ Some (record p { cache = cache })
+    found_then = subst (λ (u : Session). participant (with_participant c.world (record p { cache = cache })) u.by ≡ Some (record p { cache = cache })) (sym (taken_same takes))
+        (found_placed c.world keeps.apart c.session.by p is.is_by (record p { cache = cache }) refl)
+
+    pub keeps_then : IsInHand c r → c.session.standing.to_load ≡ None → Keeps (with_participant c.world (record p { cache = cache }), c.story) × IsInHand (with_cache hss_judged r c p t cache) r
+    keeps_then hand none = taking_keeps c r p t cache keeps hand is.is_by (all_some takes)

@@ -1,0 +1,453 @@
+-- Whatever comes of the turn of a session in code, and whatever the session makes of it, is a step of the scene.
+use Rattle.std.proofs.Common.{◌≡◌, ⊎_elim, ℕ, ◌<◌, Bool, true, false, List, [], ◌++◌, Option, Some, None, Result, Ok, Err, refl, sym, ap, ◌∙◌, subst, Contains}
+use Rattle.std.specs.Prelude.{IfErr, IfSome, IsSomeAnd, IsTrue, option_map}
+use Rattle.std.specs.List.{AllByRecursion}
+use Rattle.ivy_base.specs.declared.key.Key.{Key}
+use Rattle.ivy_base.specs.declared.operation.Moment.{Moment}
+use Rattle.ivy_base.specs.Naming.{HasClash, NamesTellApart}
+use Rattle.hss_keys.specs.Saved.{IsSigner}
+use Rattle.hss_keys.specs.Signer.{Signer}
+use Rattle.log_heads.specs.Signed.{hss_judged}
+use Rattle.log_model.proofs.Lists.{each, each_from}
+use Rattle.log_model.specs.Record.{Record}
+use Rattle.log_model.specs.Spelling.{IsMoment}
+use Rattle.log_model.specs.Vector.{Stamp}
+use Rattle.log_model.specs.View.{View, IsView, is_named}
+use Rattle.log_records.specs.Batches.{owner_of, owners_in}
+use Rattle.wire_model.proofs.OneReading.{one_call}
+use Rattle.nfs_laws.specs.Replies.{AnswersAreReplies, FinishesAreReplies, PlansAreReplies, SetsMakeTrees}
+use Rattle.nfs_model.specs.Replies.{IsFittingReply}
+use Rattle.nfs_model.specs.Results.{result as bytes_of}
+use Rattle.nfs_model.specs.declared.replies.Reply.{Reply}
+use Rattle.turn_model.specs.Basis.{Basis, Holding}
+use Rattle.turn_model.specs.Turn.{Asked as ModelAsked, Turned as ModelTurned}
+use Rattle.dht_ids.specs.declared.post.Ack.{Ack}
+use Rattle.dht_ids.specs.declared.post.Post.{Post}
+use Rattle.dhash_client.specs.GetHead.{Judges}
+use Rattle.agent_model.specs.Agent.{kept_of}
+use Rattle.agent_model.specs.Standing.{Chain, Refresh as ModelRefresh, Standing as ModelStanding, anew_in}
+use Rattle.agent_model.specs.Turning.{Answered, Behind, BelowTide, IsByDefinition, TurnEnd, Turns}
+use Rattle.agent_model.specs.Turning.Turns.{behind, below, answers as answers_it}
+use Rattle.session_model.specs.Brought.{Brought, brought_in, heads_at}
+use Rattle.session_model.specs.Courses.{HasRefreshed, IsRefusal, LacksMemory, anew, answered, ended}
+use Rattle.session_model.specs.Courses.TakesTurn.{answers, begins_anew, gives_up}
+use Rattle.session_model.specs.Refreshing.{Done, FetchesAll, Loaded, LoadEnd, LoadsFor, LoadWants, Note, RefreshEnd, Refreshes, counting, start_of}
+use Rattle.session_model.specs.Refreshing.LoadsFor.{none as nothing_to_load, some as snapshot_to_load}
+use Rattle.session_model.specs.Refreshing.Refreshes.{loading, fetching}
+use Rattle.session_model.specs.Replies.{Asks, said_no_memory, said_of}
+use Rattle.session_model.specs.Sessions.{Cache, Over, Publishing, Refreshing, Said, Session, TakesAll}
+use Rattle.session_laws.proofs.OneRefresh.{fetch_is_one}
+use Rattle.log_fetch.specs.declared.asked.Asked.{Asked}
+use Rattle.log_fetch.specs.declared.refresh.Refresh.{Refresh}
+use Rattle.log_fetch.specs.declared.standing.Standing.{Standing}
+use Rattle.log_fetch.specs.declared.turned.Turned.{Turned}
+use Rattle.log_fetch.specs.declared.turned.TurnFault.{TurnFault}
+use Rattle.log_fetch.specs.declared.turned.TurnFault.TheVariants as fault
+use Rattle.log_fetch.specs.Edges.{edge_in}
+use Rattle.log_fetch.specs.Standings.{asked_of, refresh_of, standing_of}
+use Rattle.ivy_agent.specs.Answering.{IsCall}
+use Rattle.ivy_agent.specs.Holders.{Holder}
+use Rattle.ivy_agent.specs.Saves.{Saves}
+use Rattle.ivy_agent.specs.Turns.{IsFetchedIn, TurnsAs}
+use Rattle.ivy_session.specs.declared.session.Next.TheVariants as next
+use Rattle.ivy_session.specs.declared.session.Stage.{Stage as CodeStage}
+use Rattle.ivy_session.specs.declared.session.Stage.TheVariants as stage
+use Rattle.ivy_session.specs.States.{IsAt, IsSession, SessionState, asked_at, is_turning, session_awaited}
+use Rattle.ivy_session.specs.Stepping.{IsAnewFor, IsBatchOf, NextIs, TurnedIs}
+use Rattle.ivy_session.specs.Stepping as code
+use Rattle.ivy_session.specs.Stepping.IsRefused.{begins_anew as code_begins, lacks_memory as code_lacks, gives_up as code_gives_up}
+use Rattle.ivy_session.specs.Stepping.NextIs.{turns as next_turns}
+use Rattle.view_blocks.specs.Faults.{HasKeys}
+use Rattle.script_model.specs.Messages.{Given}
+use Rattle.world_model.specs.Agents.{Agent, Kept, IsKept, IsTurnIn, TakesTurn, hss, kept_bytes, own}
+use Rattle.world_model.specs.Keepers.{Keeper, asked_to_save, fails_next}
+use Rattle.world_model.specs.Story.{known_of}
+use Rattle.world_model.specs.World.{World, Participant, named_bytes, participant, with_participant}
+use Rattle.world_model.specs.Steps.{Scene, after_turn, having_made, met_by, turn_told, with_cache, world_after}
+use Rattle.world_model.specs.Steps.Acts.{turns as acts_turns, is_refused}
+use Rattle.world_model.specs.Steps.Steps.{acts, lacks_memory}
+use Rattle.world_laws.specs.Keeps.{IsInHand, IsKeptSo, IsSavedWell, Keeps}
+use Rattle.world_laws.proofs.Apart.{clash_is_decided}
+use Rattle.world_laws.proofs.Bringing.{found_named, its_view, refresh_may_turn}
+use Rattle.world_laws.proofs.Frames.{into_map}
+use Rattle.session_steps.specs.Laws.{AgentsGiveTurns, BatchesAreFetched, GivesNothing, RefusalsAreFresh, RepliesAreRead, TurnsAreSteps, TurnsMayBe}
+use Rattle.session_steps.specs.Scenes.{GivesTurn, HadTurn, IsLeft, IsSceneOf, IsStep, MayLack, given_at, given_by, given_of, holder_of, memory_saves, turned_participant, turned_world}
+use Rattle.session_steps.specs.Scenes.IsLeft.{goes_on as left_on, lacks_memory as left_lacking, is_cut as left_cut}
+use Rattle.session_steps.proofs.Read.{reply_of}
+use Rattle.session_steps.proofs.SceneSteps.{all_some, as_ring, found_then, keeps_then, lacking_gives, taken_same, twice_placed}
+
+-- ---- what was asked for is one
+
+asks_one_number : (view : View) (message : List ℕ) (xid number : ℕ) (asked other : ModelAsked) → Asks view message xid asked → Asks view message number other → xid ≡ number
+asks_one_number view message xid number asked other a b = sym a.xid_is ∙ ap (λ c. c.xid) (one_call message a.call b.call a.is_call b.is_call) ∙ b.xid_is
+
+-- ---- a refresh with no snapshot to load notes one thing
+
+nothing_loaded : {root : Option Key} {brought : List Brought} {end : LoadEnd} → LoadsFor root brought end → root ≡ None → (brought ≡ []) × (end ≡ Loaded None)
+nothing_loaded nothing_to_load e = (refl, refl)
+nothing_loaded (snapshot_to_load loads) e = cc e
+
+wants_or_loaded : (key : Key) → LoadWants key ≡ Loaded None → ⊥
+wants_or_loaded key e = cc e
+
+same_basis : (a b : Option Basis) → Loaded a ≡ Loaded b → a ≡ b
+same_basis a b e = cc e
+
+fetches_by : (s : ModelStanding) {brought : List Brought} {notes : List Note} {given : ModelRefresh} {end : RefreshEnd} → s.to_load ≡ None → Refreshes s brought notes given end
+    → (chains : List Chain) × FetchesAll s s.held s.view.members brought notes chains end
+fetches_by s none (loading {brought} {key} loads) = absurd (wants_or_loaded key (nothing_loaded loads none).1)
+fetches_by s none (fetching {loaded} {brought} {notes} {chains} {end} basis loads fetches) =
+    let l = nothing_loaded loads none in (
+      chains,
+      subst (λ (b : List Brought). FetchesAll s s.held s.view.members (b ++ brought) notes chains end) (sym l.0)
+          (subst (λ (o : Option Basis). FetchesAll s (start_of s (counting s.floor o)) s.view.members brought notes chains end) (same_basis basis None l.1) fetches),
+    )
+
+same_notes : (s : Session) (notes others : List Note) (given also : ModelRefresh) → s.standing.to_load ≡ None → HasRefreshed s notes given → HasRefreshed s others also → notes ≡ others
+same_notes s notes others given also none done again =
+    let a = fetches_by s.standing none done.1 in
+    let b = fetches_by s.standing none again.1 in
+    (fetch_is_one s.standing s.standing.held s.standing.view.members (brought_in s.parts) notes others a.0 b.0 Done Done a.1 b.1).0
+
+-- ---- what the agent's turn is
+
+-- by the keeper's next save, and the keeper as it was asked then
+module _ (brought : ModelRefresh) (a : Agent) (view : View) (asked : ModelAsked) (now : Moment) (k new : Keeper) (end : TurnEnd) (after : Agent) where
+  by_keeper : (saving : Option Kept) (fails : Bool) → Turns hss brought a view fails asked now end after saving → (saving ≡ None → (other : Bool) → Turns hss brought a view other asked now end after saving)
+      → Saves memory_saves k (option_map kept_bytes saving) fails new → Turns hss brought a view (fails_next k) asked now end after saving × (new ≡ asked_to_save k saving)
+  by_keeper None fails turns either saved = (either refl (fails_next k), saved)
+  by_keeper (Some kept) fails turns either saved = (subst (λ (b : Bool). Turns hss brought a view b asked now end after (Some kept)) saved.0 turns, saved.1)
+
+had_so : (p : Participant) (view : View) (refresh : Refresh) (asked : Asked) (now : Moment) (fails : Bool) (end : TurnEnd) (after : Holder Keeper Signer)
+    → TurnsAs hss IsSigner memory_saves view (refresh_of refresh) (asked_of asked) now (holder_of p) fails end after → HadTurn p view refresh asked now end after
+had_so p view refresh asked now fails end after t =
+    let k = by_keeper (refresh_of refresh) p.agent view (asked_of asked) now p.keeper after.keeper end after.agent t.saving fails t.turns t.either t.keeper in
+    record { saving = t.saving; turns = k.0; keeper = k.1 }
+
+pub agents_give_turns : AgentsGiveTurns
+agents_give_turns p view refresh asked now (Ok turned) after t = (t.reply, had_so p view refresh asked now t.fails (Answered t.reply turned.applied) after t.turns, t.gives)
+agents_give_turns p view refresh asked now (Err fault.Memory) after t = t
+agents_give_turns p view refresh asked now (Err (fault.Behind standing)) after t = (had_so p view refresh asked now false Behind after t.turns, t.anew)
+agents_give_turns p view refresh asked now (Err (fault.BelowTide standing)) after t = (had_so p view refresh asked now false BelowTide after t.turns, t.anew)
+
+-- an answer is that of the definition
+other_end : (reply : Reply) (applied : ℕ) → Behind ≡ Answered reply applied → ⊥
+other_end reply applied e = cc e
+
+below_end : (reply : Reply) (applied : ℕ) → BelowTide ≡ Answered reply applied → ⊥
+below_end reply applied e = cc e
+
+same_reply : (reply other : Reply) (applied count : ℕ) → Answered reply applied ≡ Answered other count → reply ≡ other
+same_reply reply other applied count e = cc e
+
+by_definition : {given : ModelRefresh} {a : Agent} {view : View} {fails : Bool} {asked : ModelAsked} {now : Moment} {end : TurnEnd} {after : Agent} {saving : Option Kept} (reply : Reply) (applied : ℕ)
+    → Turns hss given a view fails asked now end after saving → end ≡ Answered reply applied
+    → (h : Holding) × (written : List Record) × IsByDefinition hss given a view fails asked now h written reply
+by_definition reply applied (behind is) e = absurd (other_end reply applied e)
+by_definition reply applied (below near is) e = absurd (below_end reply applied e)
+by_definition {given = given} {a = a} {view = view} {fails = fails} {asked = asked} {now = now} reply applied (answers_it h written other after saving near over basis takes becomes by) e =
+    (h, written, subst (IsByDefinition hss given a view fails asked now h written) (same_reply other reply _ applied e) by)
+
+-- ---- the world then
+
+-- what stood in the participant's place before doesn't count
+same_after : (w : World) (p q : Participant) → p.name ≡ q.name → world_after (with_participant w p) q ≡ world_after w q
+same_after w p q named = ap (λ (v : World). record v { met = met_by w.met q.agent.pending }) (twice_placed w p q named)
+
+same_turned : (p : Participant) (after : Holder Keeper Signer) (saving : Option Kept) → after.keeper ≡ asked_to_save p.keeper saving → after_turn p after.agent saving ≡ turned_participant p after
+same_turned p after saving kept = ap (λ (k : Keeper). having_made (record p { agent = after.agent; keeper = k }) after.agent.pending) (sym kept)
+
+same_view : (v w : View) → Some v ≡ Some w → v ≡ w
+same_view v w e = cc e
+
+-- ---- where a turn is wanted
+
+turning_or_not : true ≡ false → ⊥
+turning_or_not e = cc e
+
+publishing_or_not : (said : Option Said) (posts : List Post) (acks : List Ack) → Publishing said posts acks ≡ Refreshing → ⊥
+publishing_or_not said posts acks e = cc e
+
+over_or_not : (said : Option Said) → Over said ≡ Refreshing → ⊥
+over_or_not said e = cc e
+
+same_asked : (a b : Asked) → Some a ≡ Some b → a ≡ b
+same_asked a b e = cc e
+
+none_asked : (a : Asked) → None ≡ Some a → ⊥
+none_asked a e = cc e
+
+module _ {J : Type 0} (judges : Judges J) (s : Session) (st : SessionState J) where
+  -- there is no snapshot to load
+  no_snapshot : (at : CodeStage J) → is_turning at ≡ false → s.stage ≡ Refreshing → IsAt judges s st at → s.standing.to_load ≡ None
+  no_snapshot (stage.Refreshing c f) turning refreshes h = h.fetching.none
+  no_snapshot (stage.Turning c) turning refreshes h = absurd (turning_or_not turning)
+  no_snapshot (stage.Publishing told q) turning refreshes h = absurd (publishing_or_not _ _ _ (sym h.stage ∙ refreshes))
+  no_snapshot (stage.Over told) turning refreshes h = absurd (over_or_not _ (sym h.stage ∙ refreshes))
+  no_snapshot stage.Told turning refreshes h = absurd h
+
+  -- what it is asked is the message's
+  call_of : (at : CodeStage J) (asked : Asked) → is_turning at ≡ true → asked_at at ≡ Some asked → IsAt judges s st at → (xid : ℕ) × Asks s.standing.view s.message xid (asked_of asked) × ((now : Moment) → IsMoment now → IsCall (asked_of asked) now)
+  call_of (stage.Refreshing c f) asked turning is h = absurd (turning_or_not (sym turning))
+  call_of (stage.Turning c) asked turning is h =
+      subst (λ (a : Asked). (xid : ℕ) × Asks s.standing.view s.message xid (asked_of a) × ((now : Moment) → IsMoment now → IsCall (asked_of a) now)) (same_asked c.asked asked is)
+      (c.xid, h.call.asks, λ now moment. record { caller = h.call.caller; args = h.call.args; moment = moment })
+  call_of (stage.Publishing told q) asked turning is h = absurd (none_asked asked is)
+  call_of (stage.Over told) asked turning is h = absurd (none_asked asked is)
+  call_of stage.Told asked turning is h = absurd (none_asked asked is)
+
+pub batches_are_fetched : BatchesAreFetched
+batches_are_fetched s b h = record {
+  under = (edge_in s.edges, h.under);
+  members = each_from (λ (c : Stamp × List Record). Contains s.view.members (owner_of c.1)) b.chains (λ c among. h.members (owner_of c.1) (owner_among b.chains c among));
+}
+  where
+    owner_among : (chains : List (Stamp × List Record)) (c : Stamp × List Record) → Contains chains c → Contains (owners_in chains) (owner_of c.1)
+    owner_among chains c among = into_map (λ (x : Stamp × List Record). owner_of x.1) chains c among
+
+module _ {J : Type 0} (judges : Judges J) (c : Scene) (r : ℕ) (p : Participant) (old : SessionState J) (is : IsSceneOf judges c r p old) (keeps : Keeps (c.world, c.story)) (hand : IsInHand c r) where
+  -- what was at hand is taken, and the refresh is done
+  pub record TurnsThen (mid : SessionState J) (cache : Cache) (refresh : Refresh) : Type 0 where
+    pub taken : Session
+    pub notes : List Note
+    pub takes : TakesAll hss_judged r c.session p.cache taken cache
+    pub session : IsSession judges taken mid
+    pub turning : is_turning mid.stage ≡ true
+    pub done : HasRefreshed taken notes (refresh_of refresh)
+    pub batch : IsBatchOf taken.standing refresh.batch
+    pub basis : refresh.basis ≡ None
+
+  turns_then : (mid : SessionState J) (cache : Cache) (refresh : Refresh) → NextIs judges old mid c.session p.cache cache (next.Turn refresh) → TurnsThen mid cache refresh
+  turns_then mid cache refresh (next_turns t notes _ takes session turning done batch basis) = record {
+    taken = t;
+    notes = notes;
+    takes = as_ring judges c r p old is (λ judged n. TakesAll judged n c.session p.cache t cache) takes;
+    session = session;
+    turning = turning;
+    done = done;
+    batch = batch;
+    basis = basis;
+  }
+
+  may_be : (mid : SessionState J) (cache : Cache) (refresh : Refresh) → TurnsThen mid cache refresh
+      → (is_turning mid.stage ≡ true) × IsSomeAnd p.agent.view (λ view. IsFetchedIn view refresh.batch) × (refresh.basis ≡ None) × ((asked : Asked) → asked_at mid.stage ≡ Some asked → IsCall (asked_of asked) c.world.now)
+  may_be mid cache refresh h = (
+    h.turning,
+    subst (λ (o : Option View). IsSomeAnd o (λ view. IsFetchedIn view refresh.batch)) (sym (its_view c r hand p is.is_by))
+        (subst (λ (s : Session). IsFetchedIn s.standing.view refresh.batch) (taken_same h.takes) (batches_are_fetched h.taken.standing refresh.batch h.batch)),
+    h.basis,
+    λ asked is_asked. (call_of judges h.taken mid mid.stage asked h.turning is_asked h.session.at).2 c.world.now keeps.moment,
+  )
+
+  -- ---- the step
+
+  module _ (turning_before : is_turning old.stage ≡ false) (mid new : SessionState J) (cache : Cache) (refresh : Refresh) (asked : Asked) (h : TurnsThen mid cache refresh) (is_asked : asked_at mid.stage ≡ Some asked) (after : Holder Keeper Signer)
+      (free : session_awaited new ≡ None) (past : is_turning new.stage ≡ false) where
+    abbrev here : Scene
+    here = with_cache hss_judged r c p h.taken cache
+
+    abbrev mine : Participant
+    mine = record p { cache = cache }
+
+    abbrev view : View
+    view = h.taken.standing.view
+
+    -- ---- of the scene once what was at hand is taken
+
+    none_to_load : h.taken.standing.to_load ≡ None
+    none_to_load = subst (λ (s : Session). s.standing.to_load ≡ None) (sym (taken_same h.takes))
+        (no_snapshot judges c.session old old.stage turning_before (subst (λ (s : Session). s.stage ≡ Refreshing) (taken_same h.takes) h.done.0) is.session.at)
+
+    before_none : c.session.standing.to_load ≡ None
+    before_none = subst (λ (s : Session). s.standing.to_load ≡ None) (taken_same h.takes) none_to_load
+
+    kept_now : Keeps (here.world, here.story) × IsInHand here r
+    kept_now = keeps_then judges c r p old is keeps h.taken cache h.takes hand before_none
+
+    found_now : participant here.world h.taken.by ≡ Some mine
+    found_now = found_then judges c r p old is keeps h.taken cache h.takes
+
+    in_view : mine.agent.view ≡ Some view
+    in_view = its_view here r kept_now.1 mine found_now
+
+    call : (xid : ℕ) × Asks view h.taken.message xid (asked_of asked) × ((moment : Moment) → IsMoment moment → IsCall (asked_of asked) moment)
+    call = call_of judges h.taken mid mid.stage asked h.turning is_asked h.session.at
+
+    asks_so : (xid : ℕ) (other : ModelAsked) → Asks view h.taken.message xid other → Asks view h.taken.message xid (asked_of asked)
+    asks_so xid other a = subst (λ (n : ℕ). Asks view h.taken.message n (asked_of asked)) (asks_one_number view h.taken.message call.0 xid (asked_of asked) other call.1 a) call.1
+
+    done_so : (notes : List Note) (given : ModelRefresh) → HasRefreshed h.taken notes given → HasRefreshed h.taken notes (refresh_of refresh)
+    done_so notes given d = subst (λ (ns : List Note). HasRefreshed h.taken ns (refresh_of refresh)) (same_notes h.taken h.notes notes (refresh_of refresh) given none_to_load h.done d) h.done
+
+    starts_are : h.taken.starts ≡ c.session.starts
+    starts_are = ap (λ (s : Session). s.starts) (taken_same h.takes)
+
+    -- the turn, and what it leaves
+    abbrev IsTurn : TurnEnd → Option Kept → Type 0
+    IsTurn end saving = Turns hss (refresh_of refresh) p.agent view (fails_next p.keeper) (asked_of asked) c.world.now end after.agent saving × (after.keeper ≡ asked_to_save p.keeper saving)
+
+    -- ---- it was answered
+
+    record IsTurnTold (notes : List Note) (xid : ℕ) (reply : Reply) : Type 0 where
+      told : ModelTurned
+      replies : told.reply ≡ reply
+      is_turn : NamesTellApart (named_bytes here.world) → IsTurnIn (named_bytes here.world) here.world.now mine.agent view (fails_next mine.keeper) h.taken c.began.knew (known_of c.story p.name) told
+
+    turn_told_so : (notes : List Note) (xid : ℕ) (reply : Reply) (applied : ℕ) (saving : Option Kept) → HasRefreshed h.taken notes (refresh_of refresh) → Asks view h.taken.message xid (asked_of asked) → IsTurn (Answered reply applied) saving
+        → IsTurnTold notes xid reply
+    turn_told_so notes xid reply applied saving done asks turn = ⊎_elim by_apart by_clash (clash_is_decided (named_bytes here.world))
+      where
+        by_clash : HasClash (named_bytes here.world) → IsTurnTold notes xid reply
+        by_clash clash = record {
+          told = record { reply = reply; set = [] };
+          replies = refl;
+          is_turn = λ apart. absurd (clash.4 (apart clash.0 clash.1 clash.2 clash.3 clash.5));
+        }
+
+        by_apart : NamesTellApart (named_bytes here.world) → IsTurnTold notes xid reply
+        by_apart apart =
+            let may = refresh_may_turn here mine r notes (refresh_of refresh) kept_now.0 apart kept_now.1 found_now done in
+            let definition = by_definition reply applied turn.0 refl in
+            let of = definition.2 (heads_at (brought_in h.taken.parts)) (named_bytes here.world) h.taken.standing c.began.knew (known_of c.story p.name) apart may.0 may.1 in
+            record {
+              told = of.turned;
+              replies = sym of.replies;
+              is_turn = λ again. record { xid = xid; asked = asked_of asked; asks = asks; notes = notes; given = refresh_of refresh; refreshed = done; taken = of.taken; is_turn = of.is_turn };
+            }
+
+    module _ (turned : Turned) where
+      -- the step, after which the session says that
+      abbrev SaysThen : Reply → Type 0
+      SaysThen reply = IsStep judges c r new ⊥ (turned_world c.world mine (Ok turned) after) (given_by reply)
+
+      answered_step : (reply : Reply) (saving : Option Kept) (notes : List Note) (xid : ℕ) → HasRefreshed h.taken notes (refresh_of refresh) → Asks view h.taken.message xid (asked_of asked) → IsTurn (Answered reply turned.applied) saving
+          → IsLeft judges ⊥ (answered h.taken (said_of xid reply) notes after.agent.pending) new → SaysThen reply
+      answered_step reply saving notes xid done asks turn left =
+          let t = turn_told_so notes xid reply turned.applied saving done asks turn in
+          record {
+            next = record {
+              world = world_after here.world (record (after_turn mine after.agent saving) { work = turned.applied });
+              story = turn_told here mine view after.agent t.told;
+              session = answered h.taken (said_of xid reply) notes after.agent.pending;
+              began = c.began;
+            };
+            steps = acts p h.taken cache _ is.is_by h.takes
+                (acts_turns view reply turned.applied after.agent saving _ t.told in_view (answers notes (refresh_of refresh) xid (asked_of asked) reply turned.applied after.agent saving done asks turn.0) t.replies t.is_turn);
+            left = left;
+            world = same_after c.world mine (record (after_turn mine after.agent saving) { work = turned.applied }) refl
+                ∙ ap (λ (q : Participant). world_after c.world (record q { work = turned.applied })) (same_turned mine after saving turn.1);
+            gives = refl;
+          }
+
+      by_reply : (reply : Reply) (saving : Option Kept) → turned.posts ≡ after.agent.pending → IsTurn (Answered reply turned.applied) saving → code.IsAnswered judges mid new h.taken turned reply → SaysThen reply
+      by_reply reply saving posts turn a =
+          answered_step reply saving a.notes a.xid (done_so a.notes a.given a.refreshed) (asks_so a.xid a.asked a.asks) turn
+          (⊎_elim (λ session. left_on (subst (λ (pending : List Post). IsSession judges (answered h.taken (said_of a.xid reply) a.notes pending) new) posts session) (λ waits. absurd (waits free)) past) (λ cut. left_cut cut.0) a.publishes)
+
+      abbrev Gave : Type 0
+      Gave = GivesTurn p view refresh asked c.world.now (Ok turned) after
+
+      by_answer : Gave → TurnedIs judges mid new h.taken (Ok turned) → (given : Given) × IsStep judges c r new ⊥ (turned_world c.world mine (Ok turned) after) given × GivesNothing (Ok turned) given
+      by_answer t told = (given_by t.0, by_reply t.0 t.1.saving t.2.posts (t.1.turns, t.1.keeper) (told t.0 t.2.bytes), tt)
+
+      -- the reply is the one that its bytes are
+      module _ (answers_are : AnswersAreReplies) (plans_are : PlansAreReplies) (finishes_are : FinishesAreReplies) (sets_make : SetsMakeTrees) (read : Reply) (fits : IsFittingReply asked.args read) (same : turned.reply ≡ bytes_of read) where
+        saved_agent : IsKept (kept_of p.agent)
+        saved_agent = (each (IsKeptSo IsSavedWell) c.world.participants p keeps.saved (found_named c.world.participants c.session.by p is.is_by).0).3.agent
+
+        well : IsView view × Contains view.members (own p.agent)
+        well = by p.agent.view in_view saved_agent.view
+          where
+            by : (o : Option View) → o ≡ Some view → IfSome o (λ v. IsView v × HasKeys v × Contains v.members (own p.agent) × AllByRecursion (λ e. IsTrue (is_named v e.0)) p.agent.floor) → IsView view × Contains view.members (own p.agent)
+            by None none g = cc none
+            by (Some v) e g = subst (λ (x : View). IsView x × Contains x.members (own p.agent)) (same_view v view e) (g.0, g.2)
+
+        read_turn : (reply : Reply) (saving : Option Kept) → turned.reply ≡ bytes_of reply → IsTurn (Answered reply turned.applied) saving → IsTurn (Answered read turned.applied) saving
+        read_turn reply saving bytes turn = (
+          reply_of answers_are plans_are finishes_are sets_make hss IsSigner (refresh_of refresh) p.agent view (fails_next p.keeper) (asked_of asked) c.world.now saved_agent well (call.2 c.world.now keeps.moment).caller (call.2 c.world.now keeps.moment).args
+              keeps.moment call.1.not_alone reply read fits (sym same ∙ bytes) turned.applied refl turn.0,
+          turn.1,
+        )
+
+        by_read : Gave → TurnedIs judges mid new h.taken (Ok turned) → SaysThen read
+        by_read t told = by_reply read t.1.saving t.2.posts (read_turn t.0 t.1.saving t.2.bytes (t.1.turns, t.1.keeper)) (told read same)
+
+    -- ---- it was refused
+
+    module _ (end : TurnEnd) (refusal : IsRefusal end) (saving : Option Kept) (turn : IsTurn end saving) where
+      refused_step : (t : Session) → TakesTurn c.world.now p.agent view (fails_next p.keeper) h.taken end after.agent saving t → IsLeft judges (c.session.starts < 2) t new → given_at t.stage ≡ given_of None → IsStep judges c r new (c.session.starts < 2) (world_after c.world (turned_participant mine after)) (given_of None)
+      refused_step t takes left gives = record {
+        next = record here { world = world_after here.world (after_turn mine after.agent saving); session = t; began = record c.began { knew = known_of c.story p.name } };
+        steps = acts p h.taken cache _ is.is_by h.takes (is_refused view end after.agent saving t in_view refusal takes);
+        left = left;
+        world = same_after c.world mine (after_turn mine after.agent saving) refl ∙ ap (λ (q : Participant). world_after c.world q) (same_turned mine after saving turn.1);
+        gives = gives;
+      }
+
+      anew_step : h.taken.starts < 2 → IsLeft judges (c.session.starts < 2) (anew h.taken (anew_in hss after.agent view)) new → IsStep judges c r new (c.session.starts < 2) (world_after c.world (turned_participant mine after)) (given_of None)
+      anew_step few left = refused_step (anew h.taken (anew_in hss after.agent view))
+          (begins_anew h.notes (refresh_of refresh) call.0 (asked_of asked) end after.agent saving h.done call.1 turn.0 refusal few) left (ap given_at h.done.0)
+
+      by_refusal : (standing : ModelStanding) → standing ≡ anew_in hss after.agent view → code.IsRefused judges mid new h.taken standing → IsStep judges c r new (c.session.starts < 2) (world_after c.world (turned_participant mine after)) (given_of None)
+      by_refusal standing same (code_begins few session) = anew_step few (left_on (subst (λ (s : ModelStanding). IsSession judges (anew h.taken s) new) same session) (λ waits. absurd (waits free)) past)
+      by_refusal standing same (code_lacks t few lacking session) = anew_step few (left_lacking t (subst (λ (n : ℕ). n < 2) starts_are few) (subst (λ (s : ModelStanding). LacksMemory (anew h.taken s) t) same lacking) session)
+      by_refusal standing same (code_gives_up xid notes given other many done asks session) =
+          refused_step (ended h.taken (said_no_memory xid) notes None)
+          (gives_up notes (refresh_of refresh) xid (asked_of asked) end after.agent saving (done_so notes given done) (asks_so xid other asks) turn.0 refusal many) (left_on session (λ waits. absurd (waits free)) past) refl
+
+    -- ---- whatever it was
+
+    by_turn : (turned : Result Turned TurnFault) → GivesTurn p view refresh asked c.world.now turned after → TurnedIs judges mid new h.taken turned
+        → (given : Given) × IsStep judges c r new (MayLack c.session.starts turned) (turned_world c.world mine turned after) given × GivesNothing turned given
+    by_turn (Ok turned) t told = by_answer turned t told
+    by_turn (Err fault.Memory) t told = (
+      given_of None,
+      record {
+        next = with_cache hss_judged r c p told.0 cache;
+        steps = lacks_memory p h.taken told.0 cache is.is_by (all_some h.takes) told.1;
+        left = left_on told.2 (λ waits. absurd (waits free)) past;
+        world = refl;
+        gives = (lacking_gives told.1).0;
+      },
+      refl,
+    )
+    by_turn (Err (fault.Behind standing)) t told = (given_of None, by_refusal Behind tt t.0.saving (t.0.turns, t.0.keeper) (standing_of standing) t.1 told, refl)
+    by_turn (Err (fault.BelowTide standing)) t told = (given_of None, by_refusal BelowTide tt t.0.saving (t.0.turns, t.0.keeper) (standing_of standing) t.1 told, refl)
+
+pub turns_may_be : {J : Type 0} → TurnsMayBe J
+turns_may_be judges c r p old mid cache refresh keeps hand is wanted = may_be judges c r p old is keeps hand mid cache refresh (turns_then judges c r p old is keeps hand mid cache refresh (wanted.1 c.session is.session))
+
+pub turns_are_steps : {J : Type 0} → TurnsAreSteps J
+turns_are_steps judges c r p old mid new cache refresh asked turned after keeps hand is turning wanted is_asked had told free past =
+    let h = turns_then judges c r p old is keeps hand mid cache refresh (wanted.1 c.session is.session) in
+    by_turn judges c r p old is keeps hand turning mid new cache refresh asked h is_asked after free past turned
+    (subst (λ (o : Option View). IfSome o (λ view. GivesTurn p view refresh asked c.world.now turned after))
+    (in_view judges c r p old is keeps hand turning mid new cache refresh asked h is_asked after free past) had)
+    (told.1 h.taken h.session)
+
+pub replies_are_read : AnswersAreReplies → PlansAreReplies → FinishesAreReplies → SetsMakeTrees → {J : Type 0} → RepliesAreRead J
+replies_are_read answers_are plans_are finishes_are sets_make judges c r p old mid new cache refresh asked turned after read keeps hand is turning wanted is_asked had told free past fits same =
+    let h = turns_then judges c r p old is keeps hand mid cache refresh (wanted.1 c.session is.session) in
+    by_read judges c r p old is keeps hand turning mid new cache refresh asked h is_asked after free past turned answers_are plans_are finishes_are sets_make read fits same
+    (subst (λ (o : Option View). IfSome o (λ view. GivesTurn p view refresh asked c.world.now (Ok turned) after))
+    (in_view judges c r p old is keeps hand turning mid new cache refresh asked h is_asked after free past) had)
+    (told.1 h.taken h.session)
+
+-- ---- after a refusal
+
+-- the standing has no snapshot to load
+fresh_so : (v : View) (a : Agent) (standing : Standing) → standing_of standing ≡ anew_in hss a v → standing.basis ≡ None
+fresh_so v a standing e = ap (λ (s : ModelStanding). s.to_load) e
+
+pub refusals_are_fresh : RefusalsAreFresh
+refusals_are_fresh p refresh asked now turned after some had = by p.agent.view some had
+  where
+    of : (v : View) (t : Result Turned TurnFault) → GivesTurn p v refresh asked now t after → IfErr t IsAnewFor
+    of v (Ok done) h = tt
+    of v (Err fault.Memory) h = tt
+    of v (Err (fault.Behind standing)) h = fresh_so v after.agent standing h.1
+    of v (Err (fault.BelowTide standing)) h = fresh_so v after.agent standing h.1
+
+    by : (o : Option View) → IsSomeAnd o (λ view. Unit {0}) → IfSome o (λ view. GivesTurn p view refresh asked now turned after) → IfErr turned IsAnewFor
+    by None none h = absurd none
+    by (Some v) is h = of v turned h

@@ -1,5 +1,0 @@
-use Rattle.step_laws.proofs.Turns.{replies_are_read}
-use Rattle.step_laws.proofs.replies_are_read.Goals as goal
-
-pub returns : goal.returns
-returns g c = replies_are_read c.answers_are_replies.ensures.answers c.answers_are_replies.ensures.plans c.answers_are_replies.ensures.finishes c.answers_are_replies.ensures.sets
