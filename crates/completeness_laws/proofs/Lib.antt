@@ -23,3 +23,6 @@ pub mod Served
 pub mod StoreRoom
 pub mod PutsTaken
 pub mod PutsAcked
+pub mod NamesStay
+pub mod PublishesAll
+pub mod LogHeads
