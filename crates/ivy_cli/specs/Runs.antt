@@ -51,6 +51,10 @@ pub record IsUsage (status : ℕ) (before after : Outside) : Type 0 where
   pub front : (k : ℕ) × (k ≤ length usage_line) × (after.held ≡ then before.held (take k usage_line))
   pub writes : before.writes ≤ after.writes
 
+-- the clock, the ports or the keepers stayed as they were: what they hold, where that is known, and their counts
+abbrev pub IsUntouched : {S : Type 0} → S → S → Type 0
+IsUntouched old new = new ≡ old
+
 -- what comes of what the words ask for
 abbrev pub Does : Option Asked → ℕ → Outside → Outside → Type 0
 Does (Some asked.Play) status before after = IsPlay status before after
