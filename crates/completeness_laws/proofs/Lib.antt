@@ -13,6 +13,8 @@ pub mod RestartLines
 pub mod SnapLines
 pub mod ViewLines
 pub mod KeysStay
+pub mod RoundPuts
+pub mod RingLines
 pub mod Lines
 pub mod Walks
 pub mod Known

@@ -86,7 +86,7 @@ not_there k [] c h f = cc f
 not_there k (e ∷ es) c h f = not_there k es c h.1 (subst (λ o. cond (is_eq o) (Some e.1) (value_at key_cmp k es) ≡ Some c) h.0 f)
 
 -- what holds of each block that is found holds of each entry
-each_is : (P : Key → Block → Type 0) (es : Blocks) → IsStrictlySortedBy key_cmp (keys_of es) → ((k : Key) (c : Block) → value_at key_cmp k es ≡ Some c → P k c) → AllByRecursion (λ e. P e.0 e.1) es
+pub each_is : (P : Key → Block → Type 0) (es : Blocks) → IsStrictlySortedBy key_cmp (keys_of es) → ((k : Key) (c : Block) → value_at key_cmp k es ≡ Some c → P k c) → AllByRecursion (λ e. P e.0 e.1) es
 unfolding IsStrictlySortedBy
 each_is P [] s h = tt
 each_is P (e ∷ es) s h = (h e.0 e.1 (ap (λ b. cond b (Some e.1) (value_at key_cmp e.0 es)) (id_itself e.0)), each_is P es s.1 (λ k c f. h k c (later k c (eq_by_cmp key_cmp k e.0) refl f)))

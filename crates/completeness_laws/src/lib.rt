@@ -20,7 +20,7 @@
 //! `proofs/LogHeads.antt` (heads of logs). Nothing here runs, so there are no costs.
 #![tactic(auto)]
 
-ghost use Rattle.world_laws.specs.Calm.{HasSameRing};
+ghost use Rattle.world_laws.specs.Calm.{AreAny, HasSameRing};
 ghost use Rattle.completeness_laws.specs.Completeness.{CallsMissNothing, CallsMissNothingBehindHeads, LogsHaveHeads, PutsAreAcknowledged, PutsAreTaken, StoresHaveRoom};
 ghost use Rattle.completeness_laws.specs.Put.{HeadsNameWhatWasPut, KnownIsPutOrPending};
 
@@ -28,8 +28,8 @@ ghost use Rattle.completeness_laws.specs.Put.{HeadsNameWhatWasPut, KnownIsPutOrP
 /// to the one that a head names which a node holds, and of each record that a participant knows, but for its own that it has still to
 /// publish.
 pub fn heads_name_what_was_put()
-    ensures heads { HeadsNameWhatWasPut HasSameRing }
-    ensures known { KnownIsPutOrPending HasSameRing }
+    ensures heads { HeadsNameWhatWasPut AreAny }
+    ensures known { KnownIsPutOrPending AreAny }
 {}
 
 /// Laws and no code: in such a script no whole call fails for want of a block where of each log a put of a head was acknowledged; and
