@@ -19,6 +19,7 @@ pub mod Lines
 pub mod Walks
 pub mod Known
 pub mod Whole
+pub mod Standing
 pub mod Calls
 pub mod CallSteps
 pub mod Served

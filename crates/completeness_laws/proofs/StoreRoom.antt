@@ -22,22 +22,19 @@ use Rattle.node_store.specs.Stores.{Block, Blocks, IsStore, bytes_held, capacity
 use Rattle.node_store.specs.declared.kind.Kind.{Kind}
 use Rattle.node_store.specs.declared.kind.Kind.TheVariants.{Content, Head}
 use Rattle.node_store.proofs.Sums.{held_after_put}
-use Rattle.round_laws.specs.RingOf.{links_in}
 use Rattle.round_laws.proofs.Nodes.{id_itself, same_id}
-use Rattle.round_laws.proofs.Rounding.{shapes_of}
 use Rattle.world_model.specs.Nodes.{Node}
-use Rattle.world_model.specs.World.{node_at, peer_of}
+use Rattle.world_model.specs.World.{World, node_at, peer_of}
 use Rattle.world_model.specs.Logs.{Played}
 use Rattle.world_model.specs.Step.{most_bytes}
-use Rattle.world_laws.specs.Calm.{HasSameRing, Stopped}
-use Rattle.world_laws.specs.Keeps.{AreApart}
-use Rattle.world_laws.specs.Laws.{LinesKeep}
-use Rattle.world_laws.proofs.CalmHeld.{IsStillWorld, still_world}
-use Rattle.world_laws.proofs.CalmNodes.{IsOfKind}
-use Rattle.world_laws.proofs.CalmStates.{IsLeft, OfContent, OfHeads}
+use Rattle.world_laws.specs.Calm.{AreAny}
+use Rattle.world_laws.specs.Keeps.{AreApart, Keeps}
 use Rattle.world_laws.proofs.Frames.{into_map}
+use Rattle.durability_laws.proofs.BlockKinds.{IsOf as IsOfEnd}
+use Rattle.durability_laws.proofs.Holding.{AreOrderly}
 use Rattle.completeness_laws.specs.Completeness.{StoresHaveRoom}
 use Rattle.completeness_laws.proofs.HeldHeads.{found_in}
+use Rattle.completeness_laws.proofs.Standing.{calm_world}
 
 -- ---- lists of bytes
 
@@ -234,20 +231,17 @@ module _ (met : List (List ℕ)) (es : Blocks) (store : IsStore es) (held : AllB
       by false e = ap (λ b. cond b (Some Full) None) e
 
 -- the blocks of a node of such a world are of their keys' kinds
-pub kinds_of : (r : ℕ) (w : Played) → (world : IsStillWorld r w) → (id : Key) (n : Node) → node_at w.0 id ≡ Some n → (k : Key) (c : Block) → value_at key_cmp k n.blocks ≡ Some c → IsOf k c.kind c.bytes
-kinds_of r w world id n at k c f = by c.kind (world.good.kinds id n at k c f)
+pub kinds_of : (w : World) → AreOrderly w w → (id : Key) (n : Node) → node_at w id ≡ Some n → (k : Key) (c : Block) → value_at key_cmp k n.blocks ≡ Some c → IsOf k c.kind c.bytes
+kinds_of w orderly id n at k c f = by c.kind ((orderly id n at).kinds k c f)
   where
-    by : (kind : Kind)
-        → IsOfKind (OfContent r (shapes_of world.run.made) (links_in world.run.made) world.run.made.asked world.run.first.ring (Contains w.0.met) (IsLeft w.0))
-        (OfHeads r (shapes_of world.run.made) (links_in world.run.made) world.run.made.asked world.run.first.ring (Contains w.0.met) (IsLeft w.0)) k kind c.bytes
-        → IsOf k kind c.bytes
+    by : (kind : Kind) → IsOfEnd w k kind c.bytes → IsOf k kind c.bytes
     by Content h = h.1
-    by Head h = h.1
+    by Head h = h.2
 
-pub room_at : (r : ℕ) (w : Played) (world : IsStillWorld r w) (id : Key) (n : Node) (key : Key) (block : Block) → sum_by (λ b. length b) w.0.met ≤ most_bytes → node_at w.0 id ≡ Some n → Contains w.0.met block.bytes → full key block n.blocks ≡ None
-room_at r w world id n key block fits at met =
-    let its = each _ w.0.nodes n world.keeps.met.held (found_in (λ (m : Node). eq_by_cmp key_cmp (peer_of m).id id) w.0.nodes n at) in
-    has_room w.0.met n.blocks its.0 its.1 (kinds_of r w world id n at) key block met fits
+pub room_at : (w : Played) → Keeps w → AreOrderly w.0 w.0 → (id : Key) (n : Node) (key : Key) (block : Block) → sum_by (λ b. length b) w.0.met ≤ most_bytes → node_at w.0 id ≡ Some n → Contains w.0.met block.bytes → full key block n.blocks ≡ None
+room_at w keeps orderly id n key block fits at met =
+    let its = each _ w.0.nodes n keeps.met.held (found_in (λ (m : Node). eq_by_cmp key_cmp (peer_of m).id id) w.0.nodes n at) in
+    has_room w.0.met n.blocks its.0 its.1 (kinds_of w.0 orderly id n at) key block met fits
 
-pub stores_have_room : LinesKeep → StoresHaveRoom HasSameRing
-stores_have_room lines_keep r w count lines id n key block same calm = room_at r w (still_world lines_keep r w (Stopped count) lines same calm) id n key block
+pub stores_have_room : StoresHaveRoom AreAny
+stores_have_room r w count lines id n key block any calm = let world = calm_world r w count lines calm in room_at w world.keeps world.state.good.orderly id n key block

@@ -64,6 +64,11 @@ abbrev pub PutsAreTaken : (List (List ℕ) → Type 0) → Type 0
 PutsAreTaken AreSo = (r : ℕ) (w : Played) (next : World) (count : ℕ) (lines : List (List ℕ)) (p : Post) (to : Peer) (given : Answer) → AreSo lines → IsCalmAt r w (Stopped count) lines → sum_by (λ b. length b) w.0.met ≤ most_bytes → Contains w.0.met p.bytes → FitsItsKey p
     → FateOf hss_judged w.0 to (put_question p) given next → holds given ≡ true
 
+-- So a node that lives does, of any that is asked. (A node that has stopped is silent, and takes nothing: with any lines `PutsAreTaken` isn't so.)
+abbrev pub LivePutsAreTaken : (List (List ℕ) → Type 0) → Type 0
+LivePutsAreTaken AreSo = (r : ℕ) (w : Played) (next : World) (count : ℕ) (lines : List (List ℕ)) (p : Post) (to : Peer) (n : Node) (given : Answer) → AreSo lines → IsCalmAt r w (Stopped count) lines → sum_by (λ b. length b) w.0.met ≤ most_bytes → Contains w.0.met p.bytes → FitsItsKey p
+    → node_at w.0 to.id ≡ Some n → n.is_live ≡ true → FateOf hss_judged w.0 to (put_question p) given next → holds given ≡ true
+
 -- So a whole put of it is acknowledged.
 abbrev pub PutsAreAcknowledged : (List (List ℕ) → Type 0) → Type 0
 PutsAreAcknowledged AreSo = (r : ℕ) (w : Played) (next : World) (count : ℕ) (lines : List (List ℕ)) (p : Post) (looks asks : Told) (came : Result Bool Miss) → AreSo lines → IsCalmAt r w (Stopped count) lines → sum_by (λ b. length b) w.0.met ≤ most_bytes
