@@ -1,15 +1,10 @@
 -- Each log has a head of which a put was acknowledged: the line that begins the log publishes it, and no line forgets that. So each whole call of a calm script misses nothing.
-use Rattle.std.proofs.Common.{◌≡◌, inl, ⊎_elim, ℕ, ◌≤◌, Bool, true, false, List, [], ◌∷◌, map, Some, refl, sym, ap, ◌∙◌, subst, arith, nat_lt, Contains}
-use Rattle.std.specs.Prelude.{IfSome, MatchBool, is_some, sum_by, length}
-use Rattle.std.specs.List.{AllByRecursion}
-use Rattle.std.proofs.lemmas.Bool.{ltb-false}
+use Rattle.std.proofs.Common.{◌≡◌, inl, ⊎_elim, ℕ, ◌≤◌, true, false, List, [], ◌∷◌, map, Some, refl, sym, ap, ◌∙◌, subst, arith, Contains}
+use Rattle.std.specs.Prelude.{is_some}
 use Rattle.std.proofs.lemmas.List.Elements.{Contains-append_cases}
-use Rattle.std.specs.FinMap.Entries.{find as value_at}
-use Rattle.std.specs.Ordering.{eq_by_cmp}
-use Rattle.ivy_base.specs.declared.key.Key.{Key}
 use Rattle.ivy_base.specs.declared.key.PubKey.{PubKey}
 use Rattle.ivy_base.specs.declared.operation.Moment.{Moment}
-use Rattle.ivy_base.specs.Naming.{head_key_of, key_cmp}
+use Rattle.ivy_base.specs.Naming.{head_key_of}
 use Rattle.hash_signature_model.specs.declared.set.Set.{Set}
 use Rattle.hss_keys.specs.Saved.{IsSigner}
 use Rattle.hss_keys.specs.Signer.{Signer, next_signature}
@@ -20,10 +15,9 @@ use Rattle.log_model.specs.Chain.{opening}
 use Rattle.log_model.specs.Rank.{own_entry}
 use Rattle.log_model.specs.Spelling.{IsMoment, head_message}
 use Rattle.log_model.proofs.Later.{name_is_key}
-use Rattle.log_model.proofs.Lists.{each, here, in_cons, in_nothing, there}
+use Rattle.log_model.proofs.Lists.{here, in_cons, in_nothing, there}
 use Rattle.log_model.proofs.Opening.{opening_has_spelling}
 use Rattle.ring_model.proofs.Lists.{some_same}
-use Rattle.dht_ids.specs.declared.peer.Peer.{Peer}
 use Rattle.dht_ids.specs.declared.post.Post.{Post}
 use Rattle.agent_model.specs.Agent.{head_post, is_head, own_key, record_post}
 use Rattle.script_driver.specs.Run.{Goes}

@@ -1,14 +1,11 @@
 -- Lines by which a node joins or stops, or a round is made: participants and what was told stay, and what nodes hold was held before.
-use Rattle.std.proofs.Common.{◌≡◌, ◌⊎◌, inl, inr, ℕ, Bool, true, false, cond, List, [], ◌∷◌, Option, Some, None, refl, sym, ap, ◌∙◌, subst, Contains}
+use Rattle.std.proofs.Common.{◌≡◌, ◌⊎◌, inl, inr, ℕ, false, List, [], Option, Some, refl, sym, ap, subst, Contains}
 use Rattle.std.specs.List.{AllByRecursion}
-use Rattle.std.specs.FinMap.Entries.{find as value_at}
 use Rattle.ivy_base.specs.declared.key.Key.{Key}
-use Rattle.ivy_base.specs.Naming.{key_cmp}
 use Rattle.ring_model.specs.Members.{IsAmong}
 use Rattle.ring_model.proofs.Lists.{all-among}
 use Rattle.log_heads.specs.Signed.{hss_judged}
 use Rattle.log_model.proofs.Lists.{each, each_append, each_from}
-use Rattle.node_store.specs.Stores.{Block}
 use Rattle.node_store.specs.declared.kind.Kind.{Kind}
 use Rattle.script_driver.specs.Run.{Outcome, Goes}
 use Rattle.script_model.specs.declared.command.Command.{Command}
@@ -18,10 +15,10 @@ use Rattle.world_model.specs.Logs.{Played}
 use Rattle.world_model.specs.Nodes.{Node}
 use Rattle.world_model.specs.Ring.{JoinLine, stop_line}
 use Rattle.world_model.specs.Ring.JoinLine.{before_ring as join_before_ring, known as join_known, exceeds as join_exceeds, alone as join_alone, joins as join_joins, fails as join_fails}
-use Rattle.world_model.specs.Rounds.{IsRoundOf, RoundLine}
+use Rattle.world_model.specs.Rounds.{RoundLine}
 use Rattle.world_model.specs.Rounds.RoundLine.{before_ring as round_before_ring, goes as round_goes}
 use Rattle.world_model.specs.Step.{Does}
-use Rattle.world_model.specs.Story.{Story, knowing_of}
+use Rattle.world_model.specs.Story.{knowing_of}
 use Rattle.world_model.specs.World.{World}
 use Rattle.round_laws.proofs.Rounding.{leaves_the_rest}
 use Rattle.world_laws.specs.Calm.{IsCalm, IsQuiet, Since}
@@ -32,7 +29,7 @@ use Rattle.world_laws.proofs.NodeFates.{each_replaced}
 use Rattle.durability_laws.proofs.Changes.{stop_is}
 use Rattle.durability_laws.proofs.Facts.{beside_goes}
 use Rattle.durability_laws.proofs.Runs.{beside_story, stopped_node}
-use Rattle.completeness_laws.proofs.HeldHeads.{AllHoldPut, IsPutAs}
+use Rattle.completeness_laws.proofs.HeldHeads.{IsPutAs}
 use Rattle.completeness_laws.proofs.RoundPuts.{AllAreSo, AreSo, found_so, round_so, routes_so}
 use Rattle.completeness_laws.proofs.Stages.{IsEntryPut}
 use Rattle.completeness_laws.proofs.StoreRoom.{each_is}
@@ -108,8 +105,7 @@ module _ (P : Kind → Key → List ℕ → Type 0) where
       (join_changes w.0 next.0 number w.0.replicas does.0 output does.1 (beside_goes w.1 does.0 next output does.2), beside_story w.1 does.0 next output does.2)
   ring_changes w next output (command.Stop node) is does =
       let stop = beside_goes w.1 (stop_line w.0 (node_named w.0 node)) next output does in
-      let n = stopped_node w.0 next.0 (node_named w.0 node) output stop in
-      (
+      let n = stopped_node w.0 next.0 (node_named w.0 node) output stop in (
         stop_changes w.0 next.0 n.0 output (named_among w.0 node n.0 n.1) (subst (λ o. stop_line w.0 o ≡ Goes next.0 output) n.1 stop),
         beside_story w.1 (stop_line w.0 (node_named w.0 node)) next output does,
       )
