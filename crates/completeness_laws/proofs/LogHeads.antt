@@ -48,6 +48,7 @@ use Rattle.world_laws.proofs.SignedAmong.{met_then}
 use Rattle.durability_laws.proofs.BlockKinds.{AreApart, fewer_apart}
 use Rattle.durability_laws.proofs.Facts.{HasFacts}
 use Rattle.durability_laws.proofs.Lines.{entries_are, newcomer_found, publishes_go}
+use Rattle.durability_laws.proofs.Rooms.{total}
 use Rattle.durability_laws.proofs.Runs.{apart_at, calmly, facts_on, first_facts, first_keeps, first_state, fresh, has_room, line_facts, line_state, rings}
 use Rattle.durability_laws.proofs.States.{kept_ring}
 use Rattle.durability_laws.proofs.Stretches.{IsRingOf, Stretch}
@@ -60,7 +61,6 @@ use Rattle.completeness_laws.proofs.PublishesAll.{IsPutting, runs_acked}
 use Rattle.completeness_laws.proofs.PutsAcked.{AreFine, all_fine}
 use Rattle.completeness_laws.proofs.RingLines.{ChangesNodes, ChangesRing, ring_changes}
 use Rattle.completeness_laws.proofs.Served.{calls_miss_nothing_behind_heads}
-use Rattle.completeness_laws.proofs.StoreRoom.{total}
 
 -- ---- a log's first posts
 

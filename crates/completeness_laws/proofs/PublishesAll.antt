@@ -36,11 +36,11 @@ use Rattle.world_model.specs.Step.{most_bytes}
 use Rattle.world_model.specs.World.{Participant, World, with_participant}
 use Rattle.world_laws.proofs.CalmNodes.{same_rings}
 use Rattle.world_laws.proofs.CalmPuts.{entries_by}
+use Rattle.durability_laws.proofs.Rooms.{total}
 use Rattle.durability_laws.proofs.States.{kept_ring}
 use Rattle.durability_laws.proofs.Stretches.{IsRingOf, Stretch}
 use Rattle.completeness_laws.specs.Completeness.{FitsItsKey}
 use Rattle.completeness_laws.proofs.PutsAcked.{AreFine, AreTaken, IsTaken, put_acked, put_step, route_step}
-use Rattle.completeness_laws.proofs.StoreRoom.{total}
 
 -- ---- a session that refreshes
 

@@ -53,8 +53,10 @@ use Rattle.world_laws.proofs.CalmNodes.{asked_rings}
 use Rattle.world_laws.proofs.CalmPuts.{entries_by}
 use Rattle.world_laws.proofs.StoredBlocks.{put_each, put_store, room_for_content, room_for_head}
 use Rattle.durability_laws.proofs.Asking.{among_asks, asked_found, owner_asked}
+use Rattle.durability_laws.proofs.BlockKinds.{IsFit}
 use Rattle.durability_laws.proofs.Holding.{AreOrderly}
 use Rattle.durability_laws.proofs.Lines.{entries_are}
+use Rattle.durability_laws.proofs.Rooms.{total}
 use Rattle.durability_laws.proofs.States.{kept_ring}
 use Rattle.durability_laws.proofs.Stretches.{Answers, IsMade, IsRingOf, IsRouted, Stretch, finds, is_routed, lives, own, own_distinct, owned_is, owner_lives, who_answers}
 use Rattle.durability_laws.proofs.Stretches.Answers.{gives, is_silent}
@@ -62,7 +64,7 @@ use Rattle.completeness_laws.specs.Completeness.{FitsItsKey, PutsAreAcknowledged
 use Rattle.completeness_laws.proofs.HeldHeads.{found_in}
 use Rattle.completeness_laws.proofs.PutsTaken.{post_taken}
 use Rattle.completeness_laws.proofs.Standing.{calm_world, ring_of}
-use Rattle.completeness_laws.proofs.StoreRoom.{IsOf, has_room, kinds_of, total}
+use Rattle.completeness_laws.proofs.StoreRoom.{has_room, kinds_of}
 
 no_yes : false ≡ true → ⊥
 no_yes e = cc e
@@ -83,9 +85,9 @@ holds_of_put answer.Silent h = absurd (no_yes h)
 pub record IsFine (met : List (List ℕ)) (n : Node) : Type 0 where
   pub store : IsStore n.blocks
   pub among : AllByRecursion (λ e. Contains met e.1.bytes) n.blocks
-  pub kinds : (k : Key) (c : Block) → value_at key_cmp k n.blocks ≡ Some c → IsOf k c.kind c.bytes
+  pub kinds : (k : Key) (c : Block) → value_at key_cmp k n.blocks ≡ Some c → IsFit c.kind k c.bytes
 
-stored_fine : (met : List (List ℕ)) (n : Node) (key : Key) (block : Block) (fault : Option StoreFault) → (fault ≡ None → bytes_held (put key_cmp key block n.blocks) ≤ capacity) → Contains met block.bytes → IsOf key block.kind block.bytes
+stored_fine : (met : List (List ℕ)) (n : Node) (key : Key) (block : Block) (fault : Option StoreFault) → (fault ≡ None → bytes_held (put key_cmp key block n.blocks) ≤ capacity) → Contains met block.bytes → IsFit block.kind key block.bytes
     → IsFine met n → IsFine met (stored n key block fault).1
 stored_fine met n key block (Some f) room in_met of h = h
 stored_fine met n key block None room in_met of h = record {
@@ -94,8 +96,8 @@ stored_fine met n key block None room in_met of h = record {
   kinds = λ k c f. by k c (eq_by_cmp key_cmp k key) refl (sym (find-put key_cmp keys_total k key block n.blocks) ∙ f);
 }
   where
-    by : (k : Key) (c : Block) (b : Bool) → eq_by_cmp key_cmp k key ≡ b → cond b (Some block) (value_at key_cmp k n.blocks) ≡ Some c → IsOf k c.kind c.bytes
-    by k c true e g = subst (λ x. IsOf x c.kind c.bytes) (sym (same_id k key e)) (subst (λ (x : Block). IsOf key x.kind x.bytes) (some_same block c g) of)
+    by : (k : Key) (c : Block) (b : Bool) → eq_by_cmp key_cmp k key ≡ b → cond b (Some block) (value_at key_cmp k n.blocks) ≡ Some c → IsFit c.kind k c.bytes
+    by k c true e g = subst (λ x. IsFit c.kind x c.bytes) (sym (same_id k key e)) (subst (λ (x : Block). IsFit x.kind key x.bytes) (some_same block c g) of)
     by k c false e g = h.kinds k c g
 
 module _ (met : List (List ℕ)) (p : Post) (in_met : Contains met p.bytes) (good : FitsItsKey p) where

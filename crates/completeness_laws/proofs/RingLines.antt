@@ -3,9 +3,10 @@ use Rattle.std.proofs.Common.{◌≡◌, ◌⊎◌, inl, inr, ℕ, false, List, 
 use Rattle.std.specs.List.{AllByRecursion}
 use Rattle.ivy_base.specs.declared.key.Key.{Key}
 use Rattle.ring_model.specs.Members.{IsAmong}
-use Rattle.ring_model.proofs.Lists.{all-among}
+use Rattle.ring_model.proofs.Lists.{all-among, all_from}
 use Rattle.log_heads.specs.Signed.{hss_judged}
 use Rattle.log_model.proofs.Lists.{each, each_append, each_from}
+use Rattle.node_store.specs.Stores.{Block}
 use Rattle.node_store.specs.declared.kind.Kind.{Kind}
 use Rattle.script_driver.specs.Run.{Outcome, Goes}
 use Rattle.script_model.specs.declared.command.Command.{Command}
@@ -26,13 +27,14 @@ use Rattle.world_laws.specs.Calm.IsCalm.{rounds, joins, stops, other}
 use Rattle.world_laws.specs.Keeps.{Keeps}
 use Rattle.world_laws.proofs.Lines.{named_among}
 use Rattle.world_laws.proofs.NodeFates.{each_replaced}
+use Rattle.world_laws.proofs.StoredBlocks.{to_sorted}
 use Rattle.durability_laws.proofs.Changes.{stop_is}
 use Rattle.durability_laws.proofs.Facts.{beside_goes}
+use Rattle.durability_laws.proofs.Rooms.{each_found}
 use Rattle.durability_laws.proofs.Runs.{beside_story, stopped_node}
 use Rattle.completeness_laws.proofs.HeldHeads.{IsPutAs}
 use Rattle.completeness_laws.proofs.RoundPuts.{AllAreSo, AreSo, found_so, round_so, routes_so}
 use Rattle.completeness_laws.proofs.Stages.{IsEntryPut}
-use Rattle.completeness_laws.proofs.StoreRoom.{each_is}
 use Rattle.completeness_laws.proofs.ViewLines.{fates_same}
 use Rattle.completeness_laws.proofs.Worlds.{IsBackedWorld, IsStagedIn, later_backed}
 
@@ -147,4 +149,4 @@ ring_so w next output c keeps is does h = subst (IsBackedWorld next.0) (sym chan
 
     before : AllAreSo (IsPutAs w.0.met w.1.acked) w.0
     before = each_from (λ (n : Node). AreSo (IsPutAs w.0.met w.1.acked) n.blocks) w.0.nodes
-        (λ n among. each_is (λ k c. IsPutAs w.0.met w.1.acked c.kind k c.bytes) n.blocks (each _ w.0.nodes n keeps.met.held among).0.ascending (λ k c f. h.nodes n among k c f))
+        (λ n among. all_from (λ (e : Key × Block). IsPutAs w.0.met w.1.acked e.1.kind e.0 e.1.bytes) n.blocks (λ e i. h.nodes n among e.0 e.1 (each_found n.blocks (to_sorted n.blocks (each _ w.0.nodes n keeps.met.held among).0.ascending) e i)))
