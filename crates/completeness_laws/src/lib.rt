@@ -24,8 +24,11 @@
 #![tactic(auto)]
 
 ghost use Rattle.world_laws.specs.Calm.{AreAny, HasSameRing};
+ghost use Rattle.completeness_laws.specs.CalmLines.{LinesAreServedWhereCalm};
 ghost use Rattle.completeness_laws.specs.Completeness.{CallsMissNothing, CallsMissNothingBehindHeads, LivePutsAreTaken, LogsHaveHeads, PutsAreAcknowledged, PutsAreTaken, StoresHaveRoom};
 ghost use Rattle.completeness_laws.specs.Put.{HeadsNameWhatWasPut, KnownIsPutOrPending};
+
+use durability_laws::{acknowledged_is_read, acknowledged_stays};
 
 /// Laws and no code: in a calm script a put was acknowledged of each record up to the one that a head names which a node holds, and of
 /// each record that a participant knows, but for its own that it has still to publish.
@@ -56,3 +59,13 @@ pub fn stores_take_what_is_put()
 pub fn logs_have_heads()
     ensures { LogsHaveHeads AreAny }
 {}
+
+/// A law and no code: where a world was reached calmly, whatever a put of was acknowledged is held and read, and a line that is a
+/// call and goes on misses nothing.
+pub fn lines_are_served_where_calm()
+    ensures { LinesAreServedWhereCalm }
+{
+    acknowledged_stays();
+    acknowledged_is_read();
+    calls_miss_nothing();
+}
