@@ -1,19 +1,19 @@
-mod BlockKinds
-mod Rooms
-mod Asking
-mod Holding
-mod Stretches
-mod States
-mod Steps
-mod Scenes
-mod Lines
-mod Commands
-mod Repairs
-mod Moved
-mod Facts
-mod Worlds
-mod Changes
-mod Runs
-mod Durable
-mod Gets
-mod Given
+pub mod BlockKinds
+pub mod Rooms
+pub mod Asking
+pub mod Holding
+pub mod Stretches
+pub mod States
+pub mod Steps
+pub mod Scenes
+pub mod Lines
+pub mod Commands
+pub mod Repairs
+pub mod Moved
+pub mod Facts
+pub mod Worlds
+pub mod Changes
+pub mod Runs
+pub mod Durable
+pub mod Gets
+pub mod Given
