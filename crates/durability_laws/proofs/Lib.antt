@@ -4,16 +4,16 @@ pub mod Asking
 pub mod Holding
 pub mod Stretches
 pub mod States
-pub mod Steps
-pub mod Scenes
+mod Steps
+mod Scenes
 pub mod Lines
-pub mod Commands
-pub mod Repairs
-pub mod Moved
+mod Commands
+mod Repairs
+mod Moved
 pub mod Facts
 pub mod Worlds
 pub mod Changes
 pub mod Runs
-pub mod Durable
+mod Durable
 pub mod Gets
-pub mod Given
+mod Given

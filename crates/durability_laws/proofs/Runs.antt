@@ -51,7 +51,7 @@ use Rattle.durability_laws.proofs.Changes.{join_more, join_state, round_more, ro
 
 -- ---- a line that goes on is within the limit
 
-pub within_limit : (w next : Played) (output : List ℕ) (o : Option Command) → WithinLimit w o (Goes next output) → IsWithinLimit w.0
+within_limit : (w next : Played) (output : List ℕ) (o : Option Command) → WithinLimit w o (Goes next output) → IsWithinLimit w.0
 within_limit w next output o h = by (nat_lt most_bytes (sum_by (λ b. length b) w.0.met)) refl h
   where
     exceeds : Goes next output ≡ Exceeds → ⊥
@@ -115,10 +115,10 @@ stopped_node w next None output e = absurd (refused e)
 stopped_node w next (Some n) output e = (n, refl)
 
 module _ (r : ℕ) (v mid : Played) (output : List ℕ) where
-  pub the_round : {since : Since} → Does hss_judged v command.Round (Goes mid output) → HasFacts r v.0 since → IsRoundOf hss_judged r v.0 mid.0
+  the_round : {since : Since} → Does hss_judged v command.Round (Goes mid output) → HasFacts r v.0 since → IsRoundOf hss_judged r v.0 mid.0
   the_round does f = round_line r v.0 mid.0 v.0.replicas does.0 output does.1 f.has.replicas (beside_goes v.1 does.0 mid output does.2)
 
-  pub the_join : {since : Since} (number : ℕ) → Does hss_judged v (command.Join number) (Goes mid output) → HasFacts r v.0 since → JoinLine hss_judged v.0 number (Some r) (Goes mid.0 output)
+  the_join : {since : Since} (number : ℕ) → Does hss_judged v (command.Join number) (Goes mid output) → HasFacts r v.0 since → JoinLine hss_judged v.0 number (Some r) (Goes mid.0 output)
   the_join number does f = subst (λ o. JoinLine hss_judged v.0 number o (Goes mid.0 output)) f.has.replicas (subst (JoinLine hss_judged v.0 number v.0.replicas) (beside_goes v.1 does.0 mid output does.2) does.1)
 
   pub line_facts : {since between : Since} {c : Command} → IsCalm v.0 r since c between → Does hss_judged v c (Goes mid output) → HasFacts r v.0 since → HasFacts r mid.0 between × IsMore v.0 mid.0
@@ -158,7 +158,7 @@ facts_on r (calmly_more {w = v} {mid = mid} {next = next} {line = line} c output
     let later = facts_on r rest one.0 in
     (later.0, more_then v.0 mid.0 next.0 one.1 later.1)
 
-pub states_on : (r : ℕ) {v w : Played} {since after : Since} {lines : List (List ℕ)} → Calmly r v since lines w after → AreApart w.0 → HasFacts r v.0 since → IsState r v.0 v.1 since → IsState r w.0 w.1 after
+states_on : (r : ℕ) {v w : Played} {since after : Since} {lines : List (List ℕ)} → Calmly r v since lines w after → AreApart w.0 → HasFacts r v.0 since → IsState r v.0 v.1 since → IsState r w.0 w.1 after
 states_on r calmly_none apart f s = s
 states_on r (calmly_more {w = v} {mid = mid} {next = next} {line = line} c output is calm step rest) apart f s =
     let done = does_line v mid output (command_of line) step in
