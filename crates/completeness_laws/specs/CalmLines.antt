@@ -1,5 +1,6 @@
 -- What a calm script may rely on at each of its lines: whatever a put of was acknowledged may be read (CFS, SOSP 2001, section 5.1), and no whole call fails for want of a block.
-use Rattle.std.specs.Prelude.{◌≡◌, ◌≤◌, ℕ, true, false, List, ◌++◌, Contains, Some, Result, Ok}
+use Rattle.std.specs.Prelude.{◌≡◌, ◌↔◌, ◌≤◌, ℕ, true, false, List, ◌++◌, Contains, Some, is_some, Result, Ok}
+use Rattle.ivy_base.specs.declared.key.Key.{Key}
 use Rattle.ring_model.specs.Blocks.{IsAtLeast}
 use Rattle.ring_model.specs.Circle.{number}
 use Rattle.ring_model.specs.Members.{IsAmong, owners}
@@ -23,7 +24,8 @@ use Rattle.world_model.specs.Logs.{Played}
 use Rattle.world_model.specs.Ring.{live_in_order}
 use Rattle.world_model.specs.Step.{IvyStep}
 use Rattle.world_model.specs.World.{World, entries}
-use Rattle.world_laws.specs.Calm.{IsCalmAt, Stopped, post_rank, rank_in}
+use Rattle.round_laws.specs.RingOf.{lives_in}
+use Rattle.world_laws.specs.Calm.{IsCalmAt, Since, Stopped, post_rank, rank_in}
 use Rattle.completeness_laws.specs.Completeness.{IsServed}
 
 -- an owner of its key holds the post, or a newer head
@@ -51,9 +53,15 @@ pub record IsServedCalmly (r : ℕ) (w : Played) (line : List ℕ) (outcome : Ou
   pub readable : (p : Post) → Contains w.1.acked p → IsReadable r w.0 p
   pub served : (name : List ℕ) (pieces : List Piece) (next : Played) (output : List ℕ) → command_of line ≡ Some (command.As name pieces) → outcome ≡ Goes next output → IsServed w (command.As name pieces) next output
 
--- it is so where the world was reached calmly
-abbrev pub IsServedWhereCalm : Played → List ℕ → Outcome Played → Type 0
-IsServedWhereCalm w line outcome = (r count : ℕ) (lines : List (List ℕ)) → IsCalmAt r w (Stopped count) lines → IsServedCalmly r w line outcome
+-- a live node holds something under a key exactly where it is an owner of the key and a live node held something under it before
+abbrev pub MovesBlocks : ℕ → World → World → Type 0
+MovesBlocks r w next = (m : Peer) (key : Key) → lives_in next m ≡ true
+    → (is_some (rank_in next key m) ≡ true) ↔ (IsAmong m (owners place r (live_in_order w) (number key)) × (p : Peer) × (lives_in w p ≡ true) × (is_some (rank_in w key p) ≡ true))
+
+-- Where the world was reached calmly it is served so, but right behind a join; and a round moves each block to its owners.
+pub record IsServedWhereCalm (w : Played) (line : List ℕ) (outcome : Outcome Played) : Type 0 where
+  pub served : (r count : ℕ) (lines : List (List ℕ)) → IsCalmAt r w (Stopped count) lines → IsServedCalmly r w line outcome
+  pub rounds : (r : ℕ) (since : Since) (lines : List (List ℕ)) (next : Played) (output : List ℕ) → IsCalmAt r w since lines → command_of line ≡ Some command.Round → outcome ≡ Goes next output → MovesBlocks r w.0 next.0
 
 -- so it is of each line that does what it may where it goes on
 abbrev pub LinesAreServedWhereCalm : Type 0

@@ -9,7 +9,8 @@
 //! No store is full while what was met is within its limit, so each put of it is taken by the owners that live, of which there is one,
 //! and is acknowledged ([`stores_take_what_is_put`]): that of a log's first head too ([`logs_have_heads`]). So each whole call misses
 //! nothing ([`calls_miss_nothing`]).
-//! Definitions and statements: `specs/Put.antt`; `specs/Completeness.antt` (no call fails for want of a block; stated alone so far:
+//! What of this and of `durability_laws` holds of each line, for the layer that plays scripts: [`lines_are_served_where_calm`].
+//! Definitions and statements: `specs/CalmLines.antt` (what holds of each line); `specs/Put.antt`; `specs/Completeness.antt` (no call fails for want of a block; stated alone so far:
 //! that a turn takes all that was written).
 //! Lemmas: `proofs/UpTo.antt` (records up to a head), `proofs/HeldHeads.antt` (asks), `proofs/Stages.antt` (sessions that publish),
 //! `proofs/Backed.antt` (agents and keepers), `proofs/Worlds.antt` (worlds, and one participant in place of another),
@@ -28,7 +29,7 @@ ghost use Rattle.completeness_laws.specs.CalmLines.{LinesAreServedWhereCalm};
 ghost use Rattle.completeness_laws.specs.Completeness.{CallsMissNothing, CallsMissNothingBehindHeads, LivePutsAreTaken, LogsHaveHeads, PutsAreAcknowledged, PutsAreTaken, StoresHaveRoom};
 ghost use Rattle.completeness_laws.specs.Put.{HeadsNameWhatWasPut, KnownIsPutOrPending};
 
-use durability_laws::{acknowledged_is_read, acknowledged_stays};
+use durability_laws::{acknowledged_is_read, acknowledged_stays, rounds_move_all_blocks};
 
 /// Laws and no code: in a calm script a put was acknowledged of each record up to the one that a head names which a node holds, and of
 /// each record that a participant knows, but for its own that it has still to publish.
@@ -60,12 +61,13 @@ pub fn logs_have_heads()
     ensures { LogsHaveHeads AreAny }
 {}
 
-/// A law and no code: where a world was reached calmly, whatever a put of was acknowledged is held and read, and a line that is a
-/// call and goes on misses nothing.
+/// A law and no code: where a world was reached calmly, whatever a put of was acknowledged is held and read, a line that is a call
+/// and goes on misses nothing, and a round moves each block to its owners.
 pub fn lines_are_served_where_calm()
     ensures { LinesAreServedWhereCalm }
 {
     acknowledged_stays();
     acknowledged_is_read();
+    rounds_move_all_blocks();
     calls_miss_nothing();
 }
