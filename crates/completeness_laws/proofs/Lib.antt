@@ -29,4 +29,4 @@ pub mod PutsAcked
 pub mod NamesStay
 pub mod PublishesAll
 pub mod LogHeads
-mod CalmLines
+pub mod CalmLines

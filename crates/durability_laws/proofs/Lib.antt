@@ -14,6 +14,6 @@ pub mod Facts
 pub mod Worlds
 pub mod Changes
 pub mod Runs
-mod Durable
+pub mod Durable
 pub mod Gets
-mod Given
+pub mod Given

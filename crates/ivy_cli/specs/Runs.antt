@@ -2,10 +2,10 @@
 use Rattle.std.specs.Prelude.{◌≡◌, ◌⊎◌, ◌≤◌, ◌<◌, ℕ, List, Option, Some, None, length, take, IfSome}
 use Rattle.ivy_io.specs.Causes.{Rose}
 use Rattle.ivy_io.specs.Known.{then}
-use Rattle.script_driver.specs.Run.{Ran, Ending, Ended, RefusedAt, LimitAt, WithLaw}
+use Rattle.script_driver.specs.Run.{Ran, Ending, Ended, RefusedAt, LimitAt}
 use Rattle.script_driver.specs.Told.{TellsAll, TellsFront, TellsLess, StopsShort}
-use Rattle.stage_laws.specs.Stage.{StageStep}
-use Rattle.ivy_play.specs.Playing.{beginning, ivy_runs, IsPlayed, Promise, RunsFully}
+use Rattle.stage_laws.specs.Promise.{PromisedStep}
+use Rattle.ivy_play.specs.Playing.{beginning, ivy_runs, IsPlayed, RunsFully}
 use Rattle.ivy_play.specs.Status.{status_of}
 use Rattle.ivy_cli.specs.declared.words.Asked.{Asked}
 use Rattle.ivy_cli.specs.declared.words.Asked.TheVariants as asked
@@ -29,7 +29,7 @@ pub record IsPlay (status : ℕ) (before after : Outside) : Type 0 where
   pub write_fault : status ≡ 5 → Rose before.writes after.writes
   pub front : TellsFront (ivy_runs before.left) before.held after.held
   pub less : status ≡ 5 → TellsLess (ivy_runs before.left) before.held after.held
-  pub waits : status ≡ 4 → StopsShort (WithLaw StageStep Promise) beginning before.left after.left before.held after.held
+  pub waits : status ≡ 4 → StopsShort PromisedStep beginning before.left after.left before.held after.held
   pub alike : (ending : Ending) → ((ran : Ran) → ivy_runs before.left ran → ran.ending ≡ ending)
       → ¬ Rose before.reads after.reads → ¬ Rose before.writes after.writes → (status ≡ status_of ending) ⊎ (status ≡ 6)
   pub fully : IfSome before.left RunsFully

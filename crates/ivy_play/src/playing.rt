@@ -2,13 +2,12 @@
 
 ghost use Rattle.std.specs.Prelude.{◌≡◌, ◌⊎◌, ◌≤◌, ℕ, List, IfSome};
 ghost use Rattle.ivy_io.specs.Causes.{Rose};
-ghost use Rattle.script_driver.specs.Run.{Ran, Ending, Ended, RefusedAt, LimitAt, WithLaw};
+ghost use Rattle.script_driver.specs.Run.{Ran, Ending, Ended, RefusedAt, LimitAt};
 ghost use Rattle.script_driver.specs.Told.{TellsAll, TellsFront, TellsLess, StopsShort};
-ghost use Rattle.stage_laws.specs.Stage.{StageStep};
-ghost use Rattle.ivy_play.specs.Playing.{beginning, ivy_runs, IsPlayed, Promise, RunsFully};
+ghost use Rattle.stage_laws.specs.Promise.{PromisedStep};
+ghost use Rattle.ivy_play.specs.Playing.{beginning, ivy_runs, IsPlayed, RunsFully};
 ghost use Rattle.ivy_play.specs.Status.{status_of};
 
-use completeness_laws::lines_are_served_where_calm;
 use ivy_io::{Sink, Source};
 use script_driver::{Fault, Stop, run_script};
 use script_machine::ScriptMachine;
@@ -26,7 +25,7 @@ pub type Status = u8;
 /// before the next one is looked at; a line that is refused shows `refused N`, with its number from 1, and one that meets a
 /// limit `limit N`; either ends the run. What follows the line `end` isn't looked at.
 ///
-/// A run is defined line by line, by the step of `world_model` (`StageStep` of `stage_laws`). In every run, whatever sessions stand
+/// A run is defined line by line, by the step of `world_model` and what is promised of each line (`PromisedStep` of `stage_laws`). In every run, whatever sessions stand
 /// open beside each other, whatever asks are lost and blocks spoilt, each reply of a turn is the answer of NFS version 3 (RFC 1813)
 /// on the replay, from nothing, of one causally closed set of verified records, and any other reply has its cause (`Headline`
 /// of `world_laws`). And where no ask was lost so far, no block spoilt, and fewer nodes stopped between two rounds than own a key
@@ -55,7 +54,7 @@ pub fn play<Q: Source, W: Sink>(alloc: Global, source: &mut Q, sink: &mut W) -> 
         (ivy_runs (Q.left source.old)) (W.contents sink.old) (W.contents sink.new) }
     // After a read fault the run isn't over: the bytes that were read are whole lines, each of which was obeyed and went on, and
     // a part of a line, and what was written is what the lines show.
-    ensures waits { result ≡ 4 → StopsShort (WithLaw StageStep Promise) beginning
+    ensures waits { result ≡ 4 → StopsShort PromisedStep beginning
         (Q.left source.old) (Q.left source.new) (W.contents sink.old) (W.contents sink.new) }
 
     // Where neither count rose and each run ends alike, the status is that of the run, unless memory was wanting.
@@ -73,7 +72,6 @@ pub fn play<Q: Source, W: Sink>(alloc: Global, source: &mut Q, sink: &mut W) -> 
     ensures reads { Q.faults source.old ≤ Q.faults source.new }
     ensures writes { W.faults sink.old ≤ W.faults sink.new }
 {
-    lines_are_served_where_calm();
     let mut machine = ScriptMachine::new(alloc);
     match run_script(alloc, &mut machine, source, sink) {
         Ok(Stop::Ended) => 0,

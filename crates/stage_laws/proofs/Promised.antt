@@ -1,0 +1,32 @@
+-- The promise holds of each line, and a machine may take lines by the step with it.
+use Rattle.std.proofs.Common.{◌≡◌, ℕ, List, subst}
+use Rattle.std.specs.Prelude.{◌<◌, length}
+use Rattle.script_driver.specs.Run.{Goes, Outcome, line_limit}
+use Rattle.world_model.specs.Logs.{Played}
+use Rattle.world_model.specs.Step.{IvyStep}
+use Rattle.completeness_laws.proofs.CalmLines.{lines_are_served}
+use Rattle.stage_laws.specs.Promise.{PromisedStep, StagePromises}
+use Rattle.stage_laws.specs.Stage.{KeepsAll, StageStep}
+use Rattle.stage_laws.proofs.Replies.{stage_has_headline}
+use Rattle.stage_laws.proofs.Stage.{long_lines_stop, stage_does_something, stage_keeps, what_goes_is_a_step}
+
+-- a line of the stage that goes on is a line of all steps
+goes_on : (w : Played) (line : List ℕ) (outcome : Outcome Played) → StageStep w line outcome → (next : Played) (output : List ℕ) → outcome ≡ Goes next output → IvyStep w line (Goes next output)
+goes_on w line outcome step next output is = (what_goes_is_a_step w next line output (subst (λ o. StageStep w line o) is step)).1
+
+pub stage_promises : StagePromises
+stage_promises w line outcome keeps step = record { headline = stage_has_headline w line outcome keeps step; calm = lines_are_served w line outcome (goes_on w line outcome step) }
+
+-- ---- the step with the promise
+
+pub with_promise : (w : Played) (line : List ℕ) (outcome : Outcome Played) → KeepsAll w → StageStep w line outcome → PromisedStep w line outcome
+with_promise w line outcome keeps step = (step, stage_promises w line outcome keeps step)
+
+pub promised_keeps : (w next : Played) (line output : List ℕ) → KeepsAll w → PromisedStep w line (Goes next output) → KeepsAll next
+promised_keeps w next line output keeps step = stage_keeps w next line output keeps step.0
+
+pub promised_does_something : (w : Played) (line : List ℕ) → KeepsAll w → (outcome : Outcome Played) × PromisedStep w line outcome
+promised_does_something w line keeps = let does = stage_does_something w line keeps in (does.0, with_promise w line does.0 keeps does.1)
+
+pub promised_long_stops : (w : Played) (line : List ℕ) (next : Played) (output : List ℕ) → KeepsAll w → line_limit < length line → PromisedStep w line (Goes next output) → ⊥
+promised_long_stops w line next output keeps long step = long_lines_stop w next line output long step.0
