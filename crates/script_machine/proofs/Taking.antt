@@ -13,9 +13,7 @@ use Rattle.script_model.specs.Lines.{command_of}
 use Rattle.world_model.specs.Logs.{Played}
 use Rattle.world_model.specs.Step.{MayDo, MayDoFirst}
 use Rattle.script_machine.specs.WorldState.{KeepsAll, LineDoes, ShowsWorld, WorldState}
-use Rattle.stage_laws.specs.Promise.{PromisedStep}
 use Rattle.stage_laws.specs.Stage.{StageStep, stage_command}
-use Rattle.stage_laws.proofs.Promised.{with_promise}
 use Rattle.script_machine.specs.Limits.{meets_limit}
 
 -- ---- the limit
@@ -56,8 +54,7 @@ told_of Step before after taken.Exceeded does w shows keeps = (Exceeds, does w s
 -- what was done of a line's command is what may be done of the line, in each world that the machine may stand for
 pub taken_of : {E : Type 0} (result : Result Taken E) (before after : WorldState) (line : List ℕ) (o : Option Command) → o ≡ command_of line
     → IfOk result (λ how. LineDoes (λ w outcome. MayDoFirst w (stage_command o) outcome) before how after)
-    → IfOk result (λ how. (w : Played) → ShowsWorld before w → KeepsAll w → (outcome : Outcome Played) × PromisedStep w line outcome × IsSeenAs ShowsWorld (outcome_told how after) outcome)
-taken_of (Ok how) before after line o is does = λ w shows keeps.
-    let taken = told_of (λ w outcome. StageStep w line outcome) before after how (subst (λ (p : Option Command). LineDoes (λ w outcome. MayDoFirst w (stage_command p) outcome) before how after) is does) w shows keeps in
-    (taken.0, with_promise w line taken.0 keeps taken.1, taken.2)
+    → IfOk result (λ how. (w : Played) → ShowsWorld before w → KeepsAll w → (outcome : Outcome Played) × StageStep w line outcome × IsSeenAs ShowsWorld (outcome_told how after) outcome)
+taken_of (Ok how) before after line o is does =
+    told_of (λ w outcome. StageStep w line outcome) before after how (subst (λ (p : Option Command). LineDoes (λ w outcome. MayDoFirst w (stage_command p) outcome) before how after) is does)
 taken_of (Err e) before after line o is does = tt

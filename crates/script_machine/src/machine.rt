@@ -5,7 +5,7 @@ ghost use Rattle.world_model.specs.Logs.{Played};
 ghost use Rattle.world_model.specs.Step.{MayDo, MayDoFirst};
 ghost use Rattle.world_laws.proofs.LineFits.{Fits};
 ghost use Rattle.script_machine.specs.WorldState.{HasWorld, LineDoes, ShowsWorld};
-ghost use Rattle.stage_laws.specs.Stage.{stage_command};
+ghost use Rattle.stage_laws.specs.Stage.{StageStep, stage_command};
 ghost use Rattle.script_machine.specs.Limits.{is_full, meets_limit};
 
 use crate::world::World;
@@ -153,14 +153,13 @@ fn let_go(_command: Command) {}
 
 impl Machine for ScriptMachine {
     ghost use Rattle.script_machine.specs.WorldState.{KeepsAll};
-    ghost use Rattle.stage_laws.specs.Promise.{PromisedStep};
-    ghost use Rattle.stage_laws.proofs.Promised.{promised_does_something, promised_keeps, promised_long_stops};
+    ghost use Rattle.stage_laws.proofs.Stage.{long_lines_stop, stage_does_something, stage_keeps};
 
     ghost Whole = { Played };
 
     ghost shows = { λ machine whole. ShowsWorld machine whole };
 
-    ghost step = { PromisedStep };
+    ghost step = { StageStep };
 
     ghost keeps = { KeepsAll };
 
@@ -171,9 +170,9 @@ impl Machine for ScriptMachine {
         }
     }
 
-    ghost step_keeps = { promised_keeps };
+    ghost step_keeps = { stage_keeps };
 
-    ghost some_outcome = { promised_does_something };
+    ghost some_outcome = { stage_does_something };
 
-    ghost long_stops = { promised_long_stops };
+    ghost long_stops = { λ whole line next output _ long step. long_lines_stop whole next line output long step };
 }

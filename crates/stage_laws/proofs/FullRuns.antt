@@ -1,21 +1,22 @@
 -- Each script has one run by the step of this stage in which memory is always there, or names clash; and each other run tells why it is another.
-use Rattle.std.proofs.Common.{◌≡◌, ◌⊎◌, inl, inr, ⊎_elim, ℕ, ◌+◌, Bool, true, false, List, [], ◌∷◌, ◌++◌, length, Option, None, refl, sym, ap, ◌∙◌, subst, arith, append_assoc}
+use Rattle.std.proofs.Common.{◌≡◌, ◌⊎◌, inl, inr, ⊎_elim, ℕ, ◌+◌, Bool, true, false, List, [], ◌∷◌, ◌++◌, length, Option, Some, None, refl, sym, ap, ◌∙◌, subst, arith, append_assoc}
 use Rattle.std.specs.Prelude.{MatchBool, nat_lt, sum_by}
+use Rattle.ivy_base.specs.Naming.{HasClash}
 use Rattle.script_driver.proofs.RunLaws.{single_run_kept}
 use Rattle.script_driver.specs.Run.{Outcome, Goes, Ends, Refuses, Exceeds, Follows, Obeys, Ran, Runs, WithLaw, behind, ended, limited, refused, shown}
 use Rattle.script_model.specs.Lines.{command_of}
 use Rattle.world_model.specs.Logs.{Played}
 use Rattle.world_model.specs.Step.{IvyStep, MayDoFirst, most_bytes}
 use Rattle.world_model.specs.Story.{empty_story}
-use Rattle.world_model.specs.World.{empty_world}
-use Rattle.world_laws.specs.FullRuns.{Clashes, HasBytes, PublishFew}
+use Rattle.world_model.specs.World.{empty_world, named_bytes}
+use Rattle.world_laws.specs.FullRuns.{Clashes, HasBytes, LackedMemory, PublishFew}
 use Rattle.world_laws.specs.Laws.{HadMemory}
 use Rattle.world_laws.proofs.BytesLines.{bytes_come, empty_has_bytes}
 use Rattle.world_laws.proofs.FullLines.{full_lines}
 use Rattle.world_laws.proofs.MemoryDecided.{memory_is_decided}
 use Rattle.world_laws.proofs.OneLines.{lines_alike}
 use Rattle.world_laws.proofs.Rooms.{empty_publishes_few, few_posts_come, there_is_room}
-use Rattle.stage_laws.specs.FullRuns.{ComesTo, HasMemoryAlong, LacksOrClashes, MeetsClash, RunComesTo, StageRunsFully, StageRunsTell}
+use Rattle.stage_laws.specs.FullRuns.{ComesTo, HasMemoryAlong, HasOneFullRun, LacksOrClashes, MeetsClash, RunComesTo, StageRunsFully, StageRunsTell}
 use Rattle.stage_laws.specs.Stage.{KeepsAll, StageStep, stage_command}
 use Rattle.stage_laws.proofs.Stage.{IsTakenSo, stage_begins, stage_keeps, taken_or_none, what_goes_is_a_step}
 

@@ -1,4 +1,3 @@
 pub mod Stage
 pub mod Replies
 pub mod FullRuns
-pub mod Promised

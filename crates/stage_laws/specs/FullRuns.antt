@@ -1,6 +1,6 @@
 -- Runs in which memory is never wanting, by the step of this stage: that each script has one, or names clash on the way, and that any other run tells where memory was wanting.
 use Rattle.std.specs.Prelude.{◌≡◌, ◌⊎◌, ℕ, ◌+◌, List, ◌∷◌, ◌++◌, length}
-use Rattle.script_driver.specs.Run.{Outcome, Follows, Obeys, Ran, Runs, WithLaw, behind, shown}
+use Rattle.script_driver.specs.Run.{Outcome, Goes, Follows, Obeys, Ran, Runs, WithLaw, behind, shown}
 use Rattle.world_model.specs.Logs.{Played}
 use Rattle.world_model.specs.Story.{empty_story}
 use Rattle.world_model.specs.World.{empty_world}

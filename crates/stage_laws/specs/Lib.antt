@@ -1,4 +1,3 @@
 pub mod Stage
 pub mod Laws
 pub mod FullRuns
-pub mod Promise

@@ -1,6 +1,5 @@
 //! What holds of the step of this stage.
 
-ghost use Rattle.stage_laws.specs.Promise.{StagePromises};
 ghost use Rattle.stage_laws.specs.FullRuns.{StageRunsFully, StageRunsTell};
 ghost use Rattle.stage_laws.specs.Laws.{
   LongLinesStop,
@@ -42,10 +41,4 @@ pub fn stage_has_headline()
 pub fn stage_runs_fully()
     ensures fully { StageRunsFully }
     ensures tell { StageRunsTell }
-{}
-
-/// A law and no code: from a world that keeps what it should the headline holds of each line; and where that world was reached calmly,
-/// what was acknowledged may be read, a call misses nothing, and a round moves each block to its owners.
-pub fn stage_has_promise()
-    ensures { StagePromises }
 {}

@@ -1,4 +1,4 @@
--- What holds of each line by the step of this stage.
+-- What is promised of each line of a script.
 use Rattle.std.specs.Prelude.{ℕ, List}
 use Rattle.script_driver.specs.Run.{Outcome, WithLaw}
 use Rattle.world_model.specs.Logs.{Played}

@@ -1,0 +1,17 @@
+-- The promise holds of each line.
+use Rattle.std.proofs.Common.{◌≡◌, ℕ, List, subst}
+use Rattle.script_driver.specs.Run.{Goes, Outcome}
+use Rattle.world_model.specs.Logs.{Played}
+use Rattle.world_model.specs.Step.{IvyStep}
+use Rattle.completeness_laws.proofs.CalmLines.{lines_are_served}
+use Rattle.stage_laws.specs.Stage.{KeepsAll, StageStep}
+use Rattle.stage_laws.proofs.Replies.{stage_has_headline}
+use Rattle.stage_laws.proofs.Stage.{what_goes_is_a_step}
+use Rattle.ivy_play.specs.Promise.{Promise, StagePromises}
+
+-- a line of the stage that goes on is a line of all steps
+goes_on : (w : Played) (line : List ℕ) (outcome : Outcome Played) → StageStep w line outcome → (next : Played) (output : List ℕ) → outcome ≡ Goes next output → IvyStep w line (Goes next output)
+goes_on w line outcome step next output is = (what_goes_is_a_step w next line output (subst (λ o. StageStep w line o) is step)).1
+
+pub each_promises : StagePromises
+each_promises w line outcome keeps step = record { headline = stage_has_headline w line outcome keeps step; calm = lines_are_served w line outcome (goes_on w line outcome step) }
