@@ -23,3 +23,5 @@ pub mod Served
 pub mod StoreRoom
 pub mod PutsTaken
 pub mod PutsAcked
+pub mod OwnLogs
+pub mod TakesLogs
