@@ -25,3 +25,5 @@ pub mod PutsTaken
 pub mod PutsAcked
 pub mod OwnLogs
 pub mod TakesLogs
+pub mod TakesRuns
+pub mod TakesAll

@@ -136,7 +136,7 @@ in_whole xs ys r h c = subst (λ (l : List Record). Contains l r) h.1 (Contains-
 -- ---- what is written
 
 -- a verified head that was received was met
-received_met : (w : Played) → Keeps w → (name : List ℕ) (e : Entry) → Contains (knowing_of w.1 name).received e → IsMetHead w.0.met e
+pub received_met : (w : Played) → Keeps w → (name : List ℕ) (e : Entry) → Contains (knowing_of w.1 name).received e → IsMetHead w.0.met e
 received_met w keeps name e h = by (find (λ k. bytes_eq k.name name) w.1.participants) refl
   where
     by : (o : Option Knowing) → find (λ k. bytes_eq k.name name) w.1.participants ≡ o → IsMetHead w.0.met e

@@ -1,2 +1,3 @@
 pub mod Put
 pub mod Completeness
+pub mod Takes
