@@ -23,6 +23,8 @@ pub mod Served
 pub mod StoreRoom
 pub mod PutsTaken
 pub mod PutsAcked
+pub mod GotHeads
+pub mod LeftHeads
 pub mod OwnLogs
 pub mod TakesLogs
 pub mod TakesRuns

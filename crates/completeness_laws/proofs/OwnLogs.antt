@@ -33,7 +33,6 @@ use Rattle.world_model.specs.Story.{Knowing, knowing_nothing, knowing_of, known_
 use Rattle.world_model.specs.Logs.{Played}
 use Rattle.world_model.specs.Steps.{heads_by}
 use Rattle.world_laws.specs.Keeps.{IsKeptSo, IsMetHead, IsSavedWell, IsSound, IsSoundIn, IsSoundKept, IsSoundKeptIn, Keeps, NamesOneOf, SignsOnce}
-use Rattle.world_laws.specs.Laws.{IsHonest}
 use Rattle.world_laws.proofs.KnownHeads.{heads_low}
 use Rattle.world_laws.proofs.MoreMet.{more_stand}
 use Rattle.world_laws.proofs.OneKnown.{stand_in_log}
@@ -41,6 +40,7 @@ use Rattle.world_laws.proofs.OneTruth.{chain_linked}
 use Rattle.world_laws.proofs.Publishing.{found_knowing}
 use Rattle.world_laws.proofs.PublicKeys.{owner_is_key}
 use Rattle.world_laws.proofs.SignedHeads.{so_of}
+use Rattle.completeness_laws.specs.Takes.{IsLeftBy}
 use Rattle.completeness_laws.proofs.RestartLines.{long}
 use Rattle.completeness_laws.proofs.Turns.{from_log}
 use Rattle.completeness_laws.proofs.UpTo.{head_tells}
@@ -135,19 +135,15 @@ in_whole xs ys r h c = subst (λ (l : List Record). Contains l r) h.1 (Contains-
 
 -- ---- what is written
 
--- a verified head that was received was met
-pub received_met : (w : Played) → Keeps w → (name : List ℕ) (e : Entry) → Contains (knowing_of w.1 name).received e → IsMetHead w.0.met e
-received_met w keeps name e h = by (find (λ k. bytes_eq k.name name) w.1.participants) refl
-  where
-    by : (o : Option Knowing) → find (λ k. bytes_eq k.name name) w.1.participants ≡ o → IsMetHead w.0.met e
-    by None is = absurd (in_nothing e (subst (λ (x : Option Knowing). Contains (option_map_or (λ k. k) x (knowing_nothing name)).received e) is h))
-    by (Some k) is = each (IsMetHead w.0.met) k.received e (each _ w.1.participants k keeps.received (found_knowing w.1.participants name k is).0)
-        (subst (λ (x : Option Knowing). Contains (option_map_or (λ k. k) x (knowing_nothing name)).received e) is h)
+-- each log has a key of its own, and each head of a log that was received left the log's agent
+pub record IsHonestIn (w : Played) : Type 0 where
+  pub own_keys : (p q : Participant) → Contains w.0.participants p → Contains w.0.participants q → head_key_of (own p.agent) ≡ head_key_of (own q.agent) → p ≡ q
+  pub left : (name : List ℕ) (e : Entry) (q : Participant) → Contains (knowing_of w.1 name).received e → Contains w.0.participants q → e.0 ≡ head_key_of (own q.agent) → IsLeftBy q e
 
 abbrev pub written : Played → Participant → List Record
 written w q = log_of (own q.agent) (known_of w.1 q.name)
 
-module _ (w : Played) (keeps : Keeps w) (apart : NamesTellApart (named_bytes w.0)) (honest : IsHonest w.0) where
+module _ (w : Played) (keeps : Keeps w) (apart : NamesTellApart (named_bytes w.0)) (honest : IsHonestIn w) where
   met_apart : NamesTellApart w.0.met
   met_apart a b in_a in_b same = apart a b (Contains-append_left w.0.met _ a in_a) (Contains-append_left w.0.met _ b in_b) same
 
@@ -217,24 +213,18 @@ module _ (w : Played) (keeps : Keeps w) (apart : NamesTellApart (named_bytes w.0
             no_view none has = cc (sym has ∙ ap is_some none)
         by (Some v) is h some = of_kept v h
 
-    -- a head of its log that was met is over a record of it
-    pub over_written : (e : Entry) → e.0 ≡ head_key_of (own q.agent) → IsMetHead w.0.met e → (one : Record) × Contains (written w q) one × ((own_entry one).1 ≡ e.1)
-    over_written e of_log is_met = (named.1, named.2, sym tells ∙ sym is_met.4)
+    -- a head that left it is over a record of its log
+    pub over_written : (e : Entry) → IsLeftBy q e → (one : Record) × Contains (written w q) one × ((own_entry one).1 ≡ e.1)
+    over_written e is_left = (named.1, named.2, sym tells ∙ sym is_left.4)
       where
-        made : (p : Participant) × Contains w.0.participants p × (e.0 ≡ head_key_of (own p.agent)) × Contains p.left is_met.0
-        made = honest.own_heads is_met.0 e.0 is_met.1 is_met.2 is_met.3
-
-        same : made.0 ≡ q
-        same = honest.own_keys made.0 q made.1 q_in (sym made.2 ∙ of_log)
-
-        named : NamesOneOf signs_so.0.signer (written w q) is_met.0
-        named = each (NamesOneOf signs_so.0.signer (written w q)) q.left is_met.0 heads_named (subst (λ (p : Participant). Contains p.left is_met.0) same made.3)
+        named : NamesOneOf signs_so.0.signer (written w q) is_left.0
+        named = each (NamesOneOf signs_so.0.signer (written w q)) q.left is_left.0 heads_named is_left.2
 
         spelled : HasSpelling named.1
         spelled = (each_linked (own q.agent) 1 no_name (written w q) named.1 written_linked named.2).1
 
-        tells : stamp_of is_met.1 ≡ (own_entry named.1).1
-        tells = head_tells e.0 is_met.0 is_met.1 (own_key hss signs_so.0.signer) (own_entry named.1).1 _ is_met.3 named.3 (owner_is_key signs_so.0.signer whole.signer).size (let few = spelled.few in omega (arith, few)) (name_is_key named.1 spelled).size
+        tells : stamp_of is_left.1 ≡ (own_entry named.1).1
+        tells = head_tells e.0 is_left.0 is_left.1 (own_key hss signs_so.0.signer) (own_entry named.1).1 _ is_left.3 named.3 (owner_is_key signs_so.0.signer whole.signer).size (let few = spelled.few in omega (arith, few)) (name_is_key named.1 spelled).size
 
     -- linked records that end at one of them are its beginning
     module _ (met : List (List ℕ)) (told_apart : NamesTellApart met) (meets : (b : List ℕ) → Contains w.0.met b → Contains met b) where
@@ -266,7 +256,7 @@ module _ (w : Played) (keeps : Keeps w) (apart : NamesTellApart (named_bytes w.0
         (in_whole under.log (written w q) l longer under.below) refl
       where
         over : (r : Record) × Contains (written w q) r × ((own_entry r).1 ≡ under.head.1)
-        over = over_written q q_in view in_view under.head (under.of_log ∙ ap head_key_of owned_by) (received_met w keeps p.name under.head under.received)
+        over = over_written q q_in view in_view under.head (honest.left p.name under.head q under.received q_in (under.of_log ∙ ap head_key_of owned_by))
 
         longer : IsPrefixOf under.log (written w q)
         longer = begins_it q q_in view in_view w.0.met met_apart (λ b m. m) under.log under.head.1 over.0 (subst (λ (o : PubKey). LinkedFrom o 1 no_name under.log) owned_by under.linked) under.stand under.ends over.1 over.2

@@ -1,9 +1,11 @@
 -- In calm and tidy scripts with the same ring the turn of a whole call takes all that was written, while no session is open.
-use Rattle.std.proofs.Common.{◌≡◌, ◌⊎◌, inl, inr, ⊎_elim, ℕ, ◌≤◌, Bool, true, false, List, [], ◌∷◌, ◌++◌, length, length-append, Option, Some, None, refl, sym, ap, ◌∙◌, subst, arith, nat_lt, Contains}
+use Rattle.std.proofs.Common.{◌≡◌, ◌⊎◌, inl, inr, ⊎_elim, ℕ, ◌≤◌, Bool, true, false, List, [], ◌∷◌, ◌++◌, length, length-append, map, Option, Some, None, refl, sym, ap, ◌∙◌, subst, arith, nat_lt, Contains}
 use Rattle.std.specs.Prelude.{◌↔◌, MatchBool, sum_by}
 use Rattle.std.specs.List.{AllByRecursion}
 use Rattle.std.proofs.lemmas.Bool.{ltb-false}
+use Rattle.std.proofs.lemmas.List.Elements.{Contains-append_right}
 use Rattle.log_heads.specs.Signed.{hss_judged}
+use Rattle.ivy_base.specs.Naming.{head_key_of}
 use Rattle.log_model.specs.Record.{Record}
 use Rattle.script_driver.specs.Run.{Exceeds, Goes, Outcome}
 use Rattle.script_model.specs.Lines.{command_of}
@@ -20,21 +22,24 @@ use Rattle.world_model.specs.Logs.{Played}
 use Rattle.world_model.specs.Step.{Does, IvyStep, MayDo, MayDoFirst, most_bytes}
 use Rattle.world_model.specs.Steps.{RunsOut, Scene}
 use Rattle.world_model.specs.Story.{HadTurn, beginning, having_begun}
-use Rattle.world_model.specs.World.{Participant, participant}
+use Rattle.world_model.specs.World.{Participant, named_bytes, participant}
 use Rattle.world_laws.specs.Calm.{HasSameRing, IsCalmAt, Stopped}
 use Rattle.world_laws.specs.Headline.{IsOnReplay}
 use Rattle.world_laws.specs.Keeps.{Keeps}
-use Rattle.world_laws.specs.Laws.{IsHonest, LinesKeep}
+use Rattle.world_laws.specs.Laws.{LinesKeep}
 use Rattle.world_laws.proofs.AllLines.{does_line}
 use Rattle.world_laws.proofs.Bringing.{found_named}
 use Rattle.world_laws.proofs.CalmHeld.{IsStillWorld, calmly_keeps, still_world}
+use Rattle.world_laws.proofs.Frames.{into_map}
 use Rattle.world_laws.proofs.OneSteps.{GoesWell}
 use Rattle.completeness_laws.specs.Completeness.{CallsTakeAll, HaveEntered, HaveHeads, IsWritten}
-use Rattle.completeness_laws.specs.Takes.{HaveNewest, HeadsAreHonest, NewestArePut}
+use Rattle.completeness_laws.specs.Takes.{HaveNewest, IsLeftBy, NewestArePut, ReceivedHeadsLeft}
 use Rattle.completeness_laws.proofs.CallLines.{IsSentBy, begun_well, sent_by}
 use Rattle.completeness_laws.proofs.CallSteps.{IsInCall, IsPast, begins_on}
+use Rattle.completeness_laws.proofs.GotHeads.{AreHeardOf}
 use Rattle.completeness_laws.proofs.KeysStay.{same_stay}
-use Rattle.completeness_laws.proofs.TakesRuns.{HadAt, HadOne, InRun, PartNewest, runs_had, runs_turns, takes_at}
+use Rattle.completeness_laws.proofs.OwnLogs.{IsHonestIn}
+use Rattle.completeness_laws.proofs.TakesRuns.{Either, HadAt, HadOne, InRun, PartNewest, runs_had, runs_turns, takes_at}
 use Rattle.completeness_laws.proofs.Whole.{calm_backed}
 use Rattle.completeness_laws.proofs.Worlds.{IsBackedWorld}
 
@@ -61,7 +66,7 @@ some_heads w newest q among = let put = newest q among in (put.0, put.2, put.3, 
 
 -- ---- the line
 
-module _ (r : ℕ) (w : Played) (keeps : Keeps w) (world : IsStillWorld r w) (backed : IsBackedWorld w.0 w.1) (count : ℕ) (lines : List (List ℕ)) (calm : IsCalmAt r w (Stopped count) lines) (newest : HaveNewest w) (honest : IsHonest w.0) (log : List ℕ) (entered : HaveEntered w.0 log) (pieces : List Piece) where
+module _ (r : ℕ) (w : Played) (keeps : Keeps w) (world : IsStillWorld r w) (backed : IsBackedWorld w.0 w.1) (count : ℕ) (lines : List (List ℕ)) (calm : IsCalmAt r w (Stopped count) lines) (newest : HaveNewest w) (honest : IsHonestIn w) (log : List ℕ) (entered : HaveEntered w.0 log) (pieces : List Piece) where
   took : (k : ℕ) → k ≡ r → (s : Sending) → sending_of w.0 log pieces ≡ Some s → (t : Session) (end : Scene) → BeginsWith w.0 s t
       → RunsOut hss_judged k s.by.name (record { world = w.0; story = having_begun w.1; session = t; began = beginning w.1 s.by.name }) end
       → (h : HadTurn) (turn : IsOnReplay h) (one : Record) → end.story.turns ≡ w.1.turns ++ h ∷ [] → Contains turn.taken one ↔ IsWritten w h.view one
@@ -88,9 +93,9 @@ module _ (r : ℕ) (w : Played) (keeps : Keeps w) (world : IsStillWorld r w) (ba
       well : GoesWell r start
       well = begun_well w keeps backed r world.still.replicas log pieces s sends t begins
 
-      bare : (u : Session) → BeginsWith w.0 s u → (u.parts ≡ []) × (u.by ≡ s.by.name) × (u.standing.view ≡ s.view)
-      bare _ (begins_alone given by) = (refl, refl, refl)
-      bare _ (begins_refreshing xid asked asks) = (refl, refl, refl)
+      bare : (u : Session) → BeginsWith w.0 s u → (u.parts ≡ []) × (u.by ≡ s.by.name) × (u.standing.view ≡ s.view) × AreHeardOf (Either r w world backed calm.apart calm.no_key (some_heads w newest) newest) u
+      bare _ (begins_alone given by) = (refl, refl, refl, tt)
+      bare _ (begins_refreshing xid asked asks) = (refl, refl, refl, tt)
 
       in_run : IsInCall r w world backed calm.apart calm.no_key (some_heads w newest) start → InRun r w world backed calm.apart calm.no_key (some_heads w newest) newest s.by.name s.view start
       in_run call = record {
@@ -99,6 +104,7 @@ module _ (r : ℕ) (w : Played) (keeps : Keeps w) (world : IsStillWorld r w) (ba
         turns = refl;
         meets = λ b m. m;
         keys = same_stay w.0.participants;
+        heard = (bare t begins).3;
         parts = subst (λ ps. AllByRecursion (PartNewest r w world backed calm.apart calm.no_key (some_heads w newest) newest) (brought_in ps)) (sym (bare t begins).0) tt;
         of = ((bare t begins).1, (bare t begins).2);
       }
@@ -115,13 +121,26 @@ module _ (r : ℕ) (w : Played) (keeps : Keeps w) (world : IsStillWorld r w) (ba
       one_number : (a b : ℕ) → Some a ≡ Some b → a ≡ b
       one_number a b e = cc e
 
-pub calls_take_all : LinesKeep → NewestArePut HasSameRing → HeadsAreHonest HasSameRing → CallsTakeAll HasSameRing
-calls_take_all lines_keep newest honest r w next count lines line name output pieces same calm tidy own_keys entered none is step h turn one had =
+pub calls_take_all : LinesKeep → NewestArePut HasSameRing → ReceivedHeadsLeft HasSameRing → CallsTakeAll HasSameRing
+calls_take_all lines_keep newest left r w next count lines line name output pieces same calm tidy own_keys entered none is step h turn one had =
     let done = does_line w next output (command_of line) step in
     let keeps = calmly_keeps lines_keep r w (Stopped count) lines calm in
     let does : Does hss_judged w (command.As name pieces) (Goes next output) = subst (λ (d : Command). Does hss_judged w d (Goes next output)) (one_command done.0 (command.As name pieces) (sym done.1 ∙ is)) done.2 in
     as_took r w keeps (still_world lines_keep r w (Stopped count) lines same calm) (calm_backed lines_keep r w (Stopped count) lines same calm) count lines calm
-    (newest r w count lines same calm tidy none (within w next output name pieces (subst (λ o. MayDoFirst w o (Goes next output)) is step))) (honest r w count lines same calm own_keys) name entered pieces (sending_of w.0 name pieces) refl next output does h turn one had
+    (newest r w count lines same calm tidy none (within w next output name pieces (subst (λ o. MayDoFirst w o (Goes next output)) is step))) honest name entered pieces (sending_of w.0 name pieces) refl next output does h turn one had
   where
+    own_key : (p q : Participant) → Contains w.0.participants p → Contains w.0.participants q → head_key_of (own p.agent) ≡ head_key_of (own q.agent) → own p.agent ≡ own q.agent
+    own_key p q p_in q_in keys =
+        let bytes : (own p.agent).0 ≡ (own q.agent).0 = calm.apart (own p.agent).0 (own q.agent).0 (named p p_in) (named q q_in) keys in λ i. record { 0 = bytes i }
+      where
+        named : (x : Participant) → Contains w.0.participants x → Contains (named_bytes w.0) (own x.agent).0
+        named x x_in = Contains-append_right w.0.met (map (λ (y : Participant). (own y.agent).0) w.0.participants) (own x.agent).0 (into_map (λ (y : Participant). (own y.agent).0) w.0.participants x x_in)
+
+    honest : IsHonestIn w
+    honest = record {
+      own_keys = λ p q p_in q_in keys. own_keys p q p_in q_in (own_key p q p_in q_in keys);
+      left = λ by e q c q_in of_log. let one = left r w count lines by e q same calm c q_in of_log in subst (λ (x : Participant). IsLeftBy x e) (own_keys one.0 q one.1 q_in one.2) one.3;
+    }
+
     one_command : (c d : Command) → Some c ≡ Some d → c ≡ d
     one_command c d e = cc e

@@ -33,14 +33,14 @@ use Rattle.world_model.specs.World.{Participant, named_bytes}
 use Rattle.world_model.specs.Story.{knowing_of, known_of}
 use Rattle.world_model.specs.Logs.{Played}
 use Rattle.world_laws.specs.Keeps.{AreParticipants, EntersOwned, IsMetHead, IsSound, Keeps}
-use Rattle.world_laws.specs.Laws.{IsHonest}
 use Rattle.world_laws.proofs.MoreMet.{more_stand}
 use Rattle.world_laws.proofs.OneKnown.{stand_in_log}
 use Rattle.world_laws.proofs.OneTruth.{chain_linked}
 use Rattle.world_laws.proofs.SignedHeads.{from_map}
 use Rattle.world_laws.proofs.TurnsTaken.{IsBrought, of_hand}
 use Rattle.completeness_laws.specs.Completeness.{IsWritten}
-use Rattle.completeness_laws.proofs.OwnLogs.{begins_it, in_whole, known_begins, over_written, short_seq, sound_in, up_to_it, written, written_linked, written_long, written_stand}
+use Rattle.completeness_laws.specs.Takes.{IsLeftBy}
+use Rattle.completeness_laws.proofs.OwnLogs.{IsHonestIn, begins_it, in_whole, known_begins, over_written, short_seq, sound_in, up_to_it, written, written_linked, written_long, written_stand}
 use Rattle.completeness_laws.proofs.RestartLines.{long}
 use Rattle.completeness_laws.proofs.Turns.{from_log, in_own_log}
 
@@ -71,11 +71,11 @@ all_of_it xs ys (rest, is) le = by rest is
     by [] e = sym (append-nil xs) ∙ e
     by (z ∷ rest) e = let one = length-append xs (z ∷ rest) in let two = ap length e in absurd (omega (arith, one, two, le))
 
-module _ (w : Played) (keeps : Keeps w) (apart : NamesTellApart (named_bytes w.0)) (honest : IsHonest w.0) (p : Participant) (p_in : Contains w.0.participants p) (view : View) (in_view : p.agent.view ≡ Some view)
+module _ (w : Played) (keeps : Keeps w) (apart : NamesTellApart (named_bytes w.0)) (honest : IsHonestIn w) (p : Participant) (p_in : Contains w.0.participants p) (view : View) (in_view : p.agent.view ≡ Some view)
     (entered : (q : Participant) → Contains w.0.participants q → Contains view.members (own q.agent) → q.agent.view ≡ Some view)
     (s : Standing) (knew : List Record) (started : Vector) (heads : Key → List Stamp) (met : List (List ℕ)) (meets : (b : List ℕ) → Contains w.0.met b → Contains met b) (told_apart : NamesTellApart met)
     (own_is : s.own ≡ own p.agent) (by_floor : IsKnown view s.floor knew) (before : (r : Record) → Contains knew r → Contains (known_of w.1 p.name) r)
-    (heard : (log : Key) (t : Stamp) → Contains (heads log) t → IsMetHead w.0.met (log, t))
+    (heard : (q : Participant) (t : Stamp) → Contains w.0.participants q → Contains (heads (head_key_of (own q.agent))) t → IsLeftBy q (head_key_of (own q.agent), t))
     (newest : (q : Participant) → Contains w.0.participants q → Contains view.members (own q.agent) → (own q.agent ≡ s.own → ⊥) → (t : Stamp) × Contains (heads (head_key_of (own q.agent))) t × (own_reach q.agent ≤ t.seq))
     (candidates : List Candidate) (are : AreCandidatesOf heads met view s knew started candidates) (taken : List Record) (largest : IsClosedPart view (IsAtHand (known_of w.1 p.name) candidates) taken) where
   -- whose log a member's is
@@ -152,7 +152,7 @@ module _ (w : Played) (keeps : Keeps w) (apart : NamesTellApart (named_bytes w.0
     })
       where
         over : (one : Record) × Contains (written w q) one × ((own_entry one).1 ≡ head)
-        over = over_written w keeps apart honest q q_in view its_view (head_key_of (own q.agent), head) refl (heard (head_key_of (own q.agent)) head tried.0)
+        over = over_written w keeps apart honest q q_in view its_view (head_key_of (own q.agent), head) (heard q head q_in tried.0)
 
         up : (front : List Record) × (rest : List Record) × (written w q ≡ front ++ rest) × EndsAt (Some (own_entry over.0).1) front
         up = up_to_it w keeps apart honest q q_in view its_view over.0 over.1
@@ -181,14 +181,14 @@ module _ (w : Played) (keeps : Keeps w) (apart : NamesTellApart (named_bytes w.0
       -- no head goes further
       no_further : (head : Stamp) → Contains (heads (head_key_of (own q.agent))) head → head.seq ≤ own_reach q.agent
       no_further head c =
-          let over = over_written w keeps apart honest q q_in view its_view (head_key_of (own q.agent), head) refl (heard (head_key_of (own q.agent)) head c) in
+          let over = over_written w keeps apart honest q q_in view its_view (head_key_of (own q.agent), head) (heard q head q_in c) in
           let low = short_seq (own q.agent) 1 no_name (written w q) over.0 log_linked over.1 in
           let at : over.0.seq ≡ head.seq = ap (λ (t : Stamp). t.seq) over.2 in
           omega (arith, low, at, log_long)
 
       whole_chain : (head : Stamp) (chain : List Record) → IsTried heads s.floor (head_key_of (own q.agent)) head → MakeChain met view (own q.agent) s.floor head chain → own_reach q.agent ≤ head.seq → chain ≡ written w q
       whole_chain head chain tried made far =
-          let over = over_written w keeps apart honest q q_in view its_view (head_key_of (own q.agent), head) refl (heard (head_key_of (own q.agent)) head tried.0) in
+          let over = over_written w keeps apart honest q q_in view its_view (head_key_of (own q.agent), head) (heard q head q_in tried.0) in
           let linked = chain_linked view (own q.agent) chain made.chain_of_log in
           let size = long (own q.agent) 1 no_name chain head linked made.ends in
           all_of_it chain (written w q) (begins_it w keeps apart honest q q_in view its_view met told_apart meets chain head over.0 linked made.stand made.ends over.1 over.2) (omega (arith, size, log_long, far))
@@ -244,7 +244,7 @@ module _ (w : Played) (keeps : Keeps w) (apart : NamesTellApart (named_bytes w.0
     -- the chain of a head that was brought is among its records
     brought_written : (head : Stamp) (chain : List Record) (one : Record) → Contains (heads (head_key_of (own q.agent))) head → MakeChain met view (own q.agent) s.floor head chain → Contains chain one → Contains (written w q) one
     brought_written head chain one tried made c =
-        let over = over_written w keeps apart honest q q_in view its_view (head_key_of (own q.agent), head) refl (heard (head_key_of (own q.agent)) head tried) in
+        let over = over_written w keeps apart honest q q_in view its_view (head_key_of (own q.agent), head) (heard q head q_in tried) in
         in_whole chain (written w q) one (begins_it w keeps apart honest q q_in view its_view met told_apart meets chain head over.0 (chain_linked view (own q.agent) chain made.chain_of_log) made.stand made.ends over.1 over.2) c
 
   -- ---- both ways

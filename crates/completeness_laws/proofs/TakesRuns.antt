@@ -5,7 +5,7 @@ use Rattle.std.specs.List.{AllByRecursion}
 use Rattle.std.specs.Option.{option_map_or}
 use Rattle.std.specs.Str.{bytes_eq}
 use Rattle.std.proofs.lemmas.List.{append-nil}
-use Rattle.std.proofs.lemmas.List.Elements.{Contains-append_left, Contains-append_right}
+use Rattle.std.proofs.lemmas.List.Elements.{Contains-append_cases, Contains-append_left, Contains-append_right}
 use Rattle.ivy_base.specs.declared.key.Key.{Key}
 use Rattle.ivy_base.specs.declared.key.PubKey.{PubKey}
 use Rattle.ivy_base.specs.declared.operation.Moment.{Moment}
@@ -76,13 +76,12 @@ use Rattle.world_model.specs.Story.{HadTurn, Knowing, Story, beginning, having_b
 use Rattle.world_model.specs.World.{Participant, World, named_bytes, participant, with_participant}
 use Rattle.world_laws.specs.Headline.{IsOnReplay}
 use Rattle.world_laws.specs.Keeps.{IsMetHead, IsSoundSession, Keeps}
-use Rattle.world_laws.specs.Laws.{IsHonest}
 use Rattle.world_laws.proofs.Bringing.{found_named, its_key, its_view}
 use Rattle.world_laws.proofs.CalmGets.{AreGot, IsGivenHead, IsOwnedAs, head_given}
 use Rattle.world_laws.proofs.CalmHeld.{IsStillWorld, post_rank_is}
-use Rattle.world_laws.proofs.CalmNodes.{HeldStays, IsHeld}
+use Rattle.world_laws.proofs.CalmNodes.{HeldStays, IsHeld, IsOfKind}
 use Rattle.world_laws.proofs.CalmPuts.{IsAckHeld, block_of, entries_by, kind_of}
-use Rattle.world_laws.proofs.CalmStates.{IsLeft, found_placed}
+use Rattle.world_laws.proofs.CalmStates.{IsLeft, OfContent, OfHeads, found_placed}
 use Rattle.world_laws.proofs.OneSteps.{GoesWell}
 use Rattle.world_laws.proofs.Receiving.{holds_then}
 use Rattle.world_laws.proofs.SessionLinesSteps.{Leads, step_leads}
@@ -91,11 +90,13 @@ use Rattle.world_laws.proofs.SignedHeads.{from_map}
 use Rattle.world_laws.proofs.Frames.{into_map}
 use Rattle.world_laws.proofs.TakingOn.{brought_then}
 use Rattle.completeness_laws.specs.Completeness.{HaveHeads, IsWritten}
-use Rattle.completeness_laws.specs.Takes.{HaveNewest}
+use Rattle.completeness_laws.specs.Takes.{HaveNewest, IsLeftBy}
 use Rattle.completeness_laws.proofs.Calls.{AllKinds, IsFetched, IsRinged, ask_got, not_at_hand}
 use Rattle.completeness_laws.proofs.CallSteps.{IsInCall, IsPast, acts_on, answered_past, in_call, lacks_past, met_apart, names_of, step_past, takes_all_missed, turn_refreshes}
+use Rattle.completeness_laws.proofs.GotHeads.{AllHoldOf, AreHeardOf, EntryOf, IsHeardOf, fate_told, heads_so, takes_all_heard, then_heard}
 use Rattle.completeness_laws.proofs.KeysStay.{KeysStay, acts_stay, placed_stay, stay_then}
-use Rattle.completeness_laws.proofs.OwnLogs.{received_met}
+use Rattle.completeness_laws.proofs.LeftHeads.{left_under}
+use Rattle.completeness_laws.proofs.OwnLogs.{IsHonestIn}
 use Rattle.completeness_laws.proofs.Steps.{SceneSo, fate_same, step_so, takes_all_same}
 use Rattle.completeness_laws.proofs.TakesLogs.{takes_written}
 use Rattle.completeness_laws.proofs.Worlds.{IsBackedWorld}
@@ -172,9 +173,20 @@ module _ (r : ℕ) (w : Played) (world : IsStillWorld r w) (backed : IsBackedWor
       lower : IsHeld w.0 put.0.key (kind_of put.0) (own_reach q.agent) ack.0
       lower = let h = ack.2.held in let far = put.6 in (h.0, h.1, h.2, omega (arith, h.3, ranked, far))
 
+  -- content that was met, or a head that left
+  abbrev pub Either : Key → List ℕ → Type 0
+  Either key b = OfContent r (shapes_of world.run.made) (links_in world.run.made) world.run.made.asked world.run.first.ring (Contains w.0.met) (IsLeft w.0) key b
+      ⊎ OfHeads r (shapes_of world.run.made) (links_in world.run.made) world.run.made.asked world.run.first.ring (Contains w.0.met) (IsLeft w.0) key b
+
+  either_of : (kind : Kind) (key : Key) (b : List ℕ)
+      → IsOfKind (OfContent r (shapes_of world.run.made) (links_in world.run.made) world.run.made.asked world.run.first.ring (Contains w.0.met) (IsLeft w.0))
+      (OfHeads r (shapes_of world.run.made) (links_in world.run.made) world.run.made.asked world.run.first.ring (Contains w.0.met) (IsLeft w.0)) key kind b → Either key b
+  either_of Content key b h = inl h
+  either_of Head key b h = inr h
+
   -- what was brought of a log's heads goes as far as the log
   abbrev pub PartNewest : Brought → Type 0
-  PartNewest (HeadsOf owner (Ok heads)) = (q : Participant) → Contains w.0.participants q → own q.agent ≡ owner → (j : Judged) × Contains heads j × (own_reach q.agent ≤ j.seq)
+  PartNewest (HeadsOf owner (Ok heads)) = ((q : Participant) → Contains w.0.participants q → own q.agent ≡ owner → (j : Judged) × Contains heads j × (own_reach q.agent ≤ j.seq)) × AllByRecursion (λ j. EntryOf Either (head_key_of owner, stamp_of j)) heads
   PartNewest (HeadsOf owner (Err miss)) = Unit {0}
   PartNewest (BlockOf key came) = Unit {0}
 
@@ -197,32 +209,41 @@ module _ (r : ℕ) (w : Played) (world : IsStillWorld r w) (backed : IsBackedWor
   fails_newest (goes_on none) h = h
 
   brought_newest : (v : World) → IsRinged r w world backed (met_apart r w world backed apart no_key have) have v → (want : Want) (trail : List Heard) (b : Brought) → Gets hss_judged r (entries_by (shapes_of world.run.made)) want trail b
-      → AreGot r (shapes_of world.run.made) (links_in world.run.made) world.run.made.asked world.run.first.ring (Contains w.0.met) (IsLeft w.0) w.0 trail → PartNewest b
-  brought_newest v ring _ trail _ (got_heads {owner = owner} came get) so = by came refl
+      → AreGot r (shapes_of world.run.made) (links_in world.run.made) world.run.made.asked world.run.first.ring (Contains w.0.met) (IsLeft w.0) w.0 trail → AllByRecursion (IsHeardOf Either) trail → PartNewest b
+  brought_newest v ring _ trail _ (got_heads {owner = owner} came get) so given_so = by came refl
     where
       by : (x : Result (List Judged) Miss) → came ≡ x → PartNewest (HeadsOf owner came)
       by (Err miss) e = subst (λ x. PartNewest (HeadsOf owner x)) (sym e) tt
       by (Ok heads) e = subst (λ x. PartNewest (HeadsOf owner x)) (sym e) (λ q q_in same.
           let given = head_given r (shapes_of world.run.made) (links_in world.run.made) world.run.made.asked world.run.first.ring (Contains w.0.met) (IsLeft w.0) w.0 v (head_key_of (own q.agent)) (own_reach q.agent) trail came (newest_owned q q_in) ring so
           (subst (λ o. IsGetOfHead (hss_judged (head_key_of o)) (head_key_of o) r (entries_by (shapes_of world.run.made)) trail came) (sym same) get) in
-          (given.one, subst (λ l. Contains l given.one) (some_heads given.heads heads (sym given.came_is ∙ e)) given.among, given.newer))
+          (given.one, subst (λ l. Contains l given.one) (some_heads given.heads heads (sym given.came_is ∙ e)) given.among, given.newer),
+          heads_so Either (head_key_of owner) r (entries_by (shapes_of world.run.made)) trail heads came get e given_so)
         where
           some_heads : (a b : List Judged) → ◌≡◌ {A = Result (List Judged) Miss} (Ok a) (Ok b) → a ≡ b
           some_heads a b f = cc f
-  brought_newest v ring _ trail _ (got_content came get) so = tt
+  brought_newest v ring _ trail _ (got_content came get) so given_so = tt
 
   -- ---- one ask
 
+  holds_of : (v : World) → AllKinds r w world backed (met_apart r w world backed apart no_key have) have v → AllHoldOf Either v
+  holds_of v kinds id n at key block found = either_of block.kind key block.bytes (kinds id n at key block found)
+
+  refused_heard : {now : Moment} {a : Agent} {view : View} {failing : Bool} {s : Session} {end : TurnEnd} {after : Agent} {saving : Option Kept} {t : Session} → TakesTurn now a view failing s end after saving t → IsRefusal end → AreHeardOf Either t
+  refused_heard (answers notes given xid asked reply applied after saving done asks_it turned) refusal = absurd refusal
+  refused_heard (begins_anew notes given xid asked end after saving done asks_it turned refused few) refusal = tt
+  refused_heard (gives_up notes given xid asked end after saving done asks_it turned refused many) refusal = tt
+
   heard_newest : {s heard : Session} {cache after : Cache} {node : Peer} {question : Ask} {given : Answer} → IsFetched r w world backed (met_apart r w world backed apart no_key have) have s → AllNewest s → (v next : World) → FateOf hss_judged v node question given next
-      → IsRinged r w world backed (met_apart r w world backed apart no_key have) have v → AllKinds r w world backed (met_apart r w world backed apart no_key have) have v → HeldStays w.0 v
+      → IsRinged r w world backed (met_apart r w world backed apart no_key have) have v → AllKinds r w world backed (met_apart r w world backed apart no_key have) have v → HeldStays w.0 v → AreHeardOf Either s
       → Hears hss_judged r s cache node question given heard after → AllNewest heard
-  heard_newest h old v next fate ring kinds held (gets_on want wants asks_next part) = old
-  heard_newest {s} {node = node} {question = question} {given = given} h old v next fate ring kinds held (got want brought wants asks_next whole) =
+  heard_newest h old v next fate ring kinds held were (gets_on want wants asks_next part) = old
+  heard_newest {s} {node = node} {question = question} {given = given} h old v next fate ring kinds held were (got want brought wants asks_next whole) =
       let a = ask_got r w world backed (met_apart r w world backed apart no_key have) have (wanted_key want) question asks_next.is_of node given v next fate ring kinds held in
       with_newest s brought (s.current ++ told node question given) old
-      (brought_newest next a.0 want (s.current ++ told node question given) brought (subst (λ es. Gets hss_judged r es want (s.current ++ told node question given) brought) h.entries whole) (all-both _ s.current (told node question given) h.asked a.3))
-  heard_newest h old v next fate ring kinds held (puts_on said p posts acks is asks_next part) = old
-  heard_newest h old v next fate ring kinds held (puts said p posts acks came is asks_next whole) = old
+      (brought_newest next a.0 want (s.current ++ told node question given) brought (subst (λ es. Gets hss_judged r es want (s.current ++ told node question given) brought) h.entries whole) (all-both _ s.current (told node question given) h.asked a.3) (each_append (IsHeardOf Either) s.current (told node question given) were (fate_told Either fate (holds_of v kinds))))
+  heard_newest h old v next fate ring kinds held were (puts_on said p posts acks is asks_next part) = old
+  heard_newest h old v next fate ring kinds held were (puts said p posts acks came is asks_next whole) = old
 
   refused_newest : {now : Moment} {a : Agent} {view : View} {failing : Bool} {s : Session} {end : TurnEnd} {after : Agent} {saving : Option Kept} {t : Session} → TakesTurn now a view failing s end after saving t → IsRefusal end → AllNewest s → AllNewest t
   refused_newest (answers notes given xid asked reply applied after saving done asks_it turned) refusal h = absurd refusal
@@ -259,6 +280,31 @@ module _ (r : ℕ) (w : Played) (world : IsStillWorld r w) (backed : IsBackedWor
       one_view (posted key bytes wants none is) = refl
       one_view (cached key bytes wants none missing is) = refl
 
+  -- ---- the heads that were brought
+
+  -- such a head of a participant's log left its agent
+  left_of : Keeps w → IsHonestIn w → (q : Participant) → Contains w.0.participants q → (e : Entry) → e.0 ≡ head_key_of (own q.agent) → EntryOf Either e → IsLeftBy q e
+  left_of keeps honest q q_in e of_log (b, j, inl content, judged, is) = absurd (no_key q q_in (subst (Contains w.0.met) same content.0))
+    where
+      same : b ≡ (own q.agent).0
+      same = apart b (own q.agent).0 (Contains-append_left w.0.met _ b content.0) (Contains-append_right w.0.met (map (λ (p : Participant). (own p.agent).0) w.0.participants) (own q.agent).0 (into_map (λ (p : Participant). (own p.agent).0) w.0.participants q q_in)) (content.1 ∙ of_log)
+  left_of keeps honest q q_in e of_log (b, j, inr (left, some), judged, is) = (b, j, subst (λ (p : Participant). Contains p.left b) one left.3, judged, is)
+    where
+      p_in : Contains w.0.participants left.1
+      p_in = (found_named w.0.participants left.0 left.1 left.2).0
+
+      one : left.1 ≡ q
+      one = honest.own_keys left.1 q p_in q_in (sym (left_under w left.1 b e.0 keeps p_in left.3 some) ∙ of_log)
+
+  all_entries : (bs : List Brought) → AllByRecursion PartNewest bs → (e : Entry) → Contains (all_heads bs) e → EntryOf Either e
+  all_entries [] h e c = absurd (in_nothing e c)
+  all_entries (b ∷ bs) h e c = ⊎_elim (λ first. of_part b h.0 first) (λ later. all_entries bs h.1 e later) (Contains-append_cases (heads_of b) (all_heads bs) e c)
+    where
+      of_part : (b : Brought) → PartNewest b → Contains (heads_of b) e → EntryOf Either e
+      of_part (HeadsOf owner (Ok heads)) n d = let found = from_map (λ (j : Judged). (head_key_of owner, stamp_of j)) heads e d in subst (EntryOf Either) (sym found.2) (each (λ (j : Judged). EntryOf Either (head_key_of owner, stamp_of j)) heads found.0 n.1 found.1)
+      of_part (HeadsOf owner (Err miss)) n d = absurd (in_nothing e d)
+      of_part (BlockOf key came) n d = absurd (in_nothing e d)
+
   -- ---- the scenes of the line
 
   module _ (by_name : List ℕ) (view : View) where
@@ -269,6 +315,7 @@ module _ (r : ℕ) (w : Played) (world : IsStillWorld r w) (backed : IsBackedWor
       pub turns : c.story.turns ≡ w.1.turns
       pub meets : (b : List ℕ) → Contains w.0.met b → Contains c.world.met b
       pub keys : KeysStay w.0.participants c.world.participants
+      pub heard : AreHeardOf Either c.session
       pub parts : AllByRecursion PartNewest (brought_in c.session.parts)
       pub of : (c.session.by ≡ by_name) × (c.session.standing.view ≡ view)
 
@@ -303,7 +350,8 @@ module _ (r : ℕ) (w : Played) (world : IsStillWorld r w) (backed : IsBackedWor
           turns = h.turns;
           meets = λ b m. subst (λ l. Contains l b) (sym (fate_same fate).1) (h.meets b m);
           keys = stay_then w.0.participants c.world.participants _ h.keys keys;
-          parts = fails_newest goes (heard_newest h.call.fetched h.parts c.world v fate h.call.ring h.call.kinds h.call.held hears);
+          heard = then_heard Either hears goes h.heard (fate_told Either fate (holds_of c.world h.call.kinds));
+          parts = fails_newest goes (heard_newest h.call.fetched h.parts c.world v fate h.call.ring h.call.kinds h.call.held h.heard hears);
           of = (same.0 ∙ h.of.0, same.1 ∙ h.of.1);
         }))
         (λ past. inr (past, inl h.turns))
@@ -321,6 +369,7 @@ module _ (r : ℕ) (w : Played) (world : IsStillWorld r w) (backed : IsBackedWor
           turns = h.turns;
           meets = λ b m. met_stays c.world.met (map (λ (o : Post). o.bytes) after.pending) b (h.meets b m);
           keys = stay_then w.0.participants c.world.participants _ h.keys keys;
+          heard = refused_heard takes refusal;
           parts = refused_newest takes refusal h.parts;
           of = (same.0 ∙ h.of.0, same.1 ∙ h.of.1);
         }))
@@ -347,6 +396,7 @@ module _ (r : ℕ) (w : Played) (world : IsStillWorld r w) (backed : IsBackedWor
           turns = h.turns;
           meets = h.meets;
           keys = stay_then w.0.participants c.world.participants mid.world.participants h.keys (placed_stay c.world p (record p { cache = cache }) by_name is_p refl refl);
+          heard = takes_all_heard Either takes h.heard;
           parts = takes_all_newest takes h.parts;
           of = ((takes_all_same takes).1 ∙ h.of.0, takes_view takes ∙ h.of.1);
         }
@@ -379,7 +429,7 @@ module _ (r : ℕ) (w : Played) (world : IsStillWorld r w) (backed : IsBackedWor
 
     -- ---- the turn
 
-    module _ (keeps : Keeps w) (honest : IsHonest w.0) (p : Participant) (is_p : participant w.0 by_name ≡ Some p) (in_view : p.agent.view ≡ Some view)
+    module _ (keeps : Keeps w) (honest : IsHonestIn w) (p : Participant) (is_p : participant w.0 by_name ≡ Some p) (in_view : p.agent.view ≡ Some view)
         (entered : (q : Participant) → Contains w.0.participants q → Contains view.members (own q.agent) → q.agent.view ≡ Some view) where
       of_scene : (c : Scene) (h : InRun c) (by : Participant) → participant c.world c.session.by ≡ Some by → (seen : View) (after : Agent) (turned : Turned)
           → (turn : IsOnReplay (record { session = c.session; began = c.began; by = by; knowing = knowing_of c.story by.name; view = seen; met = named_bytes c.world; now = c.world.now; after = after; turned = turned }))
@@ -426,15 +476,15 @@ module _ (r : ℕ) (w : Played) (world : IsStillWorld r w) (backed : IsBackedWor
           before : (q : Record) → Contains c.began.knew q → Contains (known_of w.1 p.name) q
           before q m = subst (λ l. Contains l q) (h.known p.name) (subst (λ n. Contains (known_of c.story n) q) (h.of.0 ∙ sym p_at.1) (sound.known q m))
 
-          heard : (log : Key) (t : Stamp) → Contains (heads_at (brought_in c.session.parts) log) t → IsMetHead w.0.met (log, t)
-          heard log t m =
-              let met_head = received_met (c.world, c.story) h.call.well.keeps c.session.by (log, t) (sound.received (log, t) (from_heads (brought_in c.session.parts) log t m)) in
-              (met_head.0, met_head.1, h.call.met_same met_head.0 met_head.2, met_head.3, met_head.4)
+          heard : (q : Participant) (t : Stamp) → Contains w.0.participants q → Contains (heads_at (brought_in c.session.parts) (head_key_of (own q.agent))) t → IsLeftBy q (head_key_of (own q.agent), t)
+          heard q t q_in m =
+              let of = all_entries (brought_in c.session.parts) h.parts (head_key_of (own q.agent), t) (from_heads (brought_in c.session.parts) (head_key_of (own q.agent)) t m) in
+              left_of keeps honest q q_in (head_key_of (own q.agent), t) refl of
 
           newest_heads : (q : Participant) → Contains w.0.participants q → Contains view.members (own q.agent) → (own q.agent ≡ c.session.standing.own → ⊥) → (t : Stamp) × Contains (heads_at (brought_in c.session.parts) (head_key_of (own q.agent))) t × (own_reach q.agent ≤ t.seq)
           newest_heads q q_in member other =
               let has = done_has c.session.standing (own q.agent) other turn.refreshed refl (subst (λ (v : View). Contains v.members (own q.agent)) (sym h.of.1) member) in
-              let j = each PartNewest (brought_in c.session.parts) (HeadsOf (own q.agent) (Ok has.0)) h.parts has.1 q q_in refl in
+              let j = (each PartNewest (brought_in c.session.parts) (HeadsOf (own q.agent) (Ok has.0)) h.parts has.1).0 q q_in refl in
               (stamp_of j.0, at_heads (brought_in c.session.parts) (head_key_of (own q.agent)) (stamp_of j.0) (in_heads (brought_in c.session.parts) (own q.agent) has.0 j.0 has.1 j.1), j.2)
 
       pub takes_at : (h : HadTurn) → HadAt h → (turn : IsOnReplay h) (one : Record) → Contains turn.taken one ↔ IsWritten w h.view one
