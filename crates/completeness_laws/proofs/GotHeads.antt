@@ -175,10 +175,10 @@ module _ (Of : Key → List ℕ → Type 0) where
   new_parts [] more = refl
   new_parts (p ∷ parts) more = new_parts parts more
 
-  none_new : (s t : Session) → t.parts ≡ s.parts → AllByRecursion EntryOf (all_heads (brought_in (drop (length s.parts) t.parts)))
+  pub none_new : (s t : Session) → t.parts ≡ s.parts → AllByRecursion EntryOf (all_heads (brought_in (drop (length s.parts) t.parts)))
   none_new s t same = subst (λ ps. AllByRecursion EntryOf (all_heads (brought_in ps))) (sym (ap (drop (length s.parts)) (same ∙ sym (append-nil s.parts)) ∙ new_parts s.parts [])) tt
 
-  parts_fail : {heard t : Session} → Fails heard t → t.parts ≡ heard.parts
+  pub parts_fail : {heard t : Session} → Fails heard t → t.parts ≡ heard.parts
   parts_fail (fails notes gives miss xid asked at refreshed asks_it) = refl
   parts_fail (goes_on none) = refl
 

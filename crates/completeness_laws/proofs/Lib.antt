@@ -24,6 +24,7 @@ pub mod StoreRoom
 pub mod PutsTaken
 pub mod PutsAcked
 pub mod GotHeads
+pub mod Received
 pub mod LeftHeads
 pub mod OwnLogs
 pub mod TakesLogs
