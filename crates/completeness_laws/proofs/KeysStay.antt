@@ -146,7 +146,7 @@ replied_stay ps w said h = by (is_some said.message)
     by true = h
     by false = h
 
-publishes_stay : (r : ℕ) (w : Played) (p : Participant) (next : Played) → Publishes hss_judged r w p next → KeysStay w.0.participants next.0.participants
+pub publishes_stay : (r : ℕ) (w : Played) (p : Participant) (next : Played) → Publishes hss_judged r w p next → KeysStay w.0.participants next.0.participants
 publishes_stay r w p next published = subst (λ (v : Played). KeysStay w.0.participants v.0.participants) (sym published.2) (runs_stay published.1)
 
 as_stays : (w : Played) (o : Option Sending) (next : Played) (output : List ℕ) → AsLine hss_judged w o (Goes next output) → KeysStay w.0.participants next.0.participants
@@ -227,7 +227,7 @@ module _ (w next : Played) (output : List ℕ) (keeps : Keeps w) where
   such : (o : Outcome Played) → ToSuch (StayThen w) o → o ≡ Goes next output → KeysStay w.0.participants next.0.participants
   such o s e = subst (ToSuch (StayThen w)) e s
 
-  command_stays : (c : Command) → IsQuiet c → Does hss_judged w c (Goes next output) → KeysStay w.0.participants next.0.participants
+  pub command_stays : (c : Command) → IsQuiet c → Does hss_judged w c (Goes next output) → KeysStay w.0.participants next.0.participants
   command_stays (command.Ring nodes replicas) quiet does = absurd quiet
   command_stays (command.Log log id seed sets) quiet does = log_stays w log id seed sets next output does
   command_stays (command.View view members former) quiet does = view_stays w view (keys_of w.0 members) (keys_of w.0 former) next output does

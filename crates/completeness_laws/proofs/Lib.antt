@@ -30,3 +30,6 @@ pub mod OwnLogs
 pub mod TakesLogs
 pub mod TakesRuns
 pub mod TakesAll
+pub mod NamesStay
+pub mod PublishesAll
+pub mod LogHeads

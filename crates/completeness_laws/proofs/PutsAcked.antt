@@ -115,7 +115,7 @@ module _ (met : List (List ℕ)) (p : Post) (in_met : Contains met p.bytes) (goo
 
 -- ---- worlds
 
-abbrev AreFine : List (List ℕ) → World → Type 0
+abbrev pub AreFine : List (List ℕ) → World → Type 0
 AreFine met w = (id : Key) (n : Node) → node_at w id ≡ Some n → IsFine met n
 
 fine_with : (met : List (List ℕ)) (w : World) (to : Peer) (old new : Node) → node_at w to.id ≡ Some old → peer_of new ≡ peer_of old → IsFine met new → AreFine met w → AreFine met (with_node (counted w) new)
@@ -129,27 +129,27 @@ fine_with met w to old new here me fine h id n e = ⊎_elim
 
 module _ (r : ℕ) (base : List Shape) (links : Peer → Links Peer) (start : ℕ) (ring : IsMadeRing r base links) (met : List (List ℕ)) (fits : total met ≤ most_bytes) (p : Post) (in_met : Contains met p.bytes) (good : FitsItsKey p) where
   -- a put that was answered was taken, and an answer to a route is the ring's
-  abbrev IsTaken : AskKind → Heard → Type 0
+  abbrev pub IsTaken : AskKind → Heard → Type 0
   IsTaken kind.Route h = IsAmong h.node (made_by base) → IsRouted r base links start ring h.key h.node h.got
   IsTaken kind.Get h = Unit {0}
   IsTaken kind.PutBlock h = holds h.got ≡ true
   IsTaken kind.PutHead h = holds h.got ≡ true
 
-  abbrev AreTaken : List Heard → Type 0
+  abbrev pub AreTaken : List Heard → Type 0
   AreTaken trail = AllByRecursion (λ h. IsTaken h.kind h) trail
 
-  abbrev IsWell : World → Type 0
+  abbrev pub IsWell : World → Type 0
   IsWell v = IsRing r base links start v × AreFine met v
 
-  abbrev StepsWell : Ask → Type 0
+  abbrev pub StepsWell : Ask → Type 0
   StepsWell question = (v mid : World) (to : Peer) (given : Answer) → FateOf hss_judged v to question given mid → IsWell v → IsWell mid × AreTaken (told to question given)
 
-  route_step : StepsWell (ask.Route p.key)
+  pub route_step : StepsWell (ask.Route p.key)
   route_step v mid to given fate h =
       let a = who_answers r base links start ring v mid to (ask.Route p.key) given h.0 fate in
       ((asked_ring r base links start ring v mid to (ask.Route p.key) given tt fate h.0, subst (AreFine met) (sym a.next_is) (fine_with met v to a.node a.node a.at refl (h.1 to.id a.node a.at) h.1)), ((λ made. is_routed r base links start ring v mid to p.key given h.0 fate made), tt))
 
-  put_step : StepsWell (put_question p)
+  pub put_step : StepsWell (put_question p)
   put_step v mid to given fate h =
       let a = who_answers r base links start ring v mid to (put_question p) given h.0 fate in
       let its = h.1 to.id a.node a.at in
@@ -243,7 +243,7 @@ settled_some : {live : List Peer} {r : ℕ} {peers : List Peer} {nodes : List No
 settled_some settled_none some = absurd (omega (arith, some))
 settled_some (settled_more state is rest) some = omega arith
 
-nodes_some : (w made : World) (count r : ℕ) → RingLine w count r (Goes made []) → 1 ≤ length made.nodes
+pub nodes_some : (w made : World) (count r : ℕ) → RingLine w count r (Goes made []) → 1 ≤ length made.nodes
 nodes_some w _ zero r (ring_makes nodes h g settled) = absurd (not_refused (is_some w.replicas) (not (nat_le 1 r && nat_le r 8)) h)
 nodes_some w _ (suc n) r (ring_makes nodes h g settled) = settled_some settled (first_some n)
 

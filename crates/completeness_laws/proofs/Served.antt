@@ -117,8 +117,8 @@ module _ (r : ℕ) (w : Played) (keeps : Keeps w) (world : IsStillWorld r w) (ba
   pub as_served : (o : Option Sending) → sending_of w.0 log pieces ≡ o → (next : Played) (output : List ℕ) → AsLine hss_judged w o (Goes next output) → IsServed w (command.As log pieces) next output
   as_served _ sends _ _ (calls s k t end said also begins runs over) = served k also (one_number k r (sym also ∙ world.still.replicas)) s sends t end said begins runs over _ refl
 
-pub calls_miss_nothing : LinesKeep → CallsMissNothingBehindHeads HasSameRing
-calls_miss_nothing lines_keep r w next count lines line name output pieces same calm have is step =
+pub calls_miss_nothing_behind_heads : LinesKeep → CallsMissNothingBehindHeads HasSameRing
+calls_miss_nothing_behind_heads lines_keep r w next count lines line name output pieces same calm have is step =
     let done = does_line w next output (command_of line) step in
     let keeps = calmly_keeps lines_keep r w (Stopped count) lines calm in
     let does : Does hss_judged w (command.As name pieces) (Goes next output) = subst (λ (d : Command). Does hss_judged w d (Goes next output)) (one_command done.0 (command.As name pieces) (sym done.1 ∙ is)) done.2 in

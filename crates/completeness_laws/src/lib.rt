@@ -5,21 +5,23 @@
 //! a node holds all records were put, and so were all that an agent knows but for its own that it has still to publish
 //! ([`heads_name_what_was_put`]); by `world_laws` what was put is held and given, so that a refresh misses nothing where of each log
 //! a head was put ([`calls_miss_nothing`]).
-//! No store is full while what was met is within its limit, and so each put of it is acknowledged ([`stores_take_what_is_put`]).
+//! No store is full while what was met is within its limit, and so each put of it is acknowledged ([`stores_take_what_is_put`]): that
+//! of a log's first head too ([`logs_have_heads`]). So each whole call misses nothing ([`calls_miss_nothing`]).
 //! Definitions and statements: `specs/Put.antt`; `specs/Completeness.antt` (no call fails for want of a block; stated alone so far:
-//! that of each log a head was put, and that a turn takes all that was written).
+//! that a turn takes all that was written).
 //! Lemmas: `proofs/UpTo.antt` (records up to a head), `proofs/HeldHeads.antt` (asks), `proofs/Stages.antt` (sessions that publish),
 //! `proofs/Backed.antt` (agents and keepers), `proofs/Worlds.antt` (worlds, and one participant in place of another),
 //! `proofs/Turns.antt`, `proofs/Steps.antt`, `proofs/CallLines.antt`, `proofs/Publishes.antt`, `proofs/LogLines.antt`,
 //! `proofs/UseLines.antt`, `proofs/RestartLines.antt`, `proofs/SnapLines.antt`, `proofs/ViewLines.antt` and `proofs/Lines.antt` (each
 //! leaves that so), `proofs/KeysStay.antt` (no line forgets a block or a public key), `proofs/Walks.antt` (what a refresh needs to miss
 //! nothing), `proofs/Known.antt` (what an agent knows), `proofs/Calls.antt`, `proofs/CallSteps.antt` and `proofs/Served.antt` (the run
-//! of a call's line), `proofs/StoreRoom.antt`, `proofs/PutsTaken.antt` and `proofs/PutsAcked.antt` (stores and puts). Nothing here runs,
-//! so there are no costs.
+//! of a call's line), `proofs/StoreRoom.antt`, `proofs/PutsTaken.antt` and `proofs/PutsAcked.antt` (stores and puts),
+//! `proofs/NamesStay.antt` (who is there), `proofs/PublishesAll.antt` (a session that publishes has all acknowledged) and
+//! `proofs/LogHeads.antt` (heads of logs). Nothing here runs, so there are no costs.
 #![tactic(auto)]
 
 ghost use Rattle.world_laws.specs.Calm.{HasSameRing};
-ghost use Rattle.completeness_laws.specs.Completeness.{CallsMissNothingBehindHeads, PutsAreAcknowledged, PutsAreTaken, StoresHaveRoom};
+ghost use Rattle.completeness_laws.specs.Completeness.{CallsMissNothing, CallsMissNothingBehindHeads, LogsHaveHeads, PutsAreAcknowledged, PutsAreTaken, StoresHaveRoom};
 ghost use Rattle.completeness_laws.specs.Put.{HeadsNameWhatWasPut, KnownIsPutOrPending};
 
 /// Laws and no code: in a calm script in which no node joins or stops and no round is made a put was acknowledged of each record up
@@ -30,9 +32,11 @@ pub fn heads_name_what_was_put()
     ensures known { KnownIsPutOrPending HasSameRing }
 {}
 
-/// A law and no code: in such a script no whole call fails for want of a block, where of each log a put of a head was acknowledged.
+/// Laws and no code: in such a script no whole call fails for want of a block where of each log a put of a head was acknowledged; and
+/// none does at all, since a line goes on with a call only while the blocks that were met are within their limit.
 pub fn calls_miss_nothing()
-    ensures { CallsMissNothingBehindHeads HasSameRing }
+    ensures behind_heads { CallsMissNothingBehindHeads HasSameRing }
+    ensures calls { CallsMissNothing HasSameRing }
 {}
 
 /// A law and no code: while the blocks that were met are within their limit no store is full in such a script, a node takes each put of
@@ -41,4 +45,10 @@ pub fn stores_take_what_is_put()
     ensures room { StoresHaveRoom HasSameRing }
     ensures taken { PutsAreTaken HasSameRing }
     ensures acknowledged { PutsAreAcknowledged HasSameRing }
+{}
+
+/// A law and no code: while the blocks that were met are within their limit a put of a head was acknowledged of each log in such a
+/// script.
+pub fn logs_have_heads()
+    ensures { LogsHaveHeads HasSameRing }
 {}
