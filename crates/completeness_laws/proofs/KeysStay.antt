@@ -98,19 +98,19 @@ placed_stay w p q name is_p named owned n o is = (put_in o, found_mapped put_in 
 
 -- ---- steps
 
-turns_own : {given : Refresh} {a : Agent} {view : View} {failing : Bool} {asked : Asked} {now : Moment} {end : TurnEnd} {after : Agent} {saving : Option Kept} → Turns hss given a view failing asked now end after saving → own after ≡ own a
+pub turns_own : {given : Refresh} {a : Agent} {view : View} {failing : Bool} {asked : Asked} {now : Moment} {end : TurnEnd} {after : Agent} {saving : Option Kept} → Turns hss given a view failing asked now end after saving → own after ≡ own a
 turns_own (behind far) = refl
 turns_own (below near low) = refl
 turns_own (turn_answers h written reply after saving near over basis may reads defined) = refl
 turns_own (turn_answers h written reply after saving near over basis may (saves before last might fine) defined) = refl
 turns_own (turn_answers h written reply after saving near over basis may (loses before last might gone) defined) = refl
 
-takes_own : {now : Moment} {a : Agent} {view : View} {failing : Bool} {s : Session} {end : TurnEnd} {after : Agent} {saving : Option Kept} {t : Session} → TakesTurn now a view failing s end after saving t → own after ≡ own a
+pub takes_own : {now : Moment} {a : Agent} {view : View} {failing : Bool} {s : Session} {end : TurnEnd} {after : Agent} {saving : Option Kept} {t : Session} → TakesTurn now a view failing s end after saving t → own after ≡ own a
 takes_own (answers notes given xid asked reply applied after saving done asks_it turn) = turns_own turn
 takes_own (begins_anew notes given xid asked end after saving done asks_it turn refused few) = turns_own turn
 takes_own (gives_up notes given xid asked end after saving done asks_it turn refused many) = turns_own turn
 
-settles_own : {a : Agent} {s : Session} {after : Agent} {t : Session} → Settles a s after t → own after ≡ own a
+pub settles_own : {a : Agent} {s : Session} {after : Agent} {t : Session} → Settles a s after t → own after ≡ own a
 settles_own (settles_all said acks at) = refl
 
 pub acts_stay : {r : ℕ} (name : List ℕ) {p : Participant} {c next : Scene} → participant c.world name ≡ Some p → Acts hss_judged r p c next → KeysStay c.world.participants next.world.participants

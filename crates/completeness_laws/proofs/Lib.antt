@@ -33,3 +33,6 @@ pub mod TakesAll
 pub mod NamesStay
 pub mod PublishesAll
 pub mod LogHeads
+pub mod FitPosts
+pub mod NewestCover
+pub mod NewestScenes

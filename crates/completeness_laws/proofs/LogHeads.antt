@@ -213,7 +213,7 @@ module _ (r : ℕ) (base : List Shape) (links : Peer → Links Peer) (start : �
   -- ---- runs
 
   -- what nodes hold, up to what is met in the end
-  all_fine : (Left : List ℕ → Type 0) (met : List (List ℕ)) (v : Played) → Keeps v → ((b : List ℕ) → Contains v.0.met b → Contains met b) → IsGood r base links start ring (Contains met) Left v.0 v.1 → AreFine met v.0
+  pub all_fine : (Left : List ℕ → Type 0) (met : List (List ℕ)) (v : Played) → Keeps v → ((b : List ℕ) → Contains v.0.met b → Contains met b) → IsGood r base links start ring (Contains met) Left v.0 v.1 → AreFine met v.0
   all_fine Left met v keeps more good id n at =
       let its = each _ v.0.nodes n keeps.met.held (found_in (λ (m : Node). eq_by_cmp key_cmp (peer_of m).id id) v.0.nodes n at) in
       record {

@@ -118,7 +118,7 @@ module _ (met : List (List ℕ)) (p : Post) (in_met : Contains met p.bytes) (goo
 abbrev pub AreFine : List (List ℕ) → World → Type 0
 AreFine met w = (id : Key) (n : Node) → node_at w id ≡ Some n → IsFine met n
 
-fine_with : (met : List (List ℕ)) (w : World) (to : Peer) (old new : Node) → node_at w to.id ≡ Some old → peer_of new ≡ peer_of old → IsFine met new → AreFine met w → AreFine met (with_node (counted w) new)
+pub fine_with : (met : List (List ℕ)) (w : World) (to : Peer) (old new : Node) → node_at w to.id ≡ Some old → peer_of new ≡ peer_of old → IsFine met new → AreFine met w → AreFine met (with_node (counted w) new)
 fine_with met w to old new here me fine h id n e = ⊎_elim
     (λ same. subst (IsFine met) (some_same new n (sym (subst (λ x. at (replaced new w.nodes) x ≡ Some new) same (at_same w.nodes new old (subst (λ (q : Peer). at w.nodes q.id ≡ Some old) (sym me) itself))) ∙ e)) fine)
     (λ other. h id n (sym (at_other w.nodes new id other) ∙ e))
