@@ -36,3 +36,4 @@ pub mod LogHeads
 pub mod FitPosts
 pub mod NewestCover
 pub mod NewestScenes
+pub mod NewestLines

@@ -73,7 +73,7 @@ module _ (w next : Played) (output : List ℕ) (keeps : Keeps w) (kept : Keeps n
 
 module _ (lines_keep : LinesKeep) where
   -- names that tell apart in the end did so before
-  apart_first : {r : ℕ} {v w : Played} {since after : Since} {lines : List (List ℕ)} → Calmly r v since lines w after → HasSameRing lines → Keeps v → NamesTellApart (named_bytes w.0) → NamesTellApart (named_bytes v.0)
+  pub apart_first : {r : ℕ} {v w : Played} {since after : Since} {lines : List (List ℕ)} → Calmly r v since lines w after → HasSameRing lines → Keeps v → NamesTellApart (named_bytes w.0) → NamesTellApart (named_bytes v.0)
   apart_first calmly_none same keeps apart = apart
   apart_first (calmly_more {w = v} {mid = mid} {line = line} c output is calm step rest) same keeps apart =
       let done = does_line v mid output (command_of line) step in

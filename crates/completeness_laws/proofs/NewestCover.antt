@@ -90,7 +90,7 @@ module _ (view : View) (a : Agent) (in_view : a.view ≡ Some view) (whole : IsK
           (all_weaker (λ (r : Record). r.seq ≤ own_reach a + length (before ++ last ∷ [])) (λ (r : Record). r.seq ≤ last.seq) (before ++ last ∷ []) (λ r le. omega (arith, le, at)) (next_few (own_reach a) (before ++ last ∷ []) may.next))
 
 -- a head among the posts is published
-head_published : (posts : List Post) (x : Post) → Contains posts x → is_head x.kind ≡ true → Contains (in_publishing_order posts) x
+pub head_published : (posts : List Post) (x : Post) → Contains posts x → is_head x.kind ≡ true → Contains (in_publishing_order posts) x
 head_published posts x c is =
     Contains-append_right (filter (λ (p : Post). is_log p.kind) posts ++ filter (λ (p : Post). is_block p.kind) posts) (filter (λ (p : Post). is_head p.kind) posts) x (in_filter (λ (p : Post). is_head p.kind) posts x c is)
 

@@ -72,7 +72,7 @@ put_past said p posts acks false e = cc e
 not_both : (said : Option Said) (posts : List Post) (acks : List Ack) (stage : Stage) → stage ≡ Publishing said posts acks → stage ≡ Refreshing → ⊥
 not_both said posts acks stage at is = cc (sym at ∙ is)
 
-placed_all : (P : Participant → Type 0) (q : Participant) (ps : List Participant) → P q → AllByRecursion P ps → AllByRecursion P (map (λ (o : Participant). cond (bytes_eq o.name q.name) q o) ps)
+pub placed_all : (P : Participant → Type 0) (q : Participant) (ps : List Participant) → P q → AllByRecursion P ps → AllByRecursion P (map (λ (o : Participant). cond (bytes_eq o.name q.name) q o) ps)
 placed_all P q [] new h = tt
 placed_all P q (p ∷ ps) new h = (by (bytes_eq p.name q.name), placed_all P q ps new h.1)
   where
@@ -337,13 +337,13 @@ module _ (r : ℕ) (base : List Shape) (links : Peer → Links Peer) (start : �
       posts_in : (c : Scene) → IsUpTo r base links start ring Met Left c.world → IsGoodIn c → AllByRecursion (λ p. Contains met p.bytes) (posts_at c.session.stage)
       posts_in c up g = all_weaker (IsOwnPost c.world) (λ p. Contains met p.bytes) (posts_at c.session.stage) (λ p own_post. all_met p.bytes (up.met p.bytes own_post.0)) g.step.posts
 
-      good_then : (name : List ℕ) {c next : Scene} → Steps hss_judged r name c next → IsUpTo r base links start ring Met Left next.world → IsGoodIn c → IsGoodIn next
+      pub good_then : (name : List ℕ) {c next : Scene} → Steps hss_judged r name c next → IsUpTo r base links start ring Met Left next.world → IsGoodIn c → IsGoodIn next
       good_then name {c} {next} step up h =
           let g = step_goes r base links start ring Met Left name step in
           let both = g.good apart up h.still h.good h.step in
           record { still = kept_ring r base links start ring c.world next.world g.still h.still; good = both.0; step = both.1 }
 
-      step_flow : (name : List ℕ) {c next : Scene} → IsUpTo r base links start ring Met Left next.world → IsGoodIn c → IsGoodIn next → (c.session.stage ≡ Refreshing → IsSavedAt c.world name × IsSavedAt next.world name) → Steps hss_judged r name c next → Flows c → Flows next
+      pub step_flow : (name : List ℕ) {c next : Scene} → IsUpTo r base links start ring Met Left next.world → IsGoodIn c → IsGoodIn next → (c.session.stage ≡ Refreshing → IsSavedAt c.world name × IsSavedAt next.world name) → Steps hss_judged r name c next → Flows c → Flows next
       step_flow name {c} up good then_good may (acts p taken cache next is_p takes act) h =
           acts_flow name (record p { cache = cache }) (with_cache hss_judged r c p taken cache) found flow then_good.step.entries (posts_in next up then_good) then_may act
         where
