@@ -37,3 +37,4 @@ pub mod FitPosts
 pub mod NewestCover
 pub mod NewestScenes
 pub mod NewestLines
+pub mod NewestPut

@@ -8,6 +8,7 @@ use Rattle.std.proofs.lemmas.Slice.Eq.{bytes_eq-Decides}
 use Rattle.ivy_base.specs.declared.key.Key.{Key}
 use Rattle.ivy_base.specs.declared.key.PubKey.{PubKey}
 use Rattle.ivy_base.specs.Naming.{head_key_of}
+use Rattle.ivy_base.proofs.NameLemmas.{bytes-name, length-name}
 use Rattle.hash_signature_model.specs.declared.set.Set.{Set}
 use Rattle.hss_keys.specs.Saved.{IsSigner}
 use Rattle.hss_keys.specs.Signer.{Signer, hss_key_of}
@@ -25,7 +26,7 @@ use Rattle.dht_ids.specs.declared.peer.Peer.{Peer}
 use Rattle.dht_ids.specs.declared.post.Post.{Post}
 use Rattle.snapshot_model.specs.Spelling.{root_name, snapshot_blocks}
 use Rattle.agent_model.specs.Agent.{entered, failed, head_post, is_head, kept_of, own_key, record_post, restored}
-use Rattle.agent_model.specs.Others.{basis_of, snapped, snapping}
+use Rattle.agent_model.specs.Others.{basis_of, block_post, is_pending_block, snapped, snapping}
 use Rattle.agent_model.specs.SavedBytes.{ArePostsSpelled}
 use Rattle.agent_model.specs.Views.{Entered, KeeperFailed, NotMember, NotNamed, entering_with, is_own_member, not_named}
 use Rattle.script_driver.specs.Run.{Ends, Goes, Outcome}
@@ -53,6 +54,7 @@ use Rattle.world_model.specs.Steps.RunsOut.{is_over as runs_over, more as runs_m
 use Rattle.world_model.specs.Steps.StepsOn.{is_over as steps_over, more as steps_more, none as steps_none}
 use Rattle.world_model.specs.Story.{Story, began_nothing, began_of, beginning, having_begun, known_of, without_began}
 use Rattle.world_model.specs.World.{NamedSession, Participant, World, entries, participant, session_named, view_named, with_participant, with_session, without_session, without_sessions_of}
+use Rattle.world_laws.specs.Calm.{IsQuiet}
 use Rattle.world_laws.specs.Keeps.{AreApart as NoneTwice, IsKeptSo, IsSavedWell, Keeps, SignsOnce}
 use Rattle.world_laws.specs.Laws.{IsStill}
 use Rattle.world_laws.proofs.Bringing.{found_named}
@@ -60,15 +62,17 @@ use Rattle.world_laws.proofs.CalmLines.{LineGoes, each_filtered, entries_are, ne
 use Rattle.world_laws.proofs.CalmNodes.{IsMadeRing, IsRing, kept_ring, same_rings}
 use Rattle.world_laws.proofs.CalmPuts.{entries_by}
 use Rattle.world_laws.proofs.CalmScenes.{runs_go, steps_go}
-use Rattle.world_laws.proofs.CalmStates.{AreApart, InStep, IsGood, IsOwnPost, IsUpTo, found_placed, less_up_to, posts_at}
+use Rattle.world_laws.proofs.CalmSteps.{placed_good, placed_ring}
+use Rattle.world_laws.proofs.CalmStates.{AreApart, InStep, IsGood, IsMore, IsOwnPost, IsUpTo, found_placed, less_up_to, more_posts, placed_more, posts_at}
 use Rattle.world_laws.proofs.Frames.{into_map}
 use Rattle.world_laws.proofs.Lines.{ToSuch}
+use Rattle.world_laws.proofs.LineFits.{Fits}
 use Rattle.world_laws.proofs.LogLines.{kept_whole}
 use Rattle.world_laws.proofs.OneSteps.{GoesWell}
 use Rattle.world_laws.proofs.Placed.{same_name}
 use Rattle.world_laws.proofs.SessionLinesSteps.{step_leads}
-use Rattle.world_laws.proofs.SignedAmong.{met_stays}
-use Rattle.world_laws.proofs.SignedHeads.{so_of}
+use Rattle.world_laws.proofs.SignedAmong.{met_stays, met_then}
+use Rattle.world_laws.proofs.SignedHeads.{from_map, so_of}
 use Rattle.world_laws.proofs.Still.{still_lines}
 use Rattle.world_laws.proofs.WholePublishing.{each_published}
 use Rattle.completeness_laws.specs.Completeness.{FitsItsKey, HasNoneOpen, IsTidyAt}
@@ -563,3 +567,151 @@ module _ (r : ℕ) (base : List Shape) (links : Peer → Links Peer) (start : �
 
         less : own_reach (restored k) ≤ own_reach p.agent
         less = let reach_same = same.same_reach in let mine : own_reach (restored k) ≡ seq_of k.floor (head_key_of (own p.agent)) = ap (λ (o : PubKey). seq_of k.floor (head_key_of o)) owned in omega (arith, reach_same, mine)
+
+    -- ---- a snapshot
+
+    module _ (p : Participant) (is_p : participant w.0 p.name ≡ Some p) (view : View) where
+      abbrev snapshot_of : Agent
+      snapshot_of = snapped p.agent (root_name view (basis_of p.agent.holding)) (snapshot_blocks view (basis_of p.agent.holding))
+
+      abbrev snapping_one : Participant
+      snapping_one = record p {
+        agent = snapped p.agent (root_name view (basis_of p.agent.holding)) (snapshot_blocks view (basis_of p.agent.holding));
+        keeper = asked_to_save p.keeper (Some (kept_of (snapped p.agent (root_name view (basis_of p.agent.holding)) (snapshot_blocks view (basis_of p.agent.holding)))));
+        printed = Some (root_name view (basis_of p.agent.holding));
+      }
+
+      abbrev new_blocks : List Post
+      new_blocks = map block_post (filter (λ b. not (is_pending_block p.agent.pending b)) (snapshot_blocks view (basis_of p.agent.holding)))
+
+      abbrev grown : List (List ℕ)
+      grown = met_by w.0.met snapshot_of.pending
+
+      abbrev mid : World
+      mid = record (with_participant w.0 snapping_one) { met = grown }
+
+      mine_now : FlowsOn w.1.acked w.0.sessions [] p
+      mine_now = its_agent p.name p is_p
+
+      grows_met : (b : List ℕ) → Contains w.0.met b → Contains grown b
+      grows_met b c = met_stays w.0.met (map (λ (x : Post). x.bytes) snapshot_of.pending) b c
+
+      found_mid : participant mid p.name ≡ Some snapping_one
+      found_mid = found_placed w.0 p.name p snapping_one grown is_p refl grows_met (λ b c. c)
+
+      more_mid : IsMore w.0 mid
+      more_mid = placed_more w.0 p.name p snapping_one grown is_p refl grows_met (λ b c. c)
+
+      no_head : false ≡ true → ⊥
+      no_head x = cc x
+
+      own_post : (x : Post) → Contains snapshot_of.pending x → IsOwnPost mid x
+      own_post x c = (
+        met_then w.0.met (map (λ (y : Post). y.bytes) snapshot_of.pending) x.bytes (into_map (λ (y : Post). y.bytes) snapshot_of.pending x c),
+        ⊎_elim
+            (λ old. (each (IsOwnPost mid) p.agent.pending x (more_posts w.0 mid p.agent.pending more_mid (good.pending p.name p is_p)) old).1)
+            (λ late head. absurd (let from = from_map block_post (filter (λ b. not (is_pending_block p.agent.pending b)) (snapshot_blocks view (basis_of p.agent.holding))) x late in no_head (sym (ap (λ (o : Post). is_head o.kind) from.2) ∙ head)))
+            (Contains-append_cases p.agent.pending new_blocks x c),
+      )
+
+      good_mid : IsGood r base links start ring Met Left mid w.1
+      good_mid = placed_good r base links start ring Met Left w.0 p.name p snapping_one grown is_p refl grows_met (λ b c. c) w.1 w.1 refl (each_from (IsOwnPost mid) snapshot_of.pending own_post) good
+
+      still_mid : IsRing r base links start mid
+      still_mid = kept_ring r base links start ring w.0 mid (placed_ring r base links start ring Met Left w.0 p.name p snapping_one grown is_p refl grows_met (λ b c. c)) still
+
+      makes_flow : ArePostsSpelled snapshot_of.pending → (k : ℕ) → k ≡ r → (next : Played) → Up next.0 → Publishes hss_judged k (mid, w.1) snapping_one next → IsFlowing next
+      makes_flow spelled k same next up published =
+          publishes_flow k same (mid, w.1) snapping_one next found_mid still_mid fine good_mid fit h.sessions agents up_mid up published
+        where
+          at_r : Publishes hss_judged r (mid, w.1) snapping_one next
+          at_r = subst (λ n. Publishes hss_judged n (mid, w.1) snapping_one next) same published
+
+          up_mid : Up mid
+          up_mid = less_up_to r base links start ring Met Left mid next.0 (publishes_go r base links start ring Met Left (mid, w.1) snapping_one next found_mid at_r).grows up
+
+          before : IsKept (kept_of p.agent)
+          before = saved_at w.0 w.1 keeps p.name p is_p
+
+          whole : IsKept (kept_of snapshot_of)
+          whole = record { signer = before.signer; some = before.some; few = before.few; floor = before.floor; view = before.view; posts = spelled; snapshot = record { size = length-name _; each = bytes-name _ } }
+
+          fit : AllFit snapshot_of.pending
+          fit = snapped_fit p.agent (root_name view (basis_of p.agent.holding)) (snapshot_blocks view (basis_of p.agent.holding)) mine_now.0.fit
+
+          agents : AllByRecursion (FlowsOn w.1.acked w.0.sessions (in_publishing_order snapshot_of.pending)) mid.participants
+          agents = placed_all (FlowsOn w.1.acked w.0.sessions (in_publishing_order snapshot_of.pending)) snapping_one w.0.participants
+              (
+              saved_now snapshot_of p.keeper (kept_of snapshot_of) mine_now.0.fine whole fit fit,
+              newest_weaker w.1.acked w.1.acked w.0.sessions w.0.sessions [] (in_publishing_order snapshot_of.pending) p.agent snapshot_of (more_posts_cover w.1.acked w.0.sessions (in_publishing_order snapshot_of.pending)) refl (le_refl (own_reach p.agent)) mine_now.1,
+            )
+              (flows_weaker w.1.acked w.1.acked w.0.sessions w.0.sessions [] (in_publishing_order snapshot_of.pending) (more_posts_cover w.1.acked w.0.sessions (in_publishing_order snapshot_of.pending)) w.0.participants h.agents)
+
+      abbrev trying : (Agent × Bool) × Option Kept → Participant
+      trying t = record p { agent = t.0.0; keeper = asked_to_save p.keeper t.1 }
+
+      abbrev Fails : (Agent × Bool) × Option Kept → Type 0
+      Fails t = t.0.1 ≡ false → IsFlowing (with_participant w.0 (trying t), w.1)
+
+      abbrev Makes : (Agent × Bool) × Option Kept → Type 0
+      Makes t = t.0.1 ≡ true → (k : ℕ) (next : Played) (q : Participant) → k ≡ r → q ≡ record (trying t) { printed = Some (root_name view (basis_of p.agent.holding)) } → ArePostsSpelled q.agent.pending → Up next.0
+          → Publishes hss_judged k (record (with_participant w.0 q) { met = met_by w.0.met q.agent.pending }, w.1) q next → IsFlowing next
+
+      fails_flow : Fails (snapping_in p view)
+      fails_flow = by_saves Fails ((p.agent, false), None) (failed p.agent, false) (snapshot_of, true) (Some (kept_of snapshot_of))
+          (λ none. record { agents = placed_all (FlowsOn w.1.acked w.0.sessions []) (record p { agent = p.agent; keeper = p.keeper }) w.0.participants mine_now h.agents; sessions = h.sessions })
+          (λ none. absurd (no_head (sym none))) p.agent.has_failed (fails_next p.keeper) (never_fails p.keeper mine_now.0.fine)
+
+      made_flow : Makes (snapping_in p view)
+      made_flow = by_saves Makes ((p.agent, false), None) (failed p.agent, false) (snapshot_of, true) (Some (kept_of snapshot_of))
+          (λ some k next q same is spelled up published. absurd (no_head some))
+          (λ some k next q same is spelled up published.
+          makes_flow (subst (λ (x : Participant). ArePostsSpelled x.agent.pending) is spelled) k same next up
+          (subst (λ (x : Participant). Publishes hss_judged k (record (with_participant w.0 x) { met = met_by w.0.met x.agent.pending }, w.1) x next) is published))
+          p.agent.has_failed (fails_next p.keeper) (never_fails p.keeper mine_now.0.fine)
+
+    snap_flow : (log : List ℕ) (o : Option Participant) → participant w.0 log ≡ o → (next : Played) (output : List ℕ) → Up next.0 → SnapLine hss_judged w o (Goes next output) → IsFlowing next
+    snap_flow log _ is _ _ up (snap_fails p view in_view none spelled) = let at = its_name log p is in fails_flow p at.1 view none
+    snap_flow log _ is _ _ up (snap_makes p q view k next in_view some also made_so spelled published) = let at = its_name log p is in made_flow p at.1 view some k next q (one_r k r (sym also ∙ ringed)) made_so spelled up published
+
+    -- ---- lines that change no participant
+
+    still_flow : (next : Played) (c : Command) (output : List ℕ) → IsStill c → Does hss_judged w c (Goes next output) → IsFlowing next
+    still_flow next c output quiet does =
+        let goes = still_lines w next c output quiet does in
+        record {
+          agents = subst (λ (x : Story × World). AllByRecursion (FlowsOn x.0.acked x.1.sessions []) x.1.participants) (λ i. (sym goes.0 i, sym goes.1 i)) h.agents;
+          sessions = subst (λ (x : World). AllByRecursion (λ (s : NamedSession). Fit s.session) x.sessions) (sym goes.1) h.sessions;
+        }
+
+    -- ---- each line
+
+    such : (next : Played) (output : List ℕ) → Keeps next → (o : Outcome Played) → ToSuch (λ x. Keeps x → IsFlowing x) o → o ≡ Goes next output → IsFlowing next
+    such next output kept o s same = (subst (ToSuch (λ x. Keeps x → IsFlowing x)) same s) kept
+
+    pub command_flow : (c : Command) (next : Played) (output : List ℕ) → Keeps next → Up next.0 → IsQuiet c → Fits c → IsTidyAt w.0 c → Does hss_judged w c (Goes next output) → IsFlowing next
+    command_flow (command.Ring nodes replicas) next output kept up quiet fits tidy does = absurd quiet
+    command_flow (command.Log log id seed sets) next output kept up quiet fits tidy does = log_flow log id seed sets fits next output up does
+    command_flow (command.View view members former) next output kept up quiet fits tidy does = view_flow view (keys_of w.0 members) (keys_of w.0 former) next output does
+    command_flow (command.Use log view) next output kept up quiet fits tidy does = such next output kept (use_line w log view) (use_flow log (participant w.0 log) (view_named w.0 view) refl tidy.0) (sym does)
+    command_flow (command.At sec nsec) next output kept up quiet fits tidy does = still_flow next (command.At sec nsec) output tt does
+    command_flow (command.As log pieces) next output kept up quiet fits tidy does = as_flow log pieces (sending_of w.0 log pieces) refl next output up does
+    command_flow (command.Open session log pieces) next output kept up quiet fits tidy does = open_flow session (sending_of w.0 log pieces) next output does
+    command_flow (command.Step session count) next output kept up quiet fits tidy does = step_line_flow session count (session_named w.0 session) refl next output up does
+    command_flow (command.Finish session) next output kept up quiet fits tidy does = finish_flow session (session_named w.0 session) refl next output up does
+    command_flow (command.Join number) next output kept up quiet fits tidy does = absurd quiet
+    command_flow (command.Stop node) next output kept up quiet fits tidy does = absurd quiet
+    command_flow command.Round next output kept up quiet fits tidy does = absurd quiet
+    command_flow (command.Lose count) next output kept up quiet fits tidy does = absurd quiet
+    command_flow (command.Damage node key offset byte) next output kept up quiet fits tidy does = absurd quiet
+    command_flow (command.Snap log) next output kept up quiet fits tidy does = snap_flow log (participant w.0 log) refl next output up does
+    command_flow (command.Restart log) next output kept up quiet fits tidy does = restart_flow log (participant w.0 log) refl tidy next output does
+    command_flow (command.Keep log count new) next output kept up quiet fits tidy does = absurd quiet
+    command_flow (command.Holds node) next output kept up quiet fits tidy does = still_flow next (command.Holds node) output tt does
+    command_flow (command.Order log) next output kept up quiet fits tidy does = still_flow next (command.Order log) output tt does
+    command_flow (command.Work log) next output kept up quiet fits tidy does = still_flow next (command.Work log) output tt does
+    command_flow command.Nothing next output kept up quiet fits tidy does = still_flow next command.Nothing output tt does
+    command_flow command.End next output kept up quiet fits tidy does = absurd (goes_or_ends does)
+      where
+        goes_or_ends : Goes next output ≡ Ends → ⊥
+        goes_or_ends x = cc x
