@@ -1,12 +1,11 @@
 -- What agents and their keepers have to publish fits its keys: records and blocks of snapshots have their names, and heads are judged.
-use Rattle.std.proofs.Common.{◌≡◌, ⊎_elim, ℕ, ◌≤◌, Bool, true, false, cond, not, List, [], ◌∷◌, ◌++◌, map, filter, Option, Some, None, refl, sym, ap, ◌∙◌, subst, arith, Contains}
-use Rattle.std.specs.Prelude.{IfSome, is_some}
+use Rattle.std.proofs.Common.{◌≡◌, ℕ, ◌≤◌, Bool, true, false, not, List, [], ◌∷◌, ◌++◌, map, filter, Option, Some, refl, sym, ap, ◌∙◌, subst, arith}
+use Rattle.std.specs.Prelude.{is_some}
 use Rattle.std.specs.List.{AllByRecursion, list_any}
 use Rattle.ivy_base.specs.declared.key.Key.{Key}
 use Rattle.ivy_base.specs.declared.operation.Moment.{Moment}
 use Rattle.ivy_base.specs.Naming.{head_key_of}
 use Rattle.ivy_base.proofs.NameLemmas.{bytes-name, length-name}
-use Rattle.ivy_io.specs.Keepers as memory
 use Rattle.hss_keys.specs.Saved.{IsSigner}
 use Rattle.hss_keys.specs.Signer.{Signer, next_signature}
 use Rattle.hss_keys.proofs.Signing.{hss_accepted}
@@ -16,37 +15,28 @@ use Rattle.log_model.specs.Chain.{IsGood, opening}
 use Rattle.log_model.specs.Rank.{own_entry}
 use Rattle.log_model.specs.Record.{Record}
 use Rattle.log_model.specs.Spelling.{HasSpelling, IsKey, head_message, most_records}
-use Rattle.log_model.specs.Vector.{Stamp}
 use Rattle.log_model.specs.View.{View}
 use Rattle.log_model.proofs.Later.{name_is_key}
 use Rattle.log_model.proofs.Lists.{each, each_append, each_from, from_filter, here}
-use Rattle.log_model.proofs.Opening.{opening_has_spelling}
 use Rattle.std.proofs.lemmas.List.Elements.{Contains-append_right}
-use Rattle.snapshot_model.specs.Spelling.{root_name, snapshot_blocks}
 use Rattle.dht_ids.specs.declared.post.Post.{Post}
 use Rattle.turn_model.specs.Basis.{Holding}
 use Rattle.turn_model.specs.Turn.{Asked}
-use Rattle.agent_model.specs.Agent.{entered, failed, restored, head_post, is_head, kept_of, own_key, record_post, with_posts}
-use Rattle.agent_model.specs.Others.{basis_of, block_post, is_of, is_pending_block, snapped, snapping}
-use Rattle.agent_model.specs.SavedBytes.{ArePostsSpelled}
+use Rattle.agent_model.specs.Agent.{restored, head_post, is_head, kept_of, own_key, record_post, with_posts}
+use Rattle.agent_model.specs.Others.{block_post, is_of, is_pending_block, snapped}
 use Rattle.agent_model.specs.Standing.{Refresh}
-use Rattle.agent_model.specs.Turning.{Becomes, MayTake, MayWrite, TurnEnd, Turns, written_by}
+use Rattle.agent_model.specs.Turning.{Becomes, MayWrite, TurnEnd, Turns}
 use Rattle.agent_model.specs.Turning.Becomes.{loses, reads, saves}
 use Rattle.agent_model.specs.Turning.Turns.{answers, behind, below}
 use Rattle.session_model.specs.Courses.{Settles}
 use Rattle.session_model.specs.Courses.Settles.{settles as settles_all}
 use Rattle.session_model.specs.Courses.TakesTurn.{answers as turn_answers, begins_anew, gives_up}
 use Rattle.session_model.specs.Sessions.{Session}
-use Rattle.script_driver.specs.Run.{Goes}
 use Rattle.world_model.specs.Agents.{Agent, IsKept, Kept, TakesTurn, hss, kept_bytes, opened, own, sealed}
 use Rattle.world_model.specs.Keepers.{Keeper, asked_to_save, fails_next}
-use Rattle.world_model.specs.Logs.{Played, SnapLine, having_snapped, having_tried, snapping_in}
-use Rattle.world_model.specs.Logs.SnapLine.{fails as snap_fails, makes as snap_makes}
-use Rattle.world_model.specs.World.{Participant, participant}
 use Rattle.world_laws.proofs.KeptBytes.{kept_once}
 use Rattle.world_laws.proofs.PublicKeys.{owner_is_key}
 use Rattle.world_laws.proofs.SignatureBytes.{sealed_opaque}
-use Rattle.world_laws.proofs.SignedHeads.{from_map}
 use Rattle.log_heads.specs.Signed.{hss_judged}
 use Rattle.completeness_laws.specs.Completeness.{FitsItsKey}
 use Rattle.completeness_laws.proofs.Turns.{fine_now, kept_now, never_fails}

@@ -1,12 +1,11 @@
 -- What is heard of gets is as what nodes hold, whatever that is; so are the heads that a session is brought, and that a participant receives.
-use Rattle.std.proofs.Common.{◌≡◌, ◌⊎◌, inl, inr, ⊎_elim, Bool, true, false, cond, List, [], ◌∷◌, ◌++◌, length, Option, Some, None, refl, sym, ap, ◌∙◌, subst, Contains}
+use Rattle.std.proofs.Common.{◌≡◌, List, [], ◌∷◌, ◌++◌, length, Option, Some, None, refl, sym, ap, ◌∙◌, subst}
 use Rattle.std.specs.Prelude.{ℕ, Err, Ok, Result, drop, filter_map, map, option_map}
 use Rattle.std.specs.List.{AllByRecursion, cons_option}
 use Rattle.std.specs.Option.{option_map_or}
 use Rattle.std.specs.FinMap.Entries.{find as value_at}
 use Rattle.std.proofs.lemmas.List.{append-nil}
 use Rattle.ivy_base.specs.declared.key.Key.{Key}
-use Rattle.ivy_base.specs.declared.key.PubKey.{PubKey}
 use Rattle.ivy_base.specs.Naming.{head_key_of, key_cmp}
 use Rattle.log_heads.specs.Signed.{hss_judged}
 use Rattle.log_model.specs.Vector.{Entry}
@@ -31,12 +30,11 @@ use Rattle.session_model.specs.Brought.{Brought, HeadsOf, Part, Want, all_heads,
 use Rattle.session_model.specs.Courses.{Fails, LacksMemory}
 use Rattle.session_model.specs.Courses.Fails.{fails, goes_on}
 use Rattle.session_model.specs.Courses.LacksMemory.{lacks}
-use Rattle.session_model.specs.Sessions.{Cache, Gets, Hears, Session, Takes, TakesAll, TakesSome}
+use Rattle.session_model.specs.Sessions.{Cache, Gets, Hears, Session, Takes, TakesAll}
 use Rattle.session_model.specs.Sessions.Gets.{content as got_content, heads as got_heads}
 use Rattle.session_model.specs.Sessions.Hears.{gets_on, got, puts_on, puts}
 use Rattle.session_model.specs.Sessions.Takes.{posted, cached}
 use Rattle.session_model.specs.Sessions.TakesAll.{none as takes_none, more as takes_more}
-use Rattle.session_model.specs.Sessions.TakesSome.{none as some_none, more as some_more}
 use Rattle.world_model.specs.Nodes.{Node, answered, stored}
 use Rattle.world_model.specs.World.{World, node_at}
 use Rattle.world_model.specs.Fates.{FateOf}

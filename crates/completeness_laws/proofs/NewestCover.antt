@@ -1,11 +1,9 @@
 -- The newest head of each log: a put of it was acknowledged, or an open session still has it to put. Turns, settling and asks leave it so.
-use Rattle.std.proofs.Common.{◌≡◌, ◌⊎◌, inl, inr, ⊎_elim, ℕ, ◌+◌, ◌≤◌, Bool, true, false, cond, not, List, [], ◌∷◌, ◌++◌, length, map, filter, fold, Option, Some, None, refl, sym, ap, ◌∙◌, subst, arith, le_refl, Contains, length-append}
-use Rattle.std.specs.Prelude.{IfSome, IsTrue, is_some}
+use Rattle.std.proofs.Common.{◌≡◌, ◌⊎◌, inl, inr, ℕ, ◌+◌, ◌≤◌, Bool, true, not, List, [], ◌∷◌, ◌++◌, length, map, filter, fold, Option, Some, None, refl, sym, ap, ◌∙◌, subst, arith, le_refl, Contains}
+use Rattle.std.specs.Prelude.{IfSome, IsTrue}
 use Rattle.std.specs.List.{AllByRecursion}
-use Rattle.std.specs.Str.{bytes_eq}
-use Rattle.std.proofs.lemmas.Bool.{lt-ltb}
 use Rattle.std.proofs.lemmas.List.{map-append}
-use Rattle.std.proofs.lemmas.List.Elements.{Contains-append_left, Contains-append_right}
+use Rattle.std.proofs.lemmas.List.Elements.{Contains-append_right}
 use Rattle.std.proofs.lemmas.List.Sums.{fold-append}
 use Rattle.ivy_base.specs.declared.operation.Moment.{Moment}
 use Rattle.ivy_base.specs.Naming.{head_key_of}
@@ -16,26 +14,25 @@ use Rattle.log_model.specs.Spelling.{HasSpelling}
 use Rattle.log_model.specs.Vector.{Vector, join, seq_of}
 use Rattle.log_model.specs.View.{View, IsView, is_named}
 use Rattle.log_model.proofs.Later.{name_is_key}
-use Rattle.log_model.proofs.Lists.{each, each_from, here, in_cons, in_filter, in_nothing}
+use Rattle.log_model.proofs.Lists.{here, in_filter, in_nothing}
 use Rattle.ring_model.proofs.Lists.{all_weaker}
 use Rattle.view_blocks.specs.Faults.{HasKeys}
 use Rattle.dht_ids.specs.declared.judge.Judged.{Judged}
-use Rattle.dht_ids.specs.declared.post.Ack.{Ack}
 use Rattle.dht_ids.specs.declared.post.Post.{Post}
 use Rattle.turn_model.specs.Basis.{Holding, nothing_held}
 use Rattle.turn_model.specs.Turn.{Asked}
 use Rattle.agent_model.specs.Agent.{failed, head_post, is_head, joined, kept_of, record_post}
 use Rattle.agent_model.specs.Others.{is_block, settled}
 use Rattle.agent_model.specs.Standing.{Refresh}
-use Rattle.agent_model.specs.Turning.{Answered, AreNext, Becomes, MayTake, MayWrite, TurnEnd, Turns, taking, with_held, written_by}
+use Rattle.agent_model.specs.Turning.{AreNext, Becomes, MayTake, MayWrite, TurnEnd, Turns, taking, with_held, written_by}
 use Rattle.agent_model.specs.Turning.Becomes.{loses, reads, saves}
 use Rattle.agent_model.specs.Turning.Turns.{answers, behind, below}
 use Rattle.session_model.specs.Courses.{IsRefusal, Settles}
 use Rattle.session_model.specs.Courses.Settles.{settles as settles_all}
 use Rattle.session_model.specs.Courses.TakesTurn.{answers as turn_answers, begins_anew, gives_up}
-use Rattle.session_model.specs.Sessions.{Session, Stage, in_publishing_order, is_log}
+use Rattle.session_model.specs.Sessions.{Session, in_publishing_order, is_log}
 use Rattle.world_model.specs.Agents.{Agent, IsKept, Kept, TakesTurn, hss, own, own_reach}
-use Rattle.world_model.specs.World.{NamedSession, Participant}
+use Rattle.world_model.specs.World.{NamedSession}
 use Rattle.world_laws.proofs.CalmStates.{posts_at}
 use Rattle.world_laws.proofs.TurnsFloors.{IsSpelledIn, joined_no_more, records_no_more, records_spelled}
 use Rattle.completeness_laws.proofs.FitPosts.{last_good, seal_judged}

@@ -1,10 +1,9 @@
 -- Each line of a tidy script leaves it so: a put of each log's newest head was acknowledged, or an open session has it to put.
-use Rattle.std.proofs.Common.{◌≡◌, ◌≢◌, ◌⊎◌, inl, inr, ⊎_elim, ℕ, ◌≤◌, Bool, true, false, cond, not, List, [], ◌∷◌, ◌++◌, length, map, filter, find, Option, Some, None, refl, sym, ap, ◌∙◌, subst, arith, le_refl, Contains}
-use Rattle.std.specs.Prelude.{IfSome, is_some, option_map}
+use Rattle.std.proofs.Common.{◌≡◌, ◌≢◌, ◌⊎◌, inl, inr, ⊎_elim, ℕ, ◌≤◌, Bool, true, false, cond, not, List, [], ◌∷◌, ◌++◌, map, filter, find, Option, Some, None, refl, sym, ap, ◌∙◌, subst, arith, le_refl, Contains}
+use Rattle.std.specs.Prelude.{is_some, option_map}
 use Rattle.std.specs.List.{AllByRecursion}
 use Rattle.std.specs.Str.{bytes_eq}
-use Rattle.std.proofs.lemmas.List.Elements.{Contains-append_cases, Contains-append_left, Contains-append_right}
-use Rattle.std.proofs.lemmas.Slice.Eq.{bytes_eq-Decides}
+use Rattle.std.proofs.lemmas.List.Elements.{Contains-append_cases, Contains-append_left}
 use Rattle.ivy_base.specs.declared.key.Key.{Key}
 use Rattle.ivy_base.specs.declared.key.PubKey.{PubKey}
 use Rattle.ivy_base.specs.Naming.{head_key_of}
@@ -26,24 +25,23 @@ use Rattle.dht_ids.specs.declared.peer.Peer.{Peer}
 use Rattle.dht_ids.specs.declared.post.Post.{Post}
 use Rattle.snapshot_model.specs.Spelling.{root_name, snapshot_blocks}
 use Rattle.agent_model.specs.Agent.{entered, failed, head_post, is_head, kept_of, own_key, record_post, restored}
-use Rattle.agent_model.specs.Others.{basis_of, block_post, is_pending_block, snapped, snapping}
+use Rattle.agent_model.specs.Others.{basis_of, block_post, is_pending_block, snapped}
 use Rattle.agent_model.specs.SavedBytes.{ArePostsSpelled}
-use Rattle.agent_model.specs.Views.{Entered, KeeperFailed, NotMember, NotNamed, entering_with, is_own_member, not_named}
+use Rattle.agent_model.specs.Views.{Entered, KeeperFailed, NotMember, entering_with, is_own_member, not_named}
 use Rattle.script_driver.specs.Run.{Ends, Goes, Outcome}
-use Rattle.script_model.specs.Lines.{command_of}
 use Rattle.script_model.specs.declared.command.Command.{Command}
 use Rattle.script_model.specs.declared.command.Command.TheVariants as command
 use Rattle.session_model.specs.Courses.Begins.{alone as begins_alone, refreshes as begins_refreshing}
-use Rattle.session_model.specs.Sessions.{Over, Refreshing, Said, Session, Stage, in_publishing_order}
+use Rattle.session_model.specs.Sessions.{Over, Said, Session, in_publishing_order}
 use Rattle.round_laws.proofs.Nodes.{Shape, made_by, ties}
-use Rattle.world_model.specs.Agents.{Agent, Entering, IsKept, Kept, entering, hss, kept_bytes, opened, own, own_reach}
+use Rattle.world_model.specs.Agents.{Agent, Entering, IsKept, Kept, entering, hss, opened, own, own_reach}
 use Rattle.world_model.specs.Calls.{AsLine, BeginsWith, FinishLine, OpenLine, Sending, StepLine, replied, scene_of, sending_of}
 use Rattle.world_model.specs.Calls.AsLine.{calls}
 use Rattle.world_model.specs.Calls.OpenLine.{opens}
 use Rattle.world_model.specs.Calls.StepLine.{steps}
 use Rattle.world_model.specs.Calls.FinishLine.{ends}
 use Rattle.world_model.specs.Keepers.{asked_to_save, fails_next, fresh_keeper}
-use Rattle.world_model.specs.Logs.{LogLine, Played, Publishes, RestartLine, SnapLine, ViewLine, acked_view, after_entering, afresh, afresh_told, fresh_signer, having_snapped, having_tried, keys_of, newcomer, of_members, snapping_in, to_publish, use_by, use_line, with_newcomer}
+use Rattle.world_model.specs.Logs.{LogLine, Played, Publishes, RestartLine, SnapLine, ViewLine, acked_view, after_entering, afresh, afresh_told, fresh_signer, keys_of, newcomer, of_members, snapping_in, to_publish, use_by, use_line, with_newcomer}
 use Rattle.world_model.specs.Logs.LogLine.{begins}
 use Rattle.world_model.specs.Logs.RestartLine.{starts}
 use Rattle.world_model.specs.Logs.SnapLine.{fails as snap_fails, makes as snap_makes}
@@ -53,14 +51,13 @@ use Rattle.world_model.specs.Steps.{RunsOut, Scene, Steps, StepsOn, having_made,
 use Rattle.world_model.specs.Steps.RunsOut.{is_over as runs_over, more as runs_more}
 use Rattle.world_model.specs.Steps.StepsOn.{is_over as steps_over, more as steps_more, none as steps_none}
 use Rattle.world_model.specs.Story.{Story, began_nothing, began_of, beginning, having_begun, known_of, without_began}
-use Rattle.world_model.specs.World.{NamedSession, Participant, World, entries, participant, session_named, view_named, with_participant, with_session, without_session, without_sessions_of}
+use Rattle.world_model.specs.World.{NamedSession, Participant, World, entries, participant, session_named, view_named, with_participant, without_session, without_sessions_of}
 use Rattle.world_laws.specs.Calm.{IsQuiet}
 use Rattle.world_laws.specs.Keeps.{AreApart as NoneTwice, IsKeptSo, IsSavedWell, Keeps, SignsOnce}
 use Rattle.world_laws.specs.Laws.{IsStill}
 use Rattle.world_laws.proofs.Bringing.{found_named}
 use Rattle.world_laws.proofs.CalmLines.{LineGoes, each_filtered, entries_are, newcomer_found, newcomer_goes, publishes_go, sent_step}
-use Rattle.world_laws.proofs.CalmNodes.{IsMadeRing, IsRing, kept_ring, same_rings}
-use Rattle.world_laws.proofs.CalmPuts.{entries_by}
+use Rattle.world_laws.proofs.CalmNodes.{IsMadeRing, IsRing, kept_ring}
 use Rattle.world_laws.proofs.CalmScenes.{runs_go, steps_go}
 use Rattle.world_laws.proofs.CalmSteps.{placed_good, placed_ring}
 use Rattle.world_laws.proofs.CalmStates.{AreApart, InStep, IsGood, IsMore, IsOwnPost, IsUpTo, found_placed, less_up_to, more_posts, placed_more, posts_at}
@@ -77,11 +74,11 @@ use Rattle.world_laws.proofs.Still.{still_lines}
 use Rattle.world_laws.proofs.WholePublishing.{each_published}
 use Rattle.completeness_laws.specs.Completeness.{FitsItsKey, HasNoneOpen, IsTidyAt}
 use Rattle.completeness_laws.proofs.Backed.{IsBackedIn, IsBackedKept}
-use Rattle.completeness_laws.proofs.CallLines.{IsSentBy, begun_well, open_well, sent_by}
+use Rattle.completeness_laws.proofs.CallLines.{begun_well, open_well}
 use Rattle.completeness_laws.proofs.CallSteps.{IsPast, step_past}
 use Rattle.completeness_laws.proofs.FitPosts.{AllFit, HasFit, opened_fit, opening_key, restarted_fit, saved_now, seal_judged, snapped_fit}
 use Rattle.completeness_laws.proofs.NewestCover.{HasNewest, IsCovered, head_published, newest_weaker}
-use Rattle.completeness_laws.proofs.NewestScenes.{AllSound, FitSession, Flows, FlowsOn, IsGoodIn, IsSavedAt, IsWellNow, flows_weaker, good_then, placed_all, step_flow}
+use Rattle.completeness_laws.proofs.NewestScenes.{AllSound, FitSession, Flows, FlowsOn, IsGoodIn, flows_weaker, good_then, placed_all, step_flow}
 use Rattle.completeness_laws.proofs.PutsAcked.{AreFine}
 use Rattle.completeness_laws.proofs.Steps.{its_backed}
 use Rattle.completeness_laws.proofs.StoreRoom.{total}
@@ -172,9 +169,11 @@ module _ (r : ℕ) (base : List Shape) (links : Peer → Links Peer) (start : �
     one_step : {c next : Scene} → Steps hss_judged r name c next → c.session.by ≡ name → GoesWell r c → Up next.world → GoodIn ss others c → FlowsIn ss others c → GoodIn ss others next × FlowsIn ss others next
     one_step {c} {next} step named well up good h =
         let then_well = (hand_step step named well).0 in
-        let then_good = good_then r base links start ring met fits_it e made ss others Met Left told_apart all_met name step up good in
-        (then_good, step_flow r base links start ring met fits_it e made ss others Met Left told_apart all_met name up good then_good
-        (λ at. ((λ p is_p. saved_at c.world c.story well.keeps name p is_p), (λ p is_p. saved_at next.world next.story then_well.keeps name p is_p))) step h)
+        let then_good = good_then r base links start ring met fits_it e made ss others Met Left told_apart all_met name step up good in (
+          then_good,
+          step_flow r base links start ring met fits_it e made ss others Met Left told_apart all_met name up good then_good
+              (λ at. ((λ p is_p. saved_at c.world c.story well.keeps name p is_p), (λ p is_p. saved_at next.world next.story then_well.keeps name p is_p))) step h,
+        )
 
     runs_flow : {c end : Scene} → RunsOut hss_judged r name c end → c.session.by ≡ name → GoesWell r c → Up end.world → GoodIn ss others c → FlowsIn ss others c → FlowsIn ss others end
     runs_flow (runs_over said over) named well up good h = h
@@ -388,15 +387,6 @@ module _ (r : ℕ) (base : List Shape) (links : Peer → Links Peer) (start : �
     log_flow name id seed sets whole next _ up (begins k p _ also new is published) =
         publishes_flow k (one_r k r (sym also ∙ ringed)) (with_newcomer w comer) comer next found still_v fine (goes.good told_apart up_v still good) fit h.sessions agents up_v up mine
       where
-        signer : Signer
-        signer = fresh_signer id seed sets
-
-        a : Agent
-        a = opened (fresh_signer id seed sets) w.0.now
-
-        one : Record
-        one = opening (own_key hss (fresh_signer id seed sets)) w.0.now
-
         comer : Participant
         comer = newcomer name (opened (fresh_signer id seed sets) w.0.now)
 
@@ -433,12 +423,6 @@ module _ (r : ℕ) (base : List Shape) (links : Peer → Links Peer) (start : �
 
         fit : AllFit (opened (fresh_signer id seed sets) w.0.now).pending
         fit = opened_fit (fresh_signer id seed sets) w.0.now whole
-
-        posts : List Post
-        posts = in_publishing_order (opened (fresh_signer id seed sets) w.0.now).pending
-
-        head : Post
-        head = head_post hss (fresh_signer id seed sets) (own_entry (opening (own_key hss (fresh_signer id seed sets)) w.0.now)).1
 
         reaches : own_reach (opened (fresh_signer id seed sets) w.0.now) ≡ 1
         reaches =
@@ -640,11 +624,10 @@ module _ (r : ℕ) (base : List Shape) (links : Peer → Links Peer) (start : �
           fit = snapped_fit p.agent (root_name view (basis_of p.agent.holding)) (snapshot_blocks view (basis_of p.agent.holding)) mine_now.0.fit
 
           agents : AllByRecursion (FlowsOn w.1.acked w.0.sessions (in_publishing_order snapshot_of.pending)) mid.participants
-          agents = placed_all (FlowsOn w.1.acked w.0.sessions (in_publishing_order snapshot_of.pending)) snapping_one w.0.participants
-              (
-              saved_now snapshot_of p.keeper (kept_of snapshot_of) mine_now.0.fine whole fit fit,
-              newest_weaker w.1.acked w.1.acked w.0.sessions w.0.sessions [] (in_publishing_order snapshot_of.pending) p.agent snapshot_of (more_posts_cover w.1.acked w.0.sessions (in_publishing_order snapshot_of.pending)) refl (le_refl (own_reach p.agent)) mine_now.1,
-            )
+          agents = placed_all (FlowsOn w.1.acked w.0.sessions (in_publishing_order snapshot_of.pending)) snapping_one w.0.participants (
+            saved_now snapshot_of p.keeper (kept_of snapshot_of) mine_now.0.fine whole fit fit,
+            newest_weaker w.1.acked w.1.acked w.0.sessions w.0.sessions [] (in_publishing_order snapshot_of.pending) p.agent snapshot_of (more_posts_cover w.1.acked w.0.sessions (in_publishing_order snapshot_of.pending)) refl (le_refl (own_reach p.agent)) mine_now.1,
+          )
               (flows_weaker w.1.acked w.1.acked w.0.sessions w.0.sessions [] (in_publishing_order snapshot_of.pending) (more_posts_cover w.1.acked w.0.sessions (in_publishing_order snapshot_of.pending)) w.0.participants h.agents)
 
       abbrev trying : (Agent × Bool) × Option Kept → Participant

@@ -1,5 +1,5 @@
 -- In calm and tidy scripts with the same ring a put of each log's newest head was acknowledged, while no session is open.
-use Rattle.std.proofs.Common.{◌≡◌, inl, inr, ℕ, ◌≤◌, List, [], Option, Some, refl, sym, ap, ◌∙◌, subst, Contains}
+use Rattle.std.proofs.Common.{◌≡◌, inl, inr, ℕ, ◌≤◌, List, [], Some, refl, sym, ap, ◌∙◌, subst, Contains}
 use Rattle.std.specs.Prelude.{IfSome}
 use Rattle.std.specs.List.{AllByRecursion}
 use Rattle.ring_model.specs.Members.{IsAmong}
@@ -18,8 +18,8 @@ use Rattle.world_model.specs.Logs.{Played}
 use Rattle.world_model.specs.Ring.{RingLine}
 use Rattle.world_model.specs.Step.{most_bytes}
 use Rattle.world_model.specs.Story.{empty_story}
-use Rattle.world_model.specs.World.{NamedSession, Participant, World, empty_world, named_bytes}
-use Rattle.world_laws.specs.Calm.{Calmly, HasSameRing, IsQuiet, Since, Stopped}
+use Rattle.world_model.specs.World.{NamedSession, World, empty_world, named_bytes}
+use Rattle.world_laws.specs.Calm.{Calmly, HasSameRing, IsQuiet, Stopped}
 use Rattle.world_laws.specs.Calm.IsCalm.{other}
 use Rattle.world_laws.specs.Calm.Calmly.{more as calmly_more, none as calmly_none}
 use Rattle.world_laws.specs.Keeps.{Keeps}
@@ -28,13 +28,13 @@ use Rattle.world_laws.proofs.AllLines.{does_line}
 use Rattle.world_laws.proofs.CalmCommands.{command_goes}
 use Rattle.world_laws.proofs.CalmHeld.{apart_of, calmly_keeps, moment_keeps}
 use Rattle.world_laws.proofs.CalmNodes.{IsMadeRing, IsRing, kept_ring}
-use Rattle.world_laws.proofs.CalmRuns.{IsFirst, first_of, runs_so}
+use Rattle.world_laws.proofs.CalmRuns.{first_of, runs_so}
 use Rattle.world_laws.proofs.CalmStates.{AreApart, IsGood, IsLeft, IsUpTo}
 use Rattle.world_laws.proofs.LineFits.{command_fits}
 use Rattle.world_laws.proofs.RingLines.{ring_lines_keep}
 use Rattle.completeness_laws.specs.Completeness.{IsTidyAt, Tidily}
 use Rattle.completeness_laws.specs.Completeness.Tidily.{more as tidily_more, none as tidily_none}
-use Rattle.completeness_laws.specs.Takes.{HaveNewest, NewestArePut}
+use Rattle.completeness_laws.specs.Takes.{NewestArePut}
 use Rattle.completeness_laws.proofs.Lines.{apart_first, command_so}
 use Rattle.completeness_laws.proofs.LogHeads.{all_fine}
 use Rattle.completeness_laws.proofs.NewestCover.{IsCovered}
@@ -96,10 +96,10 @@ newest_are_put lines_keep r w count lines same calm tidy closed fits q among =
     let one = made_some calm.made.nodes (shapes_of calm.made) refl (nodes_some before.0 calm.made calm.count r rings) in
     let apart = apart_of r w (shapes_of calm.made) (links_in calm.made) calm.made.asked first.ring (calmly_keeps lines_keep r w (Stopped count) lines calm) calm.apart calm.no_key in
     let flows = runs_newest lines_keep r (shapes_of calm.made) (links_in calm.made) calm.made.asked first.ring one.0 one.1 tidily same fits apart calm.apart keeps first.still
-        (first_good r before.0 calm.made first (Contains w.0.met) (IsLeft w.0) refl refl) (first_backed r before.0 calm.made refl refl first)
-        (record {
-          agents = subst (AllByRecursion (FlowsOn [] calm.made.sessions [])) (sym (ap (λ (v : World). v.participants) first.rest)) tt;
-          sessions = subst (AllByRecursion (λ (s : NamedSession). FitSession r (shapes_of calm.made) (links_in calm.made) calm.made.asked first.ring w.0.met fits one.0 one.1 s.session)) (sym (ap (λ (v : World). v.sessions) first.rest)) tt;
-        }) in
+    (first_good r before.0 calm.made first (Contains w.0.met) (IsLeft w.0) refl refl) (first_backed r before.0 calm.made refl refl first)
+    (record {
+      agents = subst (AllByRecursion (FlowsOn [] calm.made.sessions [])) (sym (ap (λ (v : World). v.participants) first.rest)) tt;
+      sessions = subst (AllByRecursion (λ (s : NamedSession). FitSession r (shapes_of calm.made) (links_in calm.made) calm.made.asked first.ring w.0.met fits one.0 one.1 s.session)) (sym (ap (λ (v : World). v.sessions) first.rest)) tt;
+    }) in
     let its = (each (FlowsOn w.1.acked w.0.sessions []) w.0.participants q flows.agents among).1 in
     (its.0, its.1, closed_put w.1.acked w.0.sessions its.0 closed its.2, its.3, its.4, its.5, its.6)

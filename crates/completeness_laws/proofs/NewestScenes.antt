@@ -1,5 +1,5 @@
 -- Steps of sessions leave it so: each put is acknowledged while what was met is within its limit.
-use Rattle.std.proofs.Common.{◌≡◌, ◌⊎◌, inl, inr, ⊎_elim, ℕ, ◌≤◌, Bool, true, false, cond, List, [], ◌∷◌, ◌++◌, length, map, Option, Some, None, refl, sym, ap, ◌∙◌, subst, arith, le_refl, Contains, length-append}
+use Rattle.std.proofs.Common.{◌≡◌, ◌⊎◌, inl, inr, ⊎_elim, ℕ, ◌≤◌, Bool, true, false, cond, List, [], ◌∷◌, ◌++◌, length, map, Option, Some, refl, sym, ap, ◌∙◌, subst, arith, le_refl, Contains, length-append}
 use Rattle.std.specs.List.{AllByRecursion}
 use Rattle.std.specs.Str.{bytes_eq}
 use Rattle.std.proofs.lemmas.Bool.{lt-ltb}
@@ -25,40 +25,37 @@ use Rattle.dht_ids.specs.declared.post.Post.{Post}
 use Rattle.dhash_client.specs.Puts.{holds}
 use Rattle.agent_model.specs.Agent.{kept_of}
 use Rattle.agent_model.specs.Turning.{TurnEnd}
-use Rattle.session_model.specs.Courses.{Fails, IsRefusal, LacksMemory, Settles}
+use Rattle.session_model.specs.Courses.{Fails, LacksMemory, Settles}
 use Rattle.session_model.specs.Courses.Fails.{fails, goes_on}
 use Rattle.session_model.specs.Courses.LacksMemory.{lacks}
 use Rattle.session_model.specs.Courses.Settles.{settles as settles_all}
 use Rattle.session_model.specs.Courses.TakesTurn.{answers as turn_answers, begins_anew, gives_up}
-use Rattle.session_model.specs.Sessions.{Cache, Hears, IsPutOfPost, Over, Publishing, Refreshing, Said, Session, Stage, Takes, TakesAll, TakesSome, ack_of, acknowledged, after_put, put_question, wanted_key}
+use Rattle.session_model.specs.Sessions.{Cache, Hears, IsPutOfPost, Publishing, Refreshing, Said, Session, Stage, Takes, TakesAll, TakesSome, ack_of, acknowledged, after_put, put_question, wanted_key}
 use Rattle.session_model.specs.Sessions.Hears.{gets_on, got, puts, puts_on}
 use Rattle.session_model.specs.Sessions.Takes.{cached, posted}
 use Rattle.session_model.specs.Sessions.TakesAll.{more as takes_more, none as takes_none}
 use Rattle.session_model.specs.Sessions.TakesSome.{more as some_more, none as some_none}
 use Rattle.round_laws.proofs.Nodes.{Shape, made_by}
-use Rattle.world_model.specs.Agents.{Agent, IsKept, Kept, TakesTurn, own, own_reach}
+use Rattle.world_model.specs.Agents.{Agent, IsKept, Kept, TakesTurn, own_reach}
 use Rattle.world_model.specs.Fates.{FateOf}
 use Rattle.world_model.specs.Keepers.{fails_next}
 use Rattle.world_model.specs.Step.{most_bytes}
-use Rattle.world_model.specs.Steps.{Acts, RunsOut, Scene, Steps, StepsOn, acked_by, after_turn, heads_by, met_by, with_cache, world_after}
+use Rattle.world_model.specs.Steps.{Acts, Scene, Steps, acked_by, after_turn, heads_by, met_by, with_cache, world_after}
 use Rattle.world_model.specs.Steps.Acts.{asks, asks_in_vain, is_refused, settles, turns}
-use Rattle.world_model.specs.Steps.RunsOut.{is_over as runs_over, more as runs_more}
 use Rattle.world_model.specs.Steps.Steps.{acts, lacks_memory}
-use Rattle.world_model.specs.Steps.StepsOn.{is_over as steps_over, more as steps_more, none as steps_none}
 use Rattle.world_model.specs.World.{NamedSession, Participant, World, participant, with_participant}
-use Rattle.world_laws.specs.Keeps.{IsKeptSo, IsSavedWell, Keeps}
 use Rattle.world_laws.proofs.Bringing.{found_named, some_same}
 use Rattle.world_laws.proofs.CalmNodes.{IsMadeRing, IsRing, IsRouted, asked_ring, is_routed, kept_ring, same_rings, who_answers}
 use Rattle.world_laws.proofs.CalmPuts.{entries_by}
-use Rattle.world_laws.proofs.CalmScenes.{runs_go, step_goes, steps_go}
-use Rattle.world_laws.proofs.CalmStates.{AreApart, InStep, IsGood, IsOwnPost, IsUpTo, found_placed, less_up_to, posts_at}
+use Rattle.world_laws.proofs.CalmScenes.{step_goes}
+use Rattle.world_laws.proofs.CalmStates.{AreApart, InStep, IsGood, IsOwnPost, IsUpTo, found_placed, posts_at}
 use Rattle.world_laws.proofs.CalmSteps.{takes_all_step}
 use Rattle.world_laws.proofs.SignedAmong.{met_stays}
 use Rattle.world_laws.proofs.WholePublishing.{each_published}
 use Rattle.completeness_laws.specs.Completeness.{FitsItsKey}
 use Rattle.completeness_laws.proofs.FitPosts.{AllFit, HasFit, settled_fit, taking_fit}
 use Rattle.completeness_laws.proofs.NewestCover.{HasNewest, IsCovered, newest_weaker, settles_newest, takes_newest}
-use Rattle.completeness_laws.proofs.PutsAcked.{AreFine, AreTaken, IsTaken, fine_with, put_acked, put_step, route_step}
+use Rattle.completeness_laws.proofs.PutsAcked.{AreFine, fine_with, put_acked, put_step}
 use Rattle.completeness_laws.proofs.Steps.{fate_same, takes_all_same}
 use Rattle.completeness_laws.proofs.StoreRoom.{total}
 

@@ -1,9 +1,7 @@
 -- What each agent has written in a world whose heads are honest: heads of its log are over records of that, and what is known of the log is the beginning of it.
-use Rattle.std.proofs.Common.{◌≡◌, inl, inr, ⊎_elim, ◌⊎◌, ℕ, ◌+◌, ◌<◌, ◌≤◌, ◌^◌, List, [], ◌∷◌, ◌++◌, length, Option, Some, None, refl, sym, ap, ◌∙◌, subst, arith, Contains, append_assoc, length-append, le_refl}
+use Rattle.std.proofs.Common.{◌≡◌, inl, inr, ⊎_elim, ◌⊎◌, ℕ, ◌+◌, ◌<◌, ◌^◌, List, [], ◌∷◌, ◌++◌, length, Option, Some, None, refl, sym, ap, ◌∙◌, subst, arith, Contains, append_assoc, le_refl}
 use Rattle.std.specs.Prelude.{IfSome, IsTrue, is_some}
-use Rattle.std.specs.List.{AllByRecursion, find}
-use Rattle.std.specs.Option.{option_map_or}
-use Rattle.std.specs.Str.{bytes_eq}
+use Rattle.std.specs.List.{AllByRecursion}
 use Rattle.std.proofs.lemmas.List.{append-nil}
 use Rattle.std.proofs.lemmas.List.Elements.{Contains-append_left, Contains-append_right}
 use Rattle.ivy_base.specs.declared.key.Key.{Key}
@@ -26,18 +24,17 @@ use Rattle.view_blocks.specs.Faults.{HasKeys}
 use Rattle.turn_model.specs.Known.{EndsAt, IsBacked, IsUnderHead}
 use Rattle.turn_model.specs.Turn.{IsPrefixOf}
 use Rattle.session_model.specs.Brought.{stamp_of}
-use Rattle.agent_model.specs.Agent.{kept_of, own_key}
+use Rattle.agent_model.specs.Agent.{own_key}
 use Rattle.world_model.specs.Agents.{IsKept, Kept, hss, own, own_reach}
 use Rattle.world_model.specs.World.{Participant, named_bytes}
-use Rattle.world_model.specs.Story.{Knowing, knowing_nothing, knowing_of, known_of}
+use Rattle.world_model.specs.Story.{knowing_of, known_of}
 use Rattle.world_model.specs.Logs.{Played}
 use Rattle.world_model.specs.Steps.{heads_by}
-use Rattle.world_laws.specs.Keeps.{IsKeptSo, IsMetHead, IsSavedWell, IsSound, IsSoundIn, IsSoundKept, IsSoundKeptIn, Keeps, NamesOneOf, SignsOnce}
+use Rattle.world_laws.specs.Keeps.{IsKeptSo, IsSavedWell, IsSound, IsSoundIn, IsSoundKept, IsSoundKeptIn, Keeps, NamesOneOf, SignsOnce}
 use Rattle.world_laws.proofs.KnownHeads.{heads_low}
 use Rattle.world_laws.proofs.MoreMet.{more_stand}
 use Rattle.world_laws.proofs.OneKnown.{stand_in_log}
 use Rattle.world_laws.proofs.OneTruth.{chain_linked}
-use Rattle.world_laws.proofs.Publishing.{found_knowing}
 use Rattle.world_laws.proofs.PublicKeys.{owner_is_key}
 use Rattle.world_laws.proofs.SignedHeads.{so_of}
 use Rattle.completeness_laws.specs.Takes.{IsLeftBy}

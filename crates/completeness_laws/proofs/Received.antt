@@ -1,5 +1,5 @@
 -- In calm runs in which the ring stays, what sessions were answered of gets is what nodes held, and so are the heads that participants received.
-use Rattle.std.proofs.Common.{◌≡◌, ◌⊎◌, inl, inr, ⊎_elim, ℕ, Bool, true, false, cond, List, [], ◌∷◌, ◌++◌, length, map, filter, find, Option, Some, None, refl, sym, ap, ◌∙◌, subst, Contains, is_some, option_map}
+use Rattle.std.proofs.Common.{◌≡◌, ◌⊎◌, inl, inr, ⊎_elim, ℕ, Bool, true, false, cond, List, [], ◌∷◌, ◌++◌, map, find, Option, Some, None, refl, sym, ap, ◌∙◌, subst, Contains, is_some, option_map}
 use Rattle.std.specs.Prelude.{IfSome}
 use Rattle.std.specs.List.{AllByRecursion}
 use Rattle.std.specs.Str.{bytes_eq}
@@ -31,7 +31,7 @@ use Rattle.script_driver.specs.Run.{Ends, Goes, Outcome}
 use Rattle.script_model.specs.Lines.{command_of}
 use Rattle.script_model.specs.declared.command.Command.{Command}
 use Rattle.script_model.specs.declared.command.Command.TheVariants as command
-use Rattle.session_model.specs.Courses.{IsRefusal, Settles}
+use Rattle.session_model.specs.Courses.{Settles}
 use Rattle.session_model.specs.Courses.Begins.{alone as begins_alone, refreshes as begins_refreshing}
 use Rattle.session_model.specs.Courses.Settles.{settles as settles_all}
 use Rattle.session_model.specs.Courses.TakesTurn.{answers, begins_anew, gives_up}
@@ -46,8 +46,8 @@ use Rattle.world_model.specs.Calls.AsLine.{calls}
 use Rattle.world_model.specs.Calls.OpenLine.{opens}
 use Rattle.world_model.specs.Calls.StepLine.{steps}
 use Rattle.world_model.specs.Calls.FinishLine.{ends}
-use Rattle.world_model.specs.Keepers.{asked_to_save, fails_next}
-use Rattle.world_model.specs.Logs.{LogLine, Played, Publishes, RestartLine, SnapLine, ViewLine, after_entering, afresh_told, having_snapped, keys_of, of_members, to_publish, use_by, use_line, with_newcomer}
+use Rattle.world_model.specs.Keepers.{fails_next}
+use Rattle.world_model.specs.Logs.{LogLine, Played, Publishes, RestartLine, SnapLine, ViewLine, after_entering, afresh_told, keys_of, of_members, to_publish, use_by, use_line, with_newcomer}
 use Rattle.world_model.specs.Logs.LogLine.{begins}
 use Rattle.world_model.specs.Logs.RestartLine.{starts}
 use Rattle.world_model.specs.Logs.SnapLine.{fails as snap_fails, makes as snap_makes}
@@ -68,10 +68,10 @@ use Rattle.world_laws.specs.Laws.{IsStill, LinesKeep}
 use Rattle.world_laws.proofs.AllLines.{does_line}
 use Rattle.world_laws.proofs.Bringing.{found_named}
 use Rattle.world_laws.proofs.CalmHeld.{apart_of, calmly_keeps}
-use Rattle.world_laws.proofs.CalmNodes.{HoldKinds, IsMadeRing, IsOfKind, IsRing, kept_ring}
+use Rattle.world_laws.proofs.CalmNodes.{IsMadeRing, IsOfKind, IsRing, kept_ring}
 use Rattle.world_laws.proofs.CalmStates.{AreApart, InStep, IsGood, IsLeft, IsUpTo, OfContent, OfHeads, less_up_to}
 use Rattle.world_laws.proofs.CalmScenes.{runs_go, step_goes, steps_go}
-use Rattle.world_laws.proofs.CalmLines.{LineGoes, each_filtered, entries_are, sent_step}
+use Rattle.world_laws.proofs.CalmLines.{each_filtered, sent_step}
 use Rattle.world_laws.proofs.CalmCommands.{command_goes}
 use Rattle.world_laws.proofs.CalmRuns.{IsFirst, first_of, runs_so}
 use Rattle.world_laws.proofs.Frames.{into_map}

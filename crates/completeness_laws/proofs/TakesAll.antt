@@ -1,5 +1,5 @@
 -- In calm and tidy scripts with the same ring the turn of a whole call takes all that was written, while no session is open.
-use Rattle.std.proofs.Common.{◌≡◌, ◌⊎◌, inl, inr, ⊎_elim, ℕ, ◌≤◌, Bool, true, false, List, [], ◌∷◌, ◌++◌, length, length-append, map, Option, Some, None, refl, sym, ap, ◌∙◌, subst, arith, nat_lt, Contains}
+use Rattle.std.proofs.Common.{◌≡◌, ◌⊎◌, inl, inr, ⊎_elim, ℕ, ◌≤◌, Bool, true, false, List, [], ◌∷◌, ◌++◌, length, length-append, map, Option, Some, refl, sym, ap, ◌∙◌, subst, arith, nat_lt, Contains}
 use Rattle.std.specs.Prelude.{◌↔◌, MatchBool, sum_by}
 use Rattle.std.specs.List.{AllByRecursion}
 use Rattle.std.proofs.lemmas.Bool.{ltb-false}
@@ -7,19 +7,19 @@ use Rattle.std.proofs.lemmas.List.Elements.{Contains-append_right}
 use Rattle.log_heads.specs.Signed.{hss_judged}
 use Rattle.ivy_base.specs.Naming.{head_key_of}
 use Rattle.log_model.specs.Record.{Record}
-use Rattle.script_driver.specs.Run.{Exceeds, Goes, Outcome}
+use Rattle.script_driver.specs.Run.{Exceeds, Goes}
 use Rattle.script_model.specs.Lines.{command_of}
 use Rattle.script_model.specs.declared.command.Command.{Command}
 use Rattle.script_model.specs.declared.command.Command.TheVariants as command
 use Rattle.script_model.specs.declared.command.Piece.{Piece}
 use Rattle.session_model.specs.Brought.{brought_in}
 use Rattle.session_model.specs.Courses.Begins.{alone as begins_alone, refreshes as begins_refreshing}
-use Rattle.session_model.specs.Sessions.{Over, Said, Session}
+use Rattle.session_model.specs.Sessions.{Session}
 use Rattle.world_model.specs.Agents.{own}
 use Rattle.world_model.specs.Calls.{AsLine, BeginsWith, Sending, sending_of}
 use Rattle.world_model.specs.Calls.AsLine.{calls}
 use Rattle.world_model.specs.Logs.{Played}
-use Rattle.world_model.specs.Step.{Does, IvyStep, MayDo, MayDoFirst, most_bytes}
+use Rattle.world_model.specs.Step.{Does, MayDo, MayDoFirst, most_bytes}
 use Rattle.world_model.specs.Steps.{RunsOut, Scene}
 use Rattle.world_model.specs.Story.{HadTurn, beginning, having_begun}
 use Rattle.world_model.specs.World.{Participant, named_bytes, participant}
@@ -35,7 +35,7 @@ use Rattle.world_laws.proofs.OneSteps.{GoesWell}
 use Rattle.completeness_laws.specs.Completeness.{CallsTakeAll, HaveEntered, HaveHeads, IsWritten}
 use Rattle.completeness_laws.specs.Takes.{HaveNewest, IsLeftBy, NewestArePut, ReceivedHeadsLeft}
 use Rattle.completeness_laws.proofs.CallLines.{IsSentBy, begun_well, sent_by}
-use Rattle.completeness_laws.proofs.CallSteps.{IsInCall, IsPast, begins_on}
+use Rattle.completeness_laws.proofs.CallSteps.{IsInCall, begins_on}
 use Rattle.completeness_laws.proofs.GotHeads.{AreHeardOf}
 use Rattle.completeness_laws.proofs.KeysStay.{same_stay}
 use Rattle.completeness_laws.proofs.OwnLogs.{IsHonestIn}

@@ -1,7 +1,6 @@
 -- A turn takes what the members have written, where of each other member's log its session was brought a head that goes as far, and each head that it was brought is honest.
 use Rattle.std.proofs.Common.{◌≡◌, inl, inr, ⊎_elim, ◌⊎◌, ℕ, ◌+◌, ◌<◌, ◌≤◌, Bool, true, false, List, [], ◌∷◌, ◌++◌, length, map, Option, Some, None, refl, sym, ap, ◌∙◌, subst, arith, nat_lt, Contains, length-append}
 use Rattle.std.specs.Prelude.{IfSome, ◌↔◌}
-use Rattle.std.specs.List.{AllByRecursion}
 use Rattle.std.specs.Ordering.{eq_by_cmp}
 use Rattle.std.proofs.lemmas.Bool.{ltb-false, ltb-true}
 use Rattle.std.proofs.lemmas.List.{append-nil}
@@ -15,24 +14,24 @@ use Rattle.log_model.specs.Rank.{own_entry}
 use Rattle.log_model.specs.Record.{Record}
 use Rattle.log_model.specs.Spelling.{no_name}
 use Rattle.log_model.specs.Standing.{Stand, StandsAmong}
-use Rattle.log_model.specs.Vector.{Entry, Stamp, Vector, reach, seq_of, stamp_at}
+use Rattle.log_model.specs.Vector.{Stamp, Vector, reach, seq_of, stamp_at}
 use Rattle.log_model.specs.View.{View}
 use Rattle.log_model.proofs.Lists.{each, each_from, each_left, from_filter, here}
 use Rattle.log_model.proofs.Opening.{same_owner}
 use Rattle.log_model.proofs.Owners.{owner_itself}
 use Rattle.log_model.proofs.Part.{chain_front}
-use Rattle.turn_model.specs.Candidates.{IsPassedOver, IsTried, MakeChain, PassesThrough}
+use Rattle.turn_model.specs.Candidates.{IsTried, MakeChain, PassesThrough}
 use Rattle.turn_model.specs.Known.{EndsAt, IsKnown}
 use Rattle.turn_model.specs.Turn.{Candidate, IsAtHand, IsPrefixOf}
 use Rattle.candidate_laws.proofs.OneCandidate.{IsNewest, IsOne, cases_of}
-use Rattle.agent_model.specs.Candidates.{AreCandidatesOf, IsCandidateOf, IsMisled}
+use Rattle.agent_model.specs.Candidates.{AreCandidatesOf, IsCandidateOf}
 use Rattle.agent_model.specs.Candidates.IsCandidateOf.{misled as is_misled, by_heads}
 use Rattle.agent_model.specs.Standing.{Standing}
 use Rattle.world_model.specs.Agents.{own, own_reach}
 use Rattle.world_model.specs.World.{Participant, named_bytes}
 use Rattle.world_model.specs.Story.{knowing_of, known_of}
 use Rattle.world_model.specs.Logs.{Played}
-use Rattle.world_laws.specs.Keeps.{AreParticipants, EntersOwned, IsMetHead, IsSound, Keeps}
+use Rattle.world_laws.specs.Keeps.{AreParticipants, EntersOwned, IsSound, Keeps}
 use Rattle.world_laws.proofs.MoreMet.{more_stand}
 use Rattle.world_laws.proofs.OneKnown.{stand_in_log}
 use Rattle.world_laws.proofs.OneTruth.{chain_linked}
@@ -144,12 +143,15 @@ module _ (w : Played) (keeps : Keeps w) (apart : NamesTellApart (named_bytes w.0
 
     -- each head of it that is tried makes a chain, which is a beginning of it
     makes : (head : Stamp) → IsTried heads s.floor (head_key_of (own q.agent)) head → (front : List Record) × MakeChain met view (own q.agent) s.floor head front
-    makes head tried = (up.0, record {
-      chain_of_log = chain_front view (own q.agent) up.0 up.1 (subst (λ l. IsChain view (own q.agent) l) up.2 ((sound_in w keeps apart honest q q_in view its_view).knows.by_floor.chains (own q.agent)));
-      stand = each_left (StandsAmong met) up.0 up.1 (subst (Stand met) up.2 (more_stand w.0.met met meets (written w q) log_stand));
-      ends = ends;
-      passes = passes (stamp_at s.floor (head_key_of (own q.agent))) refl (by_floor.ends (own q.agent) member);
-    })
+    makes head tried = (
+      up.0,
+      record {
+        chain_of_log = chain_front view (own q.agent) up.0 up.1 (subst (λ l. IsChain view (own q.agent) l) up.2 ((sound_in w keeps apart honest q q_in view its_view).knows.by_floor.chains (own q.agent)));
+        stand = each_left (StandsAmong met) up.0 up.1 (subst (Stand met) up.2 (more_stand w.0.met met meets (written w q) log_stand));
+        ends = ends;
+        passes = passes (stamp_at s.floor (head_key_of (own q.agent))) refl (by_floor.ends (own q.agent) member);
+      },
+    )
       where
         over : (one : Record) × Contains (written w q) one × ((own_entry one).1 ≡ head)
         over = over_written w keeps apart honest q q_in view its_view (head_key_of (own q.agent), head) (heard q head q_in tried.0)

@@ -1,10 +1,8 @@
 -- The run of a whole call's line: what its session was brought of each log goes as far as the log, and its turn takes all that was written, where heads are honest.
-use Rattle.std.proofs.Common.{◌≡◌, ◌≢◌, ◌⊎◌, inl, inr, ⊎_elim, ℕ, ◌≤◌, Bool, true, false, cond, List, [], ◌∷◌, ◌++◌, length, length-append, map, filter, Option, Some, None, Result, Ok, Err, refl, sym, ap, ◌∙◌, subst, arith, Contains}
-use Rattle.std.specs.Prelude.{drop, ◌↔◌}
+use Rattle.std.proofs.Common.{◌≡◌, ◌≢◌, ◌⊎◌, inl, inr, ⊎_elim, ℕ, ◌≤◌, Bool, true, cond, List, [], ◌∷◌, ◌++◌, map, filter, Option, Some, None, Result, Ok, Err, refl, sym, ap, ◌∙◌, subst, arith, Contains}
+use Rattle.std.specs.Prelude.{◌↔◌}
 use Rattle.std.specs.List.{AllByRecursion}
 use Rattle.std.specs.Option.{option_map_or}
-use Rattle.std.specs.Str.{bytes_eq}
-use Rattle.std.proofs.lemmas.List.{append-nil}
 use Rattle.std.proofs.lemmas.List.Elements.{Contains-append_cases, Contains-append_left, Contains-append_right}
 use Rattle.ivy_base.specs.declared.key.Key.{Key}
 use Rattle.ivy_base.specs.declared.key.PubKey.{PubKey}
@@ -24,7 +22,7 @@ use Rattle.dht_ids.specs.Peers.{place}
 use Rattle.round_laws.proofs.Nodes.{order_by}
 use Rattle.log_model.specs.Closed.{IsClosedPart}
 use Rattle.turn_model.specs.Known.{IsKnown}
-use Rattle.turn_model.specs.Turn.{Candidate, IsAtHand, Turned}
+use Rattle.turn_model.specs.Turn.{IsAtHand, Turned}
 use Rattle.agent_model.specs.Candidates.{AreCandidatesOf}
 use Rattle.dht_ids.specs.Asked.{told}
 use Rattle.dht_ids.specs.declared.ask.Answer.{Answer}
@@ -40,11 +38,9 @@ use Rattle.node_store.specs.declared.kind.Kind.TheVariants.{Content, Head}
 use Rattle.agent_model.specs.Agent.{is_head}
 use Rattle.agent_model.specs.Standing.{Chain, Refresh, Standing}
 use Rattle.agent_model.specs.Turning.{TurnEnd}
-use Rattle.nfs_model.specs.declared.replies.Reply.{Reply}
-use Rattle.session_model.specs.Brought.{BlockOf, Brought, HeadsOf, Part, Want, all_heads, brought_in, heads_at, heads_of, stamp_of}
-use Rattle.session_model.specs.Brought.Want.{Content as wants_content, Heads as wants_heads}
+use Rattle.session_model.specs.Brought.{BlockOf, Brought, HeadsOf, Want, all_heads, brought_in, heads_at, heads_of, stamp_of}
+use Rattle.session_model.specs.Brought.Want.{Content as wants_content}
 use Rattle.session_model.specs.Courses.{Fails, IsRefusal, LacksMemory, Settles}
-use Rattle.session_model.specs.Courses.Begins.{alone as begins_alone, refreshes as begins_refreshing}
 use Rattle.session_model.specs.Courses.Fails.{fails, goes_on}
 use Rattle.session_model.specs.Courses.LacksMemory.{lacks}
 use Rattle.session_model.specs.Courses.Settles.{settles as settles_all}
@@ -53,7 +49,7 @@ use Rattle.session_model.specs.Refreshing.{Done, FailsBy, Fetches, FetchesAll, N
 use Rattle.session_model.specs.Refreshing.Fetches.{no_heads, of_heads, of_own, wants_heads as fetch_heads}
 use Rattle.session_model.specs.Refreshing.FetchesAll.{all as fetches_all, goes_on as fetches_on, stays as fetches_stay}
 use Rattle.session_model.specs.Refreshing.Refreshes.{fetching, loading}
-use Rattle.session_model.specs.Sessions.{Cache, Gets, Hears, Publishing, Refreshing, Session, Takes, TakesAll, Wants, pending_block, wanted_key, with_part}
+use Rattle.session_model.specs.Sessions.{Cache, Gets, Hears, Refreshing, Session, Takes, TakesAll, Wants, pending_block, wanted_key, with_part}
 use Rattle.session_model.specs.Sessions.Gets.{content as got_content, heads as got_heads}
 use Rattle.session_model.specs.Sessions.Hears.{gets_on, got, puts, puts_on}
 use Rattle.session_model.specs.Sessions.Takes.{cached, posted}
@@ -63,21 +59,18 @@ use Rattle.round_laws.specs.Holding.{rank}
 use Rattle.round_laws.specs.RingOf.{links_in}
 use Rattle.round_laws.proofs.Rounding.{shapes_of}
 use Rattle.world_model.specs.Agents.{Agent, Kept, TakesTurn, own, own_reach}
-use Rattle.world_model.specs.Calls.{BeginsWith, Sending}
 use Rattle.world_model.specs.Fates.{FateOf}
-use Rattle.world_model.specs.Keepers.{fails_next}
 use Rattle.world_model.specs.Logs.{Played}
-use Rattle.world_model.specs.Steps.{Acts, RunsOut, Scene, Steps, after_turn, ask_told, met_by, turn_told, with_cache, world_after}
+use Rattle.world_model.specs.Steps.{Acts, RunsOut, Scene, Steps, ask_told, with_cache}
 use Rattle.world_model.specs.Steps.Acts.{asks, asks_in_vain, is_refused, settles, turns}
 use Rattle.world_model.specs.Steps.RunsOut.{is_over as runs_over, more as runs_more}
 use Rattle.world_model.specs.Steps.Steps.{acts, lacks_memory}
-use Rattle.world_model.specs.Steps.StepsOn.{more as steps_more, none as steps_none}
-use Rattle.world_model.specs.Story.{HadTurn, Knowing, Story, beginning, having_begun, knowing_of, known_of}
-use Rattle.world_model.specs.World.{Participant, World, named_bytes, participant, with_participant}
+use Rattle.world_model.specs.Story.{HadTurn, Knowing, Story, knowing_of, known_of}
+use Rattle.world_model.specs.World.{Participant, World, named_bytes, participant}
 use Rattle.world_laws.specs.Headline.{IsOnReplay}
-use Rattle.world_laws.specs.Keeps.{IsMetHead, IsSoundSession, Keeps}
+use Rattle.world_laws.specs.Keeps.{IsSoundSession, Keeps}
 use Rattle.world_laws.proofs.Bringing.{found_named, its_key, its_view}
-use Rattle.world_laws.proofs.CalmGets.{AreGot, IsGivenHead, IsOwnedAs, head_given}
+use Rattle.world_laws.proofs.CalmGets.{AreGot, IsOwnedAs, head_given}
 use Rattle.world_laws.proofs.CalmHeld.{IsStillWorld, post_rank_is}
 use Rattle.world_laws.proofs.CalmNodes.{HeldStays, IsHeld, IsOfKind}
 use Rattle.world_laws.proofs.CalmPuts.{IsAckHeld, block_of, entries_by, kind_of}
@@ -214,11 +207,13 @@ module _ (r : ℕ) (w : Played) (world : IsStillWorld r w) (backed : IsBackedWor
     where
       by : (x : Result (List Judged) Miss) → came ≡ x → PartNewest (HeadsOf owner came)
       by (Err miss) e = subst (λ x. PartNewest (HeadsOf owner x)) (sym e) tt
-      by (Ok heads) e = subst (λ x. PartNewest (HeadsOf owner x)) (sym e) (λ q q_in same.
-          let given = head_given r (shapes_of world.run.made) (links_in world.run.made) world.run.made.asked world.run.first.ring (Contains w.0.met) (IsLeft w.0) w.0 v (head_key_of (own q.agent)) (own_reach q.agent) trail came (newest_owned q q_in) ring so
-          (subst (λ o. IsGetOfHead (hss_judged (head_key_of o)) (head_key_of o) r (entries_by (shapes_of world.run.made)) trail came) (sym same) get) in
-          (given.one, subst (λ l. Contains l given.one) (some_heads given.heads heads (sym given.came_is ∙ e)) given.among, given.newer),
-          heads_so Either (head_key_of owner) r (entries_by (shapes_of world.run.made)) trail heads came get e given_so)
+      by (Ok heads) e = subst (λ x. PartNewest (HeadsOf owner x)) (sym e) (
+        λ q q_in same.
+            let given = head_given r (shapes_of world.run.made) (links_in world.run.made) world.run.made.asked world.run.first.ring (Contains w.0.met) (IsLeft w.0) w.0 v (head_key_of (own q.agent)) (own_reach q.agent) trail came (newest_owned q q_in) ring so
+            (subst (λ o. IsGetOfHead (hss_judged (head_key_of o)) (head_key_of o) r (entries_by (shapes_of world.run.made)) trail came) (sym same) get) in
+            (given.one, subst (λ l. Contains l given.one) (some_heads given.heads heads (sym given.came_is ∙ e)) given.among, given.newer),
+        heads_so Either (head_key_of owner) r (entries_by (shapes_of world.run.made)) trail heads came get e given_so,
+      )
         where
           some_heads : (a b : List Judged) → ◌≡◌ {A = Result (List Judged) Miss} (Ok a) (Ok b) → a ≡ b
           some_heads a b f = cc f

@@ -1,5 +1,5 @@
--- Completeness: in calm scripts no whole call fails for want of a block; and in tidy ones, while no session is open, its turn takes all that the members have written. Proved of those with the same ring is that no
--- call misses a block, that of each log a head was put, and that stores have room and puts are acknowledged; `CallsTakeAll` is stated alone so far.
+-- Completeness: in calm scripts no whole call fails for want of a block; and in tidy ones, while no session is open, its turn takes all that the members have written, and nothing else. Proved of those with the same
+-- ring is all of it: that no call misses a block, that of each log a head was put, that stores have room and puts are acknowledged, and that turns take all.
 use Rattle.std.specs.Prelude.{◌≡◌, ◌≢◌, ◌↔◌, ◌≤◌, true, false, ℕ, length, sum_by, List, [], ◌∷◌, ◌++◌, Contains, Option, Some, None, is_some, Result, Bool}
 use Rattle.std.specs.List.{AllByRecursion}
 use Rattle.ivy_base.specs.declared.key.Key.{Key}
