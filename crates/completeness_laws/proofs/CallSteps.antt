@@ -1,4 +1,4 @@
--- The steps of a whole call in a calm script with the same ring, where of each log a head was put: it refreshes so, or it is past that and has missed nothing.
+-- The steps of a whole call in a calm script, where of each log a head was put: it refreshes so, or it is past that and has missed nothing.
 use Rattle.std.proofs.Common.{◌≡◌, ◌⊎◌, inl, inr, ⊎_elim, ℕ, Bool, true, false, cond, List, ◌∷◌, ◌++◌, map, Option, Some, None, Ok, refl, sym, ap, ◌∙◌, subst, Contains}
 use Rattle.std.specs.List.{AllByRecursion}
 use Rattle.std.specs.Str.{bytes_eq}
@@ -51,24 +51,23 @@ use Rattle.world_model.specs.Steps.Steps.{acts, lacks_memory}
 use Rattle.world_model.specs.Story.{Story, beginning, having_begun, known_of}
 use Rattle.world_model.specs.World.{Participant, World, named_bytes, participant, with_participant}
 use Rattle.world_laws.specs.Keeps.{AreParticipants, Keeps}
-use Rattle.world_laws.proofs.CalmHeld.{IsStillWorld}
-use Rattle.world_laws.proofs.CalmNodes.{HeldStays, kept_ring, same_rings}
-use Rattle.round_laws.specs.RingOf.{links_in}
-use Rattle.round_laws.proofs.Rounding.{shapes_of}
-use Rattle.world_laws.proofs.CalmLines.{entries_are}
-use Rattle.world_laws.proofs.CalmStates.{IsLeft, found_placed}
+use Rattle.world_laws.proofs.CalmNodes.{HeldStays, same_rings}
+use Rattle.world_laws.proofs.CalmStates.{found_placed}
 use Rattle.world_laws.proofs.Frames.{into_map, same_keys}
 use Rattle.world_laws.proofs.OneSteps.{GoesWell}
 use Rattle.world_laws.proofs.SessionLinesSteps.{Leads, step_leads}
 use Rattle.world_laws.proofs.SignedAmong.{from_met}
 use Rattle.world_laws.proofs.SignedHeads.{from_map}
 use Rattle.world_laws.proofs.TakingOn.{taking_keeps}
+use Rattle.durability_laws.proofs.Lines.{entries_are}
+use Rattle.durability_laws.proofs.States.{kept_ring}
 use Rattle.completeness_laws.specs.Completeness.{HaveHeads}
 use Rattle.completeness_laws.proofs.Backed.{IsBackedIn}
 use Rattle.completeness_laws.proofs.Calls.{AllKinds, IsFetched, IsRinged, all_brought, heard_kept, not_at_hand, takes_all_so, wanted_member}
 use Rattle.completeness_laws.proofs.HeldHeads.{IsHeardPut, fate_heard, more_heard}
 use Rattle.completeness_laws.proofs.Known.{floor_there, owned}
 use Rattle.completeness_laws.proofs.Stages.{IsMet, StageSo}
+use Rattle.completeness_laws.proofs.Standing.{IsCalmWorld, ring_of}
 use Rattle.completeness_laws.proofs.Steps.{SceneSo, all_some, cached_backed, fate_same, its_backed, step_so, takes_all_heard, takes_all_same}
 use Rattle.completeness_laws.proofs.Turns.{refused_same}
 use Rattle.completeness_laws.proofs.Walks.{IsBack, back_of, never_fails}
@@ -139,7 +138,7 @@ module _ (r : ℕ) where
 
 -- ---- in it
 
-module _ (r : ℕ) (w : Played) (world : IsStillWorld r w) (backed : IsBackedWorld w.0 w.1) (apart : NamesTellApart (named_bytes w.0)) (no_key : (p : Participant) → Contains w.0.participants p → Contains w.0.met (own p.agent).0 → ⊥) (have : HaveHeads w) where
+module _ (r : ℕ) (w : Played) (world : IsCalmWorld r w) (backed : IsBackedWorld w.0 w.1) (apart : NamesTellApart (named_bytes w.0)) (no_key : (p : Participant) → Contains w.0.participants p → Contains w.0.met (own p.agent).0 → ⊥) (have : HaveHeads w) where
   pub met_apart : NamesTellApart w.0.met
   met_apart a b in_a in_b same = apart a b (Contains-append_left w.0.met _ a in_a) (Contains-append_left w.0.met _ b in_b) same
 
@@ -219,7 +218,7 @@ module _ (r : ℕ) (w : Played) (world : IsStillWorld r w) (backed : IsBackedWor
     pub in_call : IsInCall (with_cache hss_judged r c p taken cache)
     in_call = (let kept = taking_keeps c r p taken cache h.well.keeps h.well.hand found (all_some takes) in record {
       well = record { keeps = kept.0; hand = kept.1; ringed = h.well.ringed };
-      ring = kept_ring r (shapes_of world.run.made) (links_in world.run.made) world.run.made.asked world.run.first.ring c.world (with_participant c.world (record p { cache = cache })) (same_rings c.world (with_participant c.world (record p { cache = cache })) refl refl refl refl) h.ring;
+      ring = kept_ring (ring_of r w world) c.world (with_participant c.world (record p { cache = cache })) (same_rings c.world (with_participant c.world (record p { cache = cache })) refl refl refl refl) h.ring;
       kinds = λ id n at. h.kinds id n at;
       held = λ k kind least m i. h.held k kind least m i;
       met_same = h.met_same;
@@ -270,7 +269,7 @@ module _ (r : ℕ) (w : Played) (world : IsStillWorld r w) (backed : IsBackedWor
         by_end _ (goes_on none) e = inl (record {
           well = then_well;
           ring = subst (λ (x : Scene). IsRinged r w world backed met_apart have x.world) (sym e)
-              (kept_ring r (shapes_of world.run.made) (links_in world.run.made) world.run.made.asked world.run.first.ring v (with_participant v (record p { cache = cache })) (same_rings v (with_participant v (record p { cache = cache })) refl refl refl refl) kept.1);
+              (kept_ring (ring_of r w world) v (with_participant v (record p { cache = cache })) (same_rings v (with_participant v (record p { cache = cache })) refl refl refl refl) kept.1);
           kinds = subst (λ (x : Scene). AllKinds r w world backed met_apart have x.world) (sym e) (λ id n at. kept.2 id n at);
           held = subst (λ (x : Scene). HeldStays w.0 x.world) (sym e) (λ k kind least m i. kept.3 k kind least m i);
           met_same = met_next;
@@ -301,7 +300,7 @@ module _ (r : ℕ) (w : Played) (world : IsStillWorld r w) (backed : IsBackedWor
   refused_so c h p is_p view _ _ _ _ in_view refusal (begins_anew notes given xid asked end after saving done asks_it turned refused few) next is then_well so = inl (record {
     well = then_well;
     ring = subst (λ (x : Scene). IsRinged r w world backed met_apart have x.world) (sym is)
-        (kept_ring r (shapes_of world.run.made) (links_in world.run.made) world.run.made.asked world.run.first.ring c.world (world_after c.world (after_turn p after saving)) (same_rings c.world (world_after c.world (after_turn p after saving)) refl refl refl refl) h.ring);
+        (kept_ring (ring_of r w world) c.world (world_after c.world (after_turn p after saving)) (same_rings c.world (world_after c.world (after_turn p after saving)) refl refl refl refl) h.ring);
     kinds = subst (λ (x : Scene). AllKinds r w world backed met_apart have x.world) (sym is) (λ id n at. h.kinds id n at);
     held = subst (λ (x : Scene). HeldStays w.0 x.world) (sym is) (λ k kind least m i. h.held k kind least m i);
     met_same = subst (λ (x : Scene). (b : List ℕ) → Contains x.world.met b → Contains w.0.met b) (sym is) met_then;
@@ -392,8 +391,8 @@ module _ (r : ℕ) (w : Played) (world : IsStillWorld r w) (backed : IsBackedWor
   begins_on keeps s _ c well is_by in_view (begins_alone given by) is = inr (subst (λ (x : Scene). IsPast x.session) (sym is) ((λ e. cc e), refl))
   begins_on keeps s _ c well is_by in_view (begins_refreshing xid asked asks_it) is = inl (record {
     well = well;
-    ring = subst (λ (x : Scene). IsRinged r w world backed met_apart have x.world) (sym is) world.still;
-    kinds = subst (λ (x : Scene). AllKinds r w world backed met_apart have x.world) (sym is) world.good.kinds;
+    ring = subst (λ (x : Scene). IsRinged r w world backed met_apart have x.world) (sym is) world.state.still;
+    kinds = subst (λ (x : Scene). AllKinds r w world backed met_apart have x.world) (sym is) world.state.good.orderly;
     held = subst (λ (x : Scene). HeldStays w.0 x.world) (sym is) (λ k kind least m i. i);
     met_same = subst (λ (x : Scene). (b : List ℕ) → Contains x.world.met b → Contains w.0.met b) (sym is) (λ b m. m);
     keys_same = ap (λ (x : Scene). map (λ (y : Participant). (own y.agent).0) x.world.participants) is;
@@ -408,6 +407,6 @@ module _ (r : ℕ) (w : Played) (world : IsStillWorld r w) (backed : IsBackedWor
       parts = tt;
       floor = each_from _ s.view.members (λ owner member t at. floor_of w.0 w.1 keeps (λ b m. m) refl refl backed s.by s.by.name is_by s.view in_view owner member t at);
       members = members_of w.0 refl s.view (owned w keeps apart no_key backed s.by s.by.name is_by s.view in_view);
-      entries = entries_are r (shapes_of world.run.made) (links_in world.run.made) world.run.made.asked world.run.first.ring (Contains w.0.met) (IsLeft w.0) w.0 world.still;
+      entries = entries_are (ring_of r w world) w.0 world.state.still;
     });
   })

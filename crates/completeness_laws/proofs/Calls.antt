@@ -1,4 +1,4 @@
--- A whole call in a calm script with the same ring, where of each log a head was put: its refresh misses nothing.
+-- A whole call in a calm script, where of each log a head was put: its refresh misses nothing.
 use Rattle.std.proofs.Common.{◌≡◌, ◌≢◌, ◌⊎◌, inl, inr, ⊎_elim, ℕ, Bool, true, false, cond, ◌&&◌, not, List, [], ◌∷◌, ◌++◌, find, Option, Some, None, Result, Ok, Err, refl, sym, ap, ◌∙◌, subst, arith, Contains}
 use Rattle.std.specs.Prelude.{nat_eq, option_and_then}
 use Rattle.std.specs.List.{AllByRecursion}
@@ -58,20 +58,22 @@ use Rattle.world_model.specs.Fates.{FateOf, asking}
 use Rattle.world_model.specs.Fates.Fates.{more as fates_more, none as fates_none}
 use Rattle.world_model.specs.Logs.{Played}
 use Rattle.round_laws.specs.Holding.{held_in}
-use Rattle.round_laws.specs.RingOf.{links_in, own_node}
-use Rattle.round_laws.proofs.Nodes.{Shape, order_by}
-use Rattle.round_laws.proofs.Rounding.{shapes_of}
+use Rattle.round_laws.specs.RingOf.{own_node}
+use Rattle.round_laws.proofs.Nodes.{order_by}
 use Rattle.round_laws.proofs.Storing.{under}
-use Rattle.world_laws.proofs.CalmNodes.{HeldStays, HoldKinds, IsHeld, IsOfKind, IsRing}
-use Rattle.world_laws.proofs.CalmPuts.{IsAckHeld, entries_by, kind_of}
-use Rattle.world_laws.proofs.CalmStates.{IsLeft, OfContent, OfHeads}
-use Rattle.world_laws.proofs.CalmGets.{AreGot, IsOwnedAs, block_given, gets_go, head_given}
-use Rattle.world_laws.proofs.CalmHeld.{IsStillWorld}
+use Rattle.world_laws.proofs.CalmNodes.{HeldStays, IsHeld}
+use Rattle.world_laws.proofs.CalmPuts.{entries_by, kind_of}
 use Rattle.world_laws.proofs.TakingOn.{brought_then}
+use Rattle.durability_laws.proofs.BlockKinds.{IsOf}
+use Rattle.durability_laws.proofs.Gets.{AreGot, IsOwnedAs, block_given, gets_go, head_given}
+use Rattle.durability_laws.proofs.Holding.{AreOrderly}
+use Rattle.durability_laws.proofs.Stretches.{IsAckHeld, IsRingOf, Stretch}
+use Rattle.durability_laws.proofs.Worlds.{acked_on}
 use Rattle.completeness_laws.specs.Completeness.{HaveHeads}
 use Rattle.completeness_laws.specs.Put.{IsPutOr, WasPut}
 use Rattle.completeness_laws.proofs.Stages.{IsEntryPut, IsMet, heads_put}
 use Rattle.completeness_laws.proofs.HeldHeads.{IsHeardPut}
+use Rattle.completeness_laws.proofs.Standing.{IsCalmWorld, ring_of}
 use Rattle.completeness_laws.proofs.UpTo.{up_to_weaker}
 use Rattle.completeness_laws.proofs.Walks.{BroughtSo, FloorSo, IsBack, back_of}
 use Rattle.completeness_laws.proofs.Worlds.{IsBackedWorld}
@@ -96,22 +98,21 @@ posted_so posts one c none = found_some (λ (p : Post). not (is_head p.kind) && 
     not_found None e = refl
     not_found (Some p) e = cc e
 
-module _ (r : ℕ) (w : Played) (world : IsStillWorld r w) (backed : IsBackedWorld w.0 w.1) (apart : NamesTellApart w.0.met) (have : HaveHeads w) where
-  abbrev Base : List Shape
-  Base = shapes_of world.run.made
+module _ (r : ℕ) (w : Played) (world : IsCalmWorld r w) (backed : IsBackedWorld w.0 w.1) (apart : NamesTellApart w.0.met) (have : HaveHeads w) where
+  abbrev Ring : Stretch
+  Ring = ring_of r w world
 
   abbrev pub IsRinged : World → Type 0
-  IsRinged v = IsRing r (shapes_of world.run.made) (links_in world.run.made) world.run.made.asked v
+  IsRinged v = IsRingOf (ring_of r w world) v
 
   abbrev pub AllKinds : World → Type 0
-  AllKinds v = HoldKinds (OfContent r (shapes_of world.run.made) (links_in world.run.made) world.run.made.asked world.run.first.ring (Contains w.0.met) (IsLeft w.0))
-      (OfHeads r (shapes_of world.run.made) (links_in world.run.made) world.run.made.asked world.run.first.ring (Contains w.0.met) (IsLeft w.0)) v
+  AllKinds v = AreOrderly w.0 v
 
   abbrev Owned : Key → Kind → Type 0
-  Owned key kind = IsOwnedAs r (shapes_of world.run.made) (links_in world.run.made) world.run.made.asked world.run.first.ring (Contains w.0.met) (IsLeft w.0) w.0 key kind 0
+  Owned key kind = IsOwnedAs Ring w.0 key kind 0
 
   abbrev Got : List Heard → Type 0
-  Got trail = AreGot r (shapes_of world.run.made) (links_in world.run.made) world.run.made.asked world.run.first.ring (Contains w.0.met) (IsLeft w.0) w.0 trail
+  Got trail = AreGot Ring w.0 trail
 
   -- ---- who holds what was put
 
@@ -132,65 +133,57 @@ module _ (r : ℕ) (w : Played) (world : IsStillWorld r w) (backed : IsBackedWor
   no_head_there : (one : Record) → HasSpelling one → Contains w.0.met (record_block one) → (m : Peer) (least : ℕ) → IsHeld w.0 one.name Head least m → ⊥
   no_head_there one spelled in_met m least h =
       let n = node_holds one.name m h.0 h.1 in
-      let kinds = world.good.kinds m.id n.0 n.1 one.name h.0 n.2 in
-      world.apart one.name (record_block one) h.0.bytes (in_met, sym spelled.named) (of_head h.0.kind h.2 h.0.bytes kinds)
-    where
-      of_head : (k : Kind) → k ≡ Head → (bytes : List ℕ)
-          → IsOfKind (OfContent r (shapes_of world.run.made) (links_in world.run.made) world.run.made.asked world.run.first.ring (Contains w.0.met) (IsLeft w.0))
-          (OfHeads r (shapes_of world.run.made) (links_in world.run.made) world.run.made.asked world.run.first.ring (Contains w.0.met) (IsLeft w.0)) one.name k bytes
-          → OfHeads r (shapes_of world.run.made) (links_in world.run.made) world.run.made.asked world.run.first.ring (Contains w.0.met) (IsLeft w.0) one.name bytes
-      of_head Content e bytes k = cc e
-      of_head Head e bytes k = k
+      world.state.apart one.name (record_block one) h.0.bytes (in_met, sym spelled.named) (subst (λ k. IsOf w.0 one.name k h.0.bytes) h.2 ((world.state.good.orderly m.id n.0 n.1).kinds one.name h.0 n.2))
 
   block_met : (one : Record) → WasPut w.1.acked one → Contains w.0.met (record_block one)
   block_met one put = subst (Contains w.0.met) put.3 (backed.put_met put.0 put.1)
 
-  ack_held : (p : Post) → Contains w.1.acked p → IsAckHeld r (shapes_of world.run.made) (links_in world.run.made) world.run.made.asked world.run.first.ring w.0 p
-  ack_held p c = each (IsAckHeld r (shapes_of world.run.made) (links_in world.run.made) world.run.made.asked world.run.first.ring w.0) w.1.acked p world.good.acked c
+  ack_held : (p : Post) → Contains w.1.acked p → IsAckHeld Ring w.0 p
+  ack_held p c = acked_on r world.stopped w world.state p c
 
   content_owned : (one : Record) → HasSpelling one → WasPut w.1.acked one → Owned one.name Content
   content_owned one spelled put = by (is_head put.0.kind) refl
     where
-      ack : IsAckHeld r (shapes_of world.run.made) (links_in world.run.made) world.run.made.asked world.run.first.ring w.0 put.0
+      ack : IsAckHeld Ring w.0 put.0
       ack = ack_held put.0 put.1
 
-      at_name : (b : Bool) → is_head put.0.kind ≡ b → IsHeld w.0 one.name (cond b Head Content) 0 ack.0
-      at_name b e = subst (λ k. IsHeld w.0 k (cond b Head Content) 0 ack.0) put.2 (subst (λ x. IsHeld w.0 put.0.key (cond x Head Content) 0 ack.0) e (any_rank put.0.key (kind_of put.0) _ ack.0 ack.2.held))
+      at_name : (b : Bool) → is_head put.0.kind ≡ b → IsHeld w.0 one.name (cond b Head Content) 0 ack.owner
+      at_name b e = subst (λ k. IsHeld w.0 k (cond b Head Content) 0 ack.owner) put.2 (subst (λ x. IsHeld w.0 put.0.key (cond x Head Content) 0 ack.owner) e (any_rank put.0.key (kind_of put.0) _ ack.owner ack.holds.held))
 
       by : (b : Bool) → is_head put.0.kind ≡ b → Owned one.name Content
-      by true e = absurd (no_head_there one spelled (block_met one put) ack.0 0 (at_name true e))
-      by false e = record { owner = ack.0; owns = subst (λ k. IsAmong ack.0 (owners place r (order_by Base) (number k))) put.2 ack.1; holds = at_name false e }
+      by true e = absurd (no_head_there one spelled (block_met one put) ack.owner 0 (at_name true e))
+      by false e = record { owner = ack.owner; owns = subst (λ k. IsAmong ack.owner (owners place Ring.r (order_by Ring.base) (number k))) put.2 ack.owns; holds = at_name false e }
 
   head_owned : (q : Participant) → Contains w.0.participants q → Owned (head_key_of (own q.agent)) Head
   head_owned q among =
       let put = have q among in
       let ack = ack_held put.0 put.1 in
       record {
-        owner = ack.0;
-        owns = subst (λ k. IsAmong ack.0 (owners place r (order_by Base) (number k))) put.3 ack.1;
-        holds = subst (λ k. IsHeld w.0 k Head 0 ack.0) put.3 (subst (λ x. IsHeld w.0 put.0.key (cond x Head Content) 0 ack.0) put.2 (any_rank put.0.key (kind_of put.0) _ ack.0 ack.2.held));
+        owner = ack.owner;
+        owns = subst (λ k. IsAmong ack.owner (owners place Ring.r (order_by Ring.base) (number k))) put.3 ack.owns;
+        holds = subst (λ k. IsHeld w.0 k Head 0 ack.owner) put.3 (subst (λ x. IsHeld w.0 put.0.key (cond x Head Content) 0 ack.owner) put.2 (any_rank put.0.key (kind_of put.0) _ ack.owner ack.holds.held));
       }
 
   -- ---- gets
 
-  pub content_got : (v : World) → IsRinged v → (one : Record) → HasSpelling one → WasPut w.1.acked one → (trail : List Heard) (came : Result (List ℕ) Miss) → Got trail → IsGetOfBlock one.name r (entries_by Base) trail came → came ≡ Ok (record_block one)
+  pub content_got : (v : World) → IsRinged v → (one : Record) → HasSpelling one → WasPut w.1.acked one → (trail : List Heard) (came : Result (List ℕ) Miss) → Got trail → IsGetOfBlock one.name r (entries_by Ring.base) trail came → came ≡ Ok (record_block one)
   content_got v ring one spelled put trail came so get =
-      block_given r (shapes_of world.run.made) (links_in world.run.made) world.run.made.asked world.run.first.ring (Contains w.0.met) (IsLeft w.0) world.apart w.0 v one.name 0 (record_block one) trail came (content_owned one spelled put) ring so
+      block_given Ring w.0 v one.name 0 (record_block one) trail came (content_owned one spelled put) ring so
       (block_met one put, sym spelled.named) (λ b c. apart b (record_block one) c.0 (block_met one put) (c.1 ∙ spelled.named)) get
 
   pub head_got : (v : World) → IsRinged v → (q : Participant) → Contains w.0.participants q → (trail : List Heard) (came : Result (List Judged) Miss) → Got trail
-      → IsGetOfHead (hss_judged (head_key_of (own q.agent))) (head_key_of (own q.agent)) r (entries_by Base) trail came → (heads : List Judged) × (came ≡ Ok heads)
+      → IsGetOfHead (hss_judged (head_key_of (own q.agent))) (head_key_of (own q.agent)) r (entries_by Ring.base) trail came → (heads : List Judged) × (came ≡ Ok heads)
   head_got v ring q among trail came so get =
-      let given = head_given r (shapes_of world.run.made) (links_in world.run.made) world.run.made.asked world.run.first.ring (Contains w.0.met) (IsLeft w.0) w.0 v (head_key_of (own q.agent)) 0 trail came (head_owned q among) ring so get in
+      let given = head_given Ring w.0 v (head_key_of (own q.agent)) 0 trail came (head_owned q among) ring so get in
       (given.heads, given.came_is)
 
   -- one ask of a get
   pub ask_got : (key : Key) (question : Ask) → (question ≡ ask.Route key) ⊎ (question ≡ ask.Get key) → (node : Peer) (given : Answer) (v next : World) → FateOf hss_judged v node question given next → IsRinged v → AllKinds v → HeldStays w.0 v
       → IsRinged next × AllKinds next × HeldStays w.0 next × Got (told node question given)
   ask_got key question is_of node given v next fate ring kinds held =
-      let a = gets_go r (shapes_of world.run.made) (links_in world.run.made) world.run.made.asked world.run.first.ring (Contains w.0.met) (IsLeft w.0) world.apart question key is_of ((node, given) ∷ []) (asking question ((node, given) ∷ [])) w.0 v next refl
+      let a = gets_go Ring question key is_of ((node, given) ∷ []) (asking question ((node, given) ∷ [])) w.0 v next refl
       (fates_more node question given fate fates_none) ring kinds held in
-      (a.still, a.kinds, λ k kind least m h. a.held k kind least m h, subst Got (append-nil (told node question given)) a.got)
+      (a.still, a.orderly, λ k kind least m h. a.held k kind least m h, subst Got (append-nil (told node question given)) a.got)
 
   -- ---- what a session was brought
 
@@ -222,7 +215,7 @@ module _ (r : ℕ) (w : Played) (world : IsStillWorld r w) (backed : IsBackedWor
     pub parts : AllByRecursion (PartKept s.standing.pending) (brought_in s.parts)
     pub floor : FloorSo w.1.acked s.standing.pending s.standing s.standing.view.members
     pub members : (owner : PubKey) → Contains s.standing.view.members owner → (q : Participant) × Contains w.0.participants q × (own q.agent ≡ owner)
-    pub entries : s.entries ≡ entries_by Base
+    pub entries : s.entries ≡ entries_by Ring.base
 
   with_part_so : (s : Session) (b : Brought) (asks : List Heard) → IsFetched s → PartKept s.standing.pending b → IsFetched (with_part s b asks)
   with_part_so s b asks h new = record {
@@ -272,18 +265,18 @@ module _ (r : ℕ) (w : Played) (world : IsStillWorld r w) (backed : IsBackedWor
   module _ (clear : (q : Participant) → Contains w.0.participants q → (b : List ℕ) → Contains w.0.met b → name b ≡ head_key_of (own q.agent) → ⊥) where
     -- what a get brings is so
     brought_kept : (s : Session) → IsFetched s → ((key : Key) → Wants hss_judged r s (wants_content key) → pending_block key s.standing.pending ≡ None) → ((owner : PubKey) → Wants hss_judged r s (wants_heads owner) → Contains s.standing.view.members owner)
-        → (v : World) → IsRinged v → (want : Want) → Wants hss_judged r s want → (trail : List Heard) (b : Brought) → Gets hss_judged r (entries_by Base) want trail b → Got trail → AllByRecursion (IsHeardPut w.0.met w.1.acked) trail → PartKept s.standing.pending b
+        → (v : World) → IsRinged v → (want : Want) → Wants hss_judged r s want → (trail : List Heard) (b : Brought) → Gets hss_judged r (entries_by Ring.base) want trail b → Got trail → AllByRecursion (IsHeardPut w.0.met w.1.acked) trail → PartKept s.standing.pending b
     brought_kept s h unposted member v ring _ wants trail _ (got_heads {owner = owner} came get) so heard =
         let q = h.members owner (member owner wants) in
-        let at : (heads : List Judged) × (came ≡ Ok heads) = head_got v ring q.0 q.1 trail came so (subst (λ o. IsGetOfHead (hss_judged (head_key_of o)) (head_key_of o) r (entries_by Base) trail came) (sym q.2) get) in
+        let at : (heads : List Judged) × (came ≡ Ok heads) = head_got v ring q.0 q.1 trail came so (subst (λ o. IsGetOfHead (hss_judged (head_key_of o)) (head_key_of o) r (entries_by Ring.base) trail came) (sym q.2) get) in
         subst (λ x. PartKept s.standing.pending (HeadsOf owner x)) (sym at.1)
         (each_from (λ j. Back s.standing.pending (head_key_of owner) j.seq j.name) at.0 (λ j c.
         entry_back s.standing.pending owner (λ x in_met named. clear q.0 q.1 x in_met (named ∙ ap head_key_of (sym q.2))) j
-        (each (λ (x : Judged). IsEntryPut w.0.met w.1.acked (head_key_of owner, stamp_of x)) at.0 j (heads_put w.0.met w.1.acked (head_key_of owner) r (entries_by Base) trail at.0 came get at.1 heard) c)))
+        (each (λ (x : Judged). IsEntryPut w.0.met w.1.acked (head_key_of owner, stamp_of x)) at.0 j (heads_put w.0.met w.1.acked (head_key_of owner) r (entries_by Ring.base) trail at.0 came get at.1 heard) c)))
     brought_kept s h unposted member v ring _ wants trail _ (got_content {key = key} came get) so heard = by came refl
       where
         not_there : (miss : Miss) → came ≡ Err miss → (one : Record) → key ≡ one.name → HasSpelling one → IsPutOr w.1.acked s.standing.pending one → ⊥
-        not_there miss e one is spelled (inl put) = let right = content_got v ring one spelled put trail came so (subst (λ k. IsGetOfBlock k r (entries_by Base) trail came) is get) in never (sym e ∙ right)
+        not_there miss e one is spelled (inl put) = let right = content_got v ring one spelled put trail came so (subst (λ k. IsGetOfBlock k r (entries_by Ring.base) trail came) is get) in never (sym e ∙ right)
           where
             never : {bytes : List ℕ} → ◌≡◌ {A = Result (List ℕ) Miss} (Err miss) (Ok bytes) → ⊥
             never f = cc f

@@ -70,7 +70,7 @@ stay_then ps qs xs f g n q is = let one = f n q is in let other = g n one.0 one.
 pub same_stay : (ps : List Participant) → KeysStay ps ps
 same_stay ps n q is = (q, is, refl)
 
-equal_stay : (ps qs : List Participant) → qs ≡ ps → KeysStay ps qs
+pub equal_stay : (ps qs : List Participant) → qs ≡ ps → KeysStay ps qs
 equal_stay ps qs same = subst (KeysStay ps) (sym same) (same_stay ps)
 
 -- one in place of another
@@ -264,8 +264,8 @@ found_itself w keeps p among =
     by_name : Participant → List ℕ
     by_name x = x.name
 
-pub names_stay : (w next : Played) (c : Command) (line output : List ℕ) → Keeps w → IsQuiet c → IvyStep w line (Goes next output) → Does hss_judged w c (Goes next output) → NamesTellApart (named_bytes next.0) → NamesTellApart (named_bytes w.0)
-names_stay w next c line output keeps quiet step does apart a b in_a in_b same = apart a b (more a in_a) (more b in_b) same
+pub names_stay : (w next : Played) (line output : List ℕ) → Keeps w → IvyStep w line (Goes next output) → KeysStay w.0.participants next.0.participants → NamesTellApart (named_bytes next.0) → NamesTellApart (named_bytes w.0)
+names_stay w next line output keeps step stay apart a b in_a in_b same = apart a b (more a in_a) (more b in_b) same
   where
     key : Participant → List ℕ
     key p = (own p.agent).0
@@ -275,7 +275,7 @@ names_stay w next c line output keeps quiet step does apart a b in_a in_b same =
         (λ met. Contains-append_left next.0.met (map key next.0.participants) x (met_grows w next line output step x met))
         (λ of_key.
         let from = from_map key w.0.participants x of_key in
-        let then_it = command_stays w next output keeps c quiet does from.0.name from.0 (found_itself w keeps from.0 from.1) in
+        let then_it = stay from.0.name from.0 (found_itself w keeps from.0 from.1) in
         Contains-append_right next.0.met (map key next.0.participants) x
         (subst (Contains (map key next.0.participants)) (ap (λ (o : PubKey). o.0) then_it.2 ∙ sym from.2) (into_map key next.0.participants then_it.0 (found_named next.0.participants from.0.name then_it.0 then_it.1).0)))
         (Contains-append_cases w.0.met (map key w.0.participants) x c_in)

@@ -13,10 +13,13 @@ pub mod RestartLines
 pub mod SnapLines
 pub mod ViewLines
 pub mod KeysStay
+pub mod RoundPuts
+pub mod RingLines
 pub mod Lines
 pub mod Walks
 pub mod Known
 pub mod Whole
+pub mod Standing
 pub mod Calls
 pub mod CallSteps
 pub mod Served
@@ -38,3 +41,4 @@ pub mod NewestCover
 pub mod NewestScenes
 pub mod NewestLines
 pub mod NewestPut
+mod CalmLines

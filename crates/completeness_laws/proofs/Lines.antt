@@ -1,6 +1,5 @@
--- Each line of a calm script with the same ring leaves it so.
-use Rattle.std.proofs.Common.{◌≡◌, ℕ, List, refl, sym, subst}
-use Rattle.std.specs.Prelude.{IfSome}
+-- Each line of a calm script leaves it so.
+use Rattle.std.proofs.Common.{◌≡◌, ⊎_elim, ℕ, List, Some, refl, sym, ◌∙◌, subst}
 use Rattle.ivy_base.specs.Naming.{NamesTellApart}
 use Rattle.log_heads.specs.Signed.{hss_judged}
 use Rattle.script_driver.specs.Run.{Ends, Goes, Outcome}
@@ -9,20 +8,22 @@ use Rattle.script_model.specs.declared.command.Command.{Command}
 use Rattle.script_model.specs.declared.command.Command.TheVariants as command
 use Rattle.world_model.specs.Calls.{sending_of}
 use Rattle.world_model.specs.Logs.{Played, keys_of, use_line}
-use Rattle.world_model.specs.Step.{Does}
+use Rattle.world_model.specs.Step.{Does, IvyStep}
 use Rattle.world_model.specs.World.{named_bytes, participant, session_named, view_named}
-use Rattle.world_laws.specs.Calm.{Calmly, HasSameRing, IsQuiet, Since}
+use Rattle.world_laws.specs.Calm.{Calmly, IsCalm, IsQuiet, Since}
 use Rattle.world_laws.specs.Calm.Calmly.{more as calmly_more, none as calmly_none}
 use Rattle.world_laws.specs.Keeps.{Keeps}
 use Rattle.world_laws.specs.Laws.{IsStill, LinesKeep}
 use Rattle.world_laws.proofs.AllLines.{does_line}
+use Rattle.world_laws.proofs.CalmRuns.{some_command}
 use Rattle.world_laws.proofs.LineFits.{Fits, command_fits}
 use Rattle.world_laws.proofs.Lines.{ToSuch}
 use Rattle.world_laws.proofs.Still.{still_lines}
 use Rattle.completeness_laws.proofs.CallLines.{as_so, finish_so, open_so, step_so}
-use Rattle.completeness_laws.proofs.KeysStay.{names_stay}
+use Rattle.completeness_laws.proofs.KeysStay.{KeysStay, command_stays, equal_stay, names_stay}
 use Rattle.completeness_laws.proofs.LogLines.{log_so}
 use Rattle.completeness_laws.proofs.RestartLines.{restart_so}
+use Rattle.completeness_laws.proofs.RingLines.{calm_kind, ring_changes, ring_so}
 use Rattle.completeness_laws.proofs.SnapLines.{snap_so}
 use Rattle.completeness_laws.proofs.Steps.{met_apart}
 use Rattle.completeness_laws.proofs.UseLines.{IsThenBacked, use_so}
@@ -71,19 +72,34 @@ module _ (w next : Played) (output : List ℕ) (keeps : Keeps w) (kept : Keeps n
 
 -- ---- runs
 
+-- a line of a calm script
+pub calm_line : {r : ℕ} {since after : Since} (w next : Played) (output : List ℕ) (c : Command) → Keeps w → Keeps next → NamesTellApart (named_bytes next.0) → IsCalm w.0 r since c after → Fits c → Does hss_judged w c (Goes next output) → IsBackedWorld w.0 w.1 → IsBackedWorld next.0 next.1
+calm_line w next output c keeps kept apart calm fits does h = ⊎_elim (λ quiet. command_so w next output keeps kept apart h c quiet fits does) (λ ring. ring_so w next output c keeps ring does h) (calm_kind calm)
+
+-- it forgets nobody
+pub calm_stays : {r : ℕ} {since after : Since} (w next : Played) (output : List ℕ) (c : Command) → Keeps w → IsCalm w.0 r since c after → Does hss_judged w c (Goes next output) → KeysStay w.0.participants next.0.participants
+calm_stays w next output c keeps calm does = ⊎_elim
+    (λ quiet. command_stays w next output keeps c quiet does)
+    (λ ring. equal_stay w.0.participants next.0.participants (ring_changes (λ kind key bytes. Unit {0}) w next output c ring does).0.participants)
+    (calm_kind calm)
+
+-- what such a line's command does
+pub calm_does : (v mid : Played) (line output : List ℕ) (c : Command) → command_of line ≡ Some c → IvyStep v line (Goes mid output) → Fits c × Does hss_judged v c (Goes mid output)
+calm_does v mid line output c is step =
+    let done = does_line v mid output (command_of line) step in
+    let same = some_command done.0 c (sym done.1 ∙ is) in
+    (subst Fits same (command_fits line done.0 done.1), subst (λ d. Does hss_judged v d (Goes mid output)) same done.2)
+
 module _ (lines_keep : LinesKeep) where
   -- names that tell apart in the end did so before
-  pub apart_first : {r : ℕ} {v w : Played} {since after : Since} {lines : List (List ℕ)} → Calmly r v since lines w after → HasSameRing lines → Keeps v → NamesTellApart (named_bytes w.0) → NamesTellApart (named_bytes v.0)
-  apart_first calmly_none same keeps apart = apart
-  apart_first (calmly_more {w = v} {mid = mid} {line = line} c output is calm step rest) same keeps apart =
-      let done = does_line v mid output (command_of line) step in
-      names_stay v mid done.0 line output keeps (subst (λ o. IfSome o IsQuiet) done.1 same.0) step done.2 (apart_first rest same.1 (lines_keep v mid line output keeps step) apart)
+  pub apart_first : {r : ℕ} {v w : Played} {since after : Since} {lines : List (List ℕ)} → Calmly r v since lines w after → Keeps v → NamesTellApart (named_bytes w.0) → NamesTellApart (named_bytes v.0)
+  apart_first calmly_none keeps apart = apart
+  apart_first (calmly_more {w = v} {mid = mid} {line = line} c output is calm step rest) keeps apart =
+      names_stay v mid line output keeps step (calm_stays v mid output c keeps calm (calm_does v mid line output c is step).1) (apart_first rest (lines_keep v mid line output keeps step) apart)
 
-  pub runs_backed : {r : ℕ} {v w : Played} {since after : Since} {lines : List (List ℕ)} → Calmly r v since lines w after → HasSameRing lines → Keeps v → NamesTellApart (named_bytes w.0) → IsBackedWorld v.0 v.1 → IsBackedWorld w.0 w.1
-  runs_backed calmly_none same keeps apart h = h
-  runs_backed (calmly_more {w = v} {mid = mid} {line = line} c output is calm step rest) same keeps apart h =
-      let done = does_line v mid output (command_of line) step in
+  pub runs_backed : {r : ℕ} {v w : Played} {since after : Since} {lines : List (List ℕ)} → Calmly r v since lines w after → Keeps v → NamesTellApart (named_bytes w.0) → IsBackedWorld v.0 v.1 → IsBackedWorld w.0 w.1
+  runs_backed calmly_none keeps apart h = h
+  runs_backed (calmly_more {w = v} {mid = mid} {line = line} c output is calm step rest) keeps apart h =
+      let done = calm_does v mid line output c is step in
       let kept = lines_keep v mid line output keeps step in
-      let here = apart_first rest same.1 kept apart in
-      runs_backed rest same.1 kept apart
-      (command_so v mid output keeps kept here h done.0 (subst (λ o. IfSome o IsQuiet) done.1 same.0) (command_fits line done.0 done.1) done.2)
+      runs_backed rest kept apart (calm_line v mid output c keeps kept (apart_first rest kept apart) calm done.0 done.1 h)

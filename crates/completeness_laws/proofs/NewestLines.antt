@@ -10,18 +10,14 @@ use Rattle.ivy_base.specs.Naming.{head_key_of}
 use Rattle.ivy_base.proofs.NameLemmas.{bytes-name, length-name}
 use Rattle.hash_signature_model.specs.declared.set.Set.{Set}
 use Rattle.hss_keys.specs.Saved.{IsSigner}
-use Rattle.hss_keys.specs.Signer.{Signer, hss_key_of}
-use Rattle.ring_model.specs.Members.{IsAmong}
-use Rattle.ring_model.specs.Ring.{Links}
+use Rattle.hss_keys.specs.Signer.{hss_key_of}
 use Rattle.ring_model.proofs.Lists.{all_weaker}
 use Rattle.log_heads.specs.Signed.{hss_judged}
 use Rattle.log_model.specs.Chain.{opening}
 use Rattle.log_model.specs.Rank.{own_entry}
-use Rattle.log_model.specs.Record.{Record}
 use Rattle.log_model.specs.View.{View}
 use Rattle.log_model.specs.Vector.{reach, seq_of}
 use Rattle.log_model.proofs.Lists.{each, each_append, each_from, from_filter, here, in_cons, in_filter, in_nothing, there}
-use Rattle.dht_ids.specs.declared.peer.Peer.{Peer}
 use Rattle.dht_ids.specs.declared.post.Post.{Post}
 use Rattle.snapshot_model.specs.Spelling.{root_name, snapshot_blocks}
 use Rattle.agent_model.specs.Agent.{entered, failed, head_post, is_head, kept_of, own_key, record_post, restored}
@@ -33,7 +29,7 @@ use Rattle.script_model.specs.declared.command.Command.{Command}
 use Rattle.script_model.specs.declared.command.Command.TheVariants as command
 use Rattle.session_model.specs.Courses.Begins.{alone as begins_alone, refreshes as begins_refreshing}
 use Rattle.session_model.specs.Sessions.{Over, Said, Session, in_publishing_order}
-use Rattle.round_laws.proofs.Nodes.{Shape, made_by, ties}
+use Rattle.round_laws.proofs.Nodes.{ties}
 use Rattle.world_model.specs.Agents.{Agent, Entering, IsKept, Kept, entering, hss, opened, own, own_reach}
 use Rattle.world_model.specs.Calls.{AsLine, BeginsWith, FinishLine, OpenLine, Sending, StepLine, replied, scene_of, sending_of}
 use Rattle.world_model.specs.Calls.AsLine.{calls}
@@ -56,11 +52,8 @@ use Rattle.world_laws.specs.Calm.{IsQuiet}
 use Rattle.world_laws.specs.Keeps.{AreApart as NoneTwice, IsKeptSo, IsSavedWell, Keeps, SignsOnce}
 use Rattle.world_laws.specs.Laws.{IsStill}
 use Rattle.world_laws.proofs.Bringing.{found_named}
-use Rattle.world_laws.proofs.CalmLines.{LineGoes, each_filtered, entries_are, newcomer_found, newcomer_goes, publishes_go, sent_step}
-use Rattle.world_laws.proofs.CalmNodes.{IsMadeRing, IsRing, kept_ring}
-use Rattle.world_laws.proofs.CalmScenes.{runs_go, steps_go}
-use Rattle.world_laws.proofs.CalmSteps.{placed_good, placed_ring}
-use Rattle.world_laws.proofs.CalmStates.{AreApart, InStep, IsGood, IsMore, IsOwnPost, IsUpTo, found_placed, less_up_to, more_posts, placed_more, posts_at}
+use Rattle.world_laws.proofs.CalmLines.{each_filtered}
+use Rattle.world_laws.proofs.CalmStates.{IsMore, IsOwnPost, found_placed, more_posts, more_then, placed_more, posts_at}
 use Rattle.world_laws.proofs.Frames.{into_map}
 use Rattle.world_laws.proofs.Lines.{ToSuch}
 use Rattle.world_laws.proofs.LineFits.{Fits}
@@ -72,6 +65,12 @@ use Rattle.world_laws.proofs.SignedAmong.{met_stays, met_then}
 use Rattle.world_laws.proofs.SignedHeads.{from_map, so_of}
 use Rattle.world_laws.proofs.Still.{still_lines}
 use Rattle.world_laws.proofs.WholePublishing.{each_published}
+use Rattle.durability_laws.proofs.Lines.{entries_are, newcomer_found, newcomer_goes, publishes_go, sent_step}
+use Rattle.durability_laws.proofs.Rooms.{total}
+use Rattle.durability_laws.proofs.Scenes.{runs_go, steps_go}
+use Rattle.durability_laws.proofs.States.{InStep, IsGood, WorldGoes, kept_ring}
+use Rattle.durability_laws.proofs.Steps.{placed_good, placed_ring}
+use Rattle.durability_laws.proofs.Stretches.{IsRingOf, Stretch}
 use Rattle.completeness_laws.specs.Completeness.{FitsItsKey, HasNoneOpen, IsTidyAt}
 use Rattle.completeness_laws.proofs.Backed.{IsBackedIn, IsBackedKept}
 use Rattle.completeness_laws.proofs.CallLines.{begun_well, open_well}
@@ -81,7 +80,6 @@ use Rattle.completeness_laws.proofs.NewestCover.{HasNewest, IsCovered, head_publ
 use Rattle.completeness_laws.proofs.NewestScenes.{AllSound, FitSession, Flows, FlowsOn, IsGoodIn, flows_weaker, good_then, placed_all, step_flow}
 use Rattle.completeness_laws.proofs.PutsAcked.{AreFine}
 use Rattle.completeness_laws.proofs.Steps.{its_backed}
-use Rattle.completeness_laws.proofs.StoreRoom.{total}
 use Rattle.completeness_laws.proofs.UseLines.{by_saves}
 use Rattle.completeness_laws.proofs.Turns.{never_fails}
 use Rattle.completeness_laws.proofs.ViewLines.{fates_same}
@@ -141,19 +139,21 @@ placed_fit P name s (x ∷ xs) h all = (by (bytes_eq x.name name), placed_fit P 
     by true = h
     by false = all.0
 
-module _ (r : ℕ) (base : List Shape) (links : Peer → Links Peer) (start : ℕ) (ring : IsMadeRing r base links) (met : List (List ℕ)) (fits_it : total met ≤ most_bytes) (e : Peer) (made : IsAmong e (made_by base))
-    (Met Left : List ℕ → Type 0) (told_apart : AreApart r base links start ring Met Left) (all_met : (b : List ℕ) → Met b → Contains met b) where
+module _ (ring : Stretch) (met : List (List ℕ)) (fits_it : total met ≤ most_bytes) (all_met : (b : List ℕ) → Contains ring.end.met b → Contains met b) where
+  less_up : (v next : World) → IsMore v next → IsMore next ring.end → IsMore v ring.end
+  less_up v next more up = more_then v next ring.end more up
+
   abbrev Up : World → Type 0
-  Up v = IsUpTo r base links start ring Met Left v
+  Up v = IsMore v ring.end
 
   abbrev Fit : Session → Type 0
-  Fit s = FitSession r base links start ring met fits_it e made s
+  Fit s = FitSession ring met fits_it s
 
   abbrev FlowsIn : List NamedSession → List NamedSession → Scene → Type 0
-  FlowsIn ss others c = Flows r base links start ring met fits_it e made ss others c
+  FlowsIn ss others c = Flows ring met fits_it ss others c
 
   abbrev GoodIn : List NamedSession → List NamedSession → Scene → Type 0
-  GoodIn ss others c = IsGoodIn r base links start ring met fits_it e made ss others Met Left told_apart all_met c
+  GoodIn ss others c = IsGoodIn ring met fits_it ss others all_met c
 
   saved_at : (v : World) (st : Story) → Keeps (v, st) → (name : List ℕ) (p : Participant) → participant v name ≡ Some p → IsKept (kept_of p.agent)
   saved_at v st keeps name p is_p = (each (IsKeptSo IsSavedWell) v.participants p keeps.saved (found_named v.participants name p is_p).0).3.agent
@@ -161,48 +161,48 @@ module _ (r : ℕ) (base : List Shape) (links : Peer → Links Peer) (start : �
   -- ---- runs
 
   module _ (ss others : List NamedSession) (name : List ℕ) where
-    hand_step : {c next : Scene} → Steps hss_judged r name c next → c.session.by ≡ name → GoesWell r c → GoesWell r next × (next.session.by ≡ name)
+    hand_step : {c next : Scene} → Steps hss_judged ring.r name c next → c.session.by ≡ name → GoesWell ring.r c → GoesWell ring.r next × (next.session.by ≡ name)
     hand_step {c} {next} step named well =
-        let led = step_leads r name c next named well.keeps well.hand well.ringed step in
+        let led = step_leads ring.r name c next named well.keeps well.hand well.ringed step in
         (record { keeps = led.leaves.0; hand = led.leaves.1; ringed = led.same.replicas ∙ well.ringed }, led.same.call.0 ∙ named)
 
-    one_step : {c next : Scene} → Steps hss_judged r name c next → c.session.by ≡ name → GoesWell r c → Up next.world → GoodIn ss others c → FlowsIn ss others c → GoodIn ss others next × FlowsIn ss others next
+    one_step : {c next : Scene} → Steps hss_judged ring.r name c next → c.session.by ≡ name → GoesWell ring.r c → Up next.world → GoodIn ss others c → FlowsIn ss others c → GoodIn ss others next × FlowsIn ss others next
     one_step {c} {next} step named well up good h =
         let then_well = (hand_step step named well).0 in
-        let then_good = good_then r base links start ring met fits_it e made ss others Met Left told_apart all_met name step up good in (
+        let then_good = good_then ring met fits_it ss others all_met name step up good in (
           then_good,
-          step_flow r base links start ring met fits_it e made ss others Met Left told_apart all_met name up good then_good
+          step_flow ring met fits_it ss others all_met name up good then_good
               (λ at. ((λ p is_p. saved_at c.world c.story well.keeps name p is_p), (λ p is_p. saved_at next.world next.story then_well.keeps name p is_p))) step h,
         )
 
-    runs_flow : {c end : Scene} → RunsOut hss_judged r name c end → c.session.by ≡ name → GoesWell r c → Up end.world → GoodIn ss others c → FlowsIn ss others c → FlowsIn ss others end
+    runs_flow : {c end : Scene} → RunsOut hss_judged ring.r name c end → c.session.by ≡ name → GoesWell ring.r c → Up end.world → GoodIn ss others c → FlowsIn ss others c → FlowsIn ss others end
     runs_flow (runs_over said over) named well up good h = h
     runs_flow (runs_more {between = between} {next = end} step rest) named well up good h =
         let goes = hand_step step named well in
-        let one = one_step step named well (less_up_to r base links start ring Met Left between.world end.world (runs_go r base links start ring Met Left name rest).grows up) good h in
+        let one = one_step step named well (less_up between.world end.world (runs_go ring name rest).grows up) good h in
         runs_flow rest goes.1 goes.0 up one.0 one.1
 
-    steps_flow : {count : ℕ} {c end : Scene} → StepsOn hss_judged r name count c end → c.session.by ≡ name → GoesWell r c → Up end.world → GoodIn ss others c → FlowsIn ss others c → FlowsIn ss others end
+    steps_flow : {count : ℕ} {c end : Scene} → StepsOn hss_judged ring.r name count c end → c.session.by ≡ name → GoesWell ring.r c → Up end.world → GoodIn ss others c → FlowsIn ss others c → FlowsIn ss others end
     steps_flow steps_none named well up good h = h
     steps_flow (steps_over said over) named well up good h = h
     steps_flow (steps_more {between = between} {next = end} step rest) named well up good h =
         let goes = hand_step step named well in
-        let one = one_step step named well (less_up_to r base links start ring Met Left between.world end.world (steps_go r base links start ring Met Left name rest).grows up) good h in
+        let one = one_step step named well (less_up between.world end.world (steps_go ring name rest).grows up) good h in
         steps_flow rest goes.1 goes.0 up one.0 one.1
 
     -- of a session that only publishes
-    past_flow : {c end : Scene} → RunsOut hss_judged r name c end → IsPast c.session → Up end.world → GoodIn ss others c → FlowsIn ss others c → FlowsIn ss others end
+    past_flow : {c end : Scene} → RunsOut hss_judged ring.r name c end → IsPast c.session → Up end.world → GoodIn ss others c → FlowsIn ss others c → FlowsIn ss others end
     past_flow (runs_over said over) past up good h = h
     past_flow (runs_more {between = between} {next = end} step rest) past up good h =
-        let up_b = less_up_to r base links start ring Met Left between.world end.world (runs_go r base links start ring Met Left name rest).grows up in
-        let then_good = good_then r base links start ring met fits_it e made ss others Met Left told_apart all_met name step up_b good in
-        past_flow rest (step_past r past step) up then_good (step_flow r base links start ring met fits_it e made ss others Met Left told_apart all_met name up_b good then_good (λ at. absurd (past.0 at)) step h)
+        let up_b = less_up between.world end.world (runs_go ring name rest).grows up in
+        let then_good = good_then ring met fits_it ss others all_met name step up_b good in
+        past_flow rest (step_past ring.r past step) up then_good (step_flow ring met fits_it ss others all_met name up_b good then_good (λ at. absurd (past.0 at)) step h)
 
   -- ---- worlds between lines
 
   pub record IsFlowing (w : Played) : Type 0 where
     pub agents : AllByRecursion (FlowsOn w.1.acked w.0.sessions []) w.0.participants
-    pub sessions : AllByRecursion (λ s. FitSession r base links start ring met fits_it e made s.session) w.0.sessions
+    pub sessions : AllByRecursion (λ s. FitSession ring met fits_it s.session) w.0.sessions
 
   -- where a session of a line is over
   over_flow : (ss : List NamedSession) (end : Scene) (said : Option Said) → end.session.stage ≡ Over said → AllByRecursion (λ s. Fit s.session) ss → FlowsIn ss ss end → IsFlowing (end.world, end.story)
@@ -233,7 +233,7 @@ module _ (r : ℕ) (base : List Shape) (links : Peer → Links Peer) (start : �
   bare_begins w s _ (begins_refreshing xid asked asks_it) = (refl, refl, refl)
 
   -- all that a participant's agent has is published
-  publishes_flow : (k : ℕ) → k ≡ r → (v : Played) (p : Participant) (next : Played) → participant v.0 p.name ≡ Some p → IsRing r base links start v.0 → AreFine met v.0 → IsGood r base links start ring Met Left v.0 v.1 → AllFit p.agent.pending → AllByRecursion (λ s. Fit s.session) v.0.sessions
+  publishes_flow : (k : ℕ) → k ≡ ring.r → (v : Played) (p : Participant) (next : Played) → participant v.0 p.name ≡ Some p → IsRingOf ring v.0 → AreFine met v.0 → IsGood ring v.0 v.1 → AllFit p.agent.pending → AllByRecursion (λ s. Fit s.session) v.0.sessions
       → AllByRecursion (FlowsOn v.1.acked v.0.sessions (in_publishing_order p.agent.pending)) v.0.participants → Up v.0 → Up next.0 → Publishes hss_judged k v p next → IsFlowing next
   publishes_flow k same v p next is_p still fine good fit sessions agents up_v up published =
       subst IsFlowing (sym published.2) (by_end published.0 published.1 (subst (λ (x : Played). Up x.0) published.2 up))
@@ -241,8 +241,8 @@ module _ (r : ℕ) (base : List Shape) (links : Peer → Links Peer) (start : �
       start_at : Scene
       start_at = record { world = v.0; story = v.1; session = to_publish v.0 p; began = began_nothing }
 
-      in_step : InStep r base links start ring v.0 (to_publish v.0 p)
-      in_step = record { entries = entries_are r base links start ring Met Left v.0 still; posts = each_published (IsOwnPost v.0) p.agent.pending (good.pending p.name p is_p); heard = tt }
+      in_step : InStep ring v.0 (to_publish v.0 p)
+      in_step = record { entries = entries_are ring v.0 still; posts = each_published (IsOwnPost v.0) p.agent.pending (good.pending p.name p is_p); heard = tt }
 
       flow : FlowsIn v.0.sessions v.0.sessions start_at
       flow = record {
@@ -256,11 +256,11 @@ module _ (r : ℕ) (base : List Shape) (links : Peer → Links Peer) (start : �
 
       by_end : (end : Scene) → RunsOut hss_judged k p.name start_at end → Up end.world → IsFlowing (end.world, end.story)
       by_end end runs up_end =
-          let mine : RunsOut hss_judged r p.name start_at end = subst (λ x. RunsOut hss_judged x p.name start_at end) same runs in
+          let mine : RunsOut hss_judged ring.r p.name start_at end = subst (λ x. RunsOut hss_judged x p.name start_at end) same runs in
           let over = ends_over mine in
           over_flow v.0.sessions end over.0 over.1 sessions (past_flow v.0.sessions v.0.sessions p.name mine ((λ at. cc at), refl) up_end (record { still = still; good = good; step = in_step }) flow)
         where
-          ends_over : {c last : Scene} → RunsOut hss_judged r p.name c last → (said : Option Said) × (last.session.stage ≡ Over said)
+          ends_over : {c last : Scene} → RunsOut hss_judged ring.r p.name c last → (said : Option Said) × (last.session.stage ≡ Over said)
           ends_over (runs_over said over) = (said, over)
           ends_over (runs_more step rest) = ends_over rest
 
@@ -302,27 +302,27 @@ module _ (r : ℕ) (base : List Shape) (links : Peer → Links Peer) (start : �
   more_posts_cover acked ss posts x (inr (inl c)) = absurd (in_nothing x c)
   more_posts_cover acked ss posts x (inr (inr c)) = inr (inr c)
 
-  module _ (w : Played) (keeps : Keeps w) (ringed : w.0.replicas ≡ Some r) (still : IsRing r base links start w.0) (fine : AreFine met w.0) (good : IsGood r base links start ring Met Left w.0 w.1) (backed : IsBackedWorld w.0 w.1) (up_w : Up w.0) (h : IsFlowing w) where
-    good_begun : IsGood r base links start ring Met Left w.0 (having_begun w.1)
-    good_begun = record { kinds = good.kinds; acked = good.acked; pending = good.pending; sessions = good.sessions }
+  module _ (w : Played) (keeps : Keeps w) (ringed : w.0.replicas ≡ Some ring.r) (still : IsRingOf ring w.0) (fine : AreFine met w.0) (good : IsGood ring w.0 w.1) (backed : IsBackedWorld w.0 w.1) (up_w : Up w.0) (h : IsFlowing w) where
+    good_begun : IsGood ring w.0 (having_begun w.1)
+    good_begun = record { orderly = good.orderly; acked = good.acked; pending = good.pending; sessions = good.sessions }
 
     as_flow : (log : List ℕ) (pieces : _) (o : Option Sending) → sending_of w.0 log pieces ≡ o → (next : Played) (output : List ℕ) → Up next.0 → AsLine hss_judged w o (Goes next output) → IsFlowing next
     as_flow log pieces _ sends _ _ up (calls s k t end said also begins_it runs over) =
         let c : Scene = record { world = w.0; story = having_begun w.1; session = t; began = beginning w.1 s.by.name } in
-        let mine : RunsOut hss_judged r s.by.name c end = subst (λ x. RunsOut hss_judged x s.by.name c end) (one_r k r (sym also ∙ ringed)) runs in
+        let mine : RunsOut hss_judged ring.r s.by.name c end = subst (λ x. RunsOut hss_judged x s.by.name c end) (one_r k ring.r (sym also ∙ ringed)) runs in
         let bare = bare_begins w.0 s t begins_it in
-        let step = sent_step r base links start ring Met Left w.0 s t still begins_it in
+        let step = sent_step ring w.0 s t still begins_it in
         let none = subst (AllByRecursion (λ (x : Post). Contains met x.bytes)) (sym bare.1) tt in
         let flow : FlowsIn w.0.sessions w.0.sessions c = record {
           well = (still, fine);
           entries = step.entries;
-          fit = (subst (AllSound r base links start ring met fits_it e made) (sym bare.2) tt, subst AllFit (sym bare.1) tt);
+          fit = (subst (AllSound ring met fits_it) (sym bare.2) tt, subst AllFit (sym bare.1) tt);
           posts_met = none;
           sessions = refl;
           agents = subst (λ ps. AllByRecursion (FlowsOn w.1.acked w.0.sessions ps) w.0.participants) (sym bare.1) h.agents;
         } in
         replied_flow end.world end.story said (over_flow w.0.sessions end (Some said) over h.sessions
-        (runs_flow w.0.sessions w.0.sessions s.by.name mine bare.0 (begun_well w keeps backed r ringed log pieces s sends t begins_it) (replied_up end.world said up) (record { still = still; good = good_begun; step = step }) flow))
+        (runs_flow w.0.sessions w.0.sessions s.by.name mine bare.0 (begun_well w keeps backed ring.r ringed log pieces s sends t begins_it) (replied_up end.world said up) (record { still = still; good = good_begun; step = step }) flow))
 
     open_flow : (name : List ℕ) (o : Option Sending) (next : Played) (output : List ℕ) → OpenLine hss_judged w name o (Goes next output) → IsFlowing next
     open_flow name _ _ _ (opens s t closed begins_it) =
@@ -330,7 +330,7 @@ module _ (r : ℕ) (base : List Shape) (links : Peer → Links Peer) (start : �
         record {
           agents = flows_weaker w.1.acked w.1.acked w.0.sessions (w.0.sessions ++ record { name = name; session = t } ∷ []) [] []
               (more_sessions w.1.acked w.0.sessions (w.0.sessions ++ record { name = name; session = t } ∷ []) [] (λ u c. Contains-append_left w.0.sessions (record { name = name; session = t } ∷ []) u c)) w.0.participants h.agents;
-          sessions = each_append (λ (x : NamedSession). Fit x.session) w.0.sessions (record { name = name; session = t } ∷ []) h.sessions ((subst (AllSound r base links start ring met fits_it e made) (sym bare.2) tt, subst AllFit (sym bare.1) tt), tt);
+          sessions = each_append (λ (x : NamedSession). Fit x.session) w.0.sessions (record { name = name; session = t } ∷ []) h.sessions ((subst (AllSound ring met fits_it) (sym bare.2) tt, subst AllFit (sym bare.1) tt), tt);
         }
 
     -- a session that is open goes on
@@ -338,14 +338,14 @@ module _ (r : ℕ) (base : List Shape) (links : Peer → Links Peer) (start : �
       abbrev at : Scene
       at = scene_of w s (began_of w.1 name)
 
-      its_step : InStep r base links start ring w.0 s
-      its_step = session_in (InStep r base links start ring w.0) w.0.sessions name s is_s good.sessions
+      its_step : InStep ring w.0 s
+      its_step = session_in (InStep ring w.0) w.0.sessions name s is_s good.sessions
 
       its_good : GoodIn w.0.sessions (others_of w.0.sessions name) at
       its_good = record { still = still; good = good; step = its_step }
 
-      its_well : GoesWell r at
-      its_well = open_well w keeps backed r ringed name s is_s
+      its_well : GoesWell ring.r at
+      its_well = open_well w keeps backed ring.r ringed name s is_s
 
       its_flow : FlowsIn w.0.sessions (others_of w.0.sessions name) at
       its_flow = record {
@@ -359,7 +359,7 @@ module _ (r : ℕ) (base : List Shape) (links : Peer → Links Peer) (start : �
 
     step_line_flow : (name : List ℕ) (count : ℕ) (o : Option Session) → session_named w.0 name ≡ o → (next : Played) (output : List ℕ) → Up next.0 → StepLine hss_judged w name count o (Goes next output) → IsFlowing next
     step_line_flow name count _ is_s _ _ up (steps s k end counts also on) =
-        let mine : StepsOn hss_judged r s.by count (at name s is_s) end = subst (λ x. StepsOn hss_judged x s.by count (at name s is_s) end) (one_r k r (sym also ∙ ringed)) on in
+        let mine : StepsOn hss_judged ring.r s.by count (at name s is_s) end = subst (λ x. StepsOn hss_judged x s.by count (at name s is_s) end) (one_r k ring.r (sym also ∙ ringed)) on in
         let flow = steps_flow w.0.sessions (others_of w.0.sessions name) s.by mine refl (its_well name s is_s) (record { met = up.met; left = up.left }) (its_good name s is_s) (its_flow name s is_s) in
         record {
           agents = subst (λ l. AllByRecursion (FlowsOn end.story.acked (map (λ (t : NamedSession). cond (bytes_eq t.name name) (record { name = name; session = end.session }) t) l) []) end.world.participants) (sym flow.sessions)
@@ -370,7 +370,7 @@ module _ (r : ℕ) (base : List Shape) (links : Peer → Links Peer) (start : �
 
     finish_flow : (name : List ℕ) (o : Option Session) → session_named w.0 name ≡ o → (next : Played) (output : List ℕ) → Up next.0 → FinishLine hss_judged w name o (Goes next output) → IsFlowing next
     finish_flow name _ is_s _ _ up (ends s k end said also runs over) =
-        let mine : RunsOut hss_judged r s.by (at name s is_s) end = subst (λ x. RunsOut hss_judged x s.by (at name s is_s) end) (one_r k r (sym also ∙ ringed)) runs in
+        let mine : RunsOut hss_judged ring.r s.by (at name s is_s) end = subst (λ x. RunsOut hss_judged x s.by (at name s is_s) end) (one_r k ring.r (sym also ∙ ringed)) runs in
         let upto = replied_up (without_session end.world name) said up in
         let flow = runs_flow w.0.sessions (others_of w.0.sessions name) s.by mine refl (its_well name s is_s) (record { met = upto.met; left = upto.left }) (its_good name s is_s) (its_flow name s is_s) in
         replied_flow (without_session end.world name) (without_began end.story name) said (record {
@@ -385,7 +385,7 @@ module _ (r : ℕ) (base : List Shape) (links : Peer → Links Peer) (start : �
 
     log_flow : (name id seed : List ℕ) (sets : List Set) → IsSigner (fresh_signer id seed sets) → (next : Played) (output : List ℕ) → Up next.0 → LogLine hss_judged w name id seed sets (Goes next output) → IsFlowing next
     log_flow name id seed sets whole next _ up (begins k p _ also new is published) =
-        publishes_flow k (one_r k r (sym also ∙ ringed)) (with_newcomer w comer) comer next found still_v fine (goes.good told_apart up_v still good) fit h.sessions agents up_v up mine
+        publishes_flow k (one_r k ring.r (sym also ∙ ringed)) (with_newcomer w comer) comer next found still_v fine (goes.good up_v still good) fit h.sessions agents up_v up mine
       where
         comer : Participant
         comer = newcomer name (opened (fresh_signer id seed sets) w.0.now)
@@ -393,11 +393,11 @@ module _ (r : ℕ) (base : List Shape) (links : Peer → Links Peer) (start : �
         mine : Publishes hss_judged k (with_newcomer w (newcomer name (opened (fresh_signer id seed sets) w.0.now))) (newcomer name (opened (fresh_signer id seed sets) w.0.now)) next
         mine = subst (λ x. Publishes hss_judged k (with_newcomer w x) x next) is published
 
-        at_r : Publishes hss_judged r (with_newcomer w (newcomer name (opened (fresh_signer id seed sets) w.0.now))) (newcomer name (opened (fresh_signer id seed sets) w.0.now)) next
-        at_r = subst (λ n. Publishes hss_judged n (with_newcomer w (newcomer name (opened (fresh_signer id seed sets) w.0.now))) (newcomer name (opened (fresh_signer id seed sets) w.0.now)) next) (one_r k r (sym also ∙ ringed)) mine
+        at_r : Publishes hss_judged ring.r (with_newcomer w (newcomer name (opened (fresh_signer id seed sets) w.0.now))) (newcomer name (opened (fresh_signer id seed sets) w.0.now)) next
+        at_r = subst (λ n. Publishes hss_judged n (with_newcomer w (newcomer name (opened (fresh_signer id seed sets) w.0.now))) (newcomer name (opened (fresh_signer id seed sets) w.0.now)) next) (one_r k ring.r (sym also ∙ ringed)) mine
 
         found : participant (with_newcomer w (newcomer name (opened (fresh_signer id seed sets) w.0.now))).0 name ≡ Some (newcomer name (opened (fresh_signer id seed sets) w.0.now))
-        found = newcomer_found r base links start ring Met Left w (newcomer name (opened (fresh_signer id seed sets) w.0.now)) new
+        found = newcomer_found ring w (newcomer name (opened (fresh_signer id seed sets) w.0.now)) new
 
         before : Participant
         before = record {
@@ -411,15 +411,15 @@ module _ (r : ℕ) (base : List Shape) (links : Peer → Links Peer) (start : �
           left = [];
         }
 
-        goes : LineGoes r base links start ring Met Left w.0 w.1 (with_newcomer w (newcomer name (opened (fresh_signer id seed sets) w.0.now))).0 (with_newcomer w (newcomer name (opened (fresh_signer id seed sets) w.0.now))).1
-        goes = newcomer_goes r base links start ring Met Left w (newcomer name (opened (fresh_signer id seed sets) w.0.now)) before refl new
+        goes : WorldGoes ring w.0 w.1 (with_newcomer w (newcomer name (opened (fresh_signer id seed sets) w.0.now))).0 (with_newcomer w (newcomer name (opened (fresh_signer id seed sets) w.0.now))).1
+        goes = newcomer_goes ring w (newcomer name (opened (fresh_signer id seed sets) w.0.now)) before refl new
 
         up_v : Up (with_newcomer w (newcomer name (opened (fresh_signer id seed sets) w.0.now))).0
-        up_v = less_up_to r base links start ring Met Left (with_newcomer w (newcomer name (opened (fresh_signer id seed sets) w.0.now))).0 next.0
-            (publishes_go r base links start ring Met Left (with_newcomer w (newcomer name (opened (fresh_signer id seed sets) w.0.now))) (newcomer name (opened (fresh_signer id seed sets) w.0.now)) next found at_r).grows up
+        up_v = less_up (with_newcomer w (newcomer name (opened (fresh_signer id seed sets) w.0.now))).0 next.0
+            (publishes_go ring (with_newcomer w (newcomer name (opened (fresh_signer id seed sets) w.0.now))) (newcomer name (opened (fresh_signer id seed sets) w.0.now)) next found at_r).grows up
 
-        still_v : IsRing r base links start (with_newcomer w (newcomer name (opened (fresh_signer id seed sets) w.0.now))).0
-        still_v = kept_ring r base links start ring w.0 (with_newcomer w (newcomer name (opened (fresh_signer id seed sets) w.0.now))).0 goes.still still
+        still_v : IsRingOf ring (with_newcomer w (newcomer name (opened (fresh_signer id seed sets) w.0.now))).0
+        still_v = kept_ring ring w.0 (with_newcomer w (newcomer name (opened (fresh_signer id seed sets) w.0.now))).0 goes.still still
 
         fit : AllFit (opened (fresh_signer id seed sets) w.0.now).pending
         fit = opened_fit (fresh_signer id seed sets) w.0.now whole
@@ -598,21 +598,21 @@ module _ (r : ℕ) (base : List Shape) (links : Peer → Links Peer) (start : �
             (Contains-append_cases p.agent.pending new_blocks x c),
       )
 
-      good_mid : IsGood r base links start ring Met Left mid w.1
-      good_mid = placed_good r base links start ring Met Left w.0 p.name p snapping_one grown is_p refl grows_met (λ b c. c) w.1 w.1 refl (each_from (IsOwnPost mid) snapshot_of.pending own_post) good
+      good_mid : IsGood ring mid w.1
+      good_mid = placed_good ring w.0 p.name p snapping_one grown is_p refl grows_met (λ b c. c) w.1 w.1 refl (each_from (IsOwnPost mid) snapshot_of.pending own_post) good
 
-      still_mid : IsRing r base links start mid
-      still_mid = kept_ring r base links start ring w.0 mid (placed_ring r base links start ring Met Left w.0 p.name p snapping_one grown is_p refl grows_met (λ b c. c)) still
+      still_mid : IsRingOf ring mid
+      still_mid = kept_ring ring w.0 mid (placed_ring ring w.0 p.name p snapping_one grown is_p refl grows_met (λ b c. c)) still
 
-      makes_flow : ArePostsSpelled snapshot_of.pending → (k : ℕ) → k ≡ r → (next : Played) → Up next.0 → Publishes hss_judged k (mid, w.1) snapping_one next → IsFlowing next
+      makes_flow : ArePostsSpelled snapshot_of.pending → (k : ℕ) → k ≡ ring.r → (next : Played) → Up next.0 → Publishes hss_judged k (mid, w.1) snapping_one next → IsFlowing next
       makes_flow spelled k same next up published =
           publishes_flow k same (mid, w.1) snapping_one next found_mid still_mid fine good_mid fit h.sessions agents up_mid up published
         where
-          at_r : Publishes hss_judged r (mid, w.1) snapping_one next
+          at_r : Publishes hss_judged ring.r (mid, w.1) snapping_one next
           at_r = subst (λ n. Publishes hss_judged n (mid, w.1) snapping_one next) same published
 
           up_mid : Up mid
-          up_mid = less_up_to r base links start ring Met Left mid next.0 (publishes_go r base links start ring Met Left (mid, w.1) snapping_one next found_mid at_r).grows up
+          up_mid = less_up mid next.0 (publishes_go ring (mid, w.1) snapping_one next found_mid at_r).grows up
 
           before : IsKept (kept_of p.agent)
           before = saved_at w.0 w.1 keeps p.name p is_p
@@ -637,7 +637,7 @@ module _ (r : ℕ) (base : List Shape) (links : Peer → Links Peer) (start : �
       Fails t = t.0.1 ≡ false → IsFlowing (with_participant w.0 (trying t), w.1)
 
       abbrev Makes : (Agent × Bool) × Option Kept → Type 0
-      Makes t = t.0.1 ≡ true → (k : ℕ) (next : Played) (q : Participant) → k ≡ r → q ≡ record (trying t) { printed = Some (root_name view (basis_of p.agent.holding)) } → ArePostsSpelled q.agent.pending → Up next.0
+      Makes t = t.0.1 ≡ true → (k : ℕ) (next : Played) (q : Participant) → k ≡ ring.r → q ≡ record (trying t) { printed = Some (root_name view (basis_of p.agent.holding)) } → ArePostsSpelled q.agent.pending → Up next.0
           → Publishes hss_judged k (record (with_participant w.0 q) { met = met_by w.0.met q.agent.pending }, w.1) q next → IsFlowing next
 
       fails_flow : Fails (snapping_in p view)
@@ -655,7 +655,7 @@ module _ (r : ℕ) (base : List Shape) (links : Peer → Links Peer) (start : �
 
     snap_flow : (log : List ℕ) (o : Option Participant) → participant w.0 log ≡ o → (next : Played) (output : List ℕ) → Up next.0 → SnapLine hss_judged w o (Goes next output) → IsFlowing next
     snap_flow log _ is _ _ up (snap_fails p view in_view none spelled) = let at = its_name log p is in fails_flow p at.1 view none
-    snap_flow log _ is _ _ up (snap_makes p q view k next in_view some also made_so spelled published) = let at = its_name log p is in made_flow p at.1 view some k next q (one_r k r (sym also ∙ ringed)) made_so spelled up published
+    snap_flow log _ is _ _ up (snap_makes p q view k next in_view some also made_so spelled published) = let at = its_name log p is in made_flow p at.1 view some k next q (one_r k ring.r (sym also ∙ ringed)) made_so spelled up published
 
     -- ---- lines that change no participant
 

@@ -6,8 +6,6 @@ use Rattle.std.proofs.lemmas.Bool.{lt-ltb}
 use Rattle.std.proofs.lemmas.List.Elements.{Contains-append_left, Contains-append_right}
 use Rattle.ivy_base.specs.declared.key.Key.{Key}
 use Rattle.ivy_base.specs.declared.operation.Moment.{Moment}
-use Rattle.ring_model.specs.Members.{IsAmong}
-use Rattle.ring_model.specs.Ring.{Links}
 use Rattle.ring_model.proofs.Lists.{all_weaker}
 use Rattle.log_heads.specs.Signed.{hss_judged}
 use Rattle.log_model.specs.View.{View}
@@ -22,7 +20,7 @@ use Rattle.dht_ids.specs.declared.ask.Heard.{Heard}
 use Rattle.dht_ids.specs.declared.peer.Peer.{Peer}
 use Rattle.dht_ids.specs.declared.post.Ack.{Ack}
 use Rattle.dht_ids.specs.declared.post.Post.{Post}
-use Rattle.dhash_client.specs.Puts.{holds}
+use Rattle.dhash_client.specs.Puts.{holds, is_of_put}
 use Rattle.agent_model.specs.Agent.{kept_of}
 use Rattle.agent_model.specs.Turning.{TurnEnd}
 use Rattle.session_model.specs.Courses.{Fails, LacksMemory, Settles}
@@ -35,7 +33,6 @@ use Rattle.session_model.specs.Sessions.Hears.{gets_on, got, puts, puts_on}
 use Rattle.session_model.specs.Sessions.Takes.{cached, posted}
 use Rattle.session_model.specs.Sessions.TakesAll.{more as takes_more, none as takes_none}
 use Rattle.session_model.specs.Sessions.TakesSome.{more as some_more, none as some_none}
-use Rattle.round_laws.proofs.Nodes.{Shape, made_by}
 use Rattle.world_model.specs.Agents.{Agent, IsKept, Kept, TakesTurn, own_reach}
 use Rattle.world_model.specs.Fates.{FateOf}
 use Rattle.world_model.specs.Keepers.{fails_next}
@@ -45,19 +42,21 @@ use Rattle.world_model.specs.Steps.Acts.{asks, asks_in_vain, is_refused, settles
 use Rattle.world_model.specs.Steps.Steps.{acts, lacks_memory}
 use Rattle.world_model.specs.World.{NamedSession, Participant, World, participant, with_participant}
 use Rattle.world_laws.proofs.Bringing.{found_named, some_same}
-use Rattle.world_laws.proofs.CalmNodes.{IsMadeRing, IsRing, IsRouted, asked_ring, is_routed, kept_ring, same_rings, who_answers}
+use Rattle.world_laws.proofs.CalmNodes.{asked_rings, same_rings}
 use Rattle.world_laws.proofs.CalmPuts.{entries_by}
-use Rattle.world_laws.proofs.CalmScenes.{step_goes}
-use Rattle.world_laws.proofs.CalmStates.{AreApart, InStep, IsGood, IsOwnPost, IsUpTo, found_placed, posts_at}
-use Rattle.world_laws.proofs.CalmSteps.{takes_all_step}
+use Rattle.world_laws.proofs.CalmStates.{IsMore, IsOwnPost, found_placed, posts_at}
 use Rattle.world_laws.proofs.SignedAmong.{met_stays}
 use Rattle.world_laws.proofs.WholePublishing.{each_published}
+use Rattle.durability_laws.proofs.Rooms.{total}
+use Rattle.durability_laws.proofs.Scenes.{step_goes}
+use Rattle.durability_laws.proofs.States.{InStep, IsGood, kept_ring}
+use Rattle.durability_laws.proofs.Steps.{takes_all_step}
+use Rattle.durability_laws.proofs.Stretches.{IsMade, IsRingOf, IsRouted, Stretch, is_routed, lives}
 use Rattle.completeness_laws.specs.Completeness.{FitsItsKey}
 use Rattle.completeness_laws.proofs.FitPosts.{AllFit, HasFit, settled_fit, taking_fit}
 use Rattle.completeness_laws.proofs.NewestCover.{HasNewest, IsCovered, newest_weaker, settles_newest, takes_newest}
-use Rattle.completeness_laws.proofs.PutsAcked.{AreFine, fine_with, put_acked, put_step}
+use Rattle.completeness_laws.proofs.PutsAcked.{AreFine, fate_fine, put_acked, put_step}
 use Rattle.completeness_laws.proofs.Steps.{fate_same, takes_all_same}
-use Rattle.completeness_laws.proofs.StoreRoom.{total}
 
 acked_one : (said : Option Said) (p : Post) (posts : List Post) (acks : List Ack) → acked_by (Publishing said (p ∷ posts) acks) (Publishing said posts (acks ++ ack_of p ∷ [])) ≡ p ∷ []
 acked_one said p posts acks = ap (λ b. cond b (p ∷ []) []) (lt-ltb (length acks) (length (acks ++ ack_of p ∷ [])) (let size = length-append acks (ack_of p ∷ []) in omega (arith, size)))
@@ -85,13 +84,13 @@ pub flows_weaker : (acked more : List Post) (ss others : List NamedSession) (pos
 flows_weaker acked more ss others posts left weaker ps h = all_weaker (FlowsOn acked ss posts) (FlowsOn more others left) ps
     (λ q f. (f.0, newest_weaker acked more ss others posts left q.agent q.agent weaker refl (le_refl (own_reach q.agent)) f.1)) h
 
-module _ (r : ℕ) (base : List Shape) (links : Peer → Links Peer) (start : ℕ) (ring : IsMadeRing r base links) (met : List (List ℕ)) (fits_it : total met ≤ most_bytes) (e : Peer) (made : IsAmong e (made_by base)) where
+module _ (ring : Stretch) (met : List (List ℕ)) (fits_it : total met ≤ most_bytes) where
   -- an answer to a route is the ring's, and what was put was taken
   abbrev pub IsSound : AskKind → Heard → Type 0
-  IsSound kind.Route h = IsAmong h.node (made_by base) → IsRouted r base links start ring h.key h.node h.got
+  IsSound kind.Route h = IsMade ring h.node → IsRouted ring h.key h.node h.got
   IsSound kind.Get h = Unit {0}
-  IsSound kind.PutBlock h = holds h.got ≡ true
-  IsSound kind.PutHead h = holds h.got ≡ true
+  IsSound kind.PutBlock h = IsMade ring h.node → (is_of_put h.got ≡ lives ring h.node) × (holds h.got ≡ lives ring h.node)
+  IsSound kind.PutHead h = IsMade ring h.node → (is_of_put h.got ≡ lives ring h.node) × (holds h.got ≡ lives ring h.node)
 
   abbrev pub AllSound : List Heard → Type 0
   AllSound trail = AllByRecursion (λ h. IsSound h.kind h) trail
@@ -101,17 +100,16 @@ module _ (r : ℕ) (base : List Shape) (links : Peer → Links Peer) (start : �
   FitSession s = AllSound s.current × AllFit (posts_at s.stage)
 
   abbrev pub IsWellNow : World → Type 0
-  IsWellNow v = IsRing r base links start v × AreFine met v
+  IsWellNow v = IsRingOf ring v × AreFine met v
 
   route_told : (key : Key) (v mid : World) (to : Peer) (given : Answer) → FateOf hss_judged v to (ask.Route key) given mid → IsWellNow v → IsWellNow mid × AllSound (told to (ask.Route key) given)
-  route_told key v mid to given fate h =
-      let a = who_answers r base links start ring v mid to (ask.Route key) given h.0 fate in
-      ((asked_ring r base links start ring v mid to (ask.Route key) given tt fate h.0, subst (AreFine met) (sym a.next_is) (fine_with met v to a.node a.node a.at refl (h.1 to.id a.node a.at) h.1)), ((λ made. is_routed r base links start ring v mid to key given h.0 fate made), tt))
+  route_told key v mid to given fate h = (
+    (kept_ring ring v mid (asked_rings v mid to (ask.Route key) given tt fate) h.0, fate_fine met fate (λ n. refl) (λ n so. so) h.1),
+    ((λ made. is_routed ring v mid to key given h.0 fate made), tt),
+  )
 
   get_told : (key : Key) (v mid : World) (to : Peer) (given : Answer) → FateOf hss_judged v to (ask.Get key) given mid → IsWellNow v → IsWellNow mid × AllSound (told to (ask.Get key) given)
-  get_told key v mid to given fate h =
-      let a = who_answers r base links start ring v mid to (ask.Get key) given h.0 fate in
-      ((asked_ring r base links start ring v mid to (ask.Get key) given tt fate h.0, subst (AreFine met) (sym a.next_is) (fine_with met v to a.node a.node a.at refl (h.1 to.id a.node a.at) h.1)), (tt, tt))
+  get_told key v mid to given fate h = ((kept_ring ring v mid (asked_rings v mid to (ask.Get key) given tt fate) h.0, fate_fine met fate (λ n. refl) (λ n so. so) h.1), (tt, tt))
 
   -- an ask of a session
   module _ (v next : World) (node : Peer) (question : Ask) (given : Answer) (fate : FateOf hss_judged v node question given next) (is_well : IsWellNow v) where
@@ -121,9 +119,9 @@ module _ (r : ℕ) (base : List Shape) (links : Peer → Links Peer) (start : �
 
     puts_told : (p : Post) → Contains met p.bytes → FitsItsKey p → (question ≡ ask.Route p.key) ⊎ (question ≡ put_question p) → IsWellNow next × AllSound (told node question given)
     puts_told p in_met good (inl is) = gets_told p.key (inl is)
-    puts_told p in_met good (inr is) = subst (λ q. IsWellNow next × AllSound (told node q given)) (sym is) (put_step r base links start ring met fits_it p in_met good v next node given (subst (λ q. FateOf hss_judged v node q given next) is fate) is_well)
+    puts_told p in_met good (inr is) = subst (λ q. IsWellNow next × AllSound (told node q given)) (sym is) (put_step ring met fits_it p in_met good v next node given (subst (λ q. FateOf hss_judged v node q given next) is fate) is_well)
 
-    asked_well : {s heard : Session} {cache after : Cache} → FitSession s → AllByRecursion (λ p. Contains met p.bytes) (posts_at s.stage) → Hears hss_judged r s cache node question given heard after → IsWellNow next
+    asked_well : {s heard : Session} {cache after : Cache} → FitSession s → AllByRecursion (λ p. Contains met p.bytes) (posts_at s.stage) → Hears hss_judged ring.r s cache node question given heard after → IsWellNow next
     asked_well fit posts_met (gets_on want wants next_is part) = (gets_told (wanted_key want) next_is.is_of).0
     asked_well fit posts_met (got want brought wants next_is whole) = (gets_told (wanted_key want) next_is.is_of).0
     asked_well fit posts_met (puts_on said p posts acks at next_is part) =
@@ -155,7 +153,7 @@ module _ (r : ℕ) (base : List Shape) (links : Peer → Links Peer) (start : �
     same_cover acked ss stage x (inr (inl c)) = inr (inl c)
     same_cover acked ss stage x (inr (inr c)) = inr (inr c)
 
-    asked_so : (acked : List Post) (ss : List NamedSession) {s heard t : Session} {cache after : Cache} → s.entries ≡ entries_by base → FitSession s → AllByRecursion (λ p. Contains met p.bytes) (posts_at s.stage) → Hears hss_judged r s cache node question given heard after → Fails heard t → IsAsked acked ss s t
+    asked_so : (acked : List Post) (ss : List NamedSession) {s heard t : Session} {cache after : Cache} → s.entries ≡ entries_by ring.base → FitSession s → AllByRecursion (λ p. Contains met p.bytes) (posts_at s.stage) → Hears hss_judged ring.r s cache node question given heard after → Fails heard t → IsAsked acked ss s t
     asked_so acked ss {s} entries fit posts_met (gets_on want wants next_is part) goes =
         let a = gets_told (wanted_key want) next_is.is_of in
         failed_asked acked ss goes (λ at. ap posts_at wants.0) (record { well = a.0; fit = (each_append (λ (x : Heard). IsSound x.kind x) s.current (told node question given) fit.0 a.1, fit.1); covers = λ x c. same_cover acked ss s.stage x c })
@@ -180,8 +178,8 @@ module _ (r : ℕ) (base : List Shape) (links : Peer → Links Peer) (start : �
         a = puts_told p in_met.0 all.0 next_is.is_of
 
         yes : acknowledged came ≡ true
-        yes = put_acked r base links start ring met fits_it p in_met.0 all.0 next e a.0.0 made (s.current ++ told node question given) came (each_append (λ (x : Heard). IsSound x.kind x) s.current (told node question given) fit.0 a.1)
-            (subst (λ es. IsPutOfPost r es p (s.current ++ told node question given) came) entries whole)
+        yes = put_acked ring met fits_it p in_met.0 all.0 next a.0.0 (s.current ++ told node question given) came (each_append (λ (x : Heard). IsSound x.kind x) s.current (told node question given) fit.0 a.1)
+            (subst (λ es. IsPutOfPost ring.r es p (s.current ++ told node question given) came) entries whole)
 
         Then : Stage → Stage → Post → Type 0
         Then before stage x = IsCovered acked ss (posts_at before) x → IsCovered (acked ++ acked_by before stage) ss (posts_at stage) x
@@ -202,19 +200,19 @@ module _ (r : ℕ) (base : List Shape) (links : Peer → Links Peer) (start : �
   lacking_bare : {s t : Session} → LacksMemory s t → (posts_at s.stage ≡ []) × (posts_at t.stage ≡ []) × AllSound t.current
   lacking_bare (lacks notes shown given end xid asked at refreshed asks_it rest front) = (ap posts_at at, refl, tt)
 
-  takes_fit : {s t : Session} {cache after : Cache} → Takes hss_judged r s cache t after → FitSession s → FitSession t
+  takes_fit : {s t : Session} {cache after : Cache} → Takes hss_judged ring.r s cache t after → FitSession s → FitSession t
   takes_fit (posted key bytes wants none is) h = (tt, h.1)
   takes_fit (cached key bytes wants none missing is) h = (tt, h.1)
 
-  takes_all_fit : {s t : Session} {cache after : Cache} → TakesAll hss_judged r s cache t after → FitSession s → FitSession t
+  takes_all_fit : {s t : Session} {cache after : Cache} → TakesAll hss_judged ring.r s cache t after → FitSession s → FitSession t
   takes_all_fit (takes_none none) h = h
   takes_all_fit (takes_more first rest) h = takes_all_fit rest (takes_fit first h)
 
-  some_stage : {s t : Session} {cache after : Cache} → TakesSome hss_judged r s cache t after → t.stage ≡ s.stage
+  some_stage : {s t : Session} {cache after : Cache} → TakesSome hss_judged ring.r s cache t after → t.stage ≡ s.stage
   some_stage some_none = refl
   some_stage (some_more first rest) = some_stage rest ∙ one_stage first
     where
-      one_stage : {s t : Session} {cache after : Cache} → Takes hss_judged r s cache t after → t.stage ≡ s.stage
+      one_stage : {s t : Session} {cache after : Cache} → Takes hss_judged ring.r s cache t after → t.stage ≡ s.stage
       one_stage (posted key bytes wants none is) = refl
       one_stage (cached key bytes wants none missing is) = refl
 
@@ -239,7 +237,7 @@ module _ (r : ℕ) (base : List Shape) (links : Peer → Links Peer) (start : �
     -- a scene of a session, among other open sessions
     pub record Flows (c : Scene) : Type 0 where
       pub well : IsWellNow c.world
-      pub entries : c.session.entries ≡ entries_by base
+      pub entries : c.session.entries ≡ entries_by ring.base
       pub fit : FitSession c.session
       pub posts_met : AllByRecursion (λ p. Contains met p.bytes) (posts_at c.session.stage)
       pub sessions : c.world.sessions ≡ ss
@@ -258,12 +256,12 @@ module _ (r : ℕ) (base : List Shape) (links : Peer → Links Peer) (start : �
       its : FlowsOn c.story.acked others (posts_at c.session.stage) p
       its = each (FlowsOn c.story.acked others (posts_at c.session.stage)) c.world.participants p h.agents (found_named c.world.participants name p is_p).0
 
-      acts_flow : {next : Scene} → next.session.entries ≡ entries_by base → AllByRecursion (λ x. Contains met x.bytes) (posts_at next.session.stage) → (c.session.stage ≡ Refreshing → IsSavedAt c.world name × IsSavedAt next.world name) → Acts hss_judged r p c next → Flows next
+      acts_flow : {next : Scene} → next.session.entries ≡ entries_by ring.base → AllByRecursion (λ x. Contains met x.bytes) (posts_at next.session.stage) → (c.session.stage ≡ Refreshing → IsSavedAt c.world name × IsSavedAt next.world name) → Acts hss_judged ring.r p c next → Flows next
       acts_flow then_entries then_met may (asks node question given v heard t cache fate hears goes) =
           let a = asked_so c.world v node question given fate h.well c.story.acked others h.entries h.fit h.posts_met hears goes in
           let more = flows_weaker c.story.acked (c.story.acked ++ acked_by c.session.stage t.stage) others others (posts_at c.session.stage) (posts_at t.stage) a.covers in
           record {
-            well = (kept_ring r base links start ring v (with_participant v (record p { cache = cache })) (same_rings v (with_participant v (record p { cache = cache })) refl refl refl refl) a.well.0, a.well.1);
+            well = (kept_ring ring v (with_participant v (record p { cache = cache })) (same_rings v (with_participant v (record p { cache = cache })) refl refl refl refl) a.well.0, a.well.1);
             entries = then_entries;
             fit = a.fit;
             posts_met = then_met;
@@ -289,7 +287,7 @@ module _ (r : ℕ) (base : List Shape) (links : Peer → Links Peer) (start : �
           let then_whole = (may at).1 q (found_placed c.world name p q (met_by c.world.met after.pending) is_p refl (λ b m. met_stays c.world.met (map (λ (o : Post). o.bytes) after.pending) b m) (λ b m. met_stays p.left (heads_by after.pending) b m)) in
           let fit = taking_fit c.world.now p.agent p.keeper view c.session _ after saving t whole then_whole its.0 takes in
           record {
-            well = (kept_ring r base links start ring c.world (world_after c.world q) (same_rings c.world (world_after c.world q) refl refl refl refl) h.well.0, h.well.1);
+            well = (kept_ring ring c.world (world_after c.world q) (same_rings c.world (world_after c.world q) refl refl refl refl) h.well.0, h.well.1);
             entries = then_entries;
             fit = turn_fits takes fit.fit h.fit;
             posts_met = then_met;
@@ -304,7 +302,7 @@ module _ (r : ℕ) (base : List Shape) (links : Peer → Links Peer) (start : �
           let then_whole = (may at).1 q (found_placed c.world name p q (met_by c.world.met after.pending) is_p refl (λ b m. met_stays c.world.met (map (λ (o : Post). o.bytes) after.pending) b m) (λ b m. met_stays p.left (heads_by after.pending) b m)) in
           let fit = taking_fit c.world.now p.agent p.keeper view c.session end after saving t whole then_whole its.0 takes in
           record {
-            well = (kept_ring r base links start ring c.world (world_after c.world q) (same_rings c.world (world_after c.world q) refl refl refl refl) h.well.0, h.well.1);
+            well = (kept_ring ring c.world (world_after c.world q) (same_rings c.world (world_after c.world q) refl refl refl refl) h.well.0, h.well.1);
             entries = then_entries;
             fit = turn_fits takes fit.fit h.fit;
             posts_met = then_met;
@@ -315,7 +313,7 @@ module _ (r : ℕ) (base : List Shape) (links : Peer → Links Peer) (start : �
       acts_flow then_entries then_met may (settles after t is) =
           let bare = settles_bare is in
           record {
-            well = (kept_ring r base links start ring c.world (with_participant c.world (record p { agent = after })) (same_rings c.world (with_participant c.world (record p { agent = after })) refl refl refl refl) h.well.0, h.well.1);
+            well = (kept_ring ring c.world (with_participant c.world (record p { agent = after })) (same_rings c.world (with_participant c.world (record p { agent = after })) refl refl refl refl) h.well.0, h.well.1);
             entries = then_entries;
             fit = settles_fits is h.fit;
             posts_met = then_met;
@@ -324,25 +322,25 @@ module _ (r : ℕ) (base : List Shape) (links : Peer → Links Peer) (start : �
                 (flows_weaker c.story.acked c.story.acked others others (posts_at c.session.stage) (posts_at t.stage) (none_covers c.story.acked (posts_at c.session.stage) (posts_at t.stage) bare.0) c.world.participants h.agents);
           }
 
-    module _ (Met Left : List ℕ → Type 0) (apart : AreApart r base links start ring Met Left) (all_met : (b : List ℕ) → Met b → Contains met b) where
+    module _ (all_met : (b : List ℕ) → Contains ring.end.met b → Contains met b) where
       -- the scene is good
       pub record IsGoodIn (c : Scene) : Type 0 where
-        pub still : IsRing r base links start c.world
-        pub good : IsGood r base links start ring Met Left c.world c.story
-        pub step : InStep r base links start ring c.world c.session
+        pub still : IsRingOf ring c.world
+        pub good : IsGood ring c.world c.story
+        pub step : InStep ring c.world c.session
 
-      posts_in : (c : Scene) → IsUpTo r base links start ring Met Left c.world → IsGoodIn c → AllByRecursion (λ p. Contains met p.bytes) (posts_at c.session.stage)
+      posts_in : (c : Scene) → IsMore c.world ring.end → IsGoodIn c → AllByRecursion (λ p. Contains met p.bytes) (posts_at c.session.stage)
       posts_in c up g = all_weaker (IsOwnPost c.world) (λ p. Contains met p.bytes) (posts_at c.session.stage) (λ p own_post. all_met p.bytes (up.met p.bytes own_post.0)) g.step.posts
 
-      pub good_then : (name : List ℕ) {c next : Scene} → Steps hss_judged r name c next → IsUpTo r base links start ring Met Left next.world → IsGoodIn c → IsGoodIn next
+      pub good_then : (name : List ℕ) {c next : Scene} → Steps hss_judged ring.r name c next → IsMore next.world ring.end → IsGoodIn c → IsGoodIn next
       good_then name {c} {next} step up h =
-          let g = step_goes r base links start ring Met Left name step in
-          let both = g.good apart up h.still h.good h.step in
-          record { still = kept_ring r base links start ring c.world next.world g.still h.still; good = both.0; step = both.1 }
+          let g = step_goes ring name step in
+          let both = g.good up h.still h.good h.step in
+          record { still = kept_ring ring c.world next.world g.still h.still; good = both.0; step = both.1 }
 
-      pub step_flow : (name : List ℕ) {c next : Scene} → IsUpTo r base links start ring Met Left next.world → IsGoodIn c → IsGoodIn next → (c.session.stage ≡ Refreshing → IsSavedAt c.world name × IsSavedAt next.world name) → Steps hss_judged r name c next → Flows c → Flows next
+      pub step_flow : (name : List ℕ) {c next : Scene} → IsMore next.world ring.end → IsGoodIn c → IsGoodIn next → (c.session.stage ≡ Refreshing → IsSavedAt c.world name × IsSavedAt next.world name) → Steps hss_judged ring.r name c next → Flows c → Flows next
       step_flow name {c} up good then_good may (acts p taken cache next is_p takes act) h =
-          acts_flow name (record p { cache = cache }) (with_cache hss_judged r c p taken cache) found flow then_good.step.entries (posts_in next up then_good) then_may act
+          acts_flow name (record p { cache = cache }) (with_cache hss_judged ring.r c p taken cache) found flow then_good.step.entries (posts_in next up then_good) then_may act
         where
           mid : World
           mid = with_participant c.world (record p { cache = cache })
@@ -356,10 +354,10 @@ module _ (r : ℕ) (base : List Shape) (links : Peer → Links Peer) (start : �
           its_flow : FlowsOn c.story.acked others (posts_at c.session.stage) p
           its_flow = each (FlowsOn c.story.acked others (posts_at c.session.stage)) c.world.participants p h.agents (found_named c.world.participants name p is_p).0
 
-          flow : Flows (with_cache hss_judged r c p taken cache)
+          flow : Flows (with_cache hss_judged ring.r c p taken cache)
           flow = record {
-            well = (kept_ring r base links start ring c.world mid (same_rings c.world mid refl refl refl refl) h.well.0, h.well.1);
-            entries = (takes_all_step r base links start ring Met Left c.world takes good.step).entries;
+            well = (kept_ring ring c.world mid (same_rings c.world mid refl refl refl refl) h.well.0, h.well.1);
+            entries = (takes_all_step ring c.world takes good.step).entries;
             fit = takes_all_fit takes h.fit;
             posts_met = subst (λ st. AllByRecursion (λ x. Contains met x.bytes) (posts_at st)) (sym stage) h.posts_met;
             sessions = h.sessions;
@@ -376,10 +374,10 @@ module _ (r : ℕ) (base : List Shape) (links : Peer → Links Peer) (start : �
           let its_flow = each (FlowsOn c.story.acked others (posts_at c.session.stage)) c.world.participants p h.agents (found_named c.world.participants name p is_p).0 in
           let mid = with_participant c.world (record p { cache = cache }) in
           record {
-            well = (kept_ring r base links start ring c.world mid (same_rings c.world mid refl refl refl refl) h.well.0, h.well.1);
+            well = (kept_ring ring c.world mid (same_rings c.world mid refl refl refl refl) h.well.0, h.well.1);
             entries = then_good.step.entries;
             fit = (bare.2, subst AllFit (sym bare.1) tt);
-            posts_met = posts_in (with_cache hss_judged r c p t cache) up then_good;
+            posts_met = posts_in (with_cache hss_judged ring.r c p t cache) up then_good;
             sessions = h.sessions;
             agents = flows_weaker c.story.acked c.story.acked others others (posts_at c.session.stage) (posts_at t.stage) (none_covers c.story.acked (posts_at c.session.stage) (posts_at t.stage) (ap posts_at (sym stage) ∙ bare.0)) mid.participants
                 (placed_all (FlowsOn c.story.acked others (posts_at c.session.stage)) (record p { cache = cache }) c.world.participants (its_flow.0, its_flow.1) h.agents);

@@ -4,9 +4,6 @@ use Rattle.std.specs.List.{AllByRecursion}
 use Rattle.std.proofs.lemmas.Bool.{lt-ltb}
 use Rattle.std.proofs.lemmas.List.Elements.{Contains-append_left, Contains-append_right}
 use Rattle.ivy_base.specs.declared.operation.Moment.{Moment}
-use Rattle.ring_model.specs.Members.{IsAmong}
-use Rattle.ring_model.specs.Ring.{Links}
-use Rattle.round_laws.proofs.Nodes.{Shape, made_by}
 use Rattle.log_heads.specs.Signed.{hss_judged}
 use Rattle.log_model.specs.View.{View}
 use Rattle.log_model.proofs.Lists.{each_append, here, in_cons, in_nothing}
@@ -37,11 +34,13 @@ use Rattle.world_model.specs.Steps.RunsOut.{is_over as runs_over, more as runs_m
 use Rattle.world_model.specs.Steps.Steps.{acts, lacks_memory}
 use Rattle.world_model.specs.Step.{most_bytes}
 use Rattle.world_model.specs.World.{Participant, World, with_participant}
-use Rattle.world_laws.proofs.CalmNodes.{IsMadeRing, IsRing, kept_ring, same_rings}
+use Rattle.world_laws.proofs.CalmNodes.{same_rings}
 use Rattle.world_laws.proofs.CalmPuts.{entries_by}
+use Rattle.durability_laws.proofs.Rooms.{total}
+use Rattle.durability_laws.proofs.States.{kept_ring}
+use Rattle.durability_laws.proofs.Stretches.{IsRingOf, Stretch}
 use Rattle.completeness_laws.specs.Completeness.{FitsItsKey}
 use Rattle.completeness_laws.proofs.PutsAcked.{AreFine, AreTaken, IsTaken, put_acked, put_step, route_step}
-use Rattle.completeness_laws.proofs.StoreRoom.{total}
 
 -- ---- a session that refreshes
 
@@ -83,23 +82,23 @@ acked_one said p posts acks = ap (λ b. cond b (p ∷ []) []) (lt-ltb (length ac
 
 -- ---- publishing
 
-module _ (r : ℕ) (base : List Shape) (links : Peer → Links Peer) (start : ℕ) (ring : IsMadeRing r base links) (met : List (List ℕ)) (fits : total met ≤ most_bytes) (e : Peer) (made : IsAmong e (made_by base)) (looked_at : Post) where
+module _ (ring : Stretch) (met : List (List ℕ)) (fits : total met ≤ most_bytes) (looked_at : Post) where
   -- what may be put
   abbrev pub IsPuttable : Post → Type 0
   IsPuttable p = Contains met p.bytes × FitsItsKey p
 
   abbrev pub IsWellNow : World → Type 0
-  IsWellNow v = IsRing r base links start v × AreFine met v
+  IsWellNow v = IsRingOf ring v × AreFine met v
 
   -- so are the posts, what was answered of the first of them is true, and the one that is looked at was acknowledged or is among them
   abbrev pub IsToPut : List Post → List Heard → Stage → Type 0
   IsToPut acked heard Refreshing = ⊥
   IsToPut acked heard (Publishing said [] acks) = Contains acked looked_at
-  IsToPut acked heard (Publishing said (p ∷ posts) acks) = (g : IsPuttable p) × AreTaken r base links start ring met fits p g.0 g.1 heard × AllByRecursion IsPuttable posts × (Contains (p ∷ posts) looked_at ⊎ Contains acked looked_at)
+  IsToPut acked heard (Publishing said (p ∷ posts) acks) = (g : IsPuttable p) × AreTaken ring met fits p g.0 g.1 heard × AllByRecursion IsPuttable posts × (Contains (p ∷ posts) looked_at ⊎ Contains acked looked_at)
   IsToPut acked heard (Over said) = Contains acked looked_at
 
   pub record IsPutting (v : World) (acked : List Post) (s : Session) : Type 0 where
-    pub entries : s.entries ≡ entries_by base
+    pub entries : s.entries ≡ entries_by ring.base
     pub well : IsWellNow v
     pub stage : IsToPut acked s.current s.stage
 
@@ -112,7 +111,7 @@ module _ (r : ℕ) (base : List Shape) (links : Peer → Links Peer) (start : �
   is_past {acked = acked} {s = s} h = past_at acked s.current s.stage h.stage
 
   placed_well : (v : World) (q : Participant) → IsWellNow v → IsWellNow (with_participant v q)
-  placed_well v q h = (kept_ring r base links start ring v (with_participant v q) (same_rings v (with_participant v q) refl refl refl refl) h.0, h.1)
+  placed_well v q h = (kept_ring ring v (with_participant v q) (same_rings v (with_participant v q) refl refl refl refl) h.0, h.1)
 
   placed_putting : (v : World) (q : Participant) (acked : List Post) (s : Session) → IsPutting v acked s → IsPutting (with_participant v q) acked s
   placed_putting v q acked s h = record { entries = h.entries; well = placed_well v q h.well; stage = h.stage }
@@ -120,12 +119,12 @@ module _ (r : ℕ) (base : List Shape) (links : Peer → Links Peer) (start : �
   -- ---- an ask
 
   asked_well : (p : Post) (g : IsPuttable p) (v next : World) (node : Peer) (question : Ask) (answer : Answer) → FateOf hss_judged v node question answer next → (question ≡ ask.Route p.key) ⊎ (question ≡ put_question p) → IsWellNow v
-      → IsWellNow next × AreTaken r base links start ring met fits p g.0 g.1 (told node question answer)
-  asked_well p g v next node question answer fate is h = ⊎_elim (λ i. so (ask.Route p.key) i (route_step r base links start ring met fits p g.0 g.1)) (λ i. so (put_question p) i (put_step r base links start ring met fits p g.0 g.1)) is
+      → IsWellNow next × AreTaken ring met fits p g.0 g.1 (told node question answer)
+  asked_well p g v next node question answer fate is h = ⊎_elim (λ i. so (ask.Route p.key) i (route_step ring met fits p g.0 g.1)) (λ i. so (put_question p) i (put_step ring met fits p g.0 g.1)) is
     where
-      so : (asked : Ask) → question ≡ asked → ((v mid : World) (to : Peer) (given : Answer) → FateOf hss_judged v to asked given mid → IsWellNow v → IsWellNow mid × AreTaken r base links start ring met fits p g.0 g.1 (told to asked given))
-          → IsWellNow next × AreTaken r base links start ring met fits p g.0 g.1 (told node question answer)
-      so asked i step = subst (λ q. IsWellNow next × AreTaken r base links start ring met fits p g.0 g.1 (told node q answer)) (sym i) (step v next node answer (subst (λ q. FateOf hss_judged v node q answer next) i fate) h)
+      so : (asked : Ask) → question ≡ asked → ((v mid : World) (to : Peer) (given : Answer) → FateOf hss_judged v to asked given mid → IsWellNow v → IsWellNow mid × AreTaken ring met fits p g.0 g.1 (told to asked given))
+          → IsWellNow next × AreTaken ring met fits p g.0 g.1 (told node question answer)
+      so asked i step = subst (λ q. IsWellNow next × AreTaken ring met fits p g.0 g.1 (told node q answer)) (sym i) (step v next node answer (subst (λ q. FateOf hss_judged v node q answer next) i fate) h)
 
   -- the posts after the first, of which a put was acknowledged
   rest_to_put : (said : Option Said) (acked : List Post) (p : Post) (posts : List Post) (acks : List Ack) → AllByRecursion IsPuttable posts → Contains (p ∷ posts) looked_at ⊎ Contains acked looked_at → IsToPut (acked ++ p ∷ []) [] (Publishing said posts acks)
@@ -141,14 +140,14 @@ module _ (r : ℕ) (base : List Shape) (links : Peer → Links Peer) (start : �
       by [] good now = ⊎_elim (λ none. absurd (in_nothing looked_at none)) (λ c. c) now
       by (q ∷ qs) good now = (good.0, tt, good.1, now)
 
-  hears_so : {v next : World} {acked : List Post} {s heard : Session} {cache after : Cache} {node : Peer} {question : Ask} {answer : Answer} → FateOf hss_judged v node question answer next → Hears hss_judged r s cache node question answer heard after → IsPutting v acked s
+  hears_so : {v next : World} {acked : List Post} {s heard : Session} {cache after : Cache} {node : Peer} {question : Ask} {answer : Answer} → FateOf hss_judged v node question answer next → Hears hss_judged ring.r s cache node question answer heard after → IsPutting v acked s
       → (t : Session) → Fails heard t → IsPutting next (acked ++ acked_by s.stage t.stage) t
   hears_so fate (gets_on want wants next_is part) h t goes = absurd (is_past h wants.0)
   hears_so fate (got want brought wants next_is whole) h t goes = absurd (is_past h wants.0)
   hears_so {v} {next} {acked} {s} {heard} {cache} {after} {node} {question} {answer} fate (puts_on said p posts acks at next_is part) h t goes =
       let was : IsToPut acked s.current (Publishing said (p ∷ posts) acks) = subst (IsToPut acked s.current) at h.stage in
       let asked = asked_well p was.0 v next node question answer fate next_is.is_of h.well in
-      let all = each_append (λ (x : Heard). IsTaken r base links start ring met fits p was.0.0 was.0.1 x.kind x) s.current (told node question answer) was.1 asked.1 in
+      let all = each_append (λ (x : Heard). IsTaken ring met fits p was.0.0 was.0.1 x.kind x) s.current (told node question answer) was.1 asked.1 in
       fails_same (λ (x : Session). IsPutting next (acked ++ acked_by s.stage x.stage) x) goes (is_past h)
       (record {
         entries = h.entries;
@@ -158,8 +157,8 @@ module _ (r : ℕ) (base : List Shape) (links : Peer → Links Peer) (start : �
   hears_so {v} {next} {acked} {s} {heard} {cache} {after} {node} {question} {answer} fate (puts said p posts acks came at next_is whole) h t goes =
       let was : IsToPut acked s.current (Publishing said (p ∷ posts) acks) = subst (IsToPut acked s.current) at h.stage in
       let asked = asked_well p was.0 v next node question answer fate next_is.is_of h.well in
-      let all = each_append (λ (x : Heard). IsTaken r base links start ring met fits p was.0.0 was.0.1 x.kind x) s.current (told node question answer) was.1 asked.1 in
-      let yes = put_acked r base links start ring met fits p was.0.0 was.0.1 next e asked.0.0 made (s.current ++ told node question answer) came all (subst (λ es. IsPutOfPost r es p (s.current ++ told node question answer) came) h.entries whole) in
+      let all = each_append (λ (x : Heard). IsTaken ring met fits p was.0.0 was.0.1 x.kind x) s.current (told node question answer) was.1 asked.1 in
+      let yes = put_acked ring met fits p was.0.0 was.0.1 next asked.0.0 (s.current ++ told node question answer) came all (subst (λ es. IsPutOfPost ring.r es p (s.current ++ told node question answer) came) h.entries whole) in
       fails_same (λ (x : Session). IsPutting next (acked ++ acked_by s.stage x.stage) x) goes (put_past said p posts acks (acknowledged came))
       (record {
         entries = h.entries;
@@ -174,18 +173,18 @@ module _ (r : ℕ) (base : List Shape) (links : Peer → Links Peer) (start : �
   settles_so : {v : World} {acked : List Post} {a after : Agent} {s t : Session} → Settles a s after t → IsPutting v acked s → IsPutting v acked t
   settles_so {acked = acked} {s = s} (settles_all said acks at) h = record { entries = h.entries; well = h.well; stage = subst (IsToPut acked s.current) at h.stage }
 
-  acts_so : {p : Participant} {c next : Scene} → Acts hss_judged r p c next → IsPutting c.world c.story.acked c.session → IsPutting next.world next.story.acked next.session
+  acts_so : {p : Participant} {c next : Scene} → Acts hss_judged ring.r p c next → IsPutting c.world c.story.acked c.session → IsPutting next.world next.story.acked next.session
   acts_so {p = p} {c = c} (asks node question answer next heard t cache fate hears goes) h = placed_putting next (record p { cache = cache }) (c.story.acked ++ acked_by c.session.stage t.stage) t (hears_so fate hears h t goes)
   acts_so (asks_in_vain node question answer next heard t cache fate hears lacking) h = absurd (is_past h (lacks_refreshing lacking))
   acts_so (turns view reply applied after saving t turned in_view takes replies is_turn) h = absurd (is_past h (turn_refreshing takes))
   acts_so (is_refused view end after saving t in_view refusal takes) h = absurd (is_past h (turn_refreshing takes))
   acts_so {p = p} {c = c} (settles after t is) h = placed_putting c.world (record p { agent = after }) c.story.acked t (settles_so is h)
 
-  step_so : {name : List ℕ} {c next : Scene} → Steps hss_judged r name c next → IsPutting c.world c.story.acked c.session → IsPutting next.world next.story.acked next.session
+  step_so : {name : List ℕ} {c next : Scene} → Steps hss_judged ring.r name c next → IsPutting c.world c.story.acked c.session → IsPutting next.world next.story.acked next.session
   step_so {c = c} (acts p taken cache next is_p takes act) h = acts_so act (placed_putting c.world (record p { cache = cache }) c.story.acked taken (all_taken (IsPutting c.world c.story.acked) takes (is_past h) h))
   step_so {c = c} (lacks_memory p taken t cache is_p takes lacking) h = absurd (is_past (some_taken (IsPutting c.world c.story.acked) takes (is_past h) h) (lacks_refreshing lacking))
 
   -- in the end it was acknowledged
-  pub runs_acked : {name : List ℕ} {c end : Scene} → RunsOut hss_judged r name c end → IsPutting c.world c.story.acked c.session → Contains end.story.acked looked_at
+  pub runs_acked : {name : List ℕ} {c end : Scene} → RunsOut hss_judged ring.r name c end → IsPutting c.world c.story.acked c.session → Contains end.story.acked looked_at
   runs_acked {c = c} (runs_over said over) h = subst (IsToPut c.story.acked c.session.current) over h.stage
   runs_acked (runs_more step rest) h = runs_acked rest (step_so step h)

@@ -1,27 +1,23 @@
--- A whole put of a post that was met, and that fits its key, is acknowledged: it finds owners, and each of them takes it.
-use Rattle.std.proofs.Common.{◌≡◌, inl, inr, ⊎_elim, ℕ, zero, suc, ◌≤◌, Bool, true, false, cond, not, ◌&&◌, ◌||◌, nat_le, List, [], ◌∷◌, ◌++◌, length, length-append, map, Option, Some, None, Result, Ok, Err, refl, sym, ap, ◌∙◌, subst, arith, Contains}
-use Rattle.std.specs.Prelude.{◌*◌, is_some, take}
+-- A whole put of a post that was met, and that fits its key, is acknowledged: it finds owners, and each of them that lives takes it.
+use Rattle.std.proofs.Common.{◌≡◌, inl, inr, ⊎_elim, ℕ, zero, suc, ◌≤◌, Bool, true, false, cond, List, [], ◌∷◌, ◌++◌, length, filter, Option, Some, None, Result, Err, refl, sym, ap, ◌∙◌, subst, arith, Contains}
+use Rattle.std.specs.Prelude.{take}
 use Rattle.std.proofs.lemmas.List.{append-nil}
+use Rattle.std.proofs.lemmas.List.Sums.{length-filter}
 use Rattle.std.specs.List.{AllByRecursion}
 use Rattle.std.specs.Ordering.{eq_by_cmp}
 use Rattle.std.specs.FinMap.Entries.{find as value_at, find-put, put}
 use Rattle.ivy_base.specs.declared.key.Key.{Key}
 use Rattle.ivy_base.specs.Naming.{key_cmp}
-use Rattle.ring_model.specs.Gets.{AreFirsts, IsAcknowledged, IsPut, answered_in, nodes}
-use Rattle.ring_model.specs.Gets.AreFirsts.{none as no_more, again as seen_again, new as not_seen}
+use Rattle.ring_model.specs.Gets.{IsAcknowledged, IsPut, answered_in}
 use Rattle.ring_model.specs.Circle.{number}
-use Rattle.ring_model.specs.Lookup.{IsLookup}
 use Rattle.ring_model.specs.Members.{IsAmong, from_place}
-use Rattle.ring_model.specs.Ring.{Links}
 use Rattle.ring_model.proofs.Members.{all_from_place}
-use Rattle.ring_model.proofs.Lists.{all-right, cons_head, cons_tail, nil_cons, some_same}
-use Rattle.round_laws.specs.RingOf.{links_in}
-use Rattle.round_laws.proofs.Nodes.{Shape, at, at_id, at_other, at_same, made_by, order_by, replaced, same_id, same_or_not, shape}
+use Rattle.ring_model.proofs.Lists.{all-among, all-left, all-right, all_from, all_weaker, among_filter, cons_head, cons_tail, nil_cons, some_same}
+use Rattle.round_laws.proofs.Nodes.{at, at_id, at_other, at_same, order_by, replaced, same_id, same_or_not}
 use Rattle.round_laws.proofs.Repairing.{put_keeps}
-use Rattle.round_laws.proofs.Rounding.{shapes_of}
 use Rattle.log_heads.specs.Signed.{hss_judged}
 use Rattle.log_model.proofs.Lists.{each, each_append}
-use Rattle.dht_ids.specs.Asked.{IsForData, routes, told}
+use Rattle.dht_ids.specs.Asked.{IsForData, told}
 use Rattle.dht_ids.specs.Peers.{place}
 use Rattle.dht_ids.specs.declared.ask.Answer.{Answer}
 use Rattle.dht_ids.specs.declared.ask.Answer.TheVariants as answer
@@ -38,37 +34,50 @@ use Rattle.dhash_client.specs.Course.IsCourse.{no_route, of_owners}
 use Rattle.dhash_client.specs.Machine.{outcome}
 use Rattle.dhash_client.specs.Puts.{holds, is_of_put}
 use Rattle.dhash_client.specs.declared.miss.Miss.{Miss}
+use Rattle.dhash_client.specs.declared.miss.Miss.TheVariants as miss
 use Rattle.agent_model.specs.Agent.{is_head}
 use Rattle.node_store.specs.Stores.{Block, IsStore, bytes_held, capacity, content, content_fault, head, head_fault}
 use Rattle.node_store.specs.declared.kind.Kind.TheVariants.{Content, Head}
 use Rattle.node_store.proofs.Maps.{keys_total}
 use Rattle.session_model.specs.Sessions.{IsPutOfPost, acknowledged, put_question}
-use Rattle.world_model.specs.Fates.{FateOf, Fates, asking, counted}
+use Rattle.world_model.specs.Fates.{FateOf, Fates, asking}
+use Rattle.world_model.specs.Fates.FateOf.{answers, lost, stopped}
 use Rattle.world_model.specs.Fates.Fates.{none as no_fates, more as more_fates}
 use Rattle.world_model.specs.Nodes.{Node, answered, stored}
-use Rattle.world_model.specs.Ring.{AreSettled, RingLine, first_peers, is_known_id, peer_numbered}
-use Rattle.world_model.specs.Ring.AreSettled.{none as settled_none, more as settled_more}
-use Rattle.world_model.specs.Ring.RingLine.{makes as ring_makes}
 use Rattle.world_model.specs.Step.{most_bytes}
 use Rattle.world_model.specs.Logs.{Played}
-use Rattle.script_driver.specs.Run.{Goes}
-use Rattle.world_model.specs.World.{World, empty_world, node_at, peer_of, with_node}
-use Rattle.world_laws.specs.Calm.{HasSameRing, IsCalmAt, Since, Stopped}
-use Rattle.world_laws.specs.Laws.{LinesKeep}
-use Rattle.world_laws.proofs.CalmHeld.{IsStillWorld, still_world}
-use Rattle.world_laws.proofs.CalmNodes.{IsMadeRing, IsRing, IsRouted, asked_ring, is_routed, kept_ring, made_lives, who_answers}
-use Rattle.world_laws.proofs.CalmPuts.{AreTrue, all_answered, entries_by, finds_all, length_nodes, made_entry}
-use Rattle.world_laws.proofs.CalmLines.{entries_are}
-use Rattle.world_laws.proofs.CalmRuns.{first_of, runs_so}
-use Rattle.world_laws.proofs.CalmStates.{IsLeft}
+use Rattle.world_model.specs.World.{World, node_at, peer_of}
+use Rattle.world_laws.specs.Calm.{AreAny}
+use Rattle.world_laws.specs.Keeps.{Keeps}
+use Rattle.world_laws.proofs.CalmNodes.{asked_rings}
+use Rattle.world_laws.proofs.CalmPuts.{entries_by}
 use Rattle.world_laws.proofs.StoredBlocks.{put_each, put_store, room_for_content, room_for_head}
+use Rattle.durability_laws.proofs.Asking.{among_asks, asked_found, owner_asked}
+use Rattle.durability_laws.proofs.BlockKinds.{IsFit}
+use Rattle.durability_laws.proofs.Holding.{AreOrderly}
+use Rattle.durability_laws.proofs.Lines.{entries_are}
+use Rattle.durability_laws.proofs.Rooms.{total}
+use Rattle.durability_laws.proofs.States.{kept_ring}
+use Rattle.durability_laws.proofs.Stretches.{Answers, IsMade, IsRingOf, IsRouted, Stretch, finds, is_routed, lives, own, own_distinct, owned_is, owner_lives, who_answers}
+use Rattle.durability_laws.proofs.Stretches.Answers.{gives, is_silent}
 use Rattle.completeness_laws.specs.Completeness.{FitsItsKey, PutsAreAcknowledged}
 use Rattle.completeness_laws.proofs.HeldHeads.{found_in}
 use Rattle.completeness_laws.proofs.PutsTaken.{post_taken}
-use Rattle.completeness_laws.proofs.StoreRoom.{IsOf, has_room, kinds_of, total}
+use Rattle.completeness_laws.proofs.Standing.{calm_world, ring_of}
+use Rattle.completeness_laws.proofs.StoreRoom.{has_room, kinds_of}
 
 no_yes : false ≡ true → ⊥
 no_yes e = cc e
+
+holds_of_put : (a : Answer) → holds a ≡ true → is_of_put a ≡ true
+holds_of_put (answer.Route nearer owners) h = absurd (no_yes h)
+holds_of_put (answer.Near before list) h = absurd (no_yes h)
+holds_of_put (answer.Found bytes) h = absurd (no_yes h)
+holds_of_put answer.Nothing h = absurd (no_yes h)
+holds_of_put answer.Stored h = refl
+holds_of_put (answer.Refused why) h = refl
+holds_of_put answer.Noted h = absurd (no_yes h)
+holds_of_put answer.Silent h = absurd (no_yes h)
 
 -- ---- nodes
 
@@ -76,9 +85,9 @@ no_yes e = cc e
 pub record IsFine (met : List (List ℕ)) (n : Node) : Type 0 where
   pub store : IsStore n.blocks
   pub among : AllByRecursion (λ e. Contains met e.1.bytes) n.blocks
-  pub kinds : (k : Key) (c : Block) → value_at key_cmp k n.blocks ≡ Some c → IsOf k c.kind c.bytes
+  pub kinds : (k : Key) (c : Block) → value_at key_cmp k n.blocks ≡ Some c → IsFit c.kind k c.bytes
 
-stored_fine : (met : List (List ℕ)) (n : Node) (key : Key) (block : Block) (fault : Option StoreFault) → (fault ≡ None → bytes_held (put key_cmp key block n.blocks) ≤ capacity) → Contains met block.bytes → IsOf key block.kind block.bytes
+stored_fine : (met : List (List ℕ)) (n : Node) (key : Key) (block : Block) (fault : Option StoreFault) → (fault ≡ None → bytes_held (put key_cmp key block n.blocks) ≤ capacity) → Contains met block.bytes → IsFit block.kind key block.bytes
     → IsFine met n → IsFine met (stored n key block fault).1
 stored_fine met n key block (Some f) room in_met of h = h
 stored_fine met n key block None room in_met of h = record {
@@ -87,8 +96,8 @@ stored_fine met n key block None room in_met of h = record {
   kinds = λ k c f. by k c (eq_by_cmp key_cmp k key) refl (sym (find-put key_cmp keys_total k key block n.blocks) ∙ f);
 }
   where
-    by : (k : Key) (c : Block) (b : Bool) → eq_by_cmp key_cmp k key ≡ b → cond b (Some block) (value_at key_cmp k n.blocks) ≡ Some c → IsOf k c.kind c.bytes
-    by k c true e g = subst (λ x. IsOf x c.kind c.bytes) (sym (same_id k key e)) (subst (λ (x : Block). IsOf key x.kind x.bytes) (some_same block c g) of)
+    by : (k : Key) (c : Block) (b : Bool) → eq_by_cmp key_cmp k key ≡ b → cond b (Some block) (value_at key_cmp k n.blocks) ≡ Some c → IsFit c.kind k c.bytes
+    by k c true e g = subst (λ x. IsFit c.kind x c.bytes) (sym (same_id k key e)) (subst (λ (x : Block). IsFit x.kind key x.bytes) (some_same block c g) of)
     by k c false e g = h.kinds k c g
 
 module _ (met : List (List ℕ)) (p : Post) (in_met : Contains met p.bytes) (good : FitsItsKey p) where
@@ -118,46 +127,61 @@ module _ (met : List (List ℕ)) (p : Post) (in_met : Contains met p.bytes) (goo
 abbrev pub AreFine : List (List ℕ) → World → Type 0
 AreFine met w = (id : Key) (n : Node) → node_at w id ≡ Some n → IsFine met n
 
-pub fine_with : (met : List (List ℕ)) (w : World) (to : Peer) (old new : Node) → node_at w to.id ≡ Some old → peer_of new ≡ peer_of old → IsFine met new → AreFine met w → AreFine met (with_node (counted w) new)
-fine_with met w to old new here me fine h id n e = ⊎_elim
-    (λ same. subst (IsFine met) (some_same new n (sym (subst (λ x. at (replaced new w.nodes) x ≡ Some new) same (at_same w.nodes new old (subst (λ (q : Peer). at w.nodes q.id ≡ Some old) (sym me) itself))) ∙ e)) fine)
+pub fate_fine : (met : List (List ℕ)) {w next : World} {to : Peer} {question : Ask} {given : Answer} → FateOf hss_judged w to question given next → ((n : Node) → peer_of (answered hss_judged n question).1 ≡ peer_of n) → ((n : Node) → IsFine met n → IsFine met (answered hss_judged n question).1) → AreFine met w → AreFine met next
+fate_fine met (lost l) me fine h id n e = h id n e
+fate_fine met (stopped old l is dead) me fine h id n e = h id n e
+fate_fine met {w = w} {to = to} {question = question} (answers old l here live) me fine h id n e = ⊎_elim
+    (λ same. subst (IsFine met) (some_same new n (sym (subst (λ x. at (replaced new w.nodes) x ≡ Some new) same (at_same w.nodes new old (subst (λ (q : Peer). at w.nodes q.id ≡ Some old) (sym (me old)) itself))) ∙ e)) (fine old (h to.id old here)))
     (λ other. h id n (sym (at_other w.nodes new id other) ∙ e))
     (same_or_not (peer_of new).id id)
   where
+    new : Node
+    new = (answered hss_judged old question).1
+
     itself : node_at w (peer_of old).id ≡ Some old
     itself = subst (λ k. node_at w k ≡ Some old) (sym (at_id w.nodes to.id old here)) here
 
-module _ (r : ℕ) (base : List Shape) (links : Peer → Links Peer) (start : ℕ) (ring : IsMadeRing r base links) (met : List (List ℕ)) (fits : total met ≤ most_bytes) (p : Post) (in_met : Contains met p.bytes) (good : FitsItsKey p) where
-  -- a put that was answered was taken, and an answer to a route is the ring's
+module _ (ring : Stretch) (met : List (List ℕ)) (fits : total met ≤ most_bytes) (p : Post) (in_met : Contains met p.bytes) (good : FitsItsKey p) where
+  -- exactly those that live answer, and hold it then
+  abbrev pub IsPutTaken : Peer → Answer → Type 0
+  IsPutTaken node given = (is_of_put given ≡ lives ring node) × (holds given ≡ lives ring node)
+
+  -- so is what was heard of a put, and an answer to a route is the ring's
   abbrev pub IsTaken : AskKind → Heard → Type 0
-  IsTaken kind.Route h = IsAmong h.node (made_by base) → IsRouted r base links start ring h.key h.node h.got
+  IsTaken kind.Route h = IsMade ring h.node → IsRouted ring h.key h.node h.got
   IsTaken kind.Get h = Unit {0}
-  IsTaken kind.PutBlock h = holds h.got ≡ true
-  IsTaken kind.PutHead h = holds h.got ≡ true
+  IsTaken kind.PutBlock h = IsMade ring h.node → IsPutTaken h.node h.got
+  IsTaken kind.PutHead h = IsMade ring h.node → IsPutTaken h.node h.got
 
   abbrev pub AreTaken : List Heard → Type 0
   AreTaken trail = AllByRecursion (λ h. IsTaken h.kind h) trail
 
   abbrev pub IsWell : World → Type 0
-  IsWell v = IsRing r base links start v × AreFine met v
+  IsWell v = IsRingOf ring v × AreFine met v
 
   abbrev pub StepsWell : Ask → Type 0
   StepsWell question = (v mid : World) (to : Peer) (given : Answer) → FateOf hss_judged v to question given mid → IsWell v → IsWell mid × AreTaken (told to question given)
 
   pub route_step : StepsWell (ask.Route p.key)
-  route_step v mid to given fate h =
-      let a = who_answers r base links start ring v mid to (ask.Route p.key) given h.0 fate in
-      ((asked_ring r base links start ring v mid to (ask.Route p.key) given tt fate h.0, subst (AreFine met) (sym a.next_is) (fine_with met v to a.node a.node a.at refl (h.1 to.id a.node a.at) h.1)), ((λ made. is_routed r base links start ring v mid to p.key given h.0 fate made), tt))
+  route_step v mid to given fate h = (
+    (kept_ring ring v mid (asked_rings v mid to (ask.Route p.key) given tt fate) h.0, fate_fine met fate (λ n. refl) (λ n so. so) h.1),
+    ((λ made. is_routed ring v mid to p.key given h.0 fate made), tt),
+  )
 
   pub put_step : StepsWell (put_question p)
-  put_step v mid to given fate h =
-      let a = who_answers r base links start ring v mid to (put_question p) given h.0 fate in
-      let its = h.1 to.id a.node a.at in
-      let new : Node = (answered hss_judged a.node (put_question p)).1 in
-      let taken : holds given ≡ true = ap holds a.gives ∙ post_taken a.node p good (has_room met a.node.blocks its.store its.among its.kinds p.key (content p.bytes) in_met fits) (has_room met a.node.blocks its.store its.among its.kinds p.key (head p.bytes) in_met fits) in
-      ((asked_ring r base links start ring v mid to (put_question p) given (put_for_data met p in_met good) fate h.0, subst (AreFine met) (sym a.next_is) (fine_with met v to a.node new a.at (put_me met p in_met good a.node) (put_fine met p in_met good a.node its) h.1)), by (is_head p.kind) taken)
+  put_step v mid to given fate h = (
+    (kept_ring ring v mid (asked_rings v mid to (put_question p) given (put_for_data met p in_met good) fate) h.0, fate_fine met fate (put_me met p in_met good) (put_fine met p in_met good) h.1),
+    by (is_head p.kind) (λ made. taken (who_answers ring v mid to (put_question p) given h.0 made fate)),
+  )
     where
-      by : (b : Bool) → holds given ≡ true → AreTaken (told to (cond b (ask.PutHead p.key p.bytes) (ask.PutBlock p.key p.bytes)) given)
+      taken : Answers ring v to (put_question p) given mid → IsPutTaken to given
+      taken (is_silent s l) = (ap is_of_put s ∙ sym l, ap holds s ∙ sym l)
+      taken (gives n at me l same next_is) =
+          let its = h.1 to.id n at in
+          let yes : holds given ≡ true = ap holds same ∙ post_taken n p good (has_room met n.blocks its.store its.among its.kinds p.key (content p.bytes) in_met fits) (has_room met n.blocks its.store its.among its.kinds p.key (head p.bytes) in_met fits) in
+          (holds_of_put given yes ∙ sym l, yes ∙ sym l)
+
+      by : (b : Bool) → (IsMade ring to → IsPutTaken to given) → AreTaken (told to (cond b (ask.PutHead p.key p.bytes) (ask.PutBlock p.key p.bytes)) given)
       by true t = (t, tt)
       by false t = (t, tt)
 
@@ -180,139 +204,108 @@ module _ (r : ℕ) (base : List Shape) (links : Peer → Links Peer) (start : �
 
 -- ---- puts
 
-holds_of_put : (a : Answer) → holds a ≡ true → is_of_put a ≡ true
-holds_of_put (answer.Route nearer owners) h = absurd (no_yes h)
-holds_of_put (answer.Near before list) h = absurd (no_yes h)
-holds_of_put (answer.Found bytes) h = absurd (no_yes h)
-holds_of_put answer.Nothing h = absurd (no_yes h)
-holds_of_put answer.Stored h = refl
-holds_of_put (answer.Refused why) h = refl
-holds_of_put answer.Noted h = absurd (no_yes h)
-holds_of_put answer.Silent h = absurd (no_yes h)
+-- a node owns the key
+some_first : (k : ℕ) (all : List Peer) (e : Peer) → 1 ≤ k → IsAmong e all → (m : Peer) × IsAmong m (take k all)
+some_first zero all e some i = absurd (omega (arith, some))
+some_first (suc k) [] e some i = absurd i
+some_first (suc k) (q ∷ all) e some i = (q, inl refl)
 
-all_of_put : (asks : Told) → AllByRecursion (λ s. holds s.1 ≡ true) asks → AllByRecursion (λ s. is_of_put s.1 ≡ true) asks
-all_of_put [] h = tt
-all_of_put (s ∷ asks) h = (holds_of_put s.1 h.0, all_of_put asks h.1)
+own_some : (ring : Stretch) (key : Key) → (m : Peer) × IsAmong m (own ring key)
+own_some ring key = some_first ring.r (from_place place (order_by ring.base) (number key)) ring.stands.someone ring.stands.covered.positive
+    (all_from_place place (order_by ring.base) (number key) ring.stands.someone (ring.stands.covered.living ring.stands.someone ring.stands.lives))
 
--- of owners some are asked
-some_once : (owned once : List Peer) → AreFirsts [] owned once → 1 ≤ length owned → 1 ≤ length once
-some_once owned once no_more some = absurd (omega (arith, some))
-some_once owned once (seen_again i f) some = absurd i
-some_once owned once (not_seen n f) some = omega arith
+not_missed : (key : Key) (k : ℕ) (t : Peer → Bool) (list : List Peer) (m : Peer) (missed : Miss) → IsAmong m (take k (filter t list)) → outcome key (Some list) ≡ Err missed → ⊥
+not_missed key zero t list m missed i e = i
+not_missed key (suc k) t [] m missed i e = i
+not_missed key (suc k) t (q ∷ list) m missed i e = cc e
 
-some_owned : (key : Key) (o : Option (List Peer)) (owned : List Peer) → outcome key o ≡ Ok owned → 1 ≤ length owned
-some_owned key None owned e = absurd cc
-some_owned key (Some []) owned e = absurd (cc e)
-some_owned key (Some (p ∷ ps)) owned e = let same : p ∷ ps ≡ owned = cc e in subst (λ (l : List Peer). 1 ≤ length l) same (omega arith)
-
-acked_true : (r : ℕ) (owned : List Peer) (asks : Told) (acked : Bool) → IsPut is_of_put holds r owned asks acked → AllByRecursion (λ s. holds s.1 ≡ true) asks → 1 ≤ length owned → acked ≡ true
-acked_true r owned asks true given h some = refl
-acked_true r owned asks false given h some = absurd (given.ends enough)
+-- as many hold it as answer
+same_count : (asks : Told) → AllByRecursion (λ s. holds s.1 ≡ is_of_put s.1) asks → answered_in holds asks ≡ answered_in is_of_put asks
+same_count asks all = sym (length-filter (λ (s : Peer × Answer). holds s.1) asks) ∙ by asks all ∙ length-filter (λ (s : Peer × Answer). is_of_put s.1) asks
   where
-    holding : answered_in holds asks ≡ length asks
-    holding = all_answered holds asks h
+    by : (asks : Told) → AllByRecursion (λ s. holds s.1 ≡ is_of_put s.1) asks → length (filter (λ (s : Peer × Answer). holds s.1) asks) ≡ length (filter (λ (s : Peer × Answer). is_of_put s.1) asks)
+    by [] all = refl
+    by (s ∷ asks) all = ap (λ b. length (cond b (s ∷ filter (λ (s : Peer × Answer). holds s.1) asks) (filter (λ (s : Peer × Answer). holds s.1) asks))) all.0 ∙ test (is_of_put s.1) (by asks all.1)
+      where
+        test : (b : Bool) → length (filter (λ (s : Peer × Answer). holds s.1) asks) ≡ length (filter (λ (s : Peer × Answer). is_of_put s.1) asks)
+            → length (cond b (s ∷ filter (λ (s : Peer × Answer). holds s.1) asks) (filter (λ (s : Peer × Answer). holds s.1) asks)) ≡ length (cond b (s ∷ filter (λ (s : Peer × Answer). is_of_put s.1) asks) (filter (λ (s : Peer × Answer). is_of_put s.1) asks))
+        test true e = ap suc e
+        test false e = e
 
-    answering : answered_in is_of_put asks ≡ length asks
-    answering = all_answered is_of_put asks (all_of_put asks h)
-
-    enough : IsAcknowledged holds r given.asks.once asks
-    enough = ⊎_elim
-        (λ many. inl (omega (arith, many, holding, answering)))
-        (λ whole. inr (whole, (let size = length_nodes asks in let same = ap length whole in let more = some_once owned given.asks.once given.asks.firsts some in omega (arith, size, same, more, holding))))
-        given.asks.over
-
--- ---- there is a node
-
-not_refused : (a b : Bool) → (a || b || true) ≡ false → ⊥
-not_refused true b e = cc e
-not_refused false true e = cc e
-not_refused false false e = cc e
-
-known_some : (ps : List Peer) (p : Peer) → is_known_id ps p ≡ true → 1 ≤ length ps
-known_some [] p e = absurd (no_yes e)
-known_some (q ∷ ps) p e = omega arith
-
-first_some : (n : ℕ) → 1 ≤ length (first_peers (suc n))
-first_some n = by (is_known_id (first_peers n) (peer_numbered n)) refl
+one_holds : (asks : Told) (s : Peer × Answer) → IsAmong s asks → holds s.1 ≡ true → 1 ≤ answered_in holds asks
+one_holds asks s i t = let count = length-filter (λ (s : Peer × Answer). holds s.1) asks in let some = long (filter (λ (s : Peer × Answer). holds s.1) asks) (among_filter (λ (s : Peer × Answer). holds s.1) s asks i t) in omega (arith, count, some)
   where
-    by : (b : Bool) → is_known_id (first_peers n) (peer_numbered n) ≡ b → 1 ≤ length (cond b (first_peers n) (first_peers n ++ peer_numbered n ∷ []))
-    by true e = known_some (first_peers n) (peer_numbered n) e
-    by false e = let size = length-append (first_peers n) (peer_numbered n ∷ []) in omega (arith, size)
+    long : (xs : Told) → IsAmong s xs → 1 ≤ length xs
+    long [] i = absurd i
+    long (x ∷ xs) i = omega arith
 
-settled_some : {live : List Peer} {r : ℕ} {peers : List Peer} {nodes : List Node} → AreSettled live r peers nodes → 1 ≤ length peers → 1 ≤ length nodes
-settled_some settled_none some = absurd (omega (arith, some))
-settled_some (settled_more state is rest) some = omega arith
+module _ (ring : Stretch) (met : List (List ℕ)) (fits : total met ≤ most_bytes) (p : Post) (in_met : Contains met p.bytes) (good : FitsItsKey p) where
+  abbrev Taken : List Heard → Type 0
+  Taken trail = AreTaken ring met fits p in_met good trail
 
-pub nodes_some : (w made : World) (count r : ℕ) → RingLine w count r (Goes made []) → 1 ≤ length made.nodes
-nodes_some w _ zero r (ring_makes nodes h g settled) = absurd (not_refused (is_some w.replicas) (not (nat_le 1 r && nat_le r 8)) h)
-nodes_some w _ (suc n) r (ring_makes nodes h g settled) = settled_some settled (first_some n)
-
-pub made_some : (nodes : List Node) (base : List Shape) → map shape nodes ≡ base → 1 ≤ length nodes → (e : Peer) × IsAmong e (made_by base)
-made_some [] base e some = absurd (omega (arith, some))
-made_some (n ∷ nodes) base e some = (peer_of n, subst (λ b. IsAmong (peer_of n) (made_by b)) e (inl refl))
-
-pub calm_nodes : (r : ℕ) (w : Played) (since : Since) (lines : List (List ℕ)) → HasSameRing lines → IsCalmAt r w since lines → 1 ≤ length w.0.nodes
-calm_nodes r w since lines same calm =
-    let rings : RingLine (record empty_world { now = calm.fresh.0 }) calm.count r (Goes calm.made []) = subst (λ (v : Played). RingLine v.0 calm.count r (Goes calm.made [])) calm.fresh.2 calm.rings in
-    let first = first_of (record empty_world { now = calm.fresh.0 }) calm.made calm.count r refl rings in
-    let goes = runs_so r (shapes_of calm.made) (links_in calm.made) calm.made.asked first.ring (Contains w.0.met) (IsLeft w.0) calm.calmly same first.still in
-    let now = kept_ring r (shapes_of calm.made) (links_in calm.made) calm.made.asked first.ring calm.made w.0 goes.still first.still in
-    let some = nodes_some (record empty_world { now = calm.fresh.0 }) calm.made calm.count r rings in
-    let here = ap length now.within.shapes in
-    let mine = size w.0.nodes in
-    let theirs = size calm.made.nodes in
-    omega (arith, some, here, mine, theirs)
-  where
-    size : (nodes : List Node) → length (map shape nodes) ≡ length nodes
-    size [] = refl
-    size (n ∷ nodes) = ap suc (size nodes)
-
--- ---- whole puts
-
-module _ (r : ℕ) (base : List Shape) (links : Peer → Links Peer) (start : ℕ) (ring : IsMadeRing r base links) (met : List (List ℕ)) (fits : total met ≤ most_bytes) (p : Post) (in_met : Contains met p.bytes) (good : FitsItsKey p) where
-  asks_hold : (asks : Told) → AreTaken r base links start ring met fits p in_met good (told_all (put_question p) asks) → AllByRecursion (λ s. holds s.1 ≡ true) asks
-  asks_hold asks h = by (is_head p.kind) asks h
+  asks_taken : (asks : Told) → Taken (told_all (put_question p) asks) → AllByRecursion (λ s. IsMade ring s.0 → IsPutTaken ring met fits p in_met good s.0 s.1) asks
+  asks_taken asks h = by (is_head p.kind) asks h
     where
-      by : (b : Bool) (asks : Told) → AreTaken r base links start ring met fits p in_met good (told_all (cond b (ask.PutHead p.key p.bytes) (ask.PutBlock p.key p.bytes)) asks) → AllByRecursion (λ s. holds s.1 ≡ true) asks
+      by : (b : Bool) (asks : Told) → Taken (told_all (cond b (ask.PutHead p.key p.bytes) (ask.PutBlock p.key p.bytes)) asks) → AllByRecursion (λ s. IsMade ring s.0 → IsPutTaken ring met fits p in_met good s.0 s.1) asks
       by b [] h = tt
       by true (s ∷ asks) h = (h.0, by true asks h.1)
       by false (s ∷ asks) h = (h.0, by false asks h.1)
 
-  looks_true : (w : World) (looks : Told) → AreTaken r base links start ring met fits p in_met good (told_all (ask.Route p.key) looks) → AreTrue r base links start ring w None (told_all (ask.Route p.key) looks)
-  looks_true w [] h = tt
-  looks_true w (s ∷ looks) h = (h.0, looks_true w looks h.1)
+  looks_routed : (looks : Told) → Taken (told_all (ask.Route p.key) looks) → AllByRecursion (λ s. IsMade ring s.0 → IsRouted ring p.key s.0 s.1) looks
+  looks_routed [] h = tt
+  looks_routed (s ∷ looks) h = (h.0, looks_routed looks h.1)
 
-  -- a look-up finds somebody
-  finds_owners : (w : World) (e : Peer) → IsRing r base links start w → IsAmong e (made_by base) → (looks : Told) (found : Option (List Peer)) → AreTaken r base links start ring met fits p in_met good (told_all (ask.Route p.key) looks)
-      → IsLookup [] None (entries_by base) (routes looks) found → (m : Miss) → outcome p.key found ≡ Err m → ⊥
-  finds_owners w e h made looks found taken l m missed =
-      let is = finds_all r base links start ring w None p.key looks found e h (looks_true w looks taken) l (made_entry base e made) in
-      let lives = ring.settled.living e (made_lives r base links start ring w e h made) in
-      let pos = ring.settled.positive in
-      not_missed (2 * r) (from_place place (order_by base) (number p.key)) (omega (arith, pos)) (all_from_place place (order_by base) (number p.key) e lives) (subst (λ o. outcome p.key o ≡ Err m) is missed)
+  -- of those that were found all owners that live take it, where too few have answered before
+  all_taken : (found : List Peer) (asks : Told) (acked : Bool) → take ring.r (filter (λ m. lives ring m) found) ≡ own ring p.key → ((m : Peer) → IsAmong m found → IsMade ring m) → AllByRecursion (λ s. IsMade ring s.0 → IsPutTaken ring met fits p in_met good s.0 s.1) asks
+      → IsPut is_of_put holds ring.r found asks acked → acked ≡ true
+  all_taken found asks true is made h put = refl
+  all_taken found asks false is made h put = absurd (put.ends enough)
     where
-      not_missed : (k : ℕ) (all : List Peer) → 1 ≤ k → IsAmong e all → outcome p.key (Some (take k all)) ≡ Err m → ⊥
-      not_missed zero all some i f = omega (arith, some)
-      not_missed (suc k) [] some i f = i
-      not_missed (suc k) (q ∷ all) some i f = cc f
+      taken_of : (s : Peer × Answer) → IsAmong s asks → IsPutTaken ring met fits p in_met good s.0 s.1
+      taken_of s i = all-among (λ (x : Peer × Answer). IsMade ring x.0 → IsPutTaken ring met fits p in_met good x.0 x.1) s asks h i (made s.0 (asked_found found asks put.asks.once put.asks.firsts put.asks.order s i))
 
-  pub put_acked : (w : World) (e : Peer) → IsRing r base links start w → IsAmong e (made_by base) → (trail : List Heard) (came : Result Bool Miss) → AreTaken r base links start ring met fits p in_met good trail → IsPutOfPost r (entries_by base) p trail came → acknowledged came ≡ true
-  put_acked w e h made trail came taken (no_route looks found is l nobody result_is) =
-      absurd (finds_owners w e h made looks found (subst (AreTaken r base links start ring met fits p in_met good) is taken) l _ nobody)
-  put_acked w e h made trail came taken (of_owners looks asks found owned is l some ends) =
-      let parts = all-right (λ (x : Heard). IsTaken r base links start ring met fits p in_met good x.kind x) (told_all (ask.Route p.key) looks) (told_all (put_question p) asks) (subst (AreTaken r base links start ring met fits p in_met good) is taken) in
-      ap acknowledged ends.2 ∙ acked_true r owned asks ends.0 ends.1 (asks_hold asks parts) (some_owned p.key found owned some)
+      answering : AllByRecursion (λ s. is_of_put s.1 ≡ lives ring s.0) asks
+      answering = all_from (λ (s : Peer × Answer). is_of_put s.1 ≡ lives ring s.0) asks (λ s i. (taken_of s i).0)
 
-pub puts_are_acknowledged : LinesKeep → PutsAreAcknowledged HasSameRing
-puts_are_acknowledged lines_keep r w next count lines p looks asks came same calm fits in_met good fates whole =
-    let world = still_world lines_keep r w (Stopped count) lines same calm in
-    let made = world.run.made in
-    let one = made_some w.0.nodes (shapes_of made) world.still.within.shapes (calm_nodes r w (Stopped count) lines same calm) in
-    put_acked r (shapes_of made) (links_in made) made.asked world.run.first.ring w.0.met fits p in_met good w.0 one.0 world.still one.1 (told_all (ask.Route p.key) looks ++ told_all (put_question p) asks) came
-    (trail_taken r (shapes_of made) (links_in made) made.asked world.run.first.ring w.0.met fits p in_met good looks asks w.0 next fates (world.still, λ id n at. fine world id n at))
-    (subst (λ es. IsPutOfPost r es p (told_all (ask.Route p.key) looks ++ told_all (put_question p) asks) came) (entries_are r (shapes_of made) (links_in made) made.asked world.run.first.ring (Contains w.0.met) (IsLeft w.0) w.0 world.still) whole)
-  where
-    fine : (world : IsStillWorld r w) (id : Key) (n : Node) → node_at w.0 id ≡ Some n → IsFine w.0.met n
-    fine world id n at =
-        let its = each _ w.0.nodes n world.keeps.met.held (found_in (λ (m : Node). eq_by_cmp key_cmp (peer_of m).id id) w.0.nodes n at) in
-        record { store = its.0; among = its.1; kinds = kinds_of r w world id n at }
+      counts : answered_in holds asks ≡ answered_in is_of_put asks
+      counts = same_count asks (all_from (λ (s : Peer × Answer). holds s.1 ≡ is_of_put s.1) asks (λ s i. let t = taken_of s i in t.1 ∙ sym t.0))
+
+      enough : IsAcknowledged holds ring.r put.asks.once asks
+      enough = ⊎_elim
+          (λ many. inl (omega (arith, many, counts)))
+          (λ whole.
+          let m = own_some ring p.key in
+          let asked = owner_asked (λ m. lives ring m) is_of_put ring.r ring.stands.covered.positive found (own ring p.key) is (own_distinct ring p.key) asks answering (λ t. ring.r ≤ answered_in is_of_put t) (λ e. e) put.asks m.0 m.1 in
+          let s = among_asks m.0 asks asked in
+          inr (whole, one_holds asks s.0 s.1 ((taken_of s.0 s.1).1 ∙ subst (λ x. lives ring x ≡ true) (sym s.2) (owner_lives ring p.key m.0 m.1))))
+          put.asks.over
+
+  pub put_acked : (w : World) → IsRingOf ring w → (trail : List Heard) (came : Result Bool Miss) → Taken trail → IsPutOfPost ring.r (entries_by ring.base) p trail came → acknowledged came ≡ true
+  put_acked w h trail came taken (no_route looks found is l nobody result_is) =
+      let so = finds ring w p.key looks found h (looks_routed looks (subst Taken is taken)) l in
+      let m = own_some ring p.key in
+      absurd (not_missed p.key ring.r (λ x. lives ring x) so.list m.0 (miss.NoRoute p.key) (subst (IsAmong m.0) (sym so.owners_are) m.1) (subst (λ o. outcome p.key o ≡ Err (miss.NoRoute p.key)) so.found_is nobody))
+  put_acked w h trail came taken (of_owners looks asks found owned is l some ends) =
+      let parts : Taken (told_all (ask.Route p.key) looks ++ told_all (put_question p) asks) = subst Taken is taken in
+      let so = finds ring w p.key looks found h (looks_routed looks (all-left (λ (x : Heard). IsTaken ring met fits p in_met good x.kind x) (told_all (ask.Route p.key) looks) (told_all (put_question p) asks) parts)) l in
+      let same = owned_is p.key found owned so.list so.found_is some in
+      ap acknowledged ends.2 ∙ all_taken owned asks ends.0 (ap (λ (x : List Peer). take ring.r (filter (λ m. lives ring m) x)) same ∙ so.owners_are) (λ m i. so.made m (subst (IsAmong m) same i))
+      (asks_taken asks (all-right (λ (x : Heard). IsTaken ring met fits p in_met good x.kind x) (told_all (ask.Route p.key) looks) (told_all (put_question p) asks) parts)) ends.1
+
+-- what nodes hold, up to what is met later
+pub all_fine : (met : List (List ℕ)) (v : Played) → Keeps v → AreOrderly v.0 v.0 → ((b : List ℕ) → Contains v.0.met b → Contains met b) → AreFine met v.0
+all_fine met v keeps orderly more id n at =
+    let its = each _ v.0.nodes n keeps.met.held (found_in (λ (m : Node). eq_by_cmp key_cmp (peer_of m).id id) v.0.nodes n at) in
+    record {
+      store = its.0;
+      among = all_weaker (λ (x : Key × Block). Contains v.0.met x.1.bytes) (λ (x : Key × Block). Contains met x.1.bytes) n.blocks (λ x c. more x.1.bytes c) its.1;
+      kinds = kinds_of v.0 orderly id n at;
+    }
+
+pub puts_are_acknowledged : PutsAreAcknowledged AreAny
+puts_are_acknowledged r w next count lines p looks asks came any calm fits in_met good fates whole =
+    let world = calm_world r w count lines calm in
+    let ring = ring_of r w world in
+    put_acked ring w.0.met fits p in_met good w.0 world.state.still (told_all (ask.Route p.key) looks ++ told_all (put_question p) asks) came
+    (trail_taken ring w.0.met fits p in_met good looks asks w.0 next fates (world.state.still, all_fine w.0.met w world.keeps world.state.good.orderly (λ b m. m)))
+    (subst (λ es. IsPutOfPost r es p (told_all (ask.Route p.key) looks ++ told_all (put_question p) asks) came) (entries_are ring w.0 world.state.still) whole)

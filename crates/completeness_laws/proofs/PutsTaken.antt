@@ -1,28 +1,39 @@
 -- A node that is asked to hold a post that was met, and that fits its key, holds it then, or a head that is newer.
-use Rattle.std.proofs.Common.{◌≡◌, ℕ, Bool, true, false, cond, List, Option, Some, None, refl, sym, ap, ◌∙◌, nat_le}
-use Rattle.std.specs.Prelude.{is_some}
+use Rattle.std.proofs.Common.{◌≡◌, ℕ, ◌+◌, ◌≤◌, Bool, true, false, cond, List, [], Option, Some, None, refl, sym, ap, ◌∙◌, subst, nat_le, length, Contains}
+use Rattle.std.specs.Prelude.{is_some, sum_by}
 use Rattle.std.specs.Option.{option_or}
 use Rattle.ivy_base.specs.declared.key.Key.{Key}
 use Rattle.ivy_base.specs.Naming.{name}
 use Rattle.round_laws.specs.RingOf.{links_in}
 use Rattle.round_laws.proofs.Nodes.{ties}
 use Rattle.round_laws.proofs.Rounding.{shapes_of}
+use Rattle.ring_model.proofs.Lists.{some_same}
 use Rattle.log_heads.specs.Signed.{hss_judged}
+use Rattle.log_model.proofs.Lists.{in_nothing}
+use Rattle.dht_ids.specs.declared.ask.Answer.{Answer}
+use Rattle.dht_ids.specs.declared.ask.Ask.{Ask}
 use Rattle.dht_ids.specs.declared.ask.Ask.TheVariants as ask
 use Rattle.dht_ids.specs.declared.ask.StoreFault.{StoreFault}
 use Rattle.dht_ids.specs.declared.ask.StoreFault.TheVariants.{Older, WrongName}
 use Rattle.dht_ids.specs.declared.judge.Judged.{Judged}
+use Rattle.dht_ids.specs.declared.peer.Peer.{Peer}
 use Rattle.dht_ids.specs.declared.post.Post.{Post}
 use Rattle.dhash_client.specs.Puts.{holds}
 use Rattle.agent_model.specs.Agent.{is_head}
 use Rattle.node_store.specs.Stores.{content, content_fault, full, head, not_judged, number_at, older}
 use Rattle.session_model.specs.Sessions.{put_question}
 use Rattle.world_model.specs.Nodes.{Node, answered, stored}
-use Rattle.world_laws.specs.Calm.{HasSameRing}
+use Rattle.world_model.specs.Fates.{FateOf}
+use Rattle.world_model.specs.Fates.FateOf.{answers, lost, stopped}
+use Rattle.world_model.specs.Logs.{Played}
+use Rattle.world_model.specs.Step.{most_bytes}
+use Rattle.world_model.specs.World.{World, node_at}
+use Rattle.world_laws.specs.Calm.{AreAny, HasSameRing}
 use Rattle.world_laws.specs.Laws.{LinesKeep}
 use Rattle.world_laws.proofs.CalmHeld.{still_world}
 use Rattle.world_laws.proofs.CalmNodes.{who_answers}
-use Rattle.completeness_laws.specs.Completeness.{FitsItsKey, PutsAreTaken}
+use Rattle.completeness_laws.specs.Completeness.{FitsItsKey, LivePutsAreTaken, PutsAreTaken}
+use Rattle.completeness_laws.proofs.Standing.{IsCalmWorld, calm_world}
 use Rattle.completeness_laws.proofs.StoreRoom.{room_at}
 
 module _ (n : Node) (key : Key) (bytes : List ℕ) where
@@ -54,9 +65,25 @@ post_taken n p fits content_room head_room = by (is_head p.kind) refl
     by true e = head_taken n p.key p.bytes (fits.head e) head_room
     by false e = content_taken n p.key p.bytes (fits.content e) content_room
 
+-- a node that lives answers
+who_lives : {w next : World} {to : Peer} {question : Ask} {given : Answer} → FateOf hss_judged w to question given next → w.lost ≡ [] → (n : Node) → node_at w to.id ≡ Some n → n.is_live ≡ true → given ≡ (answered hss_judged n question).0
+who_lives {w = w} (lost l) none n at live = absurd (in_nothing (w.asked + 1) (subst (λ ks. Contains ks (w.asked + 1)) none l))
+who_lives (stopped m l e dead) none n at live = let no : true ≡ false = sym live ∙ ap (λ (x : Node). x.is_live) (some_same n m (sym at ∙ e)) ∙ dead in absurd cc
+who_lives {question = question} (answers m l e alive) none n at live = ap (λ (x : Node). (answered hss_judged x question).0) (some_same m n (sym e ∙ at))
+
+module _ (r : ℕ) (w : Played) (world : IsCalmWorld r w) (p : Post) (fits : sum_by (λ b. length b) w.0.met ≤ most_bytes) (met : Contains w.0.met p.bytes) (good : FitsItsKey p) where
+  taken_at : (id : Key) (n : Node) (given : Answer) → node_at w.0 id ≡ Some n → given ≡ (answered hss_judged n (put_question p)).0 → holds given ≡ true
+  taken_at id n given at is = ap holds is ∙ post_taken n p good (room_at w world.keeps world.state.good.orderly id n p.key (content p.bytes) fits at met) (room_at w world.keeps world.state.good.orderly id n p.key (head p.bytes) fits at met)
+
+pub live_puts_are_taken : LivePutsAreTaken AreAny
+live_puts_are_taken r w next count lines p to n given any calm fits met good at live fate =
+    let world = calm_world r w count lines calm in
+    taken_at r w world p fits met good to.id n given at (who_lives fate world.state.still.within.losses n at live)
+
+-- with the same ring each node lives
 pub puts_are_taken : LinesKeep → PutsAreTaken HasSameRing
 puts_are_taken lines_keep r w next count lines p to given same calm fits met good fate =
-    let world = still_world lines_keep r w _ lines same calm in
-    let made = world.run.made in
-    let a = who_answers r (shapes_of made) (links_in made) made.asked world.run.first.ring w.0 next to (put_question p) given world.still fate in
-    ap holds a.gives ∙ post_taken a.node p good (room_at r w world to.id a.node p.key (content p.bytes) fits a.at met) (room_at r w world to.id a.node p.key (head p.bytes) fits a.at met)
+    let still = still_world lines_keep r w _ lines same calm in
+    let made = still.run.made in
+    let a = who_answers r (shapes_of made) (links_in made) made.asked still.run.first.ring w.0 next to (put_question p) given still.still fate in
+    taken_at r w (calm_world r w count lines calm) p fits met good to.id a.node given a.at a.gives

@@ -1,4 +1,4 @@
--- Each whole call in a calm script with the same ring, where of each log a head was put, misses nothing.
+-- Each whole call in a calm script, where of each log a head was put, misses nothing.
 use Rattle.std.proofs.Common.{◌≡◌, ⊎_elim, ℕ, List, Option, Some, None, refl, sym, ap, ◌∙◌, subst}
 use Rattle.log_heads.specs.Signed.{hss_judged}
 use Rattle.log_model.specs.View.{View}
@@ -18,19 +18,19 @@ use Rattle.world_model.specs.Step.{Does}
 use Rattle.world_model.specs.Steps.{RunsOut, Scene}
 use Rattle.world_model.specs.Story.{beginning, having_begun}
 use Rattle.world_model.specs.World.{Participant, World, participant}
-use Rattle.world_laws.specs.Calm.{HasSameRing, IsCalmAt, Stopped}
+use Rattle.world_laws.specs.Calm.{AreAny, IsCalmAt, Stopped}
 use Rattle.world_laws.specs.Causes.{HasCause, said_at}
 use Rattle.world_laws.specs.Keeps.{HasSaid, IsInHand, Keeps}
-use Rattle.world_laws.specs.Laws.{LinesKeep}
 use Rattle.world_laws.proofs.AllLines.{does_line}
 use Rattle.world_laws.proofs.Bringing.{found_named}
-use Rattle.world_laws.proofs.CalmHeld.{IsStillWorld, calmly_keeps, still_world}
+use Rattle.world_laws.proofs.EachLine.{each_line_keeps}
 use Rattle.world_laws.proofs.OneSteps.{GoesWell}
 use Rattle.world_laws.proofs.SessionLinesSteps.{Leads, runs_lead}
 use Rattle.completeness_laws.specs.Completeness.{CallsMissNothingBehindHeads, HaveHeads, IsServed}
 use Rattle.completeness_laws.proofs.CallLines.{IsSentBy, begun_well, sent_by}
 use Rattle.completeness_laws.proofs.CallSteps.{begins_on, runs_on, runs_past}
-use Rattle.completeness_laws.proofs.Whole.{calm_backed}
+use Rattle.completeness_laws.proofs.Standing.{IsCalmWorld, calm_world}
+use Rattle.completeness_laws.proofs.Whole.{world_backed}
 use Rattle.completeness_laws.proofs.Worlds.{IsBackedWorld}
 
 -- what is sent is the message of the pieces
@@ -65,7 +65,7 @@ one_number a b e = cc e
 one_command : (c d : Command) → Some c ≡ Some d → c ≡ d
 one_command c d e = cc e
 
-module _ (r : ℕ) (w : Played) (keeps : Keeps w) (world : IsStillWorld r w) (backed : IsBackedWorld w.0 w.1) (count : ℕ) (lines : List (List ℕ)) (calm : IsCalmAt r w (Stopped count) lines) (have : HaveHeads w) (log : List ℕ) (pieces : List Piece) where
+module _ (r : ℕ) (w : Played) (keeps : Keeps w) (world : IsCalmWorld r w) (backed : IsBackedWorld w.0 w.1) (count : ℕ) (lines : List (List ℕ)) (calm : IsCalmAt r w (Stopped count) lines) (have : HaveHeads w) (log : List ℕ) (pieces : List Piece) where
   served : (k : ℕ) → w.0.replicas ≡ Some k → k ≡ r → (s : Sending) → sending_of w.0 log pieces ≡ Some s → (t : Session) (end : Scene) (said : Said) → BeginsWith w.0 s t
       → RunsOut hss_judged k s.by.name (record { world = w.0; story = having_begun w.1; session = t; began = beginning w.1 s.by.name }) end → end.session.stage ≡ Over (Some said)
       → (next : Played) → next.1 ≡ end.story → IsServed w (command.As log pieces) next (shown_end end.session said)
@@ -97,7 +97,7 @@ module _ (r : ℕ) (w : Played) (keeps : Keeps w) (world : IsStillWorld r w) (ba
       by_name = ap (participant w.0) named ∙ sent.0
 
       ringed : w.0.replicas ≡ Some r
-      ringed = world.still.replicas
+      ringed = world.state.still.replicas
 
       mine : RunsOut hss_judged r s.by.name start end
       mine = subst (λ x. RunsOut hss_judged x s.by.name start end) same runs
@@ -115,11 +115,11 @@ module _ (r : ℕ) (w : Played) (keeps : Keeps w) (world : IsStillWorld r w) (ba
       asked = ap (λ (v : View). message_of w.0.replies v pieces) (led.same.call.2 ∙ first.2) ∙ sent_message w.0 log pieces s sends ∙ ap (λ (m : List ℕ). Some m) (sym (led.same.call.1 ∙ first.1))
 
   pub as_served : (o : Option Sending) → sending_of w.0 log pieces ≡ o → (next : Played) (output : List ℕ) → AsLine hss_judged w o (Goes next output) → IsServed w (command.As log pieces) next output
-  as_served _ sends _ _ (calls s k t end said also begins runs over) = served k also (one_number k r (sym also ∙ world.still.replicas)) s sends t end said begins runs over _ refl
+  as_served _ sends _ _ (calls s k t end said also begins runs over) = served k also (one_number k r (sym also ∙ world.state.still.replicas)) s sends t end said begins runs over _ refl
 
-pub calls_miss_nothing_behind_heads : LinesKeep → CallsMissNothingBehindHeads HasSameRing
-calls_miss_nothing_behind_heads lines_keep r w next count lines line name output pieces same calm have is step =
+pub calls_miss_nothing_behind_heads : CallsMissNothingBehindHeads AreAny
+calls_miss_nothing_behind_heads r w next count lines line name output pieces any calm have is step =
     let done = does_line w next output (command_of line) step in
-    let keeps = calmly_keeps lines_keep r w (Stopped count) lines calm in
+    let world = calm_world r w count lines calm in
     let does : Does hss_judged w (command.As name pieces) (Goes next output) = subst (λ (d : Command). Does hss_judged w d (Goes next output)) (one_command done.0 (command.As name pieces) (sym done.1 ∙ is)) done.2 in
-    as_served r w keeps (still_world lines_keep r w (Stopped count) lines same calm) (calm_backed lines_keep r w (Stopped count) lines same calm) count lines calm have name pieces (sending_of w.0 name pieces) refl next output does
+    as_served r w world.keeps world (world_backed each_line_keeps r w (Stopped count) lines calm) count lines calm have name pieces (sending_of w.0 name pieces) refl next output does

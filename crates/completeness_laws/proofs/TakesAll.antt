@@ -1,4 +1,4 @@
--- In calm and tidy scripts with the same ring the turn of a whole call takes all that was written, while no session is open.
+-- In calm and tidy scripts the turn of a whole call takes all that was written, while no session is open.
 use Rattle.std.proofs.Common.{◌≡◌, ◌⊎◌, inl, inr, ⊎_elim, ℕ, ◌≤◌, Bool, true, false, List, [], ◌∷◌, ◌++◌, length, length-append, map, Option, Some, refl, sym, ap, ◌∙◌, subst, arith, nat_lt, Contains}
 use Rattle.std.specs.Prelude.{◌↔◌, MatchBool, sum_by}
 use Rattle.std.specs.List.{AllByRecursion}
@@ -23,13 +23,13 @@ use Rattle.world_model.specs.Step.{Does, MayDo, MayDoFirst, most_bytes}
 use Rattle.world_model.specs.Steps.{RunsOut, Scene}
 use Rattle.world_model.specs.Story.{HadTurn, beginning, having_begun}
 use Rattle.world_model.specs.World.{Participant, named_bytes, participant}
-use Rattle.world_laws.specs.Calm.{HasSameRing, IsCalmAt, Stopped}
+use Rattle.world_laws.specs.Calm.{IsCalmAt, Stopped}
 use Rattle.world_laws.specs.Headline.{IsOnReplay}
 use Rattle.world_laws.specs.Keeps.{Keeps}
 use Rattle.world_laws.specs.Laws.{LinesKeep}
 use Rattle.world_laws.proofs.AllLines.{does_line}
 use Rattle.world_laws.proofs.Bringing.{found_named}
-use Rattle.world_laws.proofs.CalmHeld.{IsStillWorld, calmly_keeps, still_world}
+use Rattle.world_laws.proofs.CalmHeld.{calmly_keeps}
 use Rattle.world_laws.proofs.Frames.{into_map}
 use Rattle.world_laws.proofs.OneSteps.{GoesWell}
 use Rattle.completeness_laws.specs.Completeness.{CallsTakeAll, HaveEntered, HaveHeads, IsWritten}
@@ -39,8 +39,9 @@ use Rattle.completeness_laws.proofs.CallSteps.{IsInCall, begins_on}
 use Rattle.completeness_laws.proofs.GotHeads.{AreHeardOf}
 use Rattle.completeness_laws.proofs.KeysStay.{same_stay}
 use Rattle.completeness_laws.proofs.OwnLogs.{IsHonestIn}
+use Rattle.completeness_laws.proofs.Standing.{IsCalmWorld, calm_world}
 use Rattle.completeness_laws.proofs.TakesRuns.{Either, HadAt, HadOne, InRun, PartNewest, runs_had, runs_turns, takes_at}
-use Rattle.completeness_laws.proofs.Whole.{calm_backed}
+use Rattle.completeness_laws.proofs.Whole.{world_backed}
 use Rattle.completeness_laws.proofs.Worlds.{IsBackedWorld}
 
 -- ---- lists of turns
@@ -66,7 +67,7 @@ some_heads w newest q among = let put = newest q among in (put.0, put.2, put.3, 
 
 -- ---- the line
 
-module _ (r : ℕ) (w : Played) (keeps : Keeps w) (world : IsStillWorld r w) (backed : IsBackedWorld w.0 w.1) (count : ℕ) (lines : List (List ℕ)) (calm : IsCalmAt r w (Stopped count) lines) (newest : HaveNewest w) (honest : IsHonestIn w) (log : List ℕ) (entered : HaveEntered w.0 log) (pieces : List Piece) where
+module _ (r : ℕ) (w : Played) (keeps : Keeps w) (world : IsCalmWorld r w) (backed : IsBackedWorld w.0 w.1) (count : ℕ) (lines : List (List ℕ)) (calm : IsCalmAt r w (Stopped count) lines) (newest : HaveNewest w) (honest : IsHonestIn w) (log : List ℕ) (entered : HaveEntered w.0 log) (pieces : List Piece) where
   took : (k : ℕ) → k ≡ r → (s : Sending) → sending_of w.0 log pieces ≡ Some s → (t : Session) (end : Scene) → BeginsWith w.0 s t
       → RunsOut hss_judged k s.by.name (record { world = w.0; story = having_begun w.1; session = t; began = beginning w.1 s.by.name }) end
       → (h : HadTurn) (turn : IsOnReplay h) (one : Record) → end.story.turns ≡ w.1.turns ++ h ∷ [] → Contains turn.taken one ↔ IsWritten w h.view one
@@ -91,7 +92,7 @@ module _ (r : ℕ) (w : Played) (keeps : Keeps w) (world : IsStillWorld r w) (ba
       mine = subst (λ x. RunsOut hss_judged x s.by.name start end) same runs
 
       well : GoesWell r start
-      well = begun_well w keeps backed r world.still.replicas log pieces s sends t begins
+      well = begun_well w keeps backed r world.state.still.replicas log pieces s sends t begins
 
       bare : (u : Session) → BeginsWith w.0 s u → (u.parts ≡ []) × (u.by ≡ s.by.name) × (u.standing.view ≡ s.view) × AreHeardOf (Either r w world backed calm.apart calm.no_key (some_heads w newest) newest) u
       bare _ (begins_alone given by) = (refl, refl, refl, tt)
@@ -116,17 +117,17 @@ module _ (r : ℕ) (w : Played) (keeps : Keeps w) (world : IsStillWorld r w) (ba
           takes_at r w world backed calm.apart calm.no_key (some_heads w newest) newest s.by.name s.view keeps honest s.by by_name sent.1 (λ q q_in member. entered s.by q s.view sent.0 sent.1 q_in member) h (subst (HadAt r w world backed calm.apart calm.no_key (some_heads w newest) newest s.by.name s.view) one_turn had) turn one
 
   pub as_took : (o : Option Sending) → sending_of w.0 log pieces ≡ o → (next : Played) (output : List ℕ) → AsLine hss_judged w o (Goes next output) → (h : HadTurn) (turn : IsOnReplay h) (one : Record) → next.1.turns ≡ w.1.turns ++ h ∷ [] → Contains turn.taken one ↔ IsWritten w h.view one
-  as_took _ sends _ _ (calls s k t end said also begins runs over) h turn one is = took k (one_number k r (sym also ∙ world.still.replicas)) s sends t end begins runs h turn one is
+  as_took _ sends _ _ (calls s k t end said also begins runs over) h turn one is = took k (one_number k r (sym also ∙ world.state.still.replicas)) s sends t end begins runs h turn one is
     where
       one_number : (a b : ℕ) → Some a ≡ Some b → a ≡ b
       one_number a b e = cc e
 
-pub calls_take_all : LinesKeep → NewestArePut HasSameRing → ReceivedHeadsLeft HasSameRing → CallsTakeAll HasSameRing
-calls_take_all lines_keep newest left r w next count lines line name output pieces same calm tidy own_keys entered none is step h turn one had =
+pub calls_take_all : (AreSo : List (List ℕ) → Type 0) → LinesKeep → NewestArePut AreSo → ReceivedHeadsLeft AreSo → CallsTakeAll AreSo
+calls_take_all AreSo lines_keep newest left r w next count lines line name output pieces same calm tidy own_keys entered none is step h turn one had =
     let done = does_line w next output (command_of line) step in
     let keeps = calmly_keeps lines_keep r w (Stopped count) lines calm in
     let does : Does hss_judged w (command.As name pieces) (Goes next output) = subst (λ (d : Command). Does hss_judged w d (Goes next output)) (one_command done.0 (command.As name pieces) (sym done.1 ∙ is)) done.2 in
-    as_took r w keeps (still_world lines_keep r w (Stopped count) lines same calm) (calm_backed lines_keep r w (Stopped count) lines same calm) count lines calm
+    as_took r w keeps (calm_world r w count lines calm) (world_backed lines_keep r w (Stopped count) lines calm) count lines calm
     (newest r w count lines same calm tidy none (within w next output name pieces (subst (λ o. MayDoFirst w o (Goes next output)) is step))) honest name entered pieces (sending_of w.0 name pieces) refl next output does h turn one had
   where
     own_key : (p q : Participant) → Contains w.0.participants p → Contains w.0.participants q → head_key_of (own p.agent) ≡ head_key_of (own q.agent) → own p.agent ≡ own q.agent

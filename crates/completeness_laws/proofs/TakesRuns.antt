@@ -56,8 +56,6 @@ use Rattle.session_model.specs.Sessions.Takes.{cached, posted}
 use Rattle.session_model.specs.Sessions.TakesAll.{more as takes_more, none as takes_none}
 use Rattle.session_model.specs.Walks.{Gives, GivesNone, Lacks, LogEnd, Stops}
 use Rattle.round_laws.specs.Holding.{rank}
-use Rattle.round_laws.specs.RingOf.{links_in}
-use Rattle.round_laws.proofs.Rounding.{shapes_of}
 use Rattle.world_model.specs.Agents.{Agent, Kept, TakesTurn, own, own_reach}
 use Rattle.world_model.specs.Fates.{FateOf}
 use Rattle.world_model.specs.Logs.{Played}
@@ -70,11 +68,14 @@ use Rattle.world_model.specs.World.{Participant, World, named_bytes, participant
 use Rattle.world_laws.specs.Headline.{IsOnReplay}
 use Rattle.world_laws.specs.Keeps.{IsSoundSession, Keeps}
 use Rattle.world_laws.proofs.Bringing.{found_named, its_key, its_view}
-use Rattle.world_laws.proofs.CalmGets.{AreGot, IsOwnedAs, head_given}
-use Rattle.world_laws.proofs.CalmHeld.{IsStillWorld, post_rank_is}
+use Rattle.durability_laws.proofs.BlockKinds.{OfContent, OfHeads}
+use Rattle.durability_laws.proofs.Gets.{AreGot, IsOwnedAs, head_given}
+use Rattle.durability_laws.proofs.Stretches.{IsAckHeld}
+use Rattle.durability_laws.proofs.Worlds.{acked_on}
+use Rattle.world_laws.proofs.CalmHeld.{post_rank_is}
 use Rattle.world_laws.proofs.CalmNodes.{HeldStays, IsHeld, IsOfKind}
-use Rattle.world_laws.proofs.CalmPuts.{IsAckHeld, block_of, entries_by, kind_of}
-use Rattle.world_laws.proofs.CalmStates.{IsLeft, OfContent, OfHeads, found_placed}
+use Rattle.world_laws.proofs.CalmPuts.{block_of, entries_by, kind_of}
+use Rattle.world_laws.proofs.CalmStates.{found_placed}
 use Rattle.world_laws.proofs.OneSteps.{GoesWell}
 use Rattle.world_laws.proofs.Receiving.{holds_then}
 use Rattle.world_laws.proofs.SessionLinesSteps.{Leads, step_leads}
@@ -90,6 +91,7 @@ use Rattle.completeness_laws.proofs.GotHeads.{AllHoldOf, AreHeardOf, EntryOf, Is
 use Rattle.completeness_laws.proofs.KeysStay.{KeysStay, acts_stay, placed_stay, stay_then}
 use Rattle.completeness_laws.proofs.LeftHeads.{left_under}
 use Rattle.completeness_laws.proofs.OwnLogs.{IsHonestIn}
+use Rattle.completeness_laws.proofs.Standing.{IsCalmWorld, ring_of}
 use Rattle.completeness_laws.proofs.Steps.{SceneSo, fate_same, step_so, takes_all_same}
 use Rattle.completeness_laws.proofs.TakesLogs.{takes_written}
 use Rattle.completeness_laws.proofs.Worlds.{IsBackedWorld}
@@ -143,37 +145,37 @@ from_heads brought log t c =
 
 -- ---- the run
 
-module _ (r : ℕ) (w : Played) (world : IsStillWorld r w) (backed : IsBackedWorld w.0 w.1) (apart : NamesTellApart (named_bytes w.0)) (no_key : (p : Participant) → Contains w.0.participants p → Contains w.0.met (own p.agent).0 → ⊥) (have : HaveHeads w)
+module _ (r : ℕ) (w : Played) (world : IsCalmWorld r w) (backed : IsBackedWorld w.0 w.1) (apart : NamesTellApart (named_bytes w.0)) (no_key : (p : Participant) → Contains w.0.participants p → Contains w.0.met (own p.agent).0 → ⊥) (have : HaveHeads w)
     (newest : HaveNewest w) where
   -- an owner of its key holds a head of a log that goes as far as the log
   newest_owned : (q : Participant) → Contains w.0.participants q
-      → IsOwnedAs r (shapes_of world.run.made) (links_in world.run.made) world.run.made.asked world.run.first.ring (Contains w.0.met) (IsLeft w.0) w.0 (head_key_of (own q.agent)) Head (own_reach q.agent)
+      → IsOwnedAs (ring_of r w world) w.0 (head_key_of (own q.agent)) Head (own_reach q.agent)
   newest_owned q among = record {
-    owner = ack.0;
-    owns = subst (λ k. IsAmong ack.0 (owners place r (order_by (shapes_of world.run.made)) (number k))) put.4 ack.1;
-    holds = subst (λ k. IsHeld w.0 k Head (own_reach q.agent) ack.0) put.4 (subst (λ x. IsHeld w.0 put.0.key (cond x Head Content) (own_reach q.agent) ack.0) put.3 lower);
+    owner = ack.owner;
+    owns = subst (λ k. IsAmong ack.owner (owners place r (order_by (ring_of r w world).base) (number k))) put.4 ack.owns;
+    holds = subst (λ k. IsHeld w.0 k Head (own_reach q.agent) ack.owner) put.4 (subst (λ x. IsHeld w.0 put.0.key (cond x Head Content) (own_reach q.agent) ack.owner) put.3 lower);
   }
     where
       put : (p : Post) × (j : Judged) × Contains w.1.acked p × (is_head p.kind ≡ true) × (p.key ≡ head_key_of (own q.agent)) × (hss_judged p.key p.bytes ≡ Some j) × (own_reach q.agent ≤ j.seq)
       put = newest q among
 
-      ack : IsAckHeld r (shapes_of world.run.made) (links_in world.run.made) world.run.made.asked world.run.first.ring w.0 put.0
-      ack = each (IsAckHeld r (shapes_of world.run.made) (links_in world.run.made) world.run.made.asked world.run.first.ring w.0) w.1.acked put.0 world.good.acked put.2
+      ack : IsAckHeld (ring_of r w world) w.0 put.0
+      ack = acked_on r world.stopped w world.state put.0 put.2
 
       ranked : rank hss_judged put.0.key (block_of put.0) ≡ put.1.seq
       ranked = sym (post_rank_is put.0) ∙ (ap (λ b. cond b (option_map_or (λ (j : Judged). j.seq) (hss_judged put.0.key put.0.bytes) 0) 0) put.3 ∙ ap (λ o. option_map_or (λ (j : Judged). j.seq) o 0) put.5)
 
-      lower : IsHeld w.0 put.0.key (kind_of put.0) (own_reach q.agent) ack.0
-      lower = let h = ack.2.held in let far = put.6 in (h.0, h.1, h.2, omega (arith, h.3, ranked, far))
+      lower : IsHeld w.0 put.0.key (kind_of put.0) (own_reach q.agent) ack.owner
+      lower = let h = ack.holds.held in let far = put.6 in (h.0, h.1, h.2, omega (arith, h.3, ranked, far))
 
   -- content that was met, or a head that left
   abbrev pub Either : Key → List ℕ → Type 0
-  Either key b = OfContent r (shapes_of world.run.made) (links_in world.run.made) world.run.made.asked world.run.first.ring (Contains w.0.met) (IsLeft w.0) key b
-      ⊎ OfHeads r (shapes_of world.run.made) (links_in world.run.made) world.run.made.asked world.run.first.ring (Contains w.0.met) (IsLeft w.0) key b
+  Either key b = OfContent w.0 key b
+      ⊎ OfHeads w.0 key b
 
   either_of : (kind : Kind) (key : Key) (b : List ℕ)
-      → IsOfKind (OfContent r (shapes_of world.run.made) (links_in world.run.made) world.run.made.asked world.run.first.ring (Contains w.0.met) (IsLeft w.0))
-      (OfHeads r (shapes_of world.run.made) (links_in world.run.made) world.run.made.asked world.run.first.ring (Contains w.0.met) (IsLeft w.0)) key kind b → Either key b
+      → IsOfKind (OfContent w.0)
+      (OfHeads w.0) key kind b → Either key b
   either_of Content key b h = inl h
   either_of Head key b h = inr h
 
@@ -201,18 +203,18 @@ module _ (r : ℕ) (w : Played) (world : IsStillWorld r w) (backed : IsBackedWor
   fails_newest (fails notes given miss xid asked at refreshed asks_it) h = h
   fails_newest (goes_on none) h = h
 
-  brought_newest : (v : World) → IsRinged r w world backed (met_apart r w world backed apart no_key have) have v → (want : Want) (trail : List Heard) (b : Brought) → Gets hss_judged r (entries_by (shapes_of world.run.made)) want trail b
-      → AreGot r (shapes_of world.run.made) (links_in world.run.made) world.run.made.asked world.run.first.ring (Contains w.0.met) (IsLeft w.0) w.0 trail → AllByRecursion (IsHeardOf Either) trail → PartNewest b
+  brought_newest : (v : World) → IsRinged r w world backed (met_apart r w world backed apart no_key have) have v → (want : Want) (trail : List Heard) (b : Brought) → Gets hss_judged r (entries_by (ring_of r w world).base) want trail b
+      → AreGot (ring_of r w world) w.0 trail → AllByRecursion (IsHeardOf Either) trail → PartNewest b
   brought_newest v ring _ trail _ (got_heads {owner = owner} came get) so given_so = by came refl
     where
       by : (x : Result (List Judged) Miss) → came ≡ x → PartNewest (HeadsOf owner came)
       by (Err miss) e = subst (λ x. PartNewest (HeadsOf owner x)) (sym e) tt
       by (Ok heads) e = subst (λ x. PartNewest (HeadsOf owner x)) (sym e) (
         λ q q_in same.
-            let given = head_given r (shapes_of world.run.made) (links_in world.run.made) world.run.made.asked world.run.first.ring (Contains w.0.met) (IsLeft w.0) w.0 v (head_key_of (own q.agent)) (own_reach q.agent) trail came (newest_owned q q_in) ring so
-            (subst (λ o. IsGetOfHead (hss_judged (head_key_of o)) (head_key_of o) r (entries_by (shapes_of world.run.made)) trail came) (sym same) get) in
+            let given = head_given (ring_of r w world) w.0 v (head_key_of (own q.agent)) (own_reach q.agent) trail came (newest_owned q q_in) ring so
+            (subst (λ o. IsGetOfHead (hss_judged (head_key_of o)) (head_key_of o) r (entries_by (ring_of r w world).base) trail came) (sym same) get) in
             (given.one, subst (λ l. Contains l given.one) (some_heads given.heads heads (sym given.came_is ∙ e)) given.among, given.newer),
-        heads_so Either (head_key_of owner) r (entries_by (shapes_of world.run.made)) trail heads came get e given_so,
+        heads_so Either (head_key_of owner) r (entries_by (ring_of r w world).base) trail heads came get e given_so,
       )
         where
           some_heads : (a b : List Judged) → ◌≡◌ {A = Result (List Judged) Miss} (Ok a) (Ok b) → a ≡ b
@@ -222,7 +224,7 @@ module _ (r : ℕ) (w : Played) (world : IsStillWorld r w) (backed : IsBackedWor
   -- ---- one ask
 
   holds_of : (v : World) → AllKinds r w world backed (met_apart r w world backed apart no_key have) have v → AllHoldOf Either v
-  holds_of v kinds id n at key block found = either_of block.kind key block.bytes (kinds id n at key block found)
+  holds_of v kinds id n at key block found = either_of block.kind key block.bytes ((kinds id n at).kinds key block found)
 
   refused_heard : {now : Moment} {a : Agent} {view : View} {failing : Bool} {s : Session} {end : TurnEnd} {after : Agent} {saving : Option Kept} {t : Session} → TakesTurn now a view failing s end after saving t → IsRefusal end → AreHeardOf Either t
   refused_heard (answers notes given xid asked reply applied after saving done asks_it turned) refusal = absurd refusal
@@ -283,7 +285,7 @@ module _ (r : ℕ) (w : Played) (world : IsStillWorld r w) (backed : IsBackedWor
     where
       same : b ≡ (own q.agent).0
       same = apart b (own q.agent).0 (Contains-append_left w.0.met _ b content.0) (Contains-append_right w.0.met (map (λ (p : Participant). (own p.agent).0) w.0.participants) (own q.agent).0 (into_map (λ (p : Participant). (own p.agent).0) w.0.participants q q_in)) (content.1 ∙ of_log)
-  left_of keeps honest q q_in e of_log (b, j, inr (left, some), judged, is) = (b, j, subst (λ (p : Participant). Contains p.left b) one left.3, judged, is)
+  left_of keeps honest q q_in e of_log (b, j, inr (in_met, left, some), judged, is) = (b, j, subst (λ (p : Participant). Contains p.left b) one left.3, judged, is)
     where
       p_in : Contains w.0.participants left.1
       p_in = (found_named w.0.participants left.0 left.1 left.2).0

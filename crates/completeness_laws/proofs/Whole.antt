@@ -1,4 +1,4 @@
--- All is so in each world of a calm script with the same ring.
+-- All is so in each world of a calm script.
 use Rattle.std.proofs.Common.{◌≡◌, ◌⊎◌, ℕ, List, [], find, Option, Some, None, refl, sym, ap, ◌∙◌, subst, Contains}
 use Rattle.std.specs.List.{AllByRecursion}
 use Rattle.std.specs.FinMap.Entries.{find as value_at}
@@ -16,7 +16,7 @@ use Rattle.world_model.specs.World.{Participant, World, empty_world, participant
 use Rattle.world_model.specs.Story.{empty_story}
 use Rattle.world_model.specs.Logs.{Played}
 use Rattle.world_model.specs.Ring.{RingLine}
-use Rattle.world_laws.specs.Calm.{Calmly, HasSameRing, IsCalmAt, Since, Stopped}
+use Rattle.world_laws.specs.Calm.{AreAny, Calmly, HasSameRing, IsCalmAt, Since, Stopped}
 use Rattle.world_laws.specs.Keeps.{Keeps}
 use Rattle.world_laws.specs.Laws.{LinesKeep}
 use Rattle.world_laws.proofs.CalmHeld.{calmly_keeps, moment_keeps}
@@ -45,19 +45,23 @@ first_backed r w made nobody none first = record {
     not_there : (n : List ℕ) (p : Participant) → made.participants ≡ [] → participant made n ≡ Some p → ⊥
     not_there n p e f = let g : find (λ (x : Participant). bytes_eq x.name n) [] ≡ Some p = subst (λ ps. find (λ (x : Participant). bytes_eq x.name n) ps ≡ Some p) e f in cc g
 
-pub calm_backed : LinesKeep → (r : ℕ) (w : Played) (since : Since) (lines : List (List ℕ)) → HasSameRing lines → IsCalmAt r w since lines → IsBackedWorld w.0 w.1
-calm_backed lines_keep r w since lines same calm =
+pub world_backed : LinesKeep → (r : ℕ) (w : Played) (since : Since) (lines : List (List ℕ)) → IsCalmAt r w since lines → IsBackedWorld w.0 w.1
+world_backed lines_keep r w since lines calm =
     let before : Played = (record empty_world { now = calm.fresh.0 }, empty_story) in
     let rings : RingLine before.0 calm.count r (Goes calm.made []) = subst (λ (v : Played). RingLine v.0 calm.count r (Goes calm.made [])) calm.fresh.2 calm.rings in
     let calmly : Calmly r (calm.made, empty_story) (Stopped 0) lines w since = subst (λ (v : Played). Calmly r (calm.made, v.1) (Stopped 0) lines w since) calm.fresh.2 calm.calmly in
     let keeps : Keeps (calm.made, empty_story) = ring_lines_keep calm.count r before (calm.made, empty_story) [] (moment_keeps calm.fresh.0 calm.fresh.1) (Goes calm.made [], rings, refl) in
-    runs_backed lines_keep calmly same keeps calm.apart (first_backed r before.0 calm.made refl refl (first_of before.0 calm.made calm.count r refl rings))
+    runs_backed lines_keep calmly keeps calm.apart (first_backed r before.0 calm.made refl refl (first_of before.0 calm.made calm.count r refl rings))
 
-pub heads_name_what_was_put : LinesKeep → HeadsNameWhatWasPut HasSameRing
+-- so of those with the same ring
+pub calm_backed : LinesKeep → (r : ℕ) (w : Played) (since : Since) (lines : List (List ℕ)) → HasSameRing lines → IsCalmAt r w since lines → IsBackedWorld w.0 w.1
+calm_backed lines_keep r w since lines same calm = world_backed lines_keep r w since lines calm
+
+pub heads_name_what_was_put : LinesKeep → HeadsNameWhatWasPut AreAny
 heads_name_what_was_put lines_keep r w count lines n key block head same calm among found kind judged =
-    (subst (λ k. IsPutAs w.0.met w.1.acked k key block.bytes) kind ((calm_backed lines_keep r w (Stopped count) lines same calm).nodes n among key block found)) head judged
+    (subst (λ k. IsPutAs w.0.met w.1.acked k key block.bytes) kind ((world_backed lines_keep r w (Stopped count) lines calm).nodes n among key block found)) head judged
 
-pub known_is_put_or_pending : LinesKeep → KnownIsPutOrPending HasSameRing
+pub known_is_put_or_pending : LinesKeep → KnownIsPutOrPending AreAny
 known_is_put_or_pending lines_keep r w count lines p one same calm among known = by p.agent.view refl
   where
     keeps : Keeps w
@@ -67,7 +71,7 @@ known_is_put_or_pending lines_keep r w count lines p one same calm among known =
     found = found_itself w keeps p among
 
     backed : IsBackedWorld w.0 w.1
-    backed = calm_backed lines_keep r w (Stopped count) lines same calm
+    backed = world_backed lines_keep r w (Stopped count) lines calm
 
     by : (o : Option View) → p.agent.view ≡ o → WasPut w.1.acked one ⊎ ((one.owner ≡ own p.agent) × Contains p.agent.pending (record_post one))
     by None outside = outside_put w keeps calm.apart backed p found outside one known

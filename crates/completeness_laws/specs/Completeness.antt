@@ -1,5 +1,6 @@
--- Completeness: in calm scripts no whole call fails for want of a block; and in tidy ones, while no session is open, its turn takes all that the members have written, and nothing else. Proved of those with the same
--- ring is all of it: that no call misses a block, that of each log a head was put, that stores have room and puts are acknowledged, and that turns take all.
+-- Completeness: in calm scripts no whole call fails for want of a block; and in tidy ones, while no session is open, its turn takes all that the members have written, and nothing else. Proved with any lines is
+-- that no call misses a block, that of each log a head was put, that stores have room, that nodes that live take puts, and that whole puts are acknowledged; `PutsAreTaken` is proved of those with the same ring, and
+-- isn't so with any lines. `CallsTakeAll` is proved of those with the same ring; with any lines its tidy run need not be its calm one.
 use Rattle.std.specs.Prelude.{◌≡◌, ◌≢◌, ◌↔◌, ◌≤◌, true, false, ℕ, length, sum_by, List, [], ◌∷◌, ◌++◌, Contains, Option, Some, None, is_some, Result, Bool}
 use Rattle.std.specs.List.{AllByRecursion}
 use Rattle.ivy_base.specs.declared.key.Key.{Key}
@@ -59,10 +60,15 @@ pub record FitsItsKey (p : Post) : Type 0 where
   pub content : is_head p.kind ≡ false → name p.bytes ≡ p.key
   pub head : is_head p.kind ≡ true → is_some (hss_judged p.key p.bytes) ≡ true
 
--- So a node that is asked to hold such a post that was met holds it then, or a head that is newer.
+-- So a node that is asked to hold such a post that was met holds it then, or a head that is newer. That isn't so where nodes stop: one that has stopped is silent, and takes nothing.
 abbrev pub PutsAreTaken : (List (List ℕ) → Type 0) → Type 0
 PutsAreTaken AreSo = (r : ℕ) (w : Played) (next : World) (count : ℕ) (lines : List (List ℕ)) (p : Post) (to : Peer) (given : Answer) → AreSo lines → IsCalmAt r w (Stopped count) lines → sum_by (λ b. length b) w.0.met ≤ most_bytes → Contains w.0.met p.bytes → FitsItsKey p
     → FateOf hss_judged w.0 to (put_question p) given next → holds given ≡ true
+
+-- But so it is of a node that lives.
+abbrev pub LivePutsAreTaken : (List (List ℕ) → Type 0) → Type 0
+LivePutsAreTaken AreSo = (r : ℕ) (w : Played) (next : World) (count : ℕ) (lines : List (List ℕ)) (p : Post) (to : Peer) (n : Node) (given : Answer) → AreSo lines → IsCalmAt r w (Stopped count) lines → sum_by (λ b. length b) w.0.met ≤ most_bytes → Contains w.0.met p.bytes → FitsItsKey p
+    → node_at w.0 to.id ≡ Some n → n.is_live ≡ true → FateOf hss_judged w.0 to (put_question p) given next → holds given ≡ true
 
 -- So a whole put of it is acknowledged.
 abbrev pub PutsAreAcknowledged : (List (List ℕ) → Type 0) → Type 0

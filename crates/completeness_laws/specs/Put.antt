@@ -1,5 +1,5 @@
 -- Of which records puts were acknowledged: of each that a head names which a node holds (records go before the head: Ivy, OSDI 2002, section 3.3), and of each that an agent knows, but for its own that are
--- still to be published. Stated of calm scripts, and proved of those with the same ring.
+-- still to be published. Stated and proved of calm scripts with any lines.
 use Rattle.std.specs.Prelude.{◌≡◌, ◌⊎◌, ℕ, List, Contains, Some}
 use Rattle.std.specs.List.{AllByRecursion}
 use Rattle.std.specs.FinMap.Entries.{find as value_at}

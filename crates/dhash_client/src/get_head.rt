@@ -8,6 +8,7 @@ ghost use Rattle.dhash_client.specs.GetHead.{head_begun, head_awaited, heads_res
 use crate::course::{Course, Step};
 use crate::get_block::answers_get;
 use crate::miss::Miss;
+use crate::remembering::Remembering;
 use dht_ids::{Answer, Ask, Heads, Judge, Judged, Peer, Peers, Want};
 use ivy_base::{Key, Memory};
 use std::alloc::Global;
@@ -16,10 +17,10 @@ use std::mem;
 
 /// A get of the heads that the owners hold under a log's head key (Ivy, OSDI 2002, section 3.2: DHash returns the
 /// log-head it holds): its course, what the judge said of the heads so far, and the first node that gave something
-/// else.
+/// else. A head that is the one before it once more isn't judged again.
 #[derive(Drop)]
 pub struct GetHead<J: Judge> {
-    judge: J,
+    judge: Remembering<J>,
     course: Course,
     heads: Vec<Judged>,
     wrong: Option<Peer>,
@@ -46,7 +47,7 @@ impl<J: Judge> GetHead<J> {
         ensures { IfOk result (λ get. get ≡ head_begun judge key replicas entries.now) }
     {
         Ok(GetHead {
-            judge,
+            judge: Remembering::new(judge),
             course: Course::start(alloc, key, replicas, entries)?,
             heads: Vec::new(alloc),
             wrong: None,
@@ -107,7 +108,7 @@ impl<J: Judge> GetHead<J> {
             drop(answer);
             return Ok(());
         };
-        if let Some(head) = self.judge.judge(&self.course.key(), bytes.as_slice()) {
+        if let Some(head) = self.judge.judge(self.course.key(), bytes) {
             self.heads.push(head)?;
         } else if self.wrong.is_none() {
             self.wrong = Some(node);

@@ -10,7 +10,8 @@
 //! result; an owner is asked at most once, and an answer of another form than the ask's is silence. `proofs/Driven.antt`
 //! and `proofs/DrivenGets.antt` have what a driver cites. Definitions: `specs/Machine.antt` (the look-up's machine),
 //! `specs/Course.antt` (what gets and puts share), `specs/GetBlock.antt`, `specs/GetHead.antt` and `specs/Puts.antt`.
-//! Costs: a get hashes each block that an owner gives once and moves its bytes out; a put copies its bytes for each ask
+//! Costs: a get hashes each block that an owner gives once and moves its bytes out, and a get of a head judges equal heads that
+//! come one behind the other once; a put copies its bytes for each ask
 //! of an owner, since an ask owns its bytes.
 #![tactic(auto)]
 
@@ -22,6 +23,7 @@ mod miss;
 mod put;
 mod put_block;
 mod put_head;
+mod remembering;
 mod round;
 
 pub use dht_ids::Want;

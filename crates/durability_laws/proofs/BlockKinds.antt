@@ -102,7 +102,7 @@ judged_key key bytes some =
     let tested : bytes_eq key.0 (head_key_of (owner_in bytes)).0 ≡ true = second (is_head_block bytes (owner_in bytes) (seq_in bytes) (name_in bytes) (signature_in bytes)) _ (first _ _ signed) in
     ap (λ (x : List ℕ). record { 0 = x }) ((bytes_eq-Decides key.0 (head_key_of (owner_in bytes)).0).0 tested)
 
--- so each block has one key of a kind
-pub one_key : (end : World) (kind : Kind) (j k : Key) (bytes : List ℕ) → IsOf end j kind bytes → IsOf end k kind bytes → j ≡ k
-one_key end Content j k bytes h g = sym h.1 ∙ g.1
-one_key end Head j k bytes h g = judged_key j bytes h.2 ∙ sym (judged_key k bytes g.2)
+-- so each block fits one key of a kind
+pub one_key : (kind : Kind) (j k : Key) (bytes : List ℕ) → IsFit kind j bytes → IsFit kind k bytes → j ≡ k
+one_key Content j k bytes h g = sym h ∙ g
+one_key Head j k bytes h g = judged_key j bytes h ∙ sym (judged_key k bytes g)

@@ -60,7 +60,7 @@ no_sessions P ss e = subst (AllByRecursion P) (sym e) tt
 
 -- ---- a node stops
 
-stop_is : (w next : World) (n : Node) (output : List ℕ) → stop_line w (Some n) ≡ Goes next output → next ≡ with_node w (record n { is_live = false })
+pub stop_is : (w next : World) (n : Node) (output : List ℕ) → stop_line w (Some n) ≡ Goes next output → next ≡ with_node w (record n { is_live = false })
 stop_is w next n output e = by n.is_live e
   where
     goes_to : {one other : World} {x y : List ℕ} → Goes one x ≡ Goes other y → other ≡ one

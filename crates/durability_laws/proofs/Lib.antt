@@ -1,19 +1,19 @@
-mod BlockKinds
-mod Rooms
-mod Asking
-mod Holding
-mod Stretches
-mod States
-mod Steps
-mod Scenes
-mod Lines
-mod Commands
+pub mod BlockKinds
+pub mod Rooms
+pub mod Asking
+pub mod Holding
+pub mod Stretches
+pub mod States
+pub mod Steps
+pub mod Scenes
+pub mod Lines
+pub mod Commands
 mod Repairs
 mod Moved
-mod Facts
-mod Worlds
-mod Changes
-mod Runs
+pub mod Facts
+pub mod Worlds
+pub mod Changes
+pub mod Runs
 mod Durable
-mod Gets
+pub mod Gets
 mod Given

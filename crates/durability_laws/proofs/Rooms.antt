@@ -19,7 +19,7 @@ use Rattle.node_store.specs.declared.kind.Kind.TheVariants.{Content, Head}
 use Rattle.world_model.specs.World.{World}
 use Rattle.round_laws.proofs.Nodes.{id_itself, not_tied}
 use Rattle.durability_laws.specs.Laws.{IsWithinLimit}
-use Rattle.durability_laws.proofs.BlockKinds.{IsOf, is_met, one_key}
+use Rattle.durability_laws.proofs.BlockKinds.{IsFit, IsOf, is_met, of_fit, one_key}
 
 -- ---- bytes of lists
 
@@ -133,11 +133,12 @@ from_kind kind (e ∷ es) b i = by kind e.1.kind refl refl (from_kind kind es b)
     by Content Head s t rest j = later rest j
     by Head Content s t rest j = later rest j
 
-module _ (end : World) where
-  abbrev AreOf : Blocks → Type 0
-  AreOf es = (f : Key × Block) → IsAmong f es → IsOf end f.0 f.1.kind f.1.bytes
+-- each entry fits its key, and was met
+module _ (met : List (List ℕ)) where
+  abbrev AreMet : Blocks → Type 0
+  AreMet es = (f : Key × Block) → IsAmong f es → IsFit f.1.kind f.0 f.1.bytes × Contains met f.1.bytes
 
-  apart_of_kind : (kind : Kind) (es : Blocks) → T (is_sorted key_cmp es) → AreOf es → IsApart (of_kind kind es)
+  apart_of_kind : (kind : Kind) (es : Blocks) → T (is_sorted key_cmp es) → AreMet es → IsApart (of_kind kind es)
   unfolding of_kind
   apart_of_kind kind [] sorted are = tt
   apart_of_kind kind (e ∷ es) sorted are = by kind e.1.kind refl refl (apart_of_kind kind es (and_second (below_all key_cmp e.0 es) (is_sorted key_cmp es) sorted) (λ f i. are f (inr i)))
@@ -145,9 +146,9 @@ module _ (end : World) where
       new : e.1.kind ≡ kind → IsAmong e.1.bytes (of_kind kind es) → ⊥
       new same i =
           let other = from_kind kind es e.1.bytes i in
-          let here : IsOf end e.0 kind e.1.bytes = subst (λ k. IsOf end e.0 k e.1.bytes) same (are e (inl refl)) in
-          let there : IsOf end other.0 kind e.1.bytes = are (other.0, record { kind = kind; bytes = e.1.bytes }) (inr other.1) in
-          below_other e.0 es (and_first (below_all key_cmp e.0 es) (is_sorted key_cmp es) sorted) (other.0, record { kind = kind; bytes = e.1.bytes }) other.1 (one_key end kind e.0 other.0 e.1.bytes here there)
+          let here : IsFit kind e.0 e.1.bytes = subst (λ k. IsFit k e.0 e.1.bytes) same (are e (inl refl)).0 in
+          let there : IsFit kind other.0 e.1.bytes = (are (other.0, record { kind = kind; bytes = e.1.bytes }) (inr other.1)).0 in
+          below_other e.0 es (and_first (below_all key_cmp e.0 es) (is_sorted key_cmp es) sorted) (other.0, record { kind = kind; bytes = e.1.bytes }) other.1 (one_key kind e.0 other.0 e.1.bytes here there)
 
       by : (k l : Kind) → kind ≡ k → e.1.kind ≡ l → IsApart (of_kind kind es) → IsApart (with_kind k l e.1.bytes (of_kind kind es))
       by Content Content s t rest = (new (t ∙ sym s), rest)
@@ -155,14 +156,25 @@ module _ (end : World) where
       by Content Head s t rest = rest
       by Head Content s t rest = rest
 
-  within_met : (kind : Kind) (es : Blocks) → AreOf es → (b : List ℕ) → IsAmong b (of_kind kind es) → IsAmong b end.met
-  within_met kind es are b i = let found = from_kind kind es b i in in_among b end.met (is_met end found.0 kind b (are (found.0, record { kind = kind; bytes = b }) found.1))
+  within_met : (kind : Kind) (es : Blocks) → AreMet es → (b : List ℕ) → IsAmong b (of_kind kind es) → IsAmong b met
+  within_met kind es are b i = let found = from_kind kind es b i in in_among b met (are (found.0, record { kind = kind; bytes = b }) found.1).1
 
-  -- while what was met is within a script's limit
-  pub fits : IsWithinLimit end → (es : Blocks) → T (is_sorted key_cmp es) → ((key : Key) (c : Block) → value_at key_cmp key es ≡ Some c → IsOf end key c.kind c.bytes) → bytes_held es ≤ capacity
-  fits room es sorted kinds =
-      let are : AreOf es = λ f i. kinds f.0 f.1 (each_found es sorted f i) in
-      let contents = total_within (of_kind Content es) end.met (apart_of_kind Content es sorted are) (within_met Content es are) in
-      let heads = total_within (of_kind Head es) end.met (apart_of_kind Head es sorted are) (within_met Head es are) in
+  -- so it has no more bytes than what was met has, as content and as heads
+  pub held_within : (es : Blocks) → T (is_sorted key_cmp es) → ((key : Key) (c : Block) → value_at key_cmp key es ≡ Some c → IsFit c.kind key c.bytes × Contains met c.bytes) → bytes_held es ≤ total met + total met
+  held_within es sorted kinds =
+      let are : AreMet es = λ f i. kinds f.0 f.1 (each_found es sorted f i) in
+      let contents = total_within (of_kind Content es) met (apart_of_kind Content es sorted are) (within_met Content es are) in
+      let heads = total_within (of_kind Head es) met (apart_of_kind Head es sorted are) (within_met Head es are) in
       let whole = held_is es in
-      omega (arith, room, contents, heads, whole)
+      omega (arith, contents, heads, whole)
+
+  -- a block that was met has no more either
+  pub one_within : (b : List ℕ) → Contains met b → length b ≤ total met
+  one_within b c =
+      let one = total_cons b [] in
+      let all = total_within (b ∷ []) met ((λ i. i), tt) (λ x i. ⊎_elim (λ e. subst (λ y. IsAmong y met) e (in_among b met c)) (λ none. absurd none) i) in
+      omega (arith, one, all)
+
+-- while what was met is within a script's limit
+pub fits : (end : World) → IsWithinLimit end → (es : Blocks) → T (is_sorted key_cmp es) → ((key : Key) (c : Block) → value_at key_cmp key es ≡ Some c → IsOf end key c.kind c.bytes) → bytes_held es ≤ capacity
+fits end room es sorted kinds = let held = held_within end.met es sorted (λ key c f. let of = kinds key c f in (of_fit end key c.kind c.bytes of, is_met end key c.kind c.bytes of)) in omega (arith, room, held)

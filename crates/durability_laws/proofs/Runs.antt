@@ -61,7 +61,7 @@ within_limit w next output o h = by (nat_lt most_bytes (sum_by (λ b. length b) 
     by true e h = absurd (exceeds h)
     by false e h = ltb-false most_bytes (sum_by (λ b. length b) w.0.met) e
 
-has_room : (w next : Played) (output : List ℕ) (o : Option Command) → MayDoFirst w o (Goes next output) → IsWithinLimit w.0
+pub has_room : (w next : Played) (output : List ℕ) (o : Option Command) → MayDoFirst w o (Goes next output) → IsWithinLimit w.0
 has_room w next output None h = within_limit w next output None h
 has_room w next output (Some (command.Ring nodes replicas)) h = within_limit w next output (Some (command.Ring nodes replicas)) h
 has_room w next output (Some (command.Log log id seed sets)) h = within_limit w next output (Some (command.Log log id seed sets)) h
@@ -91,7 +91,7 @@ has_room w next output (Some command.End) h = absurd (ends h)
 
 -- ---- a line
 
-beside_story : (st : Story) (o : Outcome World) (mid : Played) (output : List ℕ) → Goes mid output ≡ beside st o → mid.1 ≡ st
+pub beside_story : (st : Story) (o : Outcome World) (mid : Played) (output : List ℕ) → Goes mid output ≡ beside st o → mid.1 ≡ st
 beside_story st (Goes next words) mid output e = by e
   where
     worlds : Goes mid output ≡ Goes (next, st) words → mid ≡ (next, st)
@@ -107,7 +107,7 @@ nothing_apart : AreApart empty_world
 nothing_apart key b c content heads = in_nothing b content.0
 
 -- the node that a line stops
-stopped_node : (w next : World) (o : Option Node) (output : List ℕ) → stop_line w o ≡ Goes next output → (n : Node) × (o ≡ Some n)
+pub stopped_node : (w next : World) (o : Option Node) (output : List ℕ) → stop_line w o ≡ Goes next output → (n : Node) × (o ≡ Some n)
 stopped_node w next None output e = absurd (refused e)
   where
     refused : Refuses ≡ Goes next output → ⊥
@@ -121,7 +121,7 @@ module _ (r : ℕ) (v mid : Played) (output : List ℕ) where
   the_join : {since : Since} (number : ℕ) → Does hss_judged v (command.Join number) (Goes mid output) → HasFacts r v.0 since → JoinLine hss_judged v.0 number (Some r) (Goes mid.0 output)
   the_join number does f = subst (λ o. JoinLine hss_judged v.0 number o (Goes mid.0 output)) f.has.replicas (subst (JoinLine hss_judged v.0 number v.0.replicas) (beside_goes v.1 does.0 mid output does.2) does.1)
 
-  line_facts : {since between : Since} {c : Command} → IsCalm v.0 r since c between → Does hss_judged v c (Goes mid output) → HasFacts r v.0 since → HasFacts r mid.0 between × IsMore v.0 mid.0
+  pub line_facts : {since between : Since} {c : Command} → IsCalm v.0 r since c between → Does hss_judged v c (Goes mid output) → HasFacts r v.0 since → HasFacts r mid.0 between × IsMore v.0 mid.0
   line_facts (rounds since none) does f = let x = the_round does f in (round_facts r v.0 mid.0 since f x, round_more r v.0 mid.0 v.1 since f x)
   line_facts (joins number none) does f = let line = the_join number does f in (join_facts r number v.0 mid.0 output f line, join_more r v.0 mid.0 v.1 (Stopped 0) number output f line)
   line_facts (stops count node none short two) does f =
@@ -134,7 +134,7 @@ module _ (r : ℕ) (v mid : Played) (output : List ℕ) where
       let goes = command_goes (stretch r (shapes_of v.0) _ v.0.asked count (standing r count v.0 f) empty_world nothing_apart) v mid c output f.has.replicas quiet does in
       (quiet_facts r count v.0 mid.0 goes.still f, goes.grows)
 
-  line_state : {since between : Since} {c : Command} → IsCalm v.0 r since c between → Does hss_judged v c (Goes mid output) → IsWithinLimit v.0 → AreApart mid.0 → HasFacts r v.0 since → IsState r v.0 v.1 since → IsState r mid.0 mid.1 between
+  pub line_state : {since between : Since} {c : Command} → IsCalm v.0 r since c between → Does hss_judged v c (Goes mid output) → IsWithinLimit v.0 → AreApart mid.0 → HasFacts r v.0 since → IsState r v.0 v.1 since → IsState r mid.0 mid.1 between
   line_state (rounds since none) does room apart f s =
       let x = the_round does f in
       subst (λ st. IsStanding r 0 mid.0 st) (sym (beside_story v.1 does.0 mid output does.2)) (round_state r v.0 mid.0 v.1 since f x none room apart (state_holds r v.0 v.1 since s))
@@ -150,7 +150,7 @@ module _ (r : ℕ) (v mid : Played) (output : List ℕ) where
 
 -- ---- runs
 
-facts_on : (r : ℕ) {v w : Played} {since after : Since} {lines : List (List ℕ)} → Calmly r v since lines w after → HasFacts r v.0 since → HasFacts r w.0 after × IsMore v.0 w.0
+pub facts_on : (r : ℕ) {v w : Played} {since after : Since} {lines : List (List ℕ)} → Calmly r v since lines w after → HasFacts r v.0 since → HasFacts r w.0 after × IsMore v.0 w.0
 facts_on r {v = v} calmly_none f = (f, same_more v.0)
 facts_on r (calmly_more {w = v} {mid = mid} {next = next} {line = line} c output is calm step rest) f =
     let done = does_line v mid output (command_of line) step in
@@ -198,19 +198,19 @@ nobody = record {
     false_true e = cc e
 
 module _ (r : ℕ) (w : Played) (since : Since) (lines : List (List ℕ)) (calm : IsCalmAt r w since lines) where
-  abbrev fresh : World
+  abbrev pub fresh : World
   fresh = record empty_world { now = calm.fresh.0 }
 
-  rings : RingLine fresh calm.count r (Goes calm.made [])
+  pub rings : RingLine fresh calm.count r (Goes calm.made [])
   rings = subst (λ (v : Played). RingLine v.0 calm.count r (Goes calm.made [])) calm.fresh.2 calm.rings
 
-  calmly : Calmly r (calm.made, empty_story) (Stopped 0) lines w since
+  pub calmly : Calmly r (calm.made, empty_story) (Stopped 0) lines w since
   calmly = subst (λ (v : Played). Calmly r (calm.made, v.1) (Stopped 0) lines w since) calm.fresh.2 calm.calmly
 
   start : IsFirst r fresh calm.made
   start = first_of fresh calm.made calm.count r refl rings
 
-  first_keeps : Keeps (calm.made, empty_story)
+  pub first_keeps : Keeps (calm.made, empty_story)
   first_keeps = ring_lines_keep calm.count r (fresh, empty_story) (calm.made, empty_story) [] (moment_keeps calm.fresh.0 calm.fresh.1) (Goes calm.made [], rings, refl)
 
   first_lives : (z : Peer) × (lives_in calm.made z ≡ true)
@@ -230,13 +230,13 @@ module _ (r : ℕ) (w : Played) (since : Since) (lines : List (List ℕ)) (calm 
           all_live [] h = tt
           all_live (m ∷ l) h = (h.0, all_live l h.1)
 
-  first_facts : HasFacts r calm.made (Stopped 0)
+  pub first_facts : HasFacts r calm.made (Stopped 0)
   first_facts =
       let settles = ring_line_settles fresh calm.made calm.count r [] rings in
       let has : HasNodes r calm.made = record { nodes = settles.0; named = settles.4; few = settles.2; none_lost = ap (λ (v : World). v.lost) start.rest; replicas = ap (λ (v : World). v.replicas) start.rest } in
       record { has = has; is_since = just_settled r calm.made has settles.1; someone = first_lives.0; lives = first_lives.1 }
 
-  first_state : AreApart calm.made → IsStanding r 0 calm.made empty_story
+  pub first_state : AreApart calm.made → IsStanding r 0 calm.made empty_story
   first_state apart = record {
     base = shapes_of calm.made;
     links = _;

@@ -12,6 +12,9 @@
 //! the ring stays, some of whose nodes have stopped), `Steps.antt`, `Scenes.antt`, `Lines.antt` and `Commands.antt` (each step and each line
 //! keeps that), `Repairs.antt` and `Moved.antt` (rounds), `Facts.antt` (the ring, line by line), `Worlds.antt`, `Changes.antt` and
 //! `Runs.antt` (what holds as nodes stop and join, and in rounds), `Gets.antt`, `Given.antt` and `Durable.antt` (the laws).
+//! Lemmas to cite: of a world some of whose nodes have stopped, and whom gets and puts ask there (`Worlds.antt`, `Stretches.antt`,
+//! `States.antt`, `Asking.antt`, `Gets.antt`), of lines and runs (`Lines.antt`, `Facts.antt`, `Changes.antt`, `Runs.antt`), and of what
+//! nodes hold and have room for (`BlockKinds.antt`, `Holding.antt`, `Rooms.antt`).
 #![tactic(auto)]
 
 ghost use Rattle.durability_laws.specs.Laws.{AckedHasCopies, RoundMovesBlocks};

@@ -1,13 +1,15 @@
 //! The program `ivy`. It hands its words, standard input and standard output to [`ivy_cli::run`].
 //!
-//! Layer: the top; a thin `main`. The exit status is the status that `run` gives, and 6 where memory is wanting for the words; words
-//! that aren't text are of no form. What standard input and output hold is nowhere told: the clauses of `run` speak of the
-//! bytes of a source and a sink, and the stored run shows them.
+//! Layer: the top; a thin `main`. The exit status is the status that `run` gives, and 6 where memory is wanting for the words or
+//! for what else `run` takes; words that aren't text are of no form. What standard input and output hold is nowhere told: the
+//! clauses of `run` speak of the bytes of a source and a sink, and the stored run shows them. No words ask for a clock, for ports
+//! or for keepers yet, so these are in memory: the clock stands at 0, and no link comes.
 #![tactic(auto)]
 
 use ivy_base::Memory;
 use ivy_cli::run;
-use ivy_io::{StdSink, StdSource};
+use ivy_io::{Failing, StdSink, StdSource};
+use ivy_outside::{FixedClock, MemKeepers, MemPorts};
 use std::env;
 use std::io::ErrorKind;
 use std::process::ExitCode;
@@ -24,11 +26,33 @@ fn words(rt: &HostRuntime) -> Result<Vec<String>, Memory> {
     }
 }
 
-fn main(rt: HostRuntime) -> ExitCode {
+/// No call is to fail.
+fn no_failures(rt: &HostRuntime) -> Failing {
+    Failing::of(Vec::new(rt.alloc()))
+}
+
+/// Does what the words ask for, and gives the status. The error is want of memory before anything was done.
+fn status(rt: &HostRuntime) -> Result<u8, Memory> {
+    let words = words(rt)?;
     let mut source = StdSource::new(rt.reader());
-    let mut sink = StdSink::new(std::io::writer(&rt));
-    match words(&rt) {
-        Ok(words) => ExitCode::from(run(rt.alloc(), &words, &mut source, &mut sink)),
+    let mut sink = StdSink::new(std::io::writer(rt));
+    let mut clock = FixedClock::new(0, 0);
+    let mut ports = MemPorts::new(rt.alloc(), Vec::new(rt.alloc()), no_failures(rt))?;
+    let mut keepers = MemKeepers::new(rt.alloc(), no_failures(rt));
+    Ok(run(
+        rt.alloc(),
+        &words,
+        &mut source,
+        &mut sink,
+        &mut clock,
+        &mut ports,
+        &mut keepers,
+    ))
+}
+
+fn main(rt: HostRuntime) -> ExitCode {
+    match status(&rt) {
+        Ok(status) => ExitCode::from(status),
         Err(Memory) => ExitCode::from(STATUS_MEMORY),
     }
 }

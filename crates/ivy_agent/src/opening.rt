@@ -42,22 +42,24 @@ pub fn open<S: Signs + Drop>(alloc: Global, mut signer: S, now: Moment) -> Resul
     requires { S.remaining signer ≢ 0 }
     ensures { IfOk result (IsOpening (signing S.key S.remaining S.signature S.next S.saved) signer now) }
 {
+    let engine = hold_nothing(alloc)?;
     let own = signer.owner();
     let log = head_key(&own);
     let block = opening(alloc, own, now).write(alloc)?;
     let name = name_of(block.as_slice());
+    let floor = floor_of(alloc, log, name)?;
     let head = seal_first(alloc, &mut signer, name)?;
-    let kept = Kept {
-        signer,
-        log,
-        view: None,
-        floor: floor_of(alloc, log, name)?,
-        pending: posts_of(alloc, log, name, block, head)?,
-        snapshot: None,
-    };
+    let pending = posts_of(alloc, log, name, block, head)?;
     Ok(Opened {
-        kept,
-        engine: hold_nothing(alloc)?,
+        kept: Kept {
+            signer,
+            log,
+            view: None,
+            floor,
+            pending,
+            snapshot: None,
+        },
+        engine,
         front: Vector::empty(alloc),
     })
 }

@@ -4,9 +4,8 @@ use Rattle.ivy_io.specs.Causes.{Rose}
 use Rattle.ivy_io.specs.Known.{then}
 use Rattle.script_driver.specs.Run.{Ran, Ending, Ended, RefusedAt, LimitAt, WithLaw}
 use Rattle.script_driver.specs.Told.{TellsAll, TellsFront, TellsLess, StopsShort}
-use Rattle.world_laws.specs.Headline.{Headline}
 use Rattle.stage_laws.specs.Stage.{StageStep}
-use Rattle.ivy_play.specs.Playing.{beginning, ivy_runs, IsPlayed, RunsFully}
+use Rattle.ivy_play.specs.Playing.{beginning, ivy_runs, IsPlayed, Promise, RunsFully}
 use Rattle.ivy_play.specs.Status.{status_of}
 use Rattle.ivy_cli.specs.declared.words.Asked.{Asked}
 use Rattle.ivy_cli.specs.declared.words.Asked.TheVariants as asked
@@ -30,7 +29,7 @@ pub record IsPlay (status : ℕ) (before after : Outside) : Type 0 where
   pub write_fault : status ≡ 5 → Rose before.writes after.writes
   pub front : TellsFront (ivy_runs before.left) before.held after.held
   pub less : status ≡ 5 → TellsLess (ivy_runs before.left) before.held after.held
-  pub waits : status ≡ 4 → StopsShort (WithLaw StageStep Headline) beginning before.left after.left before.held after.held
+  pub waits : status ≡ 4 → StopsShort (WithLaw StageStep Promise) beginning before.left after.left before.held after.held
   pub alike : (ending : Ending) → ((ran : Ran) → ivy_runs before.left ran → ran.ending ≡ ending)
       → ¬ Rose before.reads after.reads → ¬ Rose before.writes after.writes → (status ≡ status_of ending) ⊎ (status ≡ 6)
   pub fully : IfSome before.left RunsFully
@@ -50,6 +49,10 @@ pub record IsUsage (status : ℕ) (before after : Outside) : Type 0 where
   pub told : status ≡ 2 → (after.held ≡ then before.held usage_line) ⊎ Rose before.writes after.writes
   pub front : (k : ℕ) × (k ≤ length usage_line) × (after.held ≡ then before.held (take k usage_line))
   pub writes : before.writes ≤ after.writes
+
+-- the clock, the ports or the keepers stayed as they were: what they hold, where that is known, and their counts
+abbrev pub IsUntouched : {S : Type 0} → S → S → Type 0
+IsUntouched old new = new ≡ old
 
 -- what comes of what the words ask for
 abbrev pub Does : Option Asked → ℕ → Outside → Outside → Type 0

@@ -1,8 +1,8 @@
 //! The words of the command line, and what they ask for.
 //!
-//! Layer: the top of the library, above `ivy_play` and `load_script`; the program above hands it its words, its source and its
-//! sink. For the program: [`run`] does what the words ask for (`specs/Runs.antt`, `Does`; which words ask for what is in
-//! `specs/Words.antt`).
+//! Layer: the top of the library, above `ivy_play`, `load_script` and `ivy_outside`; the program above hands it its words, its
+//! source and its sink, and a clock, ports and keepers. For the program: [`run`] does what the words ask for
+//! (`specs/Runs.antt`, `Does`; which words ask for what is in `specs/Words.antt`).
 //!
 //! - `play`: the script of the source is played, with all that `play` says of it (`IsPlay`).
 //! - `load SEED CALLS`: the generated script is played in memory, and the summary of what it shows is told ([`load`];
@@ -10,8 +10,8 @@
 //! - Any other words are of no form that is served, exactly where the status is 2; then the sink was told the usage line, or its
 //!   count of faults rose. Where the sink had no memory for the line, the status is 6.
 //!
-//! The words of `crowd` and `serve` are of no form yet: what they ask for needs threads and sockets, and with these come a clock,
-//! ports and keepers by name as further parameters of [`run`].
+//! The words of `crowd` and `serve` are of no form yet: what they ask for needs threads and sockets. The clock, the ports and the
+//! keepers are for them, and [`run`] leaves these as they were (`IsUntouched`).
 #![tactic(auto)]
 
 mod loading;

@@ -3,12 +3,13 @@
 ghost use Rattle.std.specs.Prelude.{◌≡◌, ◌⊎◌, ◌≤◌, ℕ, None, length, map, string_bytes, take};
 ghost use Rattle.ivy_io.specs.Causes.{Rose};
 ghost use Rattle.ivy_io.specs.Known.{then};
-ghost use Rattle.ivy_cli.specs.Runs.{Does};
+ghost use Rattle.ivy_cli.specs.Runs.{Does, IsUntouched};
 ghost use Rattle.ivy_cli.specs.Words.{asked_of, usage_line};
 
 use crate::loading::load;
 use crate::words::{Asked, read_words};
 use ivy_io::{Sink, SinkFault, Source, write_all};
+use ivy_outside::{Clock, Keepers, Ports};
 use ivy_play::{Status, play};
 use std::alloc::Global;
 
@@ -25,17 +26,27 @@ const STATUS_MEMORY: Status = 6;
 /// Does what the words behind the program's name ask for: `play` plays the script of the source, and `load SEED CALLS` a
 /// generated one. Status 2 comes exactly where they are of no such form, and then the sink is told the usage line.
 ///
-/// The words of `crowd` and `serve` aren't served yet, and so are of no form.
-pub fn run<Q: Source, W: Sink>(
+/// The words of `crowd` and `serve` aren't served yet, and so are of no form. The clock, the ports and the keepers are for
+/// these, and stay as they were: what they hold, and their counts. A handle of the runtime, for threads and waiting, comes
+/// with them, since a function that takes one owes no return.
+pub fn run<Q: Source, W: Sink, C: Clock, P: Ports, K: Keepers>(
     alloc: Global,
     words: &[String],
     source: &mut Q,
     sink: &mut W,
+    clock: &mut C,
+    ports: &mut P,
+    keepers: &mut K,
 ) -> Status
     ensures does { Does (asked_of (map (λ word. string_bytes word) words.now)) result
         (record { left = Q.left source.old; held = W.contents sink.old; reads = Q.faults source.old; writes = W.faults sink.old })
         (record { left = Q.left source.new; held = W.contents sink.new; reads = Q.faults source.new; writes = W.faults sink.new }) }
     ensures usage { result ≡ 2 → asked_of (map (λ word. string_bytes word) words.now) ≡ None }
+
+    // No form that is served asks for these.
+    ensures clock { IsUntouched clock.old clock.new }
+    ensures ports { IsUntouched ports.old ports.new }
+    ensures keepers { IsUntouched keepers.old keepers.new }
 {
     match read_words(words) {
         Some(Asked::Play) => play(alloc, source, sink),

@@ -2,12 +2,13 @@
 use Rattle.std.specs.Prelude.{◌≡◌, ◌⊎◌, ℕ, ◌^◌, List, take, Option}
 use Rattle.ivy_io.specs.Known.{then}
 use Rattle.script_driver.specs.Lines.{lines_of}
-use Rattle.script_driver.specs.Run.{Ran, Runs, WithLaw}
+use Rattle.script_driver.specs.Run.{Outcome, Ran, Runs, WithLaw}
 use Rattle.script_driver.specs.Told.{run_of}
 use Rattle.world_model.specs.Logs.{Played}
 use Rattle.world_model.specs.Story.{empty_story}
 use Rattle.world_model.specs.World.{empty_world}
 use Rattle.world_laws.specs.Headline.{Headline}
+use Rattle.completeness_laws.specs.CalmLines.{IsServedWhereCalm}
 use Rattle.stage_laws.specs.FullRuns.{HasMemoryAlong, HasOneFullRun, LacksOrClashes, RunComesTo}
 use Rattle.stage_laws.specs.Stage.{StageStep}
 use Rattle.ivy_play.specs.Status.{status_of}
@@ -20,9 +21,14 @@ beginning = (empty_world, empty_story)
 abbrev pub script_lines : List ℕ → List (List ℕ)
 script_lines script = lines_of (take (2 ^ 40) script)
 
--- the runs of what a source has left, of each line of which the headline holds
+-- What holds of each line: the headline; and where the world was reached calmly, what was acknowledged is held and read, and a call misses nothing.
+pub record Promise (w : Played) (line : List ℕ) (outcome : Outcome Played) : Type 0 where
+  pub headline : Headline w line outcome
+  pub calm : IsServedWhereCalm w line outcome
+
+-- the runs of what a source has left, of each line of which that holds
 abbrev pub ivy_runs : Option (List ℕ) → Ran → Type 0
-ivy_runs left = run_of (WithLaw StageStep Headline) beginning left
+ivy_runs left = run_of (WithLaw StageStep Promise) beginning left
 
 -- there is one run of the script in which memory is always there, or names clash on the way
 abbrev pub RunsFully : List ℕ → Type 0

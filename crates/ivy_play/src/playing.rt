@@ -4,11 +4,11 @@ ghost use Rattle.std.specs.Prelude.{◌≡◌, ◌⊎◌, ◌≤◌, ℕ, List, 
 ghost use Rattle.ivy_io.specs.Causes.{Rose};
 ghost use Rattle.script_driver.specs.Run.{Ran, Ending, Ended, RefusedAt, LimitAt, WithLaw};
 ghost use Rattle.script_driver.specs.Told.{TellsAll, TellsFront, TellsLess, StopsShort};
-ghost use Rattle.world_laws.specs.Headline.{Headline};
 ghost use Rattle.stage_laws.specs.Stage.{StageStep};
-ghost use Rattle.ivy_play.specs.Playing.{beginning, ivy_runs, IsPlayed, RunsFully};
+ghost use Rattle.ivy_play.specs.Playing.{beginning, ivy_runs, IsPlayed, Promise, RunsFully};
 ghost use Rattle.ivy_play.specs.Status.{status_of};
 
+use completeness_laws::lines_are_served_where_calm;
 use ivy_io::{Sink, Source};
 use script_driver::{Fault, Stop, run_script};
 use script_machine::ScriptMachine;
@@ -29,7 +29,9 @@ pub type Status = u8;
 /// A run is defined line by line, by the step of `world_model` (`StageStep` of `stage_laws`). In every run, whatever sessions stand
 /// open beside each other, whatever asks are lost and blocks spoilt, each reply of a turn is the answer of NFS version 3 (RFC 1813)
 /// on the replay, from nothing, of one causally closed set of verified records, and any other reply has its cause (`Headline`
-/// of `world_laws`).
+/// of `world_laws`). And where no ask was lost so far, no block spoilt, and fewer nodes stopped between two rounds than own a key
+/// (`IsCalmAt` of `world_laws`), whatever a put of was acknowledged is held and read, and no whole call fails for want of a block
+/// (`IsServedWhereCalm` of `completeness_laws`).
 pub fn play<Q: Source, W: Sink>(alloc: Global, source: &mut Q, sink: &mut W) -> Status
     ensures statuses { (result ≡ 0) ⊎ (result ≡ 3) ⊎ (result ≡ 4) ⊎ (result ≡ 5) ⊎ (result ≡ 6) ⊎ (result ≡ 7) }
 
@@ -53,7 +55,7 @@ pub fn play<Q: Source, W: Sink>(alloc: Global, source: &mut Q, sink: &mut W) -> 
         (ivy_runs (Q.left source.old)) (W.contents sink.old) (W.contents sink.new) }
     // After a read fault the run isn't over: the bytes that were read are whole lines, each of which was obeyed and went on, and
     // a part of a line, and what was written is what the lines show.
-    ensures waits { result ≡ 4 → StopsShort (WithLaw StageStep Headline) beginning
+    ensures waits { result ≡ 4 → StopsShort (WithLaw StageStep Promise) beginning
         (Q.left source.old) (Q.left source.new) (W.contents sink.old) (W.contents sink.new) }
 
     // Where neither count rose and each run ends alike, the status is that of the run, unless memory was wanting.
@@ -71,6 +73,7 @@ pub fn play<Q: Source, W: Sink>(alloc: Global, source: &mut Q, sink: &mut W) -> 
     ensures reads { Q.faults source.old ≤ Q.faults source.new }
     ensures writes { W.faults sink.old ≤ W.faults sink.new }
 {
+    lines_are_served_where_calm();
     let mut machine = ScriptMachine::new(alloc);
     match run_script(alloc, &mut machine, source, sink) {
         Ok(Stop::Ended) => 0,

@@ -58,7 +58,6 @@ pub(crate) enum Stage<J: Judge> {
 
 /// One call of a participant, or the publishing of its posts alone. Contracts see by which judge, from how many owners and at
 /// which nodes it asks, what is at hand, and how far it is (`specs/States.antt`).
-#[derive(Drop)]
 pub struct Session<J: Judge> {
     alloc: Global,
     judge: J,
@@ -69,6 +68,23 @@ pub struct Session<J: Judge> {
     notes: Notes,
     is_cut: bool,
     stage: Stage<J>,
+}
+
+/// One function, so that whatever drops a session calls it and isn't proved over all of its parts once more.
+impl<J: Judge> Drop for Session<J> {
+    fn drop(self) {
+        let Session {
+            alloc: _,
+            judge: _,
+            replicas: _,
+            entries: _,
+            pending: _,
+            starts: _,
+            notes: _,
+            is_cut: _,
+            stage: _,
+        } = self;
+    }
 }
 
 impl<J: Judge> Model for Session<J> {

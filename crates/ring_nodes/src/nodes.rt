@@ -18,12 +18,22 @@ use std::marker::Model;
 
 /// The nodes of a ring in the order in which they were made, how many asks were made, and which asks are lost. Each node has
 /// the identifier of its number, no two stand at one place, and each knows of nodes alone that were made.
-#[derive(Drop)]
 pub struct RingNodes {
     nodes: Vec<RingNode>,
     asked: u64,
     /// The newest first.
     lost: Vec<u64>,
+}
+
+/// One function, so that whatever drops the nodes calls it and isn't proved over all of its parts once more.
+impl Drop for RingNodes {
+    fn drop(self) {
+        let RingNodes {
+            nodes: _,
+            asked: _,
+            lost: _,
+        } = self;
+    }
 }
 
 impl Model for RingNodes {

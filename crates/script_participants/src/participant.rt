@@ -37,7 +37,6 @@ use view_blocks::View;
 
 /// Who writes a log: its name in the script, its agent, which is kept in memory, its cache, the names of the records that its
 /// agent made, the last snapshot that a line printed, and how many records its last turn applied.
-#[derive(Drop)]
 pub struct Participant {
     name: Bytes,
     agent: Agent<MemKeeper, Hss>,
@@ -46,6 +45,20 @@ pub struct Participant {
     made: Vec<(u32, Key)>,
     printed: Option<Key>,
     work: u64,
+}
+
+/// One function, so that whatever drops a participant calls it and isn't proved over all of its parts once more.
+impl Drop for Participant {
+    fn drop(self) {
+        let Participant {
+            name: _,
+            agent: _,
+            cache: _,
+            made: _,
+            printed: _,
+            work: _,
+        } = self;
+    }
 }
 
 impl Model for Participant {

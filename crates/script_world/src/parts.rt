@@ -30,7 +30,6 @@ impl Model for NamedView {
 /// A script's world but for its open sessions: how many nodes own a key, 1 to 8, where a ring was made; the nodes, the participants
 /// and the views in the order of their lines; what each reply gave to later lines; the moment; and the blocks that were met. No two
 /// participants have one name, and before the ring there are none.
-#[derive(Drop)]
 pub struct Parts {
     pub(crate) replicas: Option<u32>,
     pub(crate) nodes: RingNodes,
@@ -39,6 +38,21 @@ pub struct Parts {
     pub(crate) replies: Vec<ReplyParts>,
     pub(crate) moment: Moment,
     pub(crate) met: MetBlocks,
+}
+
+/// One function, so that whatever drops the parts calls it and isn't proved over all of its parts once more.
+impl Drop for Parts {
+    fn drop(self) {
+        let Parts {
+            replicas: _,
+            nodes: _,
+            participants: _,
+            views: _,
+            replies: _,
+            moment: _,
+            met: _,
+        } = self;
+    }
 }
 
 impl Model for Parts {

@@ -8,6 +8,10 @@ ghost use Rattle.script_participants.specs.ParticipantState.{ParticipantState};
 ghost use Rattle.session_steps.specs.Showing.{HasScene, ManyStepsFrom, RunsOutFrom, StepsFrom, shown};
 ghost use Rattle.session_steps.specs.Within.{CountsAsMade, GivesOf, HasAskedOf, HasHeard, HasNext, HasTurned, IsArm, IsToldOf, Laws, MayAsk, MayTurn, TookTurn, left_to};
 
+use crate::laws::{
+    asked_nodes_are_made, asks_are_steps, done_is_over, replies_are_read, scenes_go_on,
+    settlings_are_steps, turns_are_steps, turns_may_be,
+};
 use crate::open::OpenCall;
 use dht_ids::{Answer, Ask, Peer};
 use ivy_base::{Memory, Moment, Steps};
@@ -20,10 +24,6 @@ use ring_nodes::RingNodes;
 use script_participants::Participant;
 use std::alloc::Global;
 use std::sync::ledger::Ledger;
-use crate::laws::{
-    asked_nodes_are_made, asks_are_steps, done_is_over, replies_are_read, scenes_go_on,
-    settlings_are_steps, turns_are_steps, turns_may_be,
-};
 use world_laws::{headline_holds, publishing_keeps};
 
 impl OpenCall {

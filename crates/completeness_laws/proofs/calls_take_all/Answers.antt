@@ -1,3 +1,4 @@
+use Rattle.world_laws.specs.Calm.{HasSameRing}
 use Rattle.world_laws.proofs.EachLine.{each_line_keeps}
 use Rattle.completeness_laws.proofs.NewestPut.{newest_are_put}
 use Rattle.completeness_laws.proofs.Received.{received_heads_left}
@@ -11,4 +12,4 @@ pub returns-clause-received : goal.returns-clause-received
 returns-clause-received c = received_heads_left each_line_keeps
 
 pub returns-clause-calls : goal.returns-clause-calls
-returns-clause-calls c = calls_take_all each_line_keeps (newest_are_put each_line_keeps) (received_heads_left each_line_keeps)
+returns-clause-calls c = calls_take_all HasSameRing each_line_keeps (newest_are_put each_line_keeps) (received_heads_left each_line_keeps)

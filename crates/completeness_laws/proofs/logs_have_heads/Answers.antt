@@ -1,6 +1,5 @@
-use Rattle.world_laws.proofs.EachLine.{each_line_keeps}
 use Rattle.completeness_laws.proofs.LogHeads.{logs_have_heads}
 use Rattle.completeness_laws.proofs.logs_have_heads.Goals as goal
 
 pub returns : goal.returns
-returns c = logs_have_heads each_line_keeps
+returns c = logs_have_heads

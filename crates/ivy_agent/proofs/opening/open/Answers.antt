@@ -9,5 +9,5 @@ pub returns : goal.returns
 returns g c = opened_with
     (signing g.S.Signs.key g.S.Signs.remaining g.S.Signs.signature g.S.Signs.next g.S.Signs.saved) c.args.signer c.args.now _ c.in_ok-block.block c.in_ok-head.head c.owner-own.result c.head_key-log.result c.name_of-name.result
     c.owner-own.ensures c.head_key-log.ensures (c.in_ok-block.ensures ∙ ap record_block c.opening.ensures) (c.name_of-name.ensures ∙ ap name c.as_slice.ensures)
-    c.in_ok-head.ensures.head c.in_ok-posts_of.ensures.block c.in_ok-posts_of.ensures.head c.in_ok-head.ensures.next c.seal_first.ensures.key
-    refl refl c.in_ok-floor_of.ensures c.in_ok-posts_of.ensures.posts refl c.in_ok-hold_nothing.ensures c.empty.ensures
+    c.in_ok-head.ensures.head c.in_ok-pending.ensures.block c.in_ok-pending.ensures.head c.in_ok-head.ensures.next c.seal_first.ensures.key
+    refl refl c.in_ok-floor.ensures c.in_ok-pending.ensures.posts refl c.in_ok-engine.ensures c.empty.ensures

@@ -1,0 +1,38 @@
+-- Durability and completeness, line by line.
+use Rattle.std.proofs.Common.{◌≡◌, ◌∙◌, ℕ, List, Some, subst, sym}
+use Rattle.log_heads.specs.Signed.{hss_judged}
+use Rattle.script_driver.specs.Run.{Goes, Outcome}
+use Rattle.script_model.specs.declared.command.Command.TheVariants as command
+use Rattle.script_model.specs.Lines.{command_of}
+use Rattle.world_model.specs.Logs.{Played}
+use Rattle.world_model.specs.Rounds.{IsRoundOf}
+use Rattle.world_model.specs.Step.{Does, IvyStep}
+use Rattle.world_laws.specs.Calm.{AckedIsHeld, AreAny, BlocksAreGiven, HeadsAreGiven, IsCalmAt, Since}
+use Rattle.world_laws.proofs.AllLines.{does_line}
+use Rattle.world_laws.proofs.CalmRuns.{some_command}
+use Rattle.durability_laws.specs.Laws.{RoundMovesBlocks}
+use Rattle.durability_laws.proofs.Facts.{beside_goes, round_line}
+use Rattle.durability_laws.proofs.Runs.{facts_at, has_room}
+use Rattle.completeness_laws.specs.Completeness.{CallsMissNothing}
+use Rattle.completeness_laws.specs.CalmLines.{LinesAreServedWhereCalm}
+
+module _ (w : Played) (line : List ℕ) (outcome : Outcome Played) (does : (next : Played) (output : List ℕ) → outcome ≡ Goes next output → IvyStep w line (Goes next output)) where
+  round_of : (r : ℕ) (since : Since) (lines : List (List ℕ)) (next : Played) (output : List ℕ) → IsCalmAt r w since lines → command_of line ≡ Some command.Round → outcome ≡ Goes next output → IsRoundOf hss_judged r w.0 next.0
+  round_of r since lines next output calm is goes =
+      let done = does_line w next output (command_of line) (does next output goes) in
+      let round : Does hss_judged w command.Round (Goes next output) = subst (λ d. Does hss_judged w d (Goes next output)) (some_command done.0 command.Round (sym done.1 ∙ is)) done.2 in
+      round_line r w.0 next.0 w.0.replicas round.0 output round.1 (facts_at r w since lines calm).has.replicas (beside_goes w.1 round.0 next output round.2)
+
+pub lines_are_served : AckedIsHeld AreAny → BlocksAreGiven AreAny → HeadsAreGiven AreAny → CallsMissNothing AreAny → RoundMovesBlocks → LinesAreServedWhereCalm
+lines_are_served held blocks heads calls moves w line outcome does = record {
+  served = λ r count lines calm. record {
+    readable = λ p acked. record {
+      held = held r w count lines p tt calm acked;
+      block = λ kind next looks asks came fates get. blocks r w next count lines p looks asks came tt calm acked kind fates get;
+      head = λ kind next looks asks came fates get. heads r w next count lines p looks asks came tt calm acked kind fates get;
+    };
+    served = λ name pieces next output is goes. calls r w next count lines line name output pieces tt calm is (does next output goes);
+  };
+  rounds = λ r since lines next output calm is goes m key lives.
+      moves r w next.0 since lines m key calm (has_room w next output (command_of line) (does next output goes)) (round_of w line outcome does r since lines next output calm is goes) lives;
+}
