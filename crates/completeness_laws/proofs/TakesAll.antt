@@ -19,11 +19,11 @@ use Rattle.world_model.specs.Agents.{own}
 use Rattle.world_model.specs.Calls.{AsLine, BeginsWith, Sending, sending_of}
 use Rattle.world_model.specs.Calls.AsLine.{calls}
 use Rattle.world_model.specs.Logs.{Played}
-use Rattle.world_model.specs.Step.{Does, MayDo, MayDoFirst, most_bytes}
+use Rattle.world_model.specs.Step.{IvyStep, Does, MayDo, MayDoFirst, most_bytes}
 use Rattle.world_model.specs.Steps.{RunsOut, Scene}
 use Rattle.world_model.specs.Story.{HadTurn, beginning, having_begun}
 use Rattle.world_model.specs.World.{Participant, named_bytes, participant}
-use Rattle.world_laws.specs.Calm.{IsCalmAt, Stopped}
+use Rattle.world_laws.specs.Calm.{AreAny, HasSameRing, IsCalmAt, Stopped}
 use Rattle.world_laws.specs.Headline.{IsOnReplay}
 use Rattle.world_laws.specs.Keeps.{Keeps}
 use Rattle.world_laws.specs.Laws.{LinesKeep}
@@ -32,8 +32,8 @@ use Rattle.world_laws.proofs.Bringing.{found_named}
 use Rattle.world_laws.proofs.CalmHeld.{calmly_keeps}
 use Rattle.world_laws.proofs.Frames.{into_map}
 use Rattle.world_laws.proofs.OneSteps.{GoesWell}
-use Rattle.completeness_laws.specs.Completeness.{CallsTakeAll, HaveEntered, HaveHeads, IsWritten}
-use Rattle.completeness_laws.specs.Takes.{HaveNewest, IsLeftBy, NewestArePut, ReceivedHeadsLeft}
+use Rattle.completeness_laws.specs.Completeness.{CallsTakeAll, HaveEntered, HaveHeads, HaveOwnKeys, IsWritten}
+use Rattle.completeness_laws.specs.Takes.{CallsTakeAllInRuns, HaveNewest, IsLeftBy, NewestArePut, NewestArePutInRuns, ReceivedHeadsLeft}
 use Rattle.completeness_laws.proofs.CallLines.{IsSentBy, begun_well, sent_by}
 use Rattle.completeness_laws.proofs.CallSteps.{IsInCall, begins_on}
 use Rattle.completeness_laws.proofs.GotHeads.{AreHeardOf}
@@ -122,13 +122,16 @@ module _ (r : ℕ) (w : Played) (keeps : Keeps w) (world : IsCalmWorld r w) (bac
       one_number : (a b : ℕ) → Some a ≡ Some b → a ≡ b
       one_number a b e = cc e
 
-pub calls_take_all : (AreSo : List (List ℕ) → Type 0) → LinesKeep → NewestArePut AreSo → ReceivedHeadsLeft AreSo → CallsTakeAll AreSo
-calls_take_all AreSo lines_keep newest left r w next count lines line name output pieces same calm tidy own_keys entered none is step h turn one had =
+-- where of each log a put of the newest head was acknowledged
+take_all : LinesKeep → ReceivedHeadsLeft AreAny → (r : ℕ) (w next : Played) (count : ℕ) (lines : List (List ℕ)) (line name output : List ℕ) (pieces : List Piece) → (calm : IsCalmAt r w (Stopped count) lines)
+    → (sum_by (λ b. length b) w.0.met ≤ most_bytes → HaveNewest w) → HaveOwnKeys w.0 → HaveEntered w.0 name → command_of line ≡ Some (command.As name pieces) → IvyStep w line (Goes next output)
+    → (h : HadTurn) (turn : IsOnReplay h) (one : Record) → next.1.turns ≡ w.1.turns ++ h ∷ [] → Contains turn.taken one ↔ IsWritten w h.view one
+take_all lines_keep left r w next count lines line name output pieces calm newest own_keys entered is step h turn one had =
     let done = does_line w next output (command_of line) step in
     let keeps = calmly_keeps lines_keep r w (Stopped count) lines calm in
     let does : Does hss_judged w (command.As name pieces) (Goes next output) = subst (λ (d : Command). Does hss_judged w d (Goes next output)) (one_command done.0 (command.As name pieces) (sym done.1 ∙ is)) done.2 in
     as_took r w keeps (calm_world r w count lines calm) (world_backed lines_keep r w (Stopped count) lines calm) count lines calm
-    (newest r w count lines same calm tidy none (within w next output name pieces (subst (λ o. MayDoFirst w o (Goes next output)) is step))) honest name entered pieces (sending_of w.0 name pieces) refl next output does h turn one had
+    (newest (within w next output name pieces (subst (λ o. MayDoFirst w o (Goes next output)) is step))) honest name entered pieces (sending_of w.0 name pieces) refl next output does h turn one had
   where
     own_key : (p q : Participant) → Contains w.0.participants p → Contains w.0.participants q → head_key_of (own p.agent) ≡ head_key_of (own q.agent) → own p.agent ≡ own q.agent
     own_key p q p_in q_in keys =
@@ -140,8 +143,16 @@ calls_take_all AreSo lines_keep newest left r w next count lines line name outpu
     honest : IsHonestIn w
     honest = record {
       own_keys = λ p q p_in q_in keys. own_keys p q p_in q_in (own_key p q p_in q_in keys);
-      left = λ by e q c q_in of_log. let one = left r w count lines by e q same calm c q_in of_log in subst (λ (x : Participant). IsLeftBy x e) (own_keys one.0 q one.1 q_in one.2) one.3;
+      left = λ by e q c q_in of_log. let one = left r w count lines by e q tt calm c q_in of_log in subst (λ (x : Participant). IsLeftBy x e) (own_keys one.0 q one.1 q_in one.2) one.3;
     }
 
     one_command : (c d : Command) → Some c ≡ Some d → c ≡ d
     one_command c d e = cc e
+
+pub calls_take_all : LinesKeep → NewestArePut HasSameRing → ReceivedHeadsLeft AreAny → CallsTakeAll HasSameRing
+calls_take_all lines_keep newest left r w next count lines line name output pieces same calm tidy own_keys entered none is step h turn one had =
+    take_all lines_keep left r w next count lines line name output pieces calm (newest r w count lines same calm tidy none) own_keys entered is step h turn one had
+
+pub calls_take_all_in_runs : LinesKeep → NewestArePutInRuns → ReceivedHeadsLeft AreAny → CallsTakeAllInRuns
+calls_take_all_in_runs lines_keep newest left r w next count lines line name output pieces calm tidy own_keys entered none is step h turn one had =
+    take_all lines_keep left r w next count lines line name output pieces calm (newest r w count lines calm tidy none) own_keys entered is step h turn one had

@@ -10,9 +10,8 @@
 //! and is acknowledged ([`stores_take_what_is_put`]): that of a log's first head too ([`logs_have_heads`]). So each whole call misses
 //! nothing ([`calls_miss_nothing`]).
 //! Each line of a tidy script leaves it so that a put of each log's newest head was acknowledged or an open session has it to put; and
-//! heads that a participant received were made by their logs' agents. So in such a script in which no node joins or stops and no round
-//! is made the turn of a whole call, while no session is open, takes all that the members have written, and nothing else
-//! ([`calls_take_all`]).
+//! heads that a participant received were made by their logs' agents. So the turn of a whole call, while no session is open, takes all
+//! that the members have written, and nothing else ([`calls_take_all`]).
 //! What of this and of `durability_laws` holds of each line, for the layer that plays scripts: [`lines_are_served_where_calm`].
 //! Definitions and statements: `specs/CalmLines.antt` (what holds of each line); `specs/Put.antt`; `specs/Completeness.antt` (no call
 //! fails for want of a block, and its turn takes all that was written); `specs/Takes.antt` (newest heads, and those that are received).
@@ -36,7 +35,7 @@ ghost use Rattle.world_laws.specs.Calm.{AreAny, HasSameRing};
 ghost use Rattle.completeness_laws.specs.CalmLines.{LinesAreServedWhereCalm};
 ghost use Rattle.completeness_laws.specs.Completeness.{CallsMissNothing, CallsMissNothingBehindHeads, CallsTakeAll, LivePutsAreTaken, LogsHaveHeads, PutsAreAcknowledged, PutsAreTaken, StoresHaveRoom};
 ghost use Rattle.completeness_laws.specs.Put.{HeadsNameWhatWasPut, KnownIsPutOrPending};
-ghost use Rattle.completeness_laws.specs.Takes.{NewestArePut, ReceivedHeadsLeft};
+ghost use Rattle.completeness_laws.specs.Takes.{CallsTakeAllInRuns, NewestArePut, NewestArePutInRuns, ReceivedHeadsLeft};
 
 use durability_laws::{acknowledged_is_read, acknowledged_stays, rounds_move_all_blocks};
 
@@ -81,13 +80,15 @@ pub fn lines_are_served_where_calm()
     calls_miss_nothing();
 }
 
-/// Laws and no code: in a calm script in which no node joins or stops and no round is made each head of a participant's log that
-/// somebody received left the log's agent. If the script is tidy too, then while no session is open and the blocks that were met are
-/// within their limit a put was acknowledged of a head of each log that goes as far as its agent's floor; and where each log has a key
-/// of its own and all members of the caller's view have entered it, the turn of a whole call takes all records that the members have
-/// written before it, and nothing else.
+/// Laws and no code: in a calm script each head of a participant's log that somebody received left the log's agent. After a run that is
+/// calm and tidy at each line, while no session is open and the blocks that were met are within their limit, a put was acknowledged of a
+/// head of each log that goes as far as its agent's floor; and where each log has a key of its own and all members of the caller's view
+/// have entered it, the turn of a whole call takes all records that the members have written before it, and nothing else. So it is too
+/// where the tidy run needn't be the calm one, if no node joins or stops and no round is made.
 pub fn calls_take_all()
-    ensures received { ReceivedHeadsLeft HasSameRing }
+    ensures received { ReceivedHeadsLeft AreAny }
     ensures newest { NewestArePut HasSameRing }
+    ensures newest_in_runs { NewestArePutInRuns }
     ensures calls { CallsTakeAll HasSameRing }
+    ensures calls_in_runs { CallsTakeAllInRuns }
 {}
