@@ -91,7 +91,7 @@ module _ (w : Played) (keeps : Keeps w) (h : IsBackedWorld w.0 w.1) where
         ringed = ringed;
       }
 
-  open_well : (r : ℕ) → w.0.replicas ≡ Some r → (name : List ℕ) (s : Session) → session_named w.0 name ≡ Some s → GoesWell r (scene_of w s (began_of w.1 name))
+  pub open_well : (r : ℕ) → w.0.replicas ≡ Some r → (name : List ℕ) (s : Session) → session_named w.0 name ≡ Some s → GoesWell r (scene_of w s (began_of w.1 name))
   open_well r ringed name s is = record { keeps = keeps; hand = (named_hand w keeps r ringed name s is).0; ringed = ringed }
 
   begun_so : IsBackedWorld w.0 (having_begun w.1)

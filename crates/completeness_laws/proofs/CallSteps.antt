@@ -96,18 +96,18 @@ fails_past : {s t : Session} → IsPast s → Fails s t → IsPast t
 fails_past past (fails notes given miss xid asked at refreshed asks_it) = absurd (past.0 at)
 fails_past past (goes_on none) = past
 
-lacks_past : {s t : Session} → LacksMemory s t → IsPast t
+pub lacks_past : {s t : Session} → LacksMemory s t → IsPast t
 lacks_past (lacks notes shown given end xid asked at refreshed asks_it rest front) = (λ e. cc e, refl)
 
 settles_past : {a after : Agent} {s t : Session} → s.missed ≡ None → Settles a s after t → IsPast t
 settles_past missed (settles_all said acks at) = (λ e. cc e, missed)
 
-turn_refreshes : {now : Moment} {a : Agent} {view : View} {failing : Bool} {s : Session} {end : TurnEnd} {after : Agent} {saving : Option Kept} {t : Session} → TakesTurn now a view failing s end after saving t → s.stage ≡ Refreshing
+pub turn_refreshes : {now : Moment} {a : Agent} {view : View} {failing : Bool} {s : Session} {end : TurnEnd} {after : Agent} {saving : Option Kept} {t : Session} → TakesTurn now a view failing s end after saving t → s.stage ≡ Refreshing
 turn_refreshes (answers notes given xid asked reply applied after saving done asks_it turned) = done.0
 turn_refreshes (begins_anew notes given xid asked end after saving done asks_it turned refused few) = done.0
 turn_refreshes (gives_up notes given xid asked end after saving done asks_it turned refused many) = done.0
 
-answered_past : {now : Moment} {a : Agent} {view : View} {failing : Bool} {s : Session} {reply : Reply} {applied : ℕ} {after : Agent} {saving : Option Kept} {t : Session} → TakesTurn now a view failing s (Answered reply applied) after saving t → s.missed ≡ None → IsPast t
+pub answered_past : {now : Moment} {a : Agent} {view : View} {failing : Bool} {s : Session} {reply : Reply} {applied : ℕ} {after : Agent} {saving : Option Kept} {t : Session} → TakesTurn now a view failing s (Answered reply applied) after saving t → s.missed ≡ None → IsPast t
 answered_past (answers notes given xid asked reply applied after saving done asks_it turned) missed = (λ e. cc e, missed)
 answered_past (begins_anew notes given xid asked end after saving done asks_it turned refused few) missed = absurd refused
 answered_past (gives_up notes given xid asked end after saving done asks_it turned refused many) missed = absurd refused
@@ -117,7 +117,7 @@ module _ (r : ℕ) where
   takes_missed (posted key bytes wants none is) = refl
   takes_missed (cached key bytes wants none missing is) = refl
 
-  takes_all_missed : {s t : Session} {cache after : Cache} → TakesAll hss_judged r s cache t after → t.missed ≡ s.missed
+  pub takes_all_missed : {s t : Session} {cache after : Cache} → TakesAll hss_judged r s cache t after → t.missed ≡ s.missed
   takes_all_missed (takes_none none) = refl
   takes_all_missed (takes_more one rest) = takes_all_missed rest ∙ takes_missed one
 
@@ -128,7 +128,7 @@ module _ (r : ℕ) where
   acts_past past (is_refused view end after saving t in_view refusal takes) = absurd (past.0 (turn_refreshes takes))
   acts_past past (settles after t is) = settles_past past.1 is
 
-  step_past : {name : List ℕ} {c next : Scene} → IsPast c.session → Steps hss_judged r name c next → IsPast next.session
+  pub step_past : {name : List ℕ} {c next : Scene} → IsPast c.session → Steps hss_judged r name c next → IsPast next.session
   step_past past (acts p taken cache next is_p takes act) = acts_past ((λ e. past.0 (sym (takes_all_same takes).0 ∙ e)), takes_all_missed takes ∙ past.1) act
   step_past past (lacks_memory p taken t cache is_p takes lacking) = lacks_past lacking
 
@@ -164,7 +164,7 @@ module _ (r : ℕ) (w : Played) (world : IsCalmWorld r w) (backed : IsBackedWorl
     pub fetched : IsFetched r w world backed met_apart have c.session
 
   -- names tell apart what is met and whose keys there are
-  names_of : (v : World) → ((b : List ℕ) → Contains v.met b → Contains w.0.met b) → map (λ (p : Participant). (own p.agent).0) v.participants ≡ map (λ (p : Participant). (own p.agent).0) w.0.participants → NamesTellApart (named_bytes v)
+  pub names_of : (v : World) → ((b : List ℕ) → Contains v.met b → Contains w.0.met b) → map (λ (p : Participant). (own p.agent).0) v.participants ≡ map (λ (p : Participant). (own p.agent).0) w.0.participants → NamesTellApart (named_bytes v)
   names_of v met keys a b in_a in_b same = apart a b (more a in_a) (more b in_b) same
     where
       more : (x : List ℕ) → Contains (named_bytes v) x → Contains (named_bytes w.0) x
@@ -215,7 +215,7 @@ module _ (r : ℕ) (w : Played) (world : IsCalmWorld r w) (backed : IsBackedWorl
     same : (taken.stage ≡ c.session.stage) × (taken.by ≡ c.session.by)
     same = takes_all_same takes
 
-    in_call : IsInCall (with_cache hss_judged r c p taken cache)
+    pub in_call : IsInCall (with_cache hss_judged r c p taken cache)
     in_call = (let kept = taking_keeps c r p taken cache h.well.keeps h.well.hand found (all_some takes) in record {
       well = record { keeps = kept.0; hand = kept.1; ringed = h.well.ringed };
       ring = kept_ring (ring_of r w world) c.world (with_participant c.world (record p { cache = cache })) (same_rings c.world (with_participant c.world (record p { cache = cache })) refl refl refl refl) h.ring;
@@ -343,7 +343,7 @@ module _ (r : ℕ) (w : Played) (world : IsCalmWorld r w) (backed : IsBackedWorl
 
   -- ---- each step
 
-  acts_on : (c next : Scene) → IsInCall c → (p : Participant) → participant c.world c.session.by ≡ Some p → ((key : Key) → Wants hss_judged r c.session (wants_content key) → pending_block key c.session.standing.pending ≡ None) → GoesWell r next → SceneSo next → Acts hss_judged r p c next → IsInCall next ⊎ IsPast next.session
+  pub acts_on : (c next : Scene) → IsInCall c → (p : Participant) → participant c.world c.session.by ≡ Some p → ((key : Key) → Wants hss_judged r c.session (wants_content key) → pending_block key c.session.standing.pending ≡ None) → GoesWell r next → SceneSo next → Acts hss_judged r p c next → IsInCall next ⊎ IsPast next.session
   acts_on c _ h p is_p unposted then_well so (asks node question given v heard t cache fate hears goes) = let same = heard_same h.at hears in asked_so c _ h p is_p unposted then_well so node question given v heard t cache fate hears goes refl same.0 same.1
   acts_on c _ h p is_p unposted then_well so (asks_in_vain node question given v heard t cache fate hears lacking) = inr (lacks_past lacking)
   acts_on c _ h p is_p unposted then_well so (turns view reply applied after saving t turned in_view takes replies is_turn) = inr (answered_past takes h.missed)

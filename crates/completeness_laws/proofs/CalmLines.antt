@@ -10,12 +10,16 @@ use Rattle.world_model.specs.Step.{Does, IvyStep}
 use Rattle.world_laws.specs.Calm.{IsCalmAt, Since}
 use Rattle.world_laws.proofs.AllLines.{does_line}
 use Rattle.world_laws.proofs.CalmRuns.{some_command}
+use Rattle.world_laws.proofs.EachLine.{each_line_keeps}
 use Rattle.durability_laws.proofs.Durable.{acked_is_held, round_moves_blocks}
 use Rattle.durability_laws.proofs.Facts.{beside_goes, round_line}
 use Rattle.durability_laws.proofs.Given.{blocks_are_given, heads_are_given}
 use Rattle.durability_laws.proofs.Runs.{facts_at, has_room}
 use Rattle.completeness_laws.specs.CalmLines.{LinesAreServedWhereCalm}
 use Rattle.completeness_laws.proofs.LogHeads.{calls_miss_nothing}
+use Rattle.completeness_laws.proofs.NewestPut.{newest_are_put_in_runs}
+use Rattle.completeness_laws.proofs.Received.{received_heads_left}
+use Rattle.completeness_laws.proofs.TakesAll.{calls_take_all_in_runs}
 
 module _ (w : Played) (line : List ℕ) (outcome : Outcome Played) (does : (next : Played) (output : List ℕ) → outcome ≡ Goes next output → IvyStep w line (Goes next output)) where
   round_of : (r : ℕ) (since : Since) (lines : List (List ℕ)) (next : Played) (output : List ℕ) → IsCalmAt r w since lines → command_of line ≡ Some command.Round → outcome ≡ Goes next output → IsRoundOf hss_judged r w.0 next.0
@@ -36,4 +40,5 @@ lines_are_served w line outcome does = record {
   };
   rounds = λ r since lines next output calm is goes m key lives.
       round_moves_blocks r w next.0 since lines m key calm (has_room w next output (command_of line) (does next output goes)) (round_of w line outcome does r since lines next output calm is goes) lives;
+  takes_all = λ r count lines name pieces next output calm tidy keys entered none is goes. calls_take_all_in_runs each_line_keeps (newest_are_put_in_runs each_line_keeps) (received_heads_left each_line_keeps) r w next count lines line name output pieces calm tidy keys entered none is (does next output goes);
 }

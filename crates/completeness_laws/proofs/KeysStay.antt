@@ -64,17 +64,17 @@ use Rattle.completeness_laws.proofs.ViewLines.{fates_same}
 abbrev pub KeysStay : List Participant → List Participant → Type 0
 KeysStay ps qs = (n : List ℕ) (q : Participant) → find (λ x. bytes_eq x.name n) ps ≡ Some q → (x : Participant) × (find (λ x. bytes_eq x.name n) qs ≡ Some x) × (own x.agent ≡ own q.agent)
 
-stay_then : (ps qs xs : List Participant) → KeysStay ps qs → KeysStay qs xs → KeysStay ps xs
+pub stay_then : (ps qs xs : List Participant) → KeysStay ps qs → KeysStay qs xs → KeysStay ps xs
 stay_then ps qs xs f g n q is = let one = f n q is in let other = g n one.0 one.1 in (other.0, other.1, other.2 ∙ one.2)
 
-same_stay : (ps : List Participant) → KeysStay ps ps
+pub same_stay : (ps : List Participant) → KeysStay ps ps
 same_stay ps n q is = (q, is, refl)
 
 pub equal_stay : (ps qs : List Participant) → qs ≡ ps → KeysStay ps qs
 equal_stay ps qs same = subst (KeysStay ps) (sym same) (same_stay ps)
 
 -- one in place of another
-placed_stay : (w : World) (p q : Participant) (name : List ℕ) → participant w name ≡ Some p → q.name ≡ p.name → own q.agent ≡ own p.agent → KeysStay w.participants (map (λ (o : Participant). cond (bytes_eq o.name q.name) q o) w.participants)
+pub placed_stay : (w : World) (p q : Participant) (name : List ℕ) → participant w name ≡ Some p → q.name ≡ p.name → own q.agent ≡ own p.agent → KeysStay w.participants (map (λ (o : Participant). cond (bytes_eq o.name q.name) q o) w.participants)
 placed_stay w p q name is_p named owned n o is = (put_in o, found_mapped put_in put_name w.participants n o is, by (bytes_eq o.name q.name) refl)
   where
     put_in : Participant → Participant
@@ -98,22 +98,22 @@ placed_stay w p q name is_p named owned n o is = (put_in o, found_mapped put_in 
 
 -- ---- steps
 
-turns_own : {given : Refresh} {a : Agent} {view : View} {failing : Bool} {asked : Asked} {now : Moment} {end : TurnEnd} {after : Agent} {saving : Option Kept} → Turns hss given a view failing asked now end after saving → own after ≡ own a
+pub turns_own : {given : Refresh} {a : Agent} {view : View} {failing : Bool} {asked : Asked} {now : Moment} {end : TurnEnd} {after : Agent} {saving : Option Kept} → Turns hss given a view failing asked now end after saving → own after ≡ own a
 turns_own (behind far) = refl
 turns_own (below near low) = refl
 turns_own (turn_answers h written reply after saving near over basis may reads defined) = refl
 turns_own (turn_answers h written reply after saving near over basis may (saves before last might fine) defined) = refl
 turns_own (turn_answers h written reply after saving near over basis may (loses before last might gone) defined) = refl
 
-takes_own : {now : Moment} {a : Agent} {view : View} {failing : Bool} {s : Session} {end : TurnEnd} {after : Agent} {saving : Option Kept} {t : Session} → TakesTurn now a view failing s end after saving t → own after ≡ own a
+pub takes_own : {now : Moment} {a : Agent} {view : View} {failing : Bool} {s : Session} {end : TurnEnd} {after : Agent} {saving : Option Kept} {t : Session} → TakesTurn now a view failing s end after saving t → own after ≡ own a
 takes_own (answers notes given xid asked reply applied after saving done asks_it turn) = turns_own turn
 takes_own (begins_anew notes given xid asked end after saving done asks_it turn refused few) = turns_own turn
 takes_own (gives_up notes given xid asked end after saving done asks_it turn refused many) = turns_own turn
 
-settles_own : {a : Agent} {s : Session} {after : Agent} {t : Session} → Settles a s after t → own after ≡ own a
+pub settles_own : {a : Agent} {s : Session} {after : Agent} {t : Session} → Settles a s after t → own after ≡ own a
 settles_own (settles_all said acks at) = refl
 
-acts_stay : {r : ℕ} (name : List ℕ) {p : Participant} {c next : Scene} → participant c.world name ≡ Some p → Acts hss_judged r p c next → KeysStay c.world.participants next.world.participants
+pub acts_stay : {r : ℕ} (name : List ℕ) {p : Participant} {c next : Scene} → participant c.world name ≡ Some p → Acts hss_judged r p c next → KeysStay c.world.participants next.world.participants
 acts_stay name {p = p} {c = c} is_p (asks node question answer next heard t cache fate hears goes) =
     subst (λ ps. KeysStay c.world.participants (map (λ (o : Participant). cond (bytes_eq o.name p.name) (record p { cache = cache }) o) ps)) (sym (fate_same fate).0) (placed_stay c.world p (record p { cache = cache }) name is_p refl refl)
 acts_stay name {c = c} is_p (asks_in_vain node question answer next heard t cache fate hears lacking) = equal_stay c.world.participants next.participants (fate_same fate).0

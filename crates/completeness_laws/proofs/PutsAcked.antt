@@ -127,7 +127,7 @@ module _ (met : List (List ℕ)) (p : Post) (in_met : Contains met p.bytes) (goo
 abbrev pub AreFine : List (List ℕ) → World → Type 0
 AreFine met w = (id : Key) (n : Node) → node_at w id ≡ Some n → IsFine met n
 
-fate_fine : (met : List (List ℕ)) {w next : World} {to : Peer} {question : Ask} {given : Answer} → FateOf hss_judged w to question given next → ((n : Node) → peer_of (answered hss_judged n question).1 ≡ peer_of n) → ((n : Node) → IsFine met n → IsFine met (answered hss_judged n question).1) → AreFine met w → AreFine met next
+pub fate_fine : (met : List (List ℕ)) {w next : World} {to : Peer} {question : Ask} {given : Answer} → FateOf hss_judged w to question given next → ((n : Node) → peer_of (answered hss_judged n question).1 ≡ peer_of n) → ((n : Node) → IsFine met n → IsFine met (answered hss_judged n question).1) → AreFine met w → AreFine met next
 fate_fine met (lost l) me fine h id n e = h id n e
 fate_fine met (stopped old l is dead) me fine h id n e = h id n e
 fate_fine met {w = w} {to = to} {question = question} (answers old l here live) me fine h id n e = ⊎_elim

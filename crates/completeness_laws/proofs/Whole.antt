@@ -30,7 +30,7 @@ use Rattle.completeness_laws.proofs.Lines.{runs_backed}
 use Rattle.completeness_laws.proofs.Worlds.{IsBackedWorld}
 
 -- the world that the line of the ring leaves
-first_backed : (r : ℕ) (w made : World) → w.participants ≡ [] → w.sessions ≡ [] → IsFirst r w made → IsBackedWorld made empty_story
+pub first_backed : (r : ℕ) (w made : World) → w.participants ≡ [] → w.sessions ≡ [] → IsFirst r w made → IsBackedWorld made empty_story
 first_backed r w made nobody none first = record {
   nodes = λ n among key block found. absurd (nothing_under key block n.blocks (each (λ (m : Node). m.blocks ≡ []) made.nodes n first.empty among) found);
   agents = λ n p is. absurd (not_there n p (ap (λ (v : World). v.participants) first.rest ∙ nobody) is);

@@ -1,5 +1,5 @@
--- What a calm script may rely on at each of its lines: whatever a put of was acknowledged may be read (CFS, SOSP 2001, section 5.1), and no whole call fails for want of a block.
-use Rattle.std.specs.Prelude.{◌≡◌, ◌↔◌, ◌≤◌, ℕ, true, false, List, ◌++◌, Contains, Some, is_some, Result, Ok}
+-- What a calm script may rely on at each of its lines: whatever a put of was acknowledged may be read (CFS, SOSP 2001, section 5.1), no whole call fails for want of a block, and in tidy ones its turn takes all that the members have written.
+use Rattle.std.specs.Prelude.{◌≡◌, ◌↔◌, ◌≤◌, ℕ, true, false, List, [], ◌∷◌, ◌++◌, Contains, Some, is_some, Result, Ok}
 use Rattle.ivy_base.specs.declared.key.Key.{Key}
 use Rattle.ring_model.specs.Blocks.{IsAtLeast}
 use Rattle.ring_model.specs.Circle.{number}
@@ -14,6 +14,7 @@ use Rattle.dhash_client.specs.GetHead.{IsGetOfHead}
 use Rattle.dhash_client.specs.Course.{Told, told_all}
 use Rattle.dhash_client.specs.declared.miss.Miss.{Miss}
 use Rattle.log_heads.specs.Signed.{hss_judged}
+use Rattle.log_model.specs.Record.{Record}
 use Rattle.agent_model.specs.Agent.{is_head}
 use Rattle.script_driver.specs.Run.{Goes, Outcome}
 use Rattle.script_model.specs.declared.command.Command.TheVariants as command
@@ -23,10 +24,13 @@ use Rattle.world_model.specs.Fates.{Fates, asking}
 use Rattle.world_model.specs.Logs.{Played}
 use Rattle.world_model.specs.Ring.{live_in_order}
 use Rattle.world_model.specs.Step.{IvyStep}
+use Rattle.world_model.specs.Story.{HadTurn}
 use Rattle.world_model.specs.World.{World, entries}
 use Rattle.round_laws.specs.RingOf.{lives_in}
 use Rattle.world_laws.specs.Calm.{IsCalmAt, Since, Stopped, post_rank, rank_in}
-use Rattle.completeness_laws.specs.Completeness.{IsServed}
+use Rattle.world_laws.specs.Headline.{IsOnReplay}
+use Rattle.completeness_laws.specs.Completeness.{HaveEntered, HaveOwnKeys, IsServed, IsWritten}
+use Rattle.completeness_laws.specs.Takes.{CalmTidily}
 
 -- an owner of its key holds the post, or a newer head
 abbrev pub IsHeld : ℕ → World → Post → Type 0
@@ -58,10 +62,17 @@ abbrev pub MovesBlocks : ℕ → World → World → Type 0
 MovesBlocks r w next = (m : Peer) (key : Key) → lives_in next m ≡ true
     → (is_some (rank_in next key m) ≡ true) ↔ (IsAmong m (owners place r (live_in_order w) (number key)) × (p : Peer) × (lives_in w p ≡ true) × (is_some (rank_in w key p) ≡ true))
 
--- Where the world was reached calmly it is served so, but right behind a join; and a round moves each block to its owners.
+-- the turn that is new takes all records that the members of its view have written, and nothing else
+abbrev pub TakesAll : Played → Played → Type 0
+TakesAll w next = (h : HadTurn) (turn : IsOnReplay h) (one : Record) → next.1.turns ≡ w.1.turns ++ h ∷ [] → Contains turn.taken one ↔ IsWritten w h.view one
+
+-- Where the world was reached calmly the line is served so, but right behind a join; a round moves each block to its owners; and where it was reached tidily too, no session is open, each log has a key of its own and all members of
+-- the caller's view have entered it, the turn of a whole call takes all.
 pub record IsServedWhereCalm (w : Played) (line : List ℕ) (outcome : Outcome Played) : Type 0 where
   pub served : (r count : ℕ) (lines : List (List ℕ)) → IsCalmAt r w (Stopped count) lines → IsServedCalmly r w line outcome
   pub rounds : (r : ℕ) (since : Since) (lines : List (List ℕ)) (next : Played) (output : List ℕ) → IsCalmAt r w since lines → command_of line ≡ Some command.Round → outcome ≡ Goes next output → MovesBlocks r w.0 next.0
+  pub takes_all : (r count : ℕ) (lines : List (List ℕ)) (name : List ℕ) (pieces : List Piece) (next : Played) (output : List ℕ) → (calm : IsCalmAt r w (Stopped count) lines) → CalmTidily r (calm.made, calm.before.1) (Stopped 0) lines w (Stopped count)
+      → HaveOwnKeys w.0 → HaveEntered w.0 name → w.0.sessions ≡ [] → command_of line ≡ Some (command.As name pieces) → outcome ≡ Goes next output → TakesAll w next
 
 -- so it is of each line that does what it may where it goes on
 abbrev pub LinesAreServedWhereCalm : Type 0

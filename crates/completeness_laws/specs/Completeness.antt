@@ -1,6 +1,6 @@
--- Completeness: in calm scripts no whole call fails for want of a block; and in tidy ones, while no session is open, its turn takes all that the members have written. Proved with any lines is that no call
--- misses a block, that of each log a head was put, that stores have room, that nodes that live take puts, and that whole puts are acknowledged; `PutsAreTaken` is proved of those with the same ring, and isn't so with
--- any lines. `CallsTakeAll` is stated alone so far.
+-- Completeness: in calm scripts no whole call fails for want of a block; and in tidy ones, while no session is open, its turn takes all that the members have written, and nothing else. Proved with any lines is
+-- that no call misses a block, that of each log a head was put, that stores have room, that nodes that live take puts, and that whole puts are acknowledged; `PutsAreTaken` is proved of those with the same ring, and
+-- isn't so with any lines. `CallsTakeAll` is proved of those with the same ring; with any lines its tidy run need not be its calm one, and it is proved of one run that is both (`CallsTakeAllInRuns` of `Takes`).
 use Rattle.std.specs.Prelude.{◌≡◌, ◌≢◌, ◌↔◌, ◌≤◌, true, false, ℕ, length, sum_by, List, [], ◌∷◌, ◌++◌, Contains, Option, Some, None, is_some, Result, Bool}
 use Rattle.std.specs.List.{AllByRecursion}
 use Rattle.ivy_base.specs.declared.key.Key.{Key}

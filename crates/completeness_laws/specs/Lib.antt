@@ -1,3 +1,4 @@
 pub mod Put
 pub mod Completeness
+pub mod Takes
 pub mod CalmLines

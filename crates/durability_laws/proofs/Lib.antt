@@ -4,10 +4,10 @@ pub mod Asking
 pub mod Holding
 pub mod Stretches
 pub mod States
-mod Steps
-mod Scenes
+pub mod Steps
+pub mod Scenes
 pub mod Lines
-mod Commands
+pub mod Commands
 mod Repairs
 mod Moved
 pub mod Facts

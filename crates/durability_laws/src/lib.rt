@@ -13,8 +13,8 @@
 //! keeps that), `Repairs.antt` and `Moved.antt` (rounds), `Facts.antt` (the ring, line by line), `Worlds.antt`, `Changes.antt` and
 //! `Runs.antt` (what holds as nodes stop and join, and in rounds), `Gets.antt`, `Given.antt` and `Durable.antt` (the laws).
 //! Lemmas to cite: of a world some of whose nodes have stopped, and whom gets and puts ask there (`Worlds.antt`, `Stretches.antt`,
-//! `States.antt`, `Asking.antt`, `Gets.antt`), of lines and runs (`Lines.antt`, `Facts.antt`, `Changes.antt`, `Runs.antt`), and of what
-//! nodes hold and have room for (`BlockKinds.antt`, `Holding.antt`, `Rooms.antt`).
+//! `States.antt`, `Asking.antt`, `Gets.antt`), of steps, lines and runs (`Steps.antt`, `Scenes.antt`, `Commands.antt`, `Lines.antt`,
+//! `Facts.antt`, `Changes.antt`, `Runs.antt`), and of what nodes hold and have room for (`BlockKinds.antt`, `Holding.antt`, `Rooms.antt`).
 #![tactic(auto)]
 
 ghost use Rattle.durability_laws.specs.Laws.{AckedHasCopies, RoundMovesBlocks};

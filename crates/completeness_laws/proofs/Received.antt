@@ -1,0 +1,428 @@
+-- In calm runs what sessions were answered of gets is what nodes held, and so are the heads that participants received.
+use Rattle.std.proofs.Common.{◌≡◌, ◌⊎◌, inl, inr, ⊎_elim, ℕ, Bool, true, false, cond, List, [], ◌∷◌, ◌++◌, map, find, Option, Some, None, refl, sym, ap, ◌∙◌, subst, Contains, is_some, option_map}
+use Rattle.std.specs.List.{AllByRecursion}
+use Rattle.std.specs.Str.{bytes_eq}
+use Rattle.std.specs.Option.{option_map_or}
+use Rattle.std.proofs.lemmas.List.Elements.{Contains-append_cases, Contains-append_left, Contains-append_right}
+use Rattle.ivy_base.specs.declared.key.Key.{Key}
+use Rattle.ivy_base.specs.declared.key.PubKey.{PubKey}
+use Rattle.ivy_base.specs.Naming.{head_key_of}
+use Rattle.log_model.specs.Record.{Record}
+use Rattle.dht_ids.specs.declared.ask.Answer.{Answer}
+use Rattle.dht_ids.specs.declared.ask.Ask.{Ask}
+use Rattle.hash_signature_model.specs.declared.set.Set.{Set}
+use Rattle.log_heads.specs.Signed.{hss_judged}
+use Rattle.log_model.specs.Vector.{Entry}
+use Rattle.log_model.specs.View.{View}
+use Rattle.log_model.proofs.Lists.{each, each_append, in_cons, in_nothing}
+use Rattle.dht_ids.specs.declared.peer.Peer.{Peer}
+use Rattle.node_store.specs.declared.kind.Kind.{Kind}
+use Rattle.node_store.specs.declared.kind.Kind.TheVariants.{Content, Head}
+use Rattle.script_driver.specs.Run.{Ends, Goes, Outcome}
+use Rattle.script_model.specs.Lines.{command_of}
+use Rattle.script_model.specs.declared.command.Command.{Command}
+use Rattle.script_model.specs.declared.command.Command.TheVariants as command
+use Rattle.session_model.specs.Courses.{Settles}
+use Rattle.session_model.specs.Courses.Begins.{alone as begins_alone, refreshes as begins_refreshing}
+use Rattle.session_model.specs.Courses.Settles.{settles as settles_all}
+use Rattle.session_model.specs.Courses.TakesTurn.{answers, begins_anew, gives_up}
+use Rattle.session_model.specs.Sessions.{Cache, Hears, Said, Session}
+use Rattle.session_model.specs.Sessions.Hears.{gets_on, got, puts, puts_on}
+use Rattle.agent_model.specs.Turning.{TurnEnd}
+use Rattle.ivy_base.specs.declared.operation.Moment.{Moment}
+use Rattle.world_model.specs.Agents.{Agent, Entering, Kept, TakesTurn, entering, own}
+use Rattle.world_model.specs.Calls.{AsLine, BeginsWith, FinishLine, OpenLine, Sending, StepLine, replied, scene_of, sending_of}
+use Rattle.world_model.specs.Calls.AsLine.{calls}
+use Rattle.world_model.specs.Calls.OpenLine.{opens}
+use Rattle.world_model.specs.Calls.StepLine.{steps}
+use Rattle.world_model.specs.Calls.FinishLine.{ends}
+use Rattle.world_model.specs.Keepers.{fails_next}
+use Rattle.world_model.specs.Logs.{LogLine, Played, Publishes, RestartLine, SnapLine, ViewLine, after_entering, afresh_told, keys_of, of_members, to_publish, use_by, use_line, with_newcomer}
+use Rattle.world_model.specs.Logs.LogLine.{begins}
+use Rattle.world_model.specs.Logs.RestartLine.{starts}
+use Rattle.world_model.specs.Logs.SnapLine.{fails as snap_fails, makes as snap_makes}
+use Rattle.world_model.specs.Logs.ViewLine.{makes}
+use Rattle.agent_model.specs.Views.{Entered, KeeperFailed, NotMember, NotNamed}
+use Rattle.world_model.specs.Steps.{Acts, RunsOut, Scene, Steps, StepsOn, met_by, with_cache}
+use Rattle.world_model.specs.Steps.Acts.{asks, asks_in_vain, is_refused, settles, turns}
+use Rattle.world_model.specs.Steps.RunsOut.{is_over as runs_over, more as runs_more}
+use Rattle.world_model.specs.Steps.Steps.{acts, lacks_memory}
+use Rattle.world_model.specs.Steps.StepsOn.{is_over as steps_over, more as steps_more, none as steps_none}
+use Rattle.world_model.specs.Story.{Knowing, Story, began_nothing, began_of, beginning, having_begun, knowing_nothing, knowing_of, known_of, with_knowing}
+use Rattle.world_model.specs.Step.{Does}
+use Rattle.world_model.specs.World.{NamedSession, Participant, World, named_bytes, participant, session_named, view_named, with_participant, without_session, without_sessions_of}
+use Rattle.world_laws.specs.Calm.{AreAny, Calmly, IsCalm, IsCalmAt, IsQuiet, Since, Stopped}
+use Rattle.world_laws.specs.Calm.IsCalm.{joins, other, rounds, stops}
+use Rattle.world_laws.specs.Calm.Calmly.{more as calmly_more, none as calmly_none}
+use Rattle.world_laws.specs.Keeps.{Keeps}
+use Rattle.world_laws.specs.Laws.{IsStill, LinesKeep}
+use Rattle.world_laws.proofs.Bringing.{found_named}
+use Rattle.world_laws.proofs.CalmHeld.{calmly_keeps}
+use Rattle.world_laws.proofs.CalmStates.{IsMore, more_then, same_more}
+use Rattle.world_laws.proofs.CalmLines.{each_filtered}
+use Rattle.world_laws.proofs.CalmRuns.{IsFirst, first_of}
+use Rattle.world_laws.proofs.Frames.{into_map}
+use Rattle.world_laws.proofs.Lines.{ToSuch}
+use Rattle.world_laws.proofs.Publishing.{found_knowing}
+use Rattle.world_laws.proofs.Still.{still_lines}
+use Rattle.durability_laws.specs.Laws.{IsWithinLimit}
+use Rattle.durability_laws.proofs.BlockKinds.{AreApart, IsOf, OfContent, OfHeads, fewer_apart, of_more}
+use Rattle.durability_laws.proofs.Facts.{HasFacts}
+use Rattle.durability_laws.proofs.Lines.{sent_step}
+use Rattle.durability_laws.proofs.Runs.{apart_at, calmly, facts_on, first_facts, first_state, fresh, has_room, line_facts, line_state, rings}
+use Rattle.durability_laws.proofs.Scenes.{runs_go, step_goes, steps_go}
+use Rattle.durability_laws.proofs.States.{InStep, IsGood, kept_ring}
+use Rattle.durability_laws.proofs.Stretches.{IsRingOf, Stretch}
+use Rattle.durability_laws.proofs.Worlds.{IsState, good_onward, on, stretch}
+use Rattle.completeness_laws.proofs.GotHeads.{AllHoldOf, AreHeardOf, EntryOf, brought_so, fate_told, lacking_heard, none_new, parts_fail, takes_all_heard, then_heard}
+use Rattle.completeness_laws.specs.Takes.{IsLeftBy, ReceivedHeadsLeft}
+use Rattle.completeness_laws.proofs.CallSteps.{IsPast, step_past, takes_all_missed, turn_refreshes}
+use Rattle.completeness_laws.proofs.HeldHeads.{new_or_old}
+use Rattle.completeness_laws.proofs.LeftHeads.{left_under}
+use Rattle.completeness_laws.proofs.Lines.{calm_does}
+use Rattle.completeness_laws.proofs.RingLines.{ChangesRing, ring_changes}
+use Rattle.completeness_laws.proofs.Steps.{fate_same, takes_all_same}
+use Rattle.completeness_laws.proofs.ViewLines.{fates_same}
+
+-- what is put brings nothing
+past_parts : {r : ℕ} {s heard : Session} {cache after : Cache} {node : Peer} {question : Ask} {given : Answer} → IsPast s → Hears hss_judged r s cache node question given heard after → heard.parts ≡ s.parts
+past_parts past (gets_on want wants asks_next part) = absurd (past.0 wants.0)
+past_parts past (got want brought wants asks_next whole) = absurd (past.0 wants.0)
+past_parts past (puts_on said q posts acks at asks_next part) = refl
+past_parts past (puts said q posts acks came at asks_next whole) = refl
+
+module _ (Of : Key → List ℕ → Type 0) where
+  abbrev pub AllReceivedOf : List Knowing → Type 0
+  AllReceivedOf ks = (k : Knowing) → Contains ks k → AllByRecursion (EntryOf Of) k.received
+
+  -- so is what open sessions were answered, and what was received
+  pub record IsToldIn (ss : List NamedSession) (ks : List Knowing) : Type 0 where
+    pub sessions : AllByRecursion (λ s. AreHeardOf Of s.session) ss
+    pub received : AllReceivedOf ks
+
+  pub received_of : (st : Story) (n : List ℕ) → AllReceivedOf st.participants → AllByRecursion (EntryOf Of) (knowing_of st n).received
+  received_of st n h = by (find (λ k. bytes_eq k.name n) st.participants) refl
+    where
+      by : (o : Option Knowing) → find (λ k. bytes_eq k.name n) st.participants ≡ o → AllByRecursion (EntryOf Of) (knowing_of st n).received
+      by None is = subst (λ (o : Option Knowing). AllByRecursion (EntryOf Of) (option_map_or (λ k. k) o (knowing_nothing n)).received) (sym is) tt
+      by (Some k) is = subst (λ (o : Option Knowing). AllByRecursion (EntryOf Of) (option_map_or (λ k. k) o (knowing_nothing n)).received) (sym is) (h k (found_knowing st.participants n k is).0)
+
+  told_with : (st : Story) (k : Knowing) → AllReceivedOf st.participants → AllByRecursion (EntryOf Of) k.received → AllReceivedOf (with_knowing st k).participants
+  told_with st k h new x c = ⊎_elim (λ e. subst (λ (y : Knowing). AllByRecursion (EntryOf Of) y.received) (sym e) new) (λ old. h x old) (new_or_old (λ (l : Knowing). bytes_eq l.name k.name) k st.participants x c)
+
+  told_now : (st : Story) (name : List ℕ) (known : _) → AllReceivedOf st.participants → AllReceivedOf (with_knowing st (record (knowing_of st name) { known = known })).participants
+  told_now st name known h = told_with st (record (knowing_of st name) { known = known }) h (received_of st name h)
+
+  -- ---- steps
+
+  abbrev ToldScene : Scene → Type 0
+  ToldScene c = IsToldIn c.world.sessions c.story.participants × AreHeardOf Of c.session
+
+  turn_heard : {now : Moment} {a : Agent} {view : View} {failing : Bool} {s : Session} {end : TurnEnd} {after : Agent} {saving : Option Kept} {t : Session} → TakesTurn now a view failing s end after saving t → AreHeardOf Of s → AreHeardOf Of t
+  turn_heard (answers notes given xid asked reply applied after saving done asks_it turned) h = h
+  turn_heard (begins_anew notes given xid asked end after saving done asks_it turned refused few) h = tt
+  turn_heard (gives_up notes given xid asked end after saving done asks_it turned refused many) h = tt
+
+  settles_heard : {a after : Agent} {s t : Session} → Settles a s after t → AreHeardOf Of s → AreHeardOf Of t
+  settles_heard (settles_all said acks at) h = h
+
+  acts_told : {r : ℕ} {p : Participant} {c next : Scene} → AllHoldOf Of c.world → ToldScene c → Acts hss_judged r p c next → ToldScene next
+  acts_told {p = p} {c = c} holds h (asks node question given next heard t cache fate hears goes) =
+      let new = fate_told Of fate holds in (
+        record {
+          sessions = subst (AllByRecursion (λ (s : NamedSession). AreHeardOf Of s.session)) (sym (fate_same fate).2) h.0.sessions;
+          received = told_with c.story _ h.0.received (each_append (EntryOf Of) (knowing_of c.story p.name).received _ (received_of c.story p.name h.0.received) (brought_so Of hears goes h.1 new));
+        },
+        then_heard Of hears goes h.1 new,
+      )
+  acts_told holds h (asks_in_vain node question given next heard t cache fate hears lacking) =
+      (record { sessions = subst (AllByRecursion (λ (s : NamedSession). AreHeardOf Of s.session)) (sym (fate_same fate).2) h.0.sessions; received = h.0.received }, lacking_heard Of lacking)
+  acts_told {p = p} {c = c} holds h (turns view reply applied after saving t turned in_view takes replies is_turn) = (record { sessions = h.0.sessions; received = told_now c.story p.name turned.set h.0.received }, turn_heard takes h.1)
+  acts_told holds h (is_refused view end after saving t in_view refusal takes) = (record { sessions = h.0.sessions; received = h.0.received }, turn_heard takes h.1)
+  acts_told holds h (settles after t is) = (record { sessions = h.0.sessions; received = h.0.received }, settles_heard is h.1)
+
+  pub step_told : {r : ℕ} {name : List ℕ} {c next : Scene} → AllHoldOf Of c.world → ToldScene c → Steps hss_judged r name c next → ToldScene next
+  step_told {r = r} {c = c} holds h (acts p taken cache next is_p takes act) = acts_told {c = with_cache hss_judged r c p taken cache} (λ id n at. holds id n at) (record { sessions = h.0.sessions; received = h.0.received }, takes_all_heard Of takes h.1) act
+  step_told holds h (lacks_memory p taken t cache is_p takes lacking) = (record { sessions = h.0.sessions; received = h.0.received }, lacking_heard Of lacking)
+
+-- ---- runs and lines, in such a ring
+
+-- content that was met, or a head that left
+abbrev pub HeldIn : World → Key → List ℕ → Type 0
+HeldIn last key b = OfContent last key b ⊎ OfHeads last key b
+
+held_as : (last : World) (kind : Kind) (key : Key) (b : List ℕ) → IsOf last key kind b → HeldIn last key b
+held_as last Content key b h = inl h
+held_as last Head key b h = inr h
+
+module _ (ring : Stretch) (last : World) (then_more : IsMore ring.end last) where
+  abbrev Held : Key → List ℕ → Type 0
+  Held key b = OfContent last key b ⊎ OfHeads last key b
+
+  abbrev Up : World → Type 0
+  Up v = IsMore v ring.end
+
+  less_up : (v next : World) → IsMore v next → IsMore next ring.end → IsMore v ring.end
+  less_up v next more up = more_then v next ring.end more up
+
+  all_held : (v : World) (st : Story) → IsGood ring v st → AllHoldOf Held v
+  all_held v st g id n at key block found = held_as last block.kind key block.bytes (of_more ring.end last then_more key block.kind block.bytes ((g.orderly id n at).kinds key block found))
+
+  -- a scene in such a ring
+  record IsWell (c : Scene) : Type 0 where
+    still : IsRingOf ring c.world
+    good : IsGood ring c.world c.story
+    step : InStep ring c.world c.session
+
+  abbrev Told : Scene → Type 0
+  Told c = IsToldIn Held c.world.sessions c.story.participants × AreHeardOf Held c.session
+
+  well_then : (name : List ℕ) {c next : Scene} → Steps hss_judged ring.r name c next → Up next.world → IsWell c → IsWell next
+  well_then name {c} {next} step up h =
+      let g = step_goes ring name step in
+      let both = g.good up h.still h.good h.step in
+      record { still = kept_ring ring c.world next.world g.still h.still; good = both.0; step = both.1 }
+
+  runs_told : (name : List ℕ) {c end : Scene} → RunsOut hss_judged ring.r name c end → Up end.world → IsWell c → Told c → Told end
+  runs_told name (runs_over said over) up well h = h
+  runs_told name {c} (runs_more {between = between} {next = end} step rest) up well h =
+      runs_told name rest up (well_then name step (less_up between.world end.world (runs_go ring name rest).grows up) well) (step_told Held (all_held c.world c.story well.good) h step)
+
+  steps_told : (name : List ℕ) {count : ℕ} {c end : Scene} → StepsOn hss_judged ring.r name count c end → Up end.world → IsWell c → Told c → Told end
+  steps_told name steps_none up well h = h
+  steps_told name (steps_over said over) up well h = h
+  steps_told name (steps_more {c = c} {between = between} {next = end} step rest) up well h =
+      steps_told name rest up (well_then name step (less_up between.world end.world (steps_go ring name rest).grows up) well) (step_told Held (all_held c.world c.story well.good) h step)
+
+  -- ---- lines
+
+  abbrev pub ToldIn : Played → Type 0
+  ToldIn w = IsToldIn Held w.0.sessions w.1.participants
+
+  replied_up : (w : World) (said : Said) → Up (replied w said) → Up w
+  replied_up w said = by (is_some said.message)
+    where
+      by : (t : Bool) → Up (cond t (record w { replies = w.replies ++ record { handle = said.handle; verifier = said.verifier } ∷ [] }) w) → Up w
+      by true up = record { met = up.met; left = up.left }
+      by false up = up
+
+  replied_told : (w : World) (ks : List Knowing) (said : Said) → IsToldIn Held w.sessions ks → IsToldIn Held (replied w said).sessions ks
+  replied_told w ks said h = by (is_some said.message)
+    where
+      by : (t : Bool) → IsToldIn Held (cond t (record w { replies = w.replies ++ record { handle = said.handle; verifier = said.verifier } ∷ [] }) w).sessions ks
+      by true = h
+      by false = h
+
+  begun_heard : (w : World) (s : Sending) (t : Session) → BeginsWith w s t → AreHeardOf Held t
+  begun_heard w s _ (begins_alone given by) = tt
+  begun_heard w s _ (begins_refreshing xid asked asks_it) = tt
+
+  one_r : (a b : ℕ) → Some a ≡ Some b → a ≡ b
+  one_r a b e = cc e
+
+  good_begun : (w : Played) → IsGood ring w.0 w.1 → IsGood ring w.0 (having_begun w.1)
+  good_begun w g = record { orderly = g.orderly; acked = g.acked; pending = g.pending; sessions = g.sessions }
+
+  session_in : (P : Session → Type 0) (ss : List NamedSession) (n : List ℕ) (s : Session) → option_map (λ (t : NamedSession). t.session) (find (λ (t : NamedSession). bytes_eq t.name n) ss) ≡ Some s → AllByRecursion (λ t. P t.session) ss → P s
+  session_in P [] n s is h = cc is
+  session_in P (t ∷ ss) n s is h = by (bytes_eq t.name n) is (λ e. session_in P ss n s e h.1)
+    where
+      by : (b : Bool) → option_map (λ (x : NamedSession). x.session) (cond b (Some t) (find (λ (x : NamedSession). bytes_eq x.name n) ss)) ≡ Some s → (option_map (λ (x : NamedSession). x.session) (find (λ (x : NamedSession). bytes_eq x.name n) ss) ≡ Some s → P s) → P s
+      by true e later = let same : t.session ≡ s = cc e in subst P same h.0
+      by false e later = later e
+
+  placed_all : (P : Session → Type 0) (name : List ℕ) (s : Session) (xs : List NamedSession) → P s → AllByRecursion (λ x. P x.session) xs → AllByRecursion (λ x. P x.session) (map (λ (x : NamedSession). cond (bytes_eq x.name name) (record { name = name; session = s }) x) xs)
+  placed_all P name s [] h all = tt
+  placed_all P name s (x ∷ xs) h all = (by (bytes_eq x.name name), placed_all P name s xs h all.1)
+    where
+      by : (b : Bool) → P (cond b (record { name = name; session = s }) x).session
+      by true = h
+      by false = all.0
+
+  module _ (w : Played) (ringed : w.0.replicas ≡ Some ring.r) (still : IsRingOf ring w.0) (good : IsGood ring w.0 w.1) (h : ToldIn w) where
+    as_told : (log : List ℕ) (o : Option Sending) (next : Played) (output : List ℕ) → Up next.0 → AsLine hss_judged w o (Goes next output) → ToldIn next
+    as_told log _ _ _ up (calls s k t end said also begins_it runs over) =
+        let c : Scene = record { world = w.0; story = having_begun w.1; session = t; began = beginning w.1 s.by.name } in
+        let mine : RunsOut hss_judged ring.r s.by.name c end = subst (λ x. RunsOut hss_judged x s.by.name c end) (one_r k ring.r (sym also ∙ ringed)) runs in
+        replied_told end.world end.story.participants said
+        (runs_told s.by.name mine (replied_up end.world said up) (record { still = still; good = good_begun w good; step = sent_step ring w.0 s t still begins_it }) (record { sessions = h.sessions; received = h.received }, begun_heard w.0 s t begins_it)).0
+
+    open_told : (name : List ℕ) (o : Option Sending) (next : Played) (output : List ℕ) → OpenLine hss_judged w name o (Goes next output) → ToldIn next
+    open_told name _ _ _ (opens s t closed begins_it) = record { sessions = each_append (λ (x : NamedSession). AreHeardOf Held x.session) w.0.sessions (record { name = name; session = t } ∷ []) h.sessions (begun_heard w.0 s t begins_it, tt); received = h.received }
+
+    step_line_told : (name : List ℕ) (count : ℕ) (o : Option Session) → session_named w.0 name ≡ o → (next : Played) (output : List ℕ) → Up next.0 → StepLine hss_judged w name count o (Goes next output) → ToldIn next
+    step_line_told name count _ is _ _ up (steps s k end counts also on) =
+        let c : Scene = scene_of w s (began_of w.1 name) in
+        let mine : StepsOn hss_judged ring.r s.by count c end = subst (λ x. StepsOn hss_judged x s.by count c end) (one_r k ring.r (sym also ∙ ringed)) on in
+        let told = steps_told s.by mine (record { met = up.met; left = up.left }) (record { still = still; good = good; step = session_in (InStep ring w.0) w.0.sessions name s is good.sessions })
+        (record { sessions = h.sessions; received = h.received }, session_in (AreHeardOf Held) w.0.sessions name s is h.sessions) in
+        record { sessions = placed_all (AreHeardOf Held) name end.session end.world.sessions told.1 told.0.sessions; received = told.0.received }
+
+    finish_told : (name : List ℕ) (o : Option Session) → session_named w.0 name ≡ o → (next : Played) (output : List ℕ) → Up next.0 → FinishLine hss_judged w name o (Goes next output) → ToldIn next
+    finish_told name _ is _ _ up (ends s k end said also runs over) =
+        let c : Scene = scene_of w s (began_of w.1 name) in
+        let mine : RunsOut hss_judged ring.r s.by c end = subst (λ x. RunsOut hss_judged x s.by c end) (one_r k ring.r (sym also ∙ ringed)) runs in
+        let upto = replied_up (without_session end.world name) said up in
+        let told = runs_told s.by mine (record { met = upto.met; left = upto.left }) (record { still = still; good = good; step = session_in (InStep ring w.0) w.0.sessions name s is good.sessions })
+        (record { sessions = h.sessions; received = h.received }, session_in (AreHeardOf Held) w.0.sessions name s is h.sessions) in
+        replied_told (without_session end.world name) end.story.participants said (record { sessions = each_filtered (λ (x : NamedSession). AreHeardOf Held x.session) _ end.world.sessions told.0.sessions; received = told.0.received })
+
+    -- what is only published brings nothing
+    past_told : {p : Participant} {c next : Scene} → IsPast c.session → IsToldIn Held c.world.sessions c.story.participants → Acts hss_judged ring.r p c next → IsToldIn Held next.world.sessions next.story.participants
+    past_told {p = p} {c = c} past told (asks node question given next heard t cache fate hears goes) = record {
+      sessions = subst (AllByRecursion (λ (s : NamedSession). AreHeardOf Held s.session)) (sym (fate_same fate).2) told.sessions;
+      received = told_with Held c.story _ told.received (each_append (EntryOf Held) (knowing_of c.story p.name).received _ (received_of Held c.story p.name told.received) (none_new Held c.session t (parts_fail Held goes ∙ past_parts past hears)));
+    }
+    past_told past told (asks_in_vain node question given next heard t cache fate hears lacking) = record { sessions = subst (AllByRecursion (λ (s : NamedSession). AreHeardOf Held s.session)) (sym (fate_same fate).2) told.sessions; received = told.received }
+    past_told past told (turns view reply applied after saving t turned in_view takes replies is_turn) = absurd (past.0 (turn_refreshes takes))
+    past_told past told (is_refused view end after saving t in_view refusal takes) = absurd (past.0 (turn_refreshes takes))
+    past_told past told (settles after t is) = record { sessions = told.sessions; received = told.received }
+
+    past_step : {name : List ℕ} {c next : Scene} → IsPast c.session → IsToldIn Held c.world.sessions c.story.participants → Steps hss_judged ring.r name c next → IsToldIn Held next.world.sessions next.story.participants
+    past_step {c = c} past told (acts p taken cache next is_p takes act) =
+        past_told {c = with_cache hss_judged ring.r c p taken cache} ((λ e. past.0 (sym (takes_all_same takes).0 ∙ e)), takes_all_missed ring.r takes ∙ past.1) (record { sessions = told.sessions; received = told.received }) act
+    past_step past told (lacks_memory p taken t cache is_p takes lacking) = record { sessions = told.sessions; received = told.received }
+
+    past_runs : {name : List ℕ} {c next : Scene} → RunsOut hss_judged ring.r name c next → IsPast c.session → IsToldIn Held c.world.sessions c.story.participants → IsToldIn Held next.world.sessions next.story.participants
+    past_runs (runs_over said over) past told = told
+    past_runs (runs_more step rest) past told = past_runs rest (step_past ring.r past step) (past_step past told step)
+
+    publishes_told : (k : ℕ) → k ≡ ring.r → (v : Played) (p : Participant) (next : Played) → ToldIn v → Publishes hss_judged k v p next → ToldIn next
+    publishes_told k same v p next told published =
+        subst ToldIn (sym published.2) (past_runs (subst (λ x. RunsOut hss_judged x p.name (record { world = v.0; story = v.1; session = to_publish v.0 p; began = began_nothing }) published.0) same published.1) ((λ e. cc e), refl) told)
+
+    log_told : (name id seed : List ℕ) (sets : List Set) (next : Played) (output : List ℕ) → LogLine hss_judged w name id seed sets (Goes next output) → ToldIn next
+    log_told name id seed sets next _ (begins k p _ also new is published) = publishes_told k (one_r k ring.r (sym also ∙ ringed)) (with_newcomer w p) p next (record {
+      sessions = h.sessions;
+      received = λ x c. ⊎_elim (λ old. h.received x old) (λ one. ⊎_elim (λ e. subst (λ (y : Knowing). AllByRecursion (EntryOf Held) y.received) e tt) (λ none. absurd (in_nothing x none)) (in_cons _ [] x one)) (Contains-append_cases w.1.participants _ x c);
+    }) published
+
+    view_told : (name : List ℕ) (members former : Option (List PubKey)) (next : Played) (output : List ℕ) → ViewLine hss_judged w name members former (Goes next output) → ToldIn next
+    view_told name _ _ _ _ (makes members former k view next new own_keys small also is put) =
+        record { sessions = subst (AllByRecursion (λ (s : NamedSession). AreHeardOf Held s.session)) (sym (fates_same put.fates).2) h.sessions; received = h.received }
+
+    -- its open sessions are gone
+    afresh_so : (p : Participant) (known : List Record) → IsToldIn Held (without_sessions_of w.0 p.name).sessions (afresh_told w p.name known).participants
+    afresh_so p known = record { sessions = each_filtered (λ (s : NamedSession). AreHeardOf Held s.session) _ w.0.sessions h.sessions; received = told_now Held w.1 p.name known h.received }
+
+    entering_told : (p : Participant) (view : View) (e : Entering) (saving : Option Kept) → ToSuch ToldIn (after_entering w p view e saving)
+    entering_told p view (Entered after) saving = afresh_so p (of_members view (known_of w.1 p.name))
+    entering_told p view NotMember saving = tt
+    entering_told p view (NotNamed log) saving = tt
+    entering_told p view (KeeperFailed after) saving = record { sessions = h.sessions; received = h.received }
+
+    use_told : (o : Option Participant) (view : Option View) → ToSuch ToldIn (use_by w o view)
+    use_told None view = tt
+    use_told (Some p) None = tt
+    use_told (Some p) (Some view) = entering_told p view (entering p.agent view (fails_next p.keeper)).0 (entering p.agent view (fails_next p.keeper)).1
+
+    restart_told : (o : Option Participant) (next : Played) (output : List ℕ) → RestartLine w o (Goes next output) → ToldIn next
+    restart_told _ _ _ (starts p view k set in_view whole held again) = afresh_so p set
+
+    snap_told : (o : Option Participant) (next : Played) (output : List ℕ) → SnapLine hss_judged w o (Goes next output) → ToldIn next
+    snap_told _ _ _ (snap_fails p view in_view none spelled) = record { sessions = h.sessions; received = h.received }
+    snap_told _ _ _ (snap_makes p q view k next in_view some also made spelled published) =
+        publishes_told k (one_r k ring.r (sym also ∙ ringed)) (record (with_participant w.0 q) { met = met_by w.0.met q.agent.pending }, w.1) q next (record { sessions = h.sessions; received = h.received }) published
+
+    still_told : (c : Command) (next : Played) (output : List ℕ) → IsStill c → Does hss_judged w c (Goes next output) → ToldIn next
+    still_told c next output quiet does =
+        let same = still_lines w next c output quiet does in
+        subst (λ st. IsToldIn Held next.0.sessions st.participants) (sym same.0) (subst (λ (v : World). IsToldIn Held v.sessions w.1.participants) (sym same.1) (record { sessions = h.sessions; received = h.received }))
+
+    such : (o : Outcome Played) (next : Played) (output : List ℕ) → ToSuch ToldIn o → o ≡ Goes next output → ToldIn next
+    such o next output s e = subst (ToSuch ToldIn) e s
+
+    pub command_told : (c : Command) (next : Played) (output : List ℕ) → Up next.0 → IsQuiet c → Does hss_judged w c (Goes next output) → ToldIn next
+    command_told (command.Ring nodes replicas) next output up quiet does = absurd quiet
+    command_told (command.Log log id seed sets) next output up quiet does = log_told log id seed sets next output does
+    command_told (command.View view members former) next output up quiet does = view_told view (keys_of w.0 members) (keys_of w.0 former) next output does
+    command_told (command.Use log view) next output up quiet does = such (use_line w log view) next output (use_told (participant w.0 log) (view_named w.0 view)) (sym does)
+    command_told (command.At sec nsec) next output up quiet does = still_told (command.At sec nsec) next output tt does
+    command_told (command.As log pieces) next output up quiet does = as_told log (sending_of w.0 log pieces) next output up does
+    command_told (command.Open session log pieces) next output up quiet does = open_told session (sending_of w.0 log pieces) next output does
+    command_told (command.Step session count) next output up quiet does = step_line_told session count (session_named w.0 session) refl next output up does
+    command_told (command.Finish session) next output up quiet does = finish_told session (session_named w.0 session) refl next output up does
+    command_told (command.Join number) next output up quiet does = absurd quiet
+    command_told (command.Stop node) next output up quiet does = absurd quiet
+    command_told command.Round next output up quiet does = absurd quiet
+    command_told (command.Lose count) next output up quiet does = absurd quiet
+    command_told (command.Damage node key offset byte) next output up quiet does = absurd quiet
+    command_told (command.Snap log) next output up quiet does = snap_told (participant w.0 log) next output does
+    command_told (command.Restart log) next output up quiet does = restart_told (participant w.0 log) next output does
+    command_told (command.Keep log count new) next output up quiet does = absurd quiet
+    command_told (command.Holds node) next output up quiet does = still_told (command.Holds node) next output tt does
+    command_told (command.Order log) next output up quiet does = still_told (command.Order log) next output tt does
+    command_told (command.Work log) next output up quiet does = still_told (command.Work log) next output tt does
+    command_told command.Nothing next output up quiet does = still_told command.Nothing next output tt does
+    command_told command.End next output up quiet does = absurd (goes_or_ends does)
+      where
+        goes_or_ends : Goes next output ≡ Ends → ⊥
+        goes_or_ends e = cc e
+
+-- ---- lines
+
+-- a line that changes the ring tells nobody
+ring_told : (last : World) (w next : Played) (output : List ℕ) (c : Command) → ChangesRing c → Does hss_judged w c (Goes next output) → IsToldIn (HeldIn last) w.0.sessions w.1.participants → IsToldIn (HeldIn last) next.0.sessions next.1.participants
+ring_told last w next output c ring does h =
+    let change = ring_changes (λ kind key bytes. Unit {0}) w next output c ring does in
+    record {
+      sessions = subst (AllByRecursion (λ (s : NamedSession). AreHeardOf (HeldIn last) s.session)) (sym change.0.sessions) h.sessions;
+      received = subst (λ (st : Story). AllReceivedOf (HeldIn last) st.participants) (sym change.1) h.received;
+    }
+
+module _ (r : ℕ) (last : World) (v mid : Played) (output : List ℕ) (room : IsWithinLimit v.0) (apart : AreApart mid.0) (grows : IsMore v.0 mid.0) (more : IsMore mid.0 last) where
+  line_told : {since between : Since} {c : Command} → IsCalm v.0 r since c between → Does hss_judged v c (Goes mid output) → IsState r v.0 v.1 since → IsToldIn (HeldIn last) v.0.sessions v.1.participants → IsToldIn (HeldIn last) mid.0.sessions mid.1.participants
+  line_told (rounds since none) does s h = ring_told last v mid output command.Round tt does h
+  line_told (joins number none) does s h = ring_told last v mid output (command.Join number) tt does h
+  line_told (stops count node none short two) does s h = ring_told last v mid output (command.Stop node) tt does h
+  line_told (other count c quiet) does s h =
+      command_told (stretch r s.base s.links s.start count s.stands mid.0 apart) last more v s.still.replicas s.still (good_onward (on r count v s) mid.0 apart room grows v.0 v.1 s.good) h c mid output (same_more mid.0) quiet does
+
+calmly_told : (r : ℕ) {v w : Played} {since after : Since} {lines : List (List ℕ)} → Calmly r v since lines w after → AreApart w.0 → HasFacts r v.0 since → IsState r v.0 v.1 since → IsToldIn (HeldIn w.0) v.0.sessions v.1.participants → IsToldIn (HeldIn w.0) w.0.sessions w.1.participants
+calmly_told r calmly_none apart f s h = h
+calmly_told r (calmly_more {w = v} {mid = mid} {next = w} {line = line} c output is calm step rest) apart f s h =
+    let done = calm_does v mid line output c is step in
+    let one = line_facts r v mid output calm done.1 f in
+    let later = facts_on r rest one.0 in
+    let apart_mid = fewer_apart mid.0 w.0 later.1 apart in
+    let room = has_room v mid output (command_of line) step in
+    calmly_told r rest apart one.0 (line_state r v mid output calm done.1 room apart_mid f s) (line_told r w.0 v mid output room apart_mid one.1 later.1 calm done.1 s h)
+
+-- ---- the whole
+
+module _ (lines_keep : LinesKeep) (r : ℕ) (w : Played) (count : ℕ) (lines : List (List ℕ)) (calm : IsCalmAt r w (Stopped count) lines) where
+  keeps : Keeps w
+  keeps = calmly_keeps lines_keep r w (Stopped count) lines calm
+
+  first : IsFirst r (fresh r w (Stopped count) lines calm) calm.made
+  first = first_of (fresh r w (Stopped count) lines calm) calm.made calm.count r refl (rings r w (Stopped count) lines calm)
+
+  told : IsToldIn (HeldIn w.0) w.0.sessions w.1.participants
+  told =
+      let apart = apart_at r w (Stopped count) lines calm in
+      let facts = first_facts r w (Stopped count) lines calm in
+      let run = calmly r w (Stopped count) lines calm in
+      calmly_told r run apart facts (first_state r w (Stopped count) lines calm (fewer_apart calm.made w.0 (facts_on r run facts).1 apart))
+      (record { sessions = subst (AllByRecursion (λ (s : NamedSession). AreHeardOf (HeldIn w.0) s.session)) (sym (ap (λ (v : World). v.sessions) first.rest)) tt; received = λ k m. absurd (in_nothing k m) })
+
+  named : (x : Participant) → Contains w.0.participants x → Contains (named_bytes w.0) (own x.agent).0
+  named x x_in = Contains-append_right w.0.met (map (λ (y : Participant). (own y.agent).0) w.0.participants) (own x.agent).0 (into_map (λ (y : Participant). (own y.agent).0) w.0.participants x x_in)
+
+  left_its_agent : (e : Entry) (q : Participant) → Contains w.0.participants q → e.0 ≡ head_key_of (own q.agent) → EntryOf (HeldIn w.0) e → (p : Participant) × Contains w.0.participants p × (own p.agent ≡ own q.agent) × IsLeftBy p e
+  left_its_agent e q q_in of_log (b, j, inl content, judged, is) = absurd (calm.no_key q q_in (subst (Contains w.0.met) clash content.0))
+    where
+      clash : b ≡ (own q.agent).0
+      clash = calm.apart b (own q.agent).0 (Contains-append_left w.0.met _ b content.0) (named q q_in) (content.1 ∙ of_log)
+  left_its_agent e q q_in of_log (b, j, inr (in_met, left, some), judged, is) = (left.1, p_in, owner, (b, j, left.3, judged, is))
+    where
+      p_in : Contains w.0.participants left.1
+      p_in = (found_named w.0.participants left.0 left.1 left.2).0
+
+      owner : own left.1.agent ≡ own q.agent
+      owner = let bytes : (own left.1.agent).0 ≡ (own q.agent).0 = calm.apart (own left.1.agent).0 (own q.agent).0 (named left.1 p_in) (named q q_in) (sym (left_under w left.1 b e.0 keeps p_in left.3 some) ∙ of_log) in λ i. record { 0 = bytes i }
+
+  pub received_left : (name : List ℕ) (e : Entry) (q : Participant) → Contains (knowing_of w.1 name).received e → Contains w.0.participants q → e.0 ≡ head_key_of (own q.agent) → (p : Participant) × Contains w.0.participants p × (own p.agent ≡ own q.agent) × IsLeftBy p e
+  received_left name e q c q_in of_log = left_its_agent e q q_in of_log (each (EntryOf (HeldIn w.0)) (knowing_of w.1 name).received e (received_of (HeldIn w.0) w.1 name told.received) c)
+
+pub received_heads_left : LinesKeep → ReceivedHeadsLeft AreAny
+received_heads_left lines_keep r w count lines name e q any calm c q_in of_log = received_left lines_keep r w count lines calm name e q c q_in of_log
