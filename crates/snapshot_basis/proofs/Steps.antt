@@ -1,0 +1,64 @@
+-- What was read, step by step.
+use Rattle.std.proofs.Common.{◌≡◌, ℕ, zero, suc, ◌+◌, ◌-◌, ◌<◌, ◌≤◌, Bool, true, false, ◌&&◌, List, [], ◌∷◌, ◌++◌, length, map, get_or, take, drop, Some, None, refl, sym, ap, ◌∙◌, subst, arith}
+use Rattle.std.specs.Prelude.{if◌then◌else◌}
+use Rattle.std.proofs.lemmas.List.{append-nil, append_assoc, map-append}
+use Rattle.tree_building.specs.declared.parts.InodeParts.{InodeParts}
+use Rattle.snapshot_model.specs.Reading.{Part}
+use Rattle.snapshot_basis.specs.Picks.{Blocks, of_inodes, is_inode, within, inodes_in, picked}
+use Rattle.snapshot_basis.specs.Evenness.{are_full, full_down}
+use Rattle.snapshot_basis.specs.Inodes.{Item, IsInode, AreInodes}
+use Rattle.snapshot_basis.specs.Answers.{item_of}
+
+abbrev Stretch : Type 0
+Stretch = List ℕ × Blocks
+
+-- these inodes were read, and the others are among what is left
+pub record AreSoFar (whole left : Blocks) (all : List InodeParts) : Type 0 where
+  pub done : List Stretch
+  pub split : inodes_in whole ≡ done ++ inodes_in left
+  pub are : AreInodes done (map item_of all)
+
+pub none_so_far : (whole : Blocks) → AreSoFar whole whole []
+none_so_far whole = record { done = []; split = refl; are = tt }
+
+one_more : (done : List Stretch) (s : Stretch) (items : List Item) (i : Item) → AreInodes done items → IsInode s.0 s.1 i → AreInodes (done ++ s ∷ []) (items ++ i ∷ [])
+one_more [] s [] i h g = (g, tt)
+one_more [] s (j ∷ items) i h g = absurd h
+one_more (d ∷ done) s [] i h g = absurd h
+one_more (d ∷ done) s (j ∷ items) i h g = (h.0, one_more done s items i h.1 g)
+
+module _ (whole : Blocks) (part : Part) (bytes : List ℕ) (rest : Blocks) (all : List InodeParts) (h : AreSoFar whole ((part, bytes) ∷ rest) all) where
+  pub passed : is_inode part ≡ false → AreSoFar whole rest all
+  passed other = record {
+    done = h.done;
+    split = h.split ∙ ap (λ (b : Bool). h.done ++ (if b then (bytes, within rest) ∷ inodes_in rest else inodes_in rest)) other;
+    are = h.are;
+  }
+
+  here : is_inode part ≡ true → inodes_in whole ≡ h.done ++ (bytes, within rest) ∷ inodes_in rest
+  here is = h.split ∙ ap (λ (b : Bool). h.done ++ (if b then (bytes, within rest) ∷ inodes_in rest else inodes_in rest)) is
+
+  pub taken : is_inode part ≡ true → (p : InodeParts) → IsInode bytes (within rest) (item_of p) → AreSoFar whole rest (all ++ p ∷ [])
+  taken is p one = record {
+    done = h.done ++ (bytes, within rest) ∷ [];
+    split = here is ∙ sym (append_assoc h.done ((bytes, within rest) ∷ []) (inodes_in rest));
+    are = subst (λ (items : List Item). AreInodes (h.done ++ (bytes, within rest) ∷ []) items) (sym (map-append item_of all (p ∷ []))) (one_more h.done (bytes, within rest) (map item_of all) (item_of p) h.are one);
+  }
+
+  none_behind : (done : List Stretch) (items : List Item) → ((i : Item) → IsInode bytes (within rest) i → ⊥) → AreInodes (done ++ (bytes, within rest) ∷ inodes_in rest) items → ⊥
+  none_behind [] [] none g = g
+  none_behind [] (i ∷ items) none g = none i g.0
+  none_behind (d ∷ done) [] none g = g
+  none_behind (d ∷ done) (i ∷ items) none g = none_behind done items none g.1
+
+  pub none_there : is_inode part ≡ true → ((i : Item) → IsInode bytes (within rest) i → ⊥) → (items : List Item) → AreInodes (inodes_in whole) items → ⊥
+  none_there is none items g = none_behind h.done items none (subst (λ (l : List Stretch). AreInodes l items) (here is) g)
+
+pub all_there : (whole : Blocks) (all : List InodeParts) → AreSoFar whole [] all → AreInodes (inodes_in whole) (map item_of all)
+all_there whole all h = subst (λ (l : List Stretch). AreInodes l (map item_of all)) (sym (h.split ∙ append-nil h.done)) h.are
+
+-- ---- levels
+
+pub next_down : (inodes : Bool) (level : ℕ) (blocks : Blocks) → 0 < level → full_down inodes level blocks ≡ (are_full 10252 (picked inodes level blocks) && full_down inodes (level - 1) blocks)
+next_down inodes zero blocks some = absurd (omega (arith, some))
+next_down inodes (suc level) blocks some = let one_less : suc level - 1 ≡ level = omega arith in ap (λ (n : ℕ). are_full 10252 (picked inodes (suc level) blocks) && full_down inodes n blocks) (sym one_less)
