@@ -1,6 +1,6 @@
 -- What blocks that were read come to.
-use Rattle.std.proofs.Common.{◌≡◌, ℕ, true, List, [], ◌∷◌, length, map, Option, Some, None, refl, sym, ap, ◌∙◌, subst, arith, append-nil}
-use Rattle.std.specs.Prelude.{IfSome}
+use Rattle.std.proofs.Common.{◌≡◌, ℕ, true, false, List, [], ◌∷◌, length, map, Option, Some, None, Result, Ok, Err, refl, sym, ap, ◌∙◌, subst, arith, append-nil}
+use Rattle.std.specs.Prelude.{IfOk, IfSome}
 use Rattle.std.specs.List.{AllByRecursion}
 use Rattle.ivy_base.specs.declared.key.Key.{Key}
 use Rattle.tree_model.specs.Tree.{Tree, Inode}
@@ -9,7 +9,7 @@ use Rattle.log_model.specs.Rank.{Rank}
 use Rattle.log_model.specs.Vector.{Vector}
 use Rattle.log_model.specs.Spelling.{IsKey}
 use Rattle.turn_model.specs.Basis.{Basis}
-use Rattle.snapshot_model.specs.Blocks.{RootBlock, IsRankSpelled, IsVectorSpelled}
+use Rattle.snapshot_model.specs.Blocks.{RootBlock, IsRankSpelled, IsRootBlock, IsVectorSpelled, Says, root_block}
 use Rattle.snapshot_model.specs.Reading.{Part, Root, AnInode, HasBounds, IsBasisSpelled, IsWholeTree, AreOf, top_of}
 use Rattle.snapshot_model.proofs.OneBlock.{one_root}
 use Rattle.snapshot_model.proofs.OneNames.{one_said}
@@ -28,8 +28,9 @@ use Rattle.snapshot_wholes.proofs.OneForest.{read_is_forest}
 use Rattle.snapshot_wholes.proofs.Canon.{loaded_is_shown}
 use Rattle.snapshot_wholes.proofs.Whole.{whole_trees_are_sound}
 use Rattle.tree_building.specs.declared.parts.InodeParts.{InodeParts}
-use Rattle.tree_building.specs.Parts.{tree_of}
+use Rattle.tree_building.specs.Parts.{IsTreeOf, tree_of}
 use Rattle.snapshot_basis.specs.Picks.{Blocks, inodes_in}
+use Rattle.snapshot_basis.specs.Evenness.{is_even}
 use Rattle.snapshot_basis.specs.Inodes.{AreInodes, items_in}
 use Rattle.snapshot_basis.specs.Ends.{AreOfBasis, IsBasis}
 use Rattle.snapshot_basis.specs.Answers.{AreReadFrom, IsABasis, item_of}
@@ -39,7 +40,7 @@ use Rattle.snapshot_basis.proofs.Stretches.{inodes_stretch}
 use Rattle.snapshot_basis.proofs.Told.{all_told, all_shown, one_list}
 use Rattle.snapshot_basis.proofs.Trees.{all_have}
 use Rattle.snapshot_basis.proofs.Bounds.{IsBounded, all_bounded, as_many, bottom_few, few_listed, names_bounded}
-use Rattle.snapshot_basis.proofs.Built.{one_tree, same_trees}
+use Rattle.snapshot_basis.proofs.Built.{built_has, one_tree, same_trees}
 
 -- ---- one basis
 
@@ -152,3 +153,36 @@ some_read root h = let w = read_is_forest root [] h in no_first w.order
 pub comes_to : (l : Loading) (read : List Read) (basis : Option Basis) → IsReadWhole l read → AreOfBasis (bytes_of read) basis → ComesTo l (Loaded basis)
 comes_to l read (Some b) whole h = whole.of_one b h.0
 comes_to l read None whole h = whole.of_none h
+
+-- ---- and what wasn't told
+
+module _ (bytes : List ℕ) (blocks : Blocks) (said : RootBlock) (says : Says IsRootBlock root_block bytes said) (b : Basis) (h : IsBasis bytes blocks b) where
+  pub not_even : is_even true said.inodes.level blocks ≡ false → ⊥
+  not_even none =
+      let found : is_even true said.inodes.level blocks ≡ true = subst (λ (r : RootBlock). is_even true r.inodes.level blocks ≡ true) (one_said one_root h.says says) h.even in
+      let both : true ≡ false = sym found ∙ none in
+      cc both
+
+pub told : (bytes : List ℕ) (blocks : Blocks) (said : RootBlock) (b : Basis) (ps : List InodeParts) → Says IsRootBlock root_block bytes said → is_even true said.inodes.level blocks ≡ true → AreInodes (inodes_in blocks) (map item_of ps)
+    → said.front ≡ b.front → said.tide ≡ b.tide → IsTreeOf (tree_of ps) (Some b.tree) → IsBasis bytes blocks b
+told bytes blocks said b ps says even are front tide is = record {
+  said = said;
+  says = says;
+  front = front;
+  tide = tide;
+  even = even;
+  inodes = subst (λ (t : Tree). AreInodes (inodes_in blocks) (items_in t)) (sym is.0) (built_has (inodes_in blocks) ps is.1 are);
+  sound = subst IsSound (sym is.0) is.1;
+}
+
+-- ---- as functions answer
+
+pub if_ok : {A E : Type 0} (P Q : A → Type 0) (r : Result A E) → ((x : A) → P x → Q x) → IfOk r P → IfOk r Q
+if_ok P Q (Ok x) f h = f x h
+if_ok P Q (Err e) f h = tt
+
+pub whole_is_of : (read : List Read) (first : Read) (rest : List Read) (bytes : List ℕ) (basis : Option Basis) → read ≡ first ∷ rest → bytes ≡ first.bytes → (root : Key) × AreReadFrom read root → IsABasis bytes (blocks_read rest) basis
+    → AreOfBasis (bytes_of read) basis
+whole_is_of read first rest bytes basis e same h is =
+    subst (λ (l : List Read). AreOfBasis (bytes_of l) basis) (sym e)
+    (read_is_of h.0 first rest basis (subst (λ (l : List Read). AreReadFrom l h.0) e h.1) (subst (λ (b : List ℕ). IsABasis b (blocks_read rest) basis) same is))

@@ -6,6 +6,7 @@ use Rattle.std.proofs.lemmas.List.{append-nil, append_assoc, map-append}
 use Rattle.ivy_base.specs.declared.key.Key.{Key}
 use Rattle.wire_model.proofs.OneReading.{whole}
 use Rattle.tree_model.proofs.Sound.{both_true}
+use Rattle.tree_building.proofs.Sorted.{next_taken, split_next}
 use Rattle.log_model.proofs.Lists.{both, each_right}
 use Rattle.snapshot_model.specs.Blocks.{AreEntries, Says, entries_block}
 use Rattle.snapshot_model.proofs.OneBlock.{one_entries}
@@ -113,3 +114,30 @@ not_full done rest before all bytes d less es h = less (has_next done rest befor
 
 pub not_entries : (done rest : List (List ℕ)) (before : ℕ) (all : Some) (bytes : List ℕ) → AreDone done before all → ((es : Some) → Says AreEntries entries_block bytes es → ⊥) → (es : Some) → HaveEntries (done ++ bytes ∷ rest) es → ⊥
 not_entries done rest before all bytes d none es h = let n = has_next done rest before all es bytes d h in none n.es (record { fits = n.fits; spelled = sym n.spelled })
+
+-- ---- block by block
+
+module _ {A : Type 0} (f : A → List ℕ) (blocks : List A) (i : ℕ) (before : ℕ) (all : Some) (within : i < length blocks) (done : AreDone (map f (take i blocks)) before all) where
+  cut : (d : A) → map f blocks ≡ map f (take i blocks) ++ f (get_or blocks i d) ∷ map f (drop (i + 1) blocks)
+  cut d =
+      ap (λ (l : List A). map f l) (split_next blocks i d within) ∙ map-append f (take i blocks ++ get_or blocks i d ∷ []) (drop (i + 1) blocks)
+      ∙ ap (λ (l : List (List ℕ)). l ++ map f (drop (i + 1) blocks)) (map-append f (take i blocks) (get_or blocks i d ∷ []))
+      ∙ append_assoc (map f (take i blocks)) (f (get_or blocks i d) ∷ []) (map f (drop (i + 1) blocks))
+
+  none_full : (d : A) → (before ≡ 32 → ⊥) → (es : Some) → HaveEntries (map f blocks) es → ⊥
+  none_full d less es h =
+      not_full (map f (take i blocks)) (map f (drop (i + 1) blocks)) before all (f (get_or blocks i d)) done less es (subst (λ (l : List (List ℕ)). HaveEntries l es) (cut d) h)
+
+  pub none_at : (d : A) → ((es : Some) → Says AreEntries entries_block (f (get_or blocks i d)) es → ⊥) → (es : Some) → HaveEntries (map f blocks) es → ⊥
+  none_at d none es h =
+      not_entries (map f (take i blocks)) (map f (drop (i + 1) blocks)) before all (f (get_or blocks i d)) done none es (subst (λ (l : List (List ℕ)). HaveEntries l es) (cut d) h)
+
+  pub one_at : (d : A) (es now : Some) (n : ℕ) → before ≡ 32 → Says AreEntries entries_block (f (get_or blocks i d)) es → n ≡ length es → now ≡ all ++ es → AreDone (map f (take (i + 1) blocks)) n now
+  one_at d es now n full says count more =
+      subst (λ (l : List (List ℕ)). AreDone l n now) (sym (ap (λ (l : List A). map f l) (next_taken blocks i d within) ∙ map-append f (take i blocks) (get_or blocks i d ∷ [])))
+      (subst (λ (m : ℕ). AreDone (map f (take i blocks) ++ f (get_or blocks i d) ∷ []) m now) (sym count)
+      (subst (λ (l : Some). AreDone (map f (take i blocks) ++ f (get_or blocks i d) ∷ []) (length es) l) (sym more) (one_done (map f (take i blocks)) before all (f (get_or blocks i d)) es done full says)))
+
+pub none_after : {A : Type 0} (f : A → List ℕ) (blocks : List A) (i : ℕ) (before : ℕ) (all : Some) → i < length blocks → AreDone (map f (take i blocks)) before all → (before ≡ 32 → ⊥) → (es : Some) → HaveEntries (map f blocks) es → ⊥
+none_after f [] i before all within done less es h = absurd (omega (arith, within))
+none_after f (x ∷ xs) i before all within done less es h = none_full f (x ∷ xs) i before all within done x less es h

@@ -4,6 +4,9 @@ use Rattle.std.specs.Prelude.{if◌then◌else◌}
 use Rattle.std.proofs.lemmas.List.{append-nil, append_assoc, map-append}
 use Rattle.tree_building.specs.declared.parts.InodeParts.{InodeParts}
 use Rattle.snapshot_model.specs.Reading.{Part}
+use Rattle.snapshot_loading.specs.declared.load.Read.{Read}
+use Rattle.snapshot_loading.specs.Roles.{part_of}
+use Rattle.snapshot_wholes.specs.Laws.{blocks_read}
 use Rattle.snapshot_basis.specs.Picks.{Blocks, of_inodes, is_inode, within, inodes_in, picked}
 use Rattle.snapshot_basis.specs.Evenness.{are_full, full_down}
 use Rattle.snapshot_basis.specs.Inodes.{Item, IsInode, AreInodes}
@@ -56,6 +59,23 @@ module _ (whole : Blocks) (part : Part) (bytes : List ℕ) (rest : Blocks) (all 
 
 pub all_there : (whole : Blocks) (all : List InodeParts) → AreSoFar whole [] all → AreInodes (inodes_in whole) (map item_of all)
 all_there whole all h = subst (λ (l : List Stretch). AreInodes l (map item_of all)) (sym (h.split ∙ append-nil h.done)) h.are
+
+-- ---- as it was read
+
+module _ (whole : Blocks) (left rest : List Read) (first : Read) (all : List InodeParts) (cut : left ≡ first ∷ rest) (h : AreSoFar whole (blocks_read left) all) (is : is_inode (part_of first.role) ≡ true) where
+  so_far : AreSoFar whole ((part_of first.role, first.bytes) ∷ blocks_read rest) all
+  so_far = subst (λ (l : List Read). AreSoFar whole (blocks_read l) all) cut h
+
+  module _ (bytes : List ℕ) (below : Blocks) (of_first : bytes ≡ first.bytes) (all_within : below ≡ within (blocks_read rest)) where
+    pub none_read : ((i : Item) → IsInode bytes below i → ⊥) → (items : List Item) → AreInodes (inodes_in whole) items → ⊥
+    none_read none items g =
+        none_there whole (part_of first.role) first.bytes (blocks_read rest) all so_far is
+        (λ i one. none i (subst (λ (b : List ℕ). IsInode b below i) (sym of_first) (subst (λ (l : Blocks). IsInode first.bytes l i) (sym all_within) one))) items g
+
+    pub one_read : (p : InodeParts) → IsInode bytes below (item_of p) → AreSoFar whole (blocks_read rest) (all ++ p ∷ [])
+    one_read p one =
+        taken whole (part_of first.role) first.bytes (blocks_read rest) all so_far is p
+        (subst (λ (l : Blocks). IsInode first.bytes l (item_of p)) all_within (subst (λ (b : List ℕ). IsInode b below (item_of p)) of_first one))
 
 -- ---- levels
 

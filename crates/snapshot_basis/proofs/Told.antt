@@ -5,7 +5,7 @@ use Rattle.ivy_base.specs.declared.key.Key.{Key}
 use Rattle.ivy_base.specs.declared.operation.Kind.{Kind}
 use Rattle.ivy_base.specs.declared.operation.Kind.TheVariants.{Reg, Dir, Lnk}
 use Rattle.tree_model.specs.Tree.{Tree, Inode, Attributes, listing}
-use Rattle.snapshot_model.specs.Blocks.{AreEntries, Ascend, InodeBlock, IsEntry, IsInodeBlock, entries_block, inode_block}
+use Rattle.snapshot_model.specs.Blocks.{AreEntries, Ascend, InodeBlock, IsEntry, IsInodeBlock, Says, entries_block, inode_block}
 use Rattle.snapshot_model.specs.Spelling.{in_pieces}
 use Rattle.snapshot_model.specs.Reading.{Part, AnInode, Piece, Entries, Names, item_of, top_of}
 use Rattle.snapshot_model.proofs.OneBlock.{one_inode}
@@ -19,6 +19,7 @@ use Rattle.snapshot_wholes.specs.Wholes.{ShowInodes}
 use Rattle.snapshot_wholes.proofs.Forests.{AllAre}
 use Rattle.snapshot_wholes.proofs.Full.{full_pieces}
 use Rattle.snapshot_basis.specs.Picks.{Blocks, picked}
+use Rattle.snapshot_basis.specs.Evenness.{is_even}
 use Rattle.snapshot_basis.specs.Contents.{HasContents, HaveEntries}
 use Rattle.snapshot_basis.specs.Inodes.{Item, contained, item_in, IsInode, AreInodes}
 use Rattle.snapshot_basis.proofs.Layers.{IsBottom, entries_are, pieces_are, top_picked}
@@ -149,3 +150,21 @@ one_list (b ∷ blocks) (i ∷ items) (o ∷ others) h g =
     let first = one_item b.0 b.1 i o h.0 g.0 in
     let rest = one_list blocks items others h.1 g.1 in
     (λ k. first k ∷ rest k)
+
+-- ---- and not told
+
+module _ (bytes : List ℕ) (blocks : Blocks) (said : InodeBlock) (says : Says IsInodeBlock inode_block bytes said) (i : Item) (h : IsInode bytes blocks i) where
+  is_said : h.said ≡ said
+  is_said = one_said one_inode h.says says
+
+  pub not_even : is_even false said.items.level blocks ≡ false → ⊥
+  not_even none =
+      let found : is_even false said.items.level blocks ≡ true = subst (λ (b : InodeBlock). is_even false b.items.level blocks ≡ true) is_said h.even in
+      let both : true ≡ false = sym found ∙ none in
+      cc both
+
+  pub not_contents : (items : List (List ℕ)) → items ≡ picked false 0 blocks → ((body : List ℕ) (es : Some) → HasContents said.kind said items body es → ⊥) → ⊥
+  not_contents items same none =
+      let kind : i.0.1.kind ≡ said.kind = sym h.kind ∙ ap (λ (b : InodeBlock). b.kind) is_said in
+      none i.0.1.body i.1 (subst (λ (l : List (List ℕ)). HasContents said.kind said l i.0.1.body i.1) (sym same) (subst (λ (b : InodeBlock). HasContents said.kind b (picked false 0 blocks) i.0.1.body i.1) is_said
+      (subst (λ (k : Kind). HasContents k h.said (picked false 0 blocks) i.0.1.body i.1) kind h.contents)))

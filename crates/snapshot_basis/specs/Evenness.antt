@@ -6,10 +6,13 @@ use Rattle.snapshot_basis.specs.Picks.{Blocks, picked}
 abbrev pub is_some : ℕ → ℕ → Bool
 is_some size count = nat_le 1 count && nat_le count size
 
+abbrev pub is_next : ℕ → ℕ → ℕ → Bool
+is_next size before count = nat_eq before size && is_some size count
+
 -- all have so many but the last, which has some and no more; the one before them had that many
 abbrev pub full_after : {A : Type 0} → ℕ → ℕ → List (List A) → Bool
 full_after size before [] = true
-full_after size before (xs ∷ xss) = (nat_eq before size && is_some size (length xs)) && full_after size (length xs) xss
+full_after size before (xs ∷ xss) = is_next size before (length xs) && full_after size (length xs) xss
 
 abbrev pub are_full : {A : Type 0} → ℕ → List (List A) → Bool
 are_full size xss = full_after size size xss

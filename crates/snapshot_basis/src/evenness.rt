@@ -2,7 +2,7 @@
 
 ghost use Rattle.std.specs.Prelude.{◌≡◌, map, length, IfOk};
 ghost use Rattle.snapshot_wholes.specs.Laws.{blocks_read};
-ghost use Rattle.snapshot_basis.specs.Evenness.{are_full, full_down, has_two, is_even, is_least, is_some};
+ghost use Rattle.snapshot_basis.specs.Evenness.{are_full, full_down, has_two, is_even, is_least, is_next, is_some};
 
 use crate::picking::pick;
 use ivy_base::Memory;
@@ -50,7 +50,7 @@ pub(crate) fn are_full(blocks: &[&[u8]], size: usize) -> bool
 {
     let mut before = size;
     'each: for block in blocks {
-        if before != size || !is_some(size, block.len()) {
+        if !is_next(size, before, block.len()) {
             return false;
         }
         before = block.len();
@@ -58,8 +58,15 @@ pub(crate) fn are_full(blocks: &[&[u8]], size: usize) -> bool
     true
 }
 
+/// Whether so many may follow so many before.
+fn is_next(size: usize, before: usize, count: usize) -> bool
+    ensures { result ≡ is_next size before count }
+{
+    before == size && is_some(size, count)
+}
+
 /// Whether it is some, and no more.
-pub(crate) fn is_some(size: usize, count: usize) -> bool
+fn is_some(size: usize, count: usize) -> bool
     ensures { result ≡ is_some size count }
 {
     1 <= count && count <= size
