@@ -1,5 +1,5 @@
 -- What was read is within the bounds of snapshots.
-use Rattle.std.proofs.Common.{◌≡◌, ℕ, zero, suc, ◌+◌, ◌*◌, ◌≤◌, true, false, List, [], ◌∷◌, ◌++◌, Bool, length, map, refl, sym, ap, ◌∙◌, subst, arith, length-append}
+use Rattle.std.proofs.Common.{◌≡◌, ℕ, zero, suc, ◌+◌, ◌*◌, ◌≤◌, false, List, [], ◌∷◌, ◌++◌, Bool, length, map, refl, sym, ap, ◌∙◌, subst, arith, length-append}
 use Rattle.std.specs.Prelude.{IsTrue}
 use Rattle.std.specs.List.{AllByRecursion}
 use Rattle.std.proofs.lemmas.List.{length-map}
@@ -7,27 +7,28 @@ use Rattle.ivy_base.specs.declared.key.Key.{Key}
 use Rattle.ivy_base.specs.declared.operation.Kind.{Kind}
 use Rattle.ivy_base.specs.declared.operation.Kind.TheVariants.{Reg, Dir, Lnk}
 use Rattle.ivy_base.specs.Naming.{IsFileName}
-use Rattle.tree_model.specs.Tree.{Tree, Inode, Place, Attributes, inode_at, is_directory, listing}
+use Rattle.tree_model.specs.Tree.{Tree, Inode, Place, inode_at, is_directory, listing}
 use Rattle.log_model.specs.Spelling.{IsKey, IsTarget}
 use Rattle.snapshot_model.specs.Blocks.{AreAttributes, AreEntries, InodeBlock, IsEntry, most_bytes, most_levels}
-use Rattle.snapshot_model.specs.Reading.{Part, AnInode, Listing, Names, HasBounds, IsBodyOf, IsWholeTree, item_of, top_of}
+use Rattle.snapshot_model.specs.Reading.{Part, AnInode, Listing, HasBounds, IsBodyOf, IsWholeTree, item_of, top_of}
 use Rattle.snapshot_model.proofs.OneBlock.{one_inode}
 use Rattle.snapshot_model.proofs.OneNames.{one_said}
 use Rattle.snapshot_model.proofs.SameNames.{Has, has_each, has_listed, directory_of}
 use Rattle.snapshot_wholes.specs.Forests.{Forest, nothing, block, flat, named_in, mades, Fits, joined, children, below_by}
 use Rattle.snapshot_wholes.specs.Inodes.{bytes_in, run_of}
 use Rattle.snapshot_wholes.proofs.Forests.{AllAre, children_are, fits_children, mades_joined}
-use Rattle.snapshot_basis.specs.Picks.{Blocks, picked}
-use Rattle.snapshot_basis.specs.Contents.{HasContents, HaveEntries}
-use Rattle.snapshot_basis.specs.Inodes.{Item, contained, item_in, IsInode, AreInodes}
+use Rattle.snapshot_basis.specs.Picks.{picked}
+use Rattle.snapshot_basis.specs.Contents.{HasContents}
+use Rattle.snapshot_basis.specs.Inodes.{contained, item_in, IsInode, AreInodes}
 use Rattle.snapshot_basis.proofs.Layers.{IsBottom, all_top, is_nothing, top_picked}
 use Rattle.snapshot_basis.proofs.Sizes.{sized, count_named}
 use Rattle.snapshot_basis.proofs.Stretches.{stretches}
 use Rattle.snapshot_basis.proofs.Told.{item_bottom}
-use Rattle.snapshot_basis.proofs.Trees.{all_have, contained_is, each_has}
+use Rattle.snapshot_basis.proofs.Trees.{contained_is, each_has}
 
-abbrev Some : Type 0
-Some = List (List ℕ × Key)
+-- what a directory contains
+abbrev Directory : Type 0
+Directory = List (List ℕ × Key)
 
 -- ---- how many are at the bottom of a list
 
@@ -72,32 +73,32 @@ module _ (inodes : Bool) (item : Part) (bottom : IsBottom inodes item) where
 
 -- ---- what an inode contains
 
-run_few : (each : List Some) → AllByRecursion AreEntries each → length (run_of each) ≤ 32 * length each
+run_few : (each : List Directory) → AllByRecursion AreEntries each → length (run_of each) ≤ 32 * length each
 run_few [] h = omega arith
 run_few (es ∷ each) h = omega (arith, length-append es (run_of each), run_few each h.1, h.0.few)
 
-entries_good : (each : List Some) → AllByRecursion AreEntries each → AllByRecursion IsEntry (run_of each)
+entries_good : (each : List Directory) → AllByRecursion AreEntries each → AllByRecursion IsEntry (run_of each)
 entries_good [] h = tt
 entries_good (es ∷ each) h = joined_good es (run_of each) h.0.each (entries_good each h.1)
   where
-    joined_good : (xs ys : Some) → AllByRecursion IsEntry xs → AllByRecursion IsEntry ys → AllByRecursion IsEntry (xs ++ ys)
+    joined_good : (xs ys : Directory) → AllByRecursion IsEntry xs → AllByRecursion IsEntry ys → AllByRecursion IsEntry (xs ++ ys)
     joined_good [] ys f g = g
     joined_good (x ∷ xs) ys f g = (f.0, joined_good xs ys f.1 g)
 
-pub record AreBounded (kind : Kind) (blocks : List (List ℕ)) (body : List ℕ) (es : Some) : Type 0 where
+pub record AreBounded (kind : Kind) (blocks : List (List ℕ)) (body : List ℕ) (es : Directory) : Type 0 where
   pub fits : IsBodyOf kind body
   pub good : AllByRecursion IsEntry es
   pub few : length es ≤ 32 * length blocks
 
-contents_bounded : (kind : Kind) (said : InodeBlock) (blocks : List (List ℕ)) (body : List ℕ) (es : Some) → said.size ≤ most_bytes kind → IsTarget kind said.target → HasContents kind said blocks body es → AreBounded kind blocks body es
+contents_bounded : (kind : Kind) (said : InodeBlock) (blocks : List (List ℕ)) (body : List ℕ) (es : Directory) → said.size ≤ most_bytes kind → IsTarget kind said.target → HasContents kind said blocks body es → AreBounded kind blocks body es
 contents_bounded Reg said blocks body es size target h = record {
   fits = omega (arith, size, h.3);
-  good = subst (λ (l : Some). AllByRecursion IsEntry l) (sym h.0) tt;
+  good = subst (λ (l : Directory). AllByRecursion IsEntry l) (sym h.0) tt;
   few = let none : length es ≡ 0 = ap length h.0 in omega (arith, none);
 }
 contents_bounded Dir said blocks body es size target h = record {
   fits = h.0;
-  good = subst (λ (l : Some). AllByRecursion IsEntry l) h.1.run (entries_good h.1.each h.1.fit);
+  good = subst (λ (l : Directory). AllByRecursion IsEntry l) h.1.run (entries_good h.1.each h.1.fit);
   few =
       let count : length blocks ≡ length h.1.each = ap length h.1.spelled ∙ length-map h.1.each _ in
       let size : length (run_of h.1.each) ≡ length es = ap length h.1.run in
@@ -105,7 +106,7 @@ contents_bounded Dir said blocks body es size target h = record {
 }
 contents_bounded Lnk said blocks body es size target h = record {
   fits = subst (λ (l : List ℕ). IsTarget Lnk l) h.1 target;
-  good = subst (λ (l : Some). AllByRecursion IsEntry l) (sym h.0) tt;
+  good = subst (λ (l : Directory). AllByRecursion IsEntry l) (sym h.0) tt;
   few = let none : length es ≡ 0 = ap length h.0 in omega (arith, none);
 }
 

@@ -1,5 +1,5 @@
 -- The tree that is built of inodes.
-use Rattle.std.proofs.Common.{◌≡◌, ℕ, ◌≤◌, ◌⊎◌, inl, inr, Bool, true, false, cond, List, [], ◌∷◌, ◌++◌, length, map, flat_map, Some, None, refl, sym, ap, ◌∙◌, subst, arith, append-nil}
+use Rattle.std.proofs.Common.{◌≡◌, ℕ, ◌≤◌, Bool, true, false, List, [], ◌∷◌, ◌++◌, map, flat_map, Some, None, refl, sym, ap, ◌∙◌, subst, arith, append-nil}
 use Rattle.std.specs.Prelude.{IsTrue, if◌then◌else◌}
 use Rattle.std.specs.List.{AllByRecursion, filter_map, cons_option}
 use Rattle.std.specs.Cmp.Lexicographic.{slice_cmp}
@@ -9,14 +9,14 @@ use Rattle.ivy_base.specs.declared.key.Key.{Key}
 use Rattle.ivy_base.specs.declared.operation.Kind.{Kind}
 use Rattle.ivy_base.specs.declared.operation.Kind.TheVariants.{Reg, Dir, Lnk}
 use Rattle.ivy_base.specs.Naming.{key_cmp}
-use Rattle.tree_model.specs.Tree.{Tree, Inode, Place, directory_kind, same_key, inode_at, is_directory, listing}
+use Rattle.tree_model.specs.Tree.{Tree, Inode, Place, directory_kind, same_key, is_directory, listing}
 use Rattle.tree_model.specs.Sound.{IsSound}
 use Rattle.tree_model.proofs.Keys.{same_key_itself}
 use Rattle.tree_model.proofs.Sound.{both_true}
 use Rattle.dir_replay.specs.View.{names_in}
 use Rattle.snapshot_model.specs.Blocks.{InodeBlock, most_bytes}
 use Rattle.snapshot_model.specs.Reading.{IsWholeTree}
-use Rattle.snapshot_model.proofs.SameNames.{Has, has_each, names_there, shown, sorted_same}
+use Rattle.snapshot_model.proofs.SameNames.{names_there, shown, sorted_same}
 use Rattle.snapshot_loading.proofs.Order.{listed_ascend}
 use Rattle.tree_building.specs.declared.parts.InodeParts.{InodeParts}
 use Rattle.tree_building.specs.Parts.{HasBody, IsBody, names_of, numbered, tree_of}
@@ -24,19 +24,20 @@ use Rattle.tree_building.specs.Steps.{NamesAscend}
 use Rattle.tree_building.proofs.Ordered.{sorted_names}
 use Rattle.snapshot_basis.specs.Picks.{Blocks}
 use Rattle.snapshot_basis.specs.Contents.{HasContents}
-use Rattle.snapshot_basis.specs.Inodes.{Item, contained, item_in, items_in, IsInode, AreInodes}
+use Rattle.snapshot_basis.specs.Inodes.{Item, contained, item_in, items_in, AreInodes}
 use Rattle.snapshot_basis.specs.Answers.{item_of}
 use Rattle.snapshot_basis.proofs.Trees.{all_have, each_has, found_inode, not_above, not_below}
 
-abbrev Entries : Type 0
-Entries = List (List ℕ × Key)
+-- what a directory contains
+abbrev Directory : Type 0
+Directory = List (List ℕ × Key)
 
-abbrev listed : List (Place × Key) → Key → Entries
+abbrev listed : List (Place × Key) → Key → Directory
 listed names d = filter_map (λ e. if same_key d e.0.0 then Some (e.0.1, e.1) else None) names
 
 -- ---- the listings of all inodes' names
 
-abbrev step : Bool → Place × Key → Entries → Entries
+abbrev step : Bool → Place × Key → Directory → Directory
 step b e rest = cons_option (if b then Some (e.0.1, e.1) else None) rest
 
 listed_append : (xs ys : List (Place × Key)) (d : Key) → listed (xs ++ ys) d ≡ listed xs d ++ listed ys d
@@ -44,14 +45,14 @@ listed_append [] ys d = refl
 listed_append (x ∷ xs) ys d = by (same_key d x.0.0) (listed_append xs ys d)
   where
     by : (b : Bool) → listed (xs ++ ys) d ≡ listed xs d ++ listed ys d → step b x (listed (xs ++ ys) d) ≡ step b x (listed xs d) ++ listed ys d
-    by true e = ap (λ (l : Entries). (x.0.1, x.1) ∷ l) e
+    by true e = ap (λ (l : Directory). (x.0.1, x.1) ∷ l) e
     by false e = e
 
-listed_here : (d : Key) (es : Entries) → listed (names_in d es) d ≡ es
+listed_here : (d : Key) (es : Directory) → listed (names_in d es) d ≡ es
 listed_here d [] = refl
-listed_here d (e ∷ es) = ap (λ (b : Bool). step b ((d, e.0), e.1) (listed (names_in d es) d)) (same_key_itself d) ∙ ap (λ (l : Entries). e ∷ l) (listed_here d es)
+listed_here d (e ∷ es) = ap (λ (b : Bool). step b ((d, e.0), e.1) (listed (names_in d es) d)) (same_key_itself d) ∙ ap (λ (l : Directory). e ∷ l) (listed_here d es)
 
-listed_elsewhere : (d other : Key) (es : Entries) → same_key d other ≡ false → listed (names_in other es) d ≡ []
+listed_elsewhere : (d other : Key) (es : Directory) → same_key d other ≡ false → listed (names_in other es) d ≡ []
 listed_elsewhere d other [] h = refl
 listed_elsewhere d other (e ∷ es) h = ap (λ (b : Bool). step b ((other, e.0), e.1) (listed (names_in other es) d)) h ∙ listed_elsewhere d other es h
 
@@ -66,22 +67,22 @@ pub each_listed : (ps : List InodeParts) → is_sorted key_cmp (map numbered ps)
 each_listed [] h = tt
 each_listed (p ∷ ps) h =
     let parts = both_true (below_all key_cmp p.number (map numbered ps)) (is_sorted key_cmp (map numbered ps)) h in (
-    listed_append (names_of p) (flat_map names_of ps) p.number ∙ (λ i. listed_here p.number p.entries.items i ++ listed_behind p.number ps parts.0 i) ∙ append-nil p.entries.items,
-    later ps parts.0 (each_listed ps parts.1),
-  )
+      listed_append (names_of p) (flat_map names_of ps) p.number ∙ (λ i. listed_here p.number p.entries.items i ++ listed_behind p.number ps parts.0 i) ∙ append-nil p.entries.items,
+      later ps parts.0 (each_listed ps parts.1),
+    )
   where
     later : (qs : List InodeParts) → below_all key_cmp p.number (map numbered qs) ≡ true → AllByRecursion (λ q. listed (flat_map names_of ps) q.number ≡ q.entries.items) qs
         → AllByRecursion (λ q. listed (flat_map names_of (p ∷ ps)) q.number ≡ q.entries.items) qs
     later [] below own = tt
     later (q ∷ qs) below own =
         let b = both_true (is_lt (key_cmp p.number q.number)) (below_all key_cmp p.number (map numbered qs)) below in (
-        listed_append (names_of p) (flat_map names_of ps) q.number ∙ ap (λ (l : Entries). l ++ listed (flat_map names_of ps) q.number) (listed_elsewhere q.number p.number p.entries.items (not_above p.number q.number b.0)) ∙ own.0,
-        later qs b.1 own.1,
-      )
+          listed_append (names_of p) (flat_map names_of ps) q.number ∙ ap (λ (l : Directory). l ++ listed (flat_map names_of ps) q.number) (listed_elsewhere q.number p.number p.entries.items (not_above p.number q.number b.0)) ∙ own.0,
+          later qs b.1 own.1,
+        )
 
 -- ---- what was read, and the tree that is built of it
 
-none_else : (kind : Kind) (said : InodeBlock) (blocks : List (List ℕ)) (body : List ℕ) (es : Entries) → HasContents kind said blocks body es → contained kind es ≡ es
+none_else : (kind : Kind) (said : InodeBlock) (blocks : List (List ℕ)) (body : List ℕ) (es : Directory) → HasContents kind said blocks body es → contained kind es ≡ es
 none_else Reg said blocks body es h = sym h.0
 none_else Dir said blocks body es h = refl
 none_else Lnk said blocks body es h = sym h.0
@@ -113,7 +114,7 @@ each_map : {A B : Type 0} (P : B → Type 0) (f : A → B) (xs : List A) → All
 each_map P f [] h = tt
 each_map P f (x ∷ xs) h = (h.0, each_map P f xs h.1)
 
-shown_contained : (kind : Kind) (es : Entries) → shown kind (contained kind es) ≡ shown kind es
+shown_contained : (kind : Kind) (es : Directory) → shown kind (contained kind es) ≡ shown kind es
 shown_contained Reg es = refl
 shown_contained Dir es = refl
 shown_contained Lnk es = refl
@@ -137,7 +138,7 @@ alike t (p ∷ ps) (i ∷ inodes) e =
       each = (subst (λ (j : Key × Inode). p.entries.items ≡ contained j.1.kind (listing t j.0)) (sym head) own, rest.each);
     }
 
-names_fit : (inodes : List (Key × Inode)) (d : Key) (es : Entries) → is_directory (value_at key_cmp d inodes) ≡ true → AllByRecursion (λ e. IsTrue (is_directory (value_at key_cmp e.0.0 inodes))) (names_in d es)
+names_fit : (inodes : List (Key × Inode)) (d : Key) (es : Directory) → is_directory (value_at key_cmp d inodes) ≡ true → AllByRecursion (λ e. IsTrue (is_directory (value_at key_cmp e.0.0 inodes))) (names_in d es)
 names_fit inodes d [] h = tt
 names_fit inodes d (e ∷ es) h = (h, names_fit inodes d es h)
 
@@ -148,9 +149,9 @@ both_fit P (x ∷ xs) ys h g = (h.0, both_fit P xs ys h.1 g)
 module _ (t : Tree) (whole : IsWholeTree t) (inodes : List (Key × Inode)) where
   parent : (p : InodeParts) (kind : Kind) → p.kind ≡ kind → value_at key_cmp p.number inodes ≡ Some (numbered p).1 → p.entries.items ≡ contained kind (listing t p.number)
       → AllByRecursion (λ e. IsTrue (is_directory (value_at key_cmp e.0.0 inodes))) (names_of p)
-  parent p Reg is found own = subst (λ (es : Entries). AllByRecursion (λ e. IsTrue (is_directory (value_at key_cmp e.0.0 inodes))) (names_in p.number es)) (sym own) tt
+  parent p Reg is found own = subst (λ (es : Directory). AllByRecursion (λ e. IsTrue (is_directory (value_at key_cmp e.0.0 inodes))) (names_in p.number es)) (sym own) tt
   parent p Dir is found own = names_fit inodes p.number p.entries.items (ap is_directory found ∙ ap directory_kind is)
-  parent p Lnk is found own = subst (λ (es : Entries). AllByRecursion (λ e. IsTrue (is_directory (value_at key_cmp e.0.0 inodes))) (names_in p.number es)) (sym own) tt
+  parent p Lnk is found own = subst (λ (es : Directory). AllByRecursion (λ e. IsTrue (is_directory (value_at key_cmp e.0.0 inodes))) (names_in p.number es)) (sym own) tt
 
   parents : (ps : List InodeParts) → AllByRecursion (λ p. value_at key_cmp p.number inodes ≡ Some (numbered p).1) ps → AllByRecursion (λ p. p.entries.items ≡ contained p.kind (listing t p.number)) ps
       → AllByRecursion (λ e. IsTrue (is_directory (value_at key_cmp e.0.0 inodes))) (flat_map names_of ps)
@@ -158,10 +159,10 @@ module _ (t : Tree) (whole : IsWholeTree t) (inodes : List (Key × Inode)) where
   parents (p ∷ ps) found own =
       both_fit (λ e. IsTrue (is_directory (value_at key_cmp e.0.0 inodes))) (names_of p) (flat_map names_of ps) (parent p p.kind refl found.0 own.0) (parents ps found.1 own.1)
 
-ascends : (t : Tree) → IsWholeTree t → (kind : Kind) (k : Key) (es : Entries) → es ≡ contained kind (listing t k) → is_sorted (slice_cmp nat_cmp) es ≡ true
-ascends t w Reg k es own = ap (λ (l : Entries). is_sorted (slice_cmp nat_cmp) l) own
-ascends t w Dir k es own = ap (λ (l : Entries). is_sorted (slice_cmp nat_cmp) l) own ∙ listed_ascend t.names k w.in_order.names
-ascends t w Lnk k es own = ap (λ (l : Entries). is_sorted (slice_cmp nat_cmp) l) own
+ascends : (t : Tree) → IsWholeTree t → (kind : Kind) (k : Key) (es : Directory) → es ≡ contained kind (listing t k) → is_sorted (slice_cmp nat_cmp) es ≡ true
+ascends t w Reg k es own = ap (λ (l : Directory). is_sorted (slice_cmp nat_cmp) l) own
+ascends t w Dir k es own = ap (λ (l : Directory). is_sorted (slice_cmp nat_cmp) l) own ∙ listed_ascend t.names k w.in_order.names
+ascends t w Lnk k es own = ap (λ (l : Directory). is_sorted (slice_cmp nat_cmp) l) own
 
 shown_alike : (t : Tree) (ps : List InodeParts) → AllByRecursion (λ p. listing (tree_of ps) p.number ≡ p.entries.items) ps → AllByRecursion (λ p. p.entries.items ≡ contained p.kind (listing t p.number)) ps
     → AllByRecursion (λ i. shown i.1.kind (listing t i.0) ≡ shown i.1.kind (listing (tree_of ps) i.0)) (map numbered ps)
@@ -220,7 +221,7 @@ same_trees t u w v e =
 
 -- ---- what the building of the tree wants
 
-body_fits : (kind : Kind) (said : InodeBlock) (blocks : List (List ℕ)) (body : List ℕ) (es : Entries) → said.size ≤ most_bytes kind → HasContents kind said blocks body es → IsBody kind body
+body_fits : (kind : Kind) (said : InodeBlock) (blocks : List (List ℕ)) (body : List ℕ) (es : Directory) → said.size ≤ most_bytes kind → HasContents kind said blocks body es → IsBody kind body
 body_fits Reg said blocks body es few h = omega (arith, few, h.3)
 body_fits Dir said blocks body es few h = h.0
 body_fits Lnk said blocks body es few h = tt

@@ -1,16 +1,15 @@
 -- What blocks that were read come to.
-use Rattle.std.proofs.Common.{◌≡◌, ℕ, true, false, List, [], ◌∷◌, length, map, Option, Some, None, Result, Ok, Err, refl, sym, ap, ◌∙◌, subst, arith, append-nil}
+use Rattle.std.proofs.Common.{◌≡◌, ℕ, true, false, List, [], ◌∷◌, map, Option, Some, None, Result, Ok, Err, refl, sym, ap, ◌∙◌, subst, arith, append-nil}
 use Rattle.std.specs.Prelude.{IfOk, IfSome}
-use Rattle.std.specs.List.{AllByRecursion}
 use Rattle.ivy_base.specs.declared.key.Key.{Key}
-use Rattle.tree_model.specs.Tree.{Tree, Inode}
+use Rattle.tree_model.specs.Tree.{Tree}
 use Rattle.tree_model.specs.Sound.{IsSound}
 use Rattle.log_model.specs.Rank.{Rank}
 use Rattle.log_model.specs.Vector.{Vector}
 use Rattle.log_model.specs.Spelling.{IsKey}
 use Rattle.turn_model.specs.Basis.{Basis}
 use Rattle.snapshot_model.specs.Blocks.{RootBlock, IsRankSpelled, IsRootBlock, IsVectorSpelled, Says, root_block}
-use Rattle.snapshot_model.specs.Reading.{Part, Root, AnInode, HasBounds, IsBasisSpelled, IsWholeTree, AreOf, top_of}
+use Rattle.snapshot_model.specs.Reading.{Part, Root, AnInode, HasBounds, IsBasisSpelled, IsWholeTree, top_of}
 use Rattle.snapshot_model.proofs.OneBlock.{one_root}
 use Rattle.snapshot_model.proofs.OneNames.{one_said}
 use Rattle.snapshot_model.proofs.SameNames.{listed_fit}
@@ -20,7 +19,6 @@ use Rattle.snapshot_loading.specs.Roles.{part_of}
 use Rattle.snapshot_loading.specs.Loading.{Loading, ComesTo, IsReadWhole, bytes_of}
 use Rattle.snapshot_loading.proofs.Order.{listed_ascend}
 use Rattle.snapshot_wholes.specs.Forests.{Forest, nothing, block, flat, named_in, Fits, below_by}
-use Rattle.snapshot_wholes.specs.Inodes.{bytes_in}
 use Rattle.snapshot_wholes.specs.Wholes.{ShowsBasis}
 use Rattle.snapshot_wholes.specs.Laws.{blocks_read}
 use Rattle.snapshot_wholes.proofs.Inodes.{items_are}

@@ -1,5 +1,5 @@
 -- Blocks of a level, among all that were read.
-use Rattle.std.proofs.Common.{◌≡◌, ℕ, zero, suc, ◌<◌, ◌≤◌, Bool, true, false, ◌&&◌, not, List, [], ◌∷◌, ◌++◌, map, refl, sym, ap, ◌∙◌, subst, arith}
+use Rattle.std.proofs.Common.{◌≡◌, ℕ, zero, suc, ◌<◌, Bool, true, false, ◌&&◌, List, [], ◌∷◌, ◌++◌, map, refl, sym, ap, ◌∙◌, subst, arith}
 use Rattle.std.specs.Prelude.{if◌then◌else◌, nat_eq}
 use Rattle.std.specs.List.{AllByRecursion}
 use Rattle.std.proofs.lemmas.List.{append_assoc}
@@ -11,7 +11,7 @@ use Rattle.snapshot_model.specs.Reading.{Part, Root, Listing, AnInode, Piece, En
 use Rattle.snapshot_wholes.specs.Forests.{Forest, nothing, block, flat, named_in, Fits, joined, children, below_by}
 use Rattle.snapshot_wholes.specs.Inodes.{bytes_in}
 use Rattle.snapshot_wholes.proofs.Forests.{AllAre, children_are, fits_children}
-use Rattle.snapshot_basis.specs.Picks.{Blocks, of_inodes, is_inode, level_of, is_among, is_at, picked}
+use Rattle.snapshot_basis.specs.Picks.{Blocks, of_inodes, level_of, is_among, is_at, picked}
 
 -- ---- forests beside one another
 

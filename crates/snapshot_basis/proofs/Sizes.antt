@@ -1,23 +1,22 @@
 -- Even lists, told by the bytes of their blocks.
-use Rattle.std.proofs.Common.{◌≡◌, ℕ, zero, suc, ◌+◌, ◌*◌, ◌<◌, ◌≤◌, Bool, true, false, ◌&&◌, List, [], ◌∷◌, ◌++◌, length, map, flat_map, refl, sym, ap, ◌∙◌, subst, arith, length-append}
-use Rattle.std.specs.Prelude.{◌↔◌, nat_eq, nat_le}
+use Rattle.std.proofs.Common.{◌≡◌, ℕ, zero, suc, ◌+◌, ◌*◌, ◌<◌, ◌≤◌, Bool, true, ◌&&◌, List, [], ◌∷◌, ◌++◌, length, flat_map, refl, sym, ap, ◌∙◌, subst, arith, length-append}
+use Rattle.std.specs.Prelude.{nat_eq, nat_le}
 use Rattle.std.specs.List.{AllByRecursion}
 use Rattle.std.proofs.lemmas.List.{length-map}
 use Rattle.std.proofs.lemmas.Bool.{leb-true}
 use Rattle.ivy_base.specs.declared.key.Key.{Key}
-use Rattle.ivy_base.specs.Naming.{name}
 use Rattle.tree_model.proofs.Sound.{both_true}
 use Rattle.log_model.proofs.Lists.{both}
 use Rattle.log_model.specs.Spelling.{IsKey}
 use Rattle.wire_model.specs.Xdr.{word}
 use Rattle.wire_model.proofs.OneReading.{word_length}
-use Rattle.snapshot_model.specs.Blocks.{AreNamed, list_block}
+use Rattle.snapshot_model.specs.Blocks.{list_block}
 use Rattle.snapshot_model.specs.Reading.{Part, Listing, Names, part_below, top_of}
-use Rattle.snapshot_wholes.specs.Forests.{Forest, nothing, block, flat, named_in, mades, Fits, joined, children, below_by, groups, AreFull, IsEven, IsLeast}
+use Rattle.snapshot_wholes.specs.Forests.{Forest, nothing, block, flat, named_in, mades, Fits, joined, children, groups, AreFull, IsEven, IsLeast}
 use Rattle.snapshot_wholes.specs.Inodes.{IsEvenList, bytes_in}
 use Rattle.snapshot_wholes.proofs.Forests.{AllAre, children_are, fits_children, is_list, mades_joined}
 use Rattle.snapshot_basis.specs.Picks.{Blocks, picked}
-use Rattle.snapshot_basis.specs.Evenness.{is_some, full_after, are_full, full_down, has_two, is_least, is_even}
+use Rattle.snapshot_basis.specs.Evenness.{is_some, full_after, are_full, full_down, is_least, is_even}
 use Rattle.snapshot_basis.proofs.Layers.{IsBottom, all_top, is_nothing, lists_picked, lower}
 
 -- ---- the test of full lists
@@ -120,8 +119,7 @@ module _ (inodes : Bool) (item : Part) (bottom : IsBottom inodes item) where
   full_here : (level : ℕ) (f : Forest) → AllAre (Listing (suc level) item) f → Fits f → full_down inodes (suc level) (flat f) ≡ true → AreFull 512 (groups f) × (full_down inodes level (flat (children f)) ≡ true)
   full_here level f are fits h =
       let parts = both_true (are_full 10252 (picked inodes (suc level) (flat f))) (full_down inodes level (flat f)) h in
-      let here : are_full 10252 (bytes_in f) ≡ true = ap (λ (l : List (List ℕ)). are_full 10252 l) (sym (lists_picked inodes item bottom level f are fits)) ∙ parts.0 in
-      (
+      let here : are_full 10252 (bytes_in f) ≡ true = ap (λ (l : List (List ℕ)). are_full 10252 l) (sym (lists_picked inodes item bottom level f are fits)) ∙ parts.0 in (
         full_by_bytes (suc level) item f are fits (full_is 10252 10252 (bytes_in f) here),
         sym (same_down inodes level (flat f) (flat (children f)) (λ other less. lower inodes item bottom level other f less are)) ∙ parts.1,
       )

@@ -1,5 +1,5 @@
 -- What was read, step by step.
-use Rattle.std.proofs.Common.{◌≡◌, ℕ, zero, suc, ◌+◌, ◌-◌, ◌<◌, ◌≤◌, Bool, true, false, ◌&&◌, List, [], ◌∷◌, ◌++◌, length, map, get_or, take, drop, Some, None, refl, sym, ap, ◌∙◌, subst, arith}
+use Rattle.std.proofs.Common.{◌≡◌, ℕ, zero, suc, ◌-◌, ◌<◌, Bool, true, false, ◌&&◌, List, [], ◌∷◌, ◌++◌, map, refl, sym, ap, ◌∙◌, subst, arith}
 use Rattle.std.specs.Prelude.{if◌then◌else◌}
 use Rattle.std.proofs.lemmas.List.{append-nil, append_assoc, map-append}
 use Rattle.tree_building.specs.declared.parts.InodeParts.{InodeParts}
@@ -7,7 +7,7 @@ use Rattle.snapshot_model.specs.Reading.{Part}
 use Rattle.snapshot_loading.specs.declared.load.Read.{Read}
 use Rattle.snapshot_loading.specs.Roles.{part_of}
 use Rattle.snapshot_wholes.specs.Laws.{blocks_read}
-use Rattle.snapshot_basis.specs.Picks.{Blocks, of_inodes, is_inode, within, inodes_in, picked}
+use Rattle.snapshot_basis.specs.Picks.{Blocks, is_inode, within, inodes_in, picked}
 use Rattle.snapshot_basis.specs.Evenness.{are_full, full_down}
 use Rattle.snapshot_basis.specs.Inodes.{Item, IsInode, AreInodes}
 use Rattle.snapshot_basis.specs.Answers.{item_of}

@@ -3,10 +3,10 @@ use Rattle.std.proofs.Common.{◌≡◌, ℕ, zero, suc, Bool, true, false, List
 use Rattle.std.specs.Prelude.{if◌then◌else◌}
 use Rattle.ivy_base.specs.declared.key.Key.{Key}
 use Rattle.snapshot_model.specs.Reading.{Part, Root, Listing, AnInode, Piece, Entries, Names, part_below, top_of}
-use Rattle.snapshot_wholes.specs.Forests.{Forest, nothing, block, flat, named_in, Fits, joined, children, below_by}
+use Rattle.snapshot_wholes.specs.Forests.{Forest, nothing, block, flat, named_in, Fits, children, below_by}
 use Rattle.snapshot_wholes.proofs.Forests.{AllAre, children_are, fits_children}
 use Rattle.snapshot_basis.specs.Picks.{Blocks, of_inodes, is_inode, within, inodes_in}
-use Rattle.snapshot_basis.proofs.Layers.{AreInside, IsBottom, all_top, flat_joined, inode_has, inodes_are, is_nothing}
+use Rattle.snapshot_basis.proofs.Layers.{AreInside, all_top, flat_joined, inode_has, inodes_are, is_nothing}
 
 abbrev Stretch : Type 0
 Stretch = List ℕ × Blocks

@@ -1,52 +1,53 @@
 -- Inodes as they are shown and as they are told.
-use Rattle.std.proofs.Common.{◌≡◌, ℕ, zero, suc, ◌≤◌, Bool, true, false, List, [], ◌∷◌, length, map, refl, sym, ap, ◌∙◌, subst, arith}
+use Rattle.std.proofs.Common.{◌≡◌, ℕ, ◌≤◌, true, false, List, [], ◌∷◌, length, map, refl, sym, ap, ◌∙◌, subst, arith}
 use Rattle.std.specs.List.{AllByRecursion}
 use Rattle.ivy_base.specs.declared.key.Key.{Key}
 use Rattle.ivy_base.specs.declared.operation.Kind.{Kind}
 use Rattle.ivy_base.specs.declared.operation.Kind.TheVariants.{Reg, Dir, Lnk}
 use Rattle.tree_model.specs.Tree.{Tree, Inode, Attributes, listing}
-use Rattle.snapshot_model.specs.Blocks.{AreEntries, Ascend, InodeBlock, IsEntry, IsInodeBlock, Says, entries_block, inode_block}
+use Rattle.snapshot_model.specs.Blocks.{AreEntries, Ascend, InodeBlock, IsEntry, IsInodeBlock, Says, inode_block}
 use Rattle.snapshot_model.specs.Spelling.{in_pieces}
-use Rattle.snapshot_model.specs.Reading.{Part, AnInode, Piece, Entries, Names, item_of, top_of}
+use Rattle.snapshot_model.specs.Reading.{Part, AnInode, item_of, top_of}
 use Rattle.snapshot_model.proofs.OneBlock.{one_inode}
 use Rattle.snapshot_model.proofs.OneNames.{one_said}
 use Rattle.snapshot_model.proofs.Pieces.{each_joined, short_pieces}
 use Rattle.snapshot_loading.proofs.Fits.{some_each}
 use Rattle.snapshot_loading.proofs.Order.{pieces_ascend}
-use Rattle.snapshot_wholes.specs.Forests.{Forest, nothing, block, flat, named_in, Fits, below_by, AreFull}
-use Rattle.snapshot_wholes.specs.Inodes.{AreContents, ShowsInode, bytes_in, run_of}
+use Rattle.snapshot_wholes.specs.Forests.{Forest, nothing, block, flat, named_in, Fits, below_by}
+use Rattle.snapshot_wholes.specs.Inodes.{AreContents, ShowsInode, bytes_in}
 use Rattle.snapshot_wholes.specs.Wholes.{ShowInodes}
 use Rattle.snapshot_wholes.proofs.Forests.{AllAre}
 use Rattle.snapshot_wholes.proofs.Full.{full_pieces}
 use Rattle.snapshot_basis.specs.Picks.{Blocks, picked}
 use Rattle.snapshot_basis.specs.Evenness.{is_even}
-use Rattle.snapshot_basis.specs.Contents.{HasContents, HaveEntries}
+use Rattle.snapshot_basis.specs.Contents.{HasContents}
 use Rattle.snapshot_basis.specs.Inodes.{Item, contained, item_in, IsInode, AreInodes}
 use Rattle.snapshot_basis.proofs.Layers.{IsBottom, entries_are, pieces_are, top_picked}
 use Rattle.snapshot_basis.proofs.Sizes.{told_even, even_told}
 use Rattle.snapshot_basis.proofs.Stretches.{stretches}
 use Rattle.snapshot_basis.proofs.Runs.{one_have}
 
-abbrev Some : Type 0
-Some = List (List ℕ × Key)
+-- what a directory contains
+abbrev Directory : Type 0
+Directory = List (List ℕ × Key)
 
 -- ---- contents
 
-all_fit : (each : List Some) → AllByRecursion (λ es. 1 ≤ length es) each → AllByRecursion (λ es. length es ≤ 32) each → AllByRecursion (AllByRecursion IsEntry) each → AllByRecursion Ascend each → AllByRecursion AreEntries each
+all_fit : (each : List Directory) → AllByRecursion (λ es. 1 ≤ length es) each → AllByRecursion (λ es. length es ≤ 32) each → AllByRecursion (AllByRecursion IsEntry) each → AllByRecursion Ascend each → AllByRecursion AreEntries each
 all_fit [] some few good ascend = tt
 all_fit (es ∷ each) some few good ascend = (record { some = some.0; few = few.0; each = good.0; in_order = ascend.0 }, all_fit each some.1 few.1 good.1 ascend.1)
 
-pub contents_told : (kind : Kind) (said : InodeBlock) (items : Forest) (body : List ℕ) (es : Some) → AllByRecursion IsEntry es → Ascend es → AreContents kind said items body es
+pub contents_told : (kind : Kind) (said : InodeBlock) (items : Forest) (body : List ℕ) (es : Directory) → AllByRecursion IsEntry es → Ascend es → AreContents kind said items body es
     → HasContents kind said (bytes_in items) body (contained kind es)
 contents_told Reg said items body es good ascend h = (refl, h.0, h.1, h.2)
 contents_told Dir said items body es good ascend h =
-    let each : h.1 ≡ in_pieces 32 es = sym (full_pieces 32 h.1 (omega arith) h.3) ∙ ap (λ (l : Some). in_pieces 32 l) h.4 in
+    let each : h.1 ≡ in_pieces 32 es = sym (full_pieces 32 h.1 (omega arith) h.3) ∙ ap (λ (l : Directory). in_pieces 32 l) h.4 in
     let fit : AllByRecursion AreEntries (in_pieces 32 es) =
     all_fit (in_pieces 32 es) (some_each (length es) 32 es (omega arith)) (short_pieces (length es) 32 es) (each_joined IsEntry (length es) 32 es good) (pieces_ascend (length es) 32 es ascend) in
-    (h.0, record { each = h.1; spelled = h.2; fit = subst (λ (l : List Some). AllByRecursion AreEntries l) (sym each) fit; full = h.3; run = h.4 })
+    (h.0, record { each = h.1; spelled = h.2; fit = subst (λ (l : List Directory). AllByRecursion AreEntries l) (sym each) fit; full = h.3; run = h.4 })
 contents_told Lnk said items body es good ascend h = (refl, h)
 
-pub told_contents : (kind : Kind) (said : InodeBlock) (items : Forest) (body : List ℕ) (es : Some) → HasContents kind said (bytes_in items) body (contained kind es) → AreContents kind said items body es
+pub told_contents : (kind : Kind) (said : InodeBlock) (items : Forest) (body : List ℕ) (es : Directory) → HasContents kind said (bytes_in items) body (contained kind es) → AreContents kind said items body es
 told_contents Reg said items body es h = (h.1, h.2, h.3)
 told_contents Dir said items body es h = (h.0, h.1.each, h.1.spelled, h.1.full, h.1.run)
 told_contents Lnk said items body es h = h.1
@@ -62,7 +63,7 @@ module _ (bytes : List ℕ) (below : Forest) (fits : Fits (block AnInode bytes b
   named_by_said : (said : InodeBlock) → fits.0.0 ≡ said → named_in below ≡ top_of (item_of said.kind) said.items.level said.items.top
   named_by_said said one = fits.0.2 ∙ ap (λ (b : InodeBlock). top_of (item_of b.kind) b.items.level b.items.top) one
 
-  pub inode_told : (number : Key) (inode : Inode) (es : Some) → AllByRecursion IsEntry es → Ascend es → ShowsInode bytes below number inode es → IsInode bytes (flat below) ((number, inode), contained inode.kind es)
+  pub inode_told : (number : Key) (inode : Inode) (es : Directory) → AllByRecursion IsEntry es → Ascend es → ShowsInode bytes below number inode es → IsInode bytes (flat below) ((number, inode), contained inode.kind es)
   inode_told number inode es good ascend s =
       let named = named_by_said s.said (one_said one_inode fits.0.1 s.says) in
       let bottom = item_bottom s.said.kind in
@@ -77,7 +78,7 @@ module _ (bytes : List ℕ) (below : Forest) (fits : Fits (block AnInode bytes b
             (contents_told inode.kind s.said (below_by s.said.items.level below) inode.body es good ascend s.contents);
       }
 
-  pub inode_shown : (number : Key) (inode : Inode) (es : Some) → IsInode bytes (flat below) ((number, inode), contained inode.kind es) → ShowsInode bytes below number inode es
+  pub inode_shown : (number : Key) (inode : Inode) (es : Directory) → IsInode bytes (flat below) ((number, inode), contained inode.kind es) → ShowsInode bytes below number inode es
   inode_shown number inode es i =
       let named = named_by_said i.said (one_said one_inode fits.0.1 i.says) in
       let bottom = item_bottom i.said.kind in
@@ -115,13 +116,13 @@ all_shown t (block part bytes below beside) (i ∷ inodes) are fits h = (
 
 -- ---- in one way
 
-same_body : (kind : Kind) (said : InodeBlock) (blocks : List (List ℕ)) (body other : List ℕ) (es os : Some) → HasContents kind said blocks body es → HasContents kind said blocks other os → (body ≡ other) × (es ≡ os)
+same_body : (kind : Kind) (said : InodeBlock) (blocks : List (List ℕ)) (body other : List ℕ) (es os : Directory) → HasContents kind said blocks body es → HasContents kind said blocks other os → (body ≡ other) × (es ≡ os)
 same_body Reg said blocks body other es os h g = (sym h.2 ∙ g.2, h.0 ∙ sym g.0)
 same_body Dir said blocks body other es os h g = (h.0 ∙ sym g.0, one_have blocks es os h.1 g.1)
 same_body Lnk said blocks body other es os h g = (sym h.1 ∙ g.1, h.0 ∙ sym g.0)
 
 abbrev ItemParts : Type 0
-ItemParts = (((Key × Kind) × Attributes) × List ℕ) × Some
+ItemParts = (((Key × Kind) × Attributes) × List ℕ) × Directory
 
 abbrev item_with : ItemParts → Item
 item_with p = ((p.0.0.0.0, record { kind = p.0.0.0.1; attributes = p.0.0.1; body = p.0.1 }), p.1)
@@ -163,7 +164,7 @@ module _ (bytes : List ℕ) (blocks : Blocks) (said : InodeBlock) (says : Says I
       let both : true ≡ false = sym found ∙ none in
       cc both
 
-  pub not_contents : (items : List (List ℕ)) → items ≡ picked false 0 blocks → ((body : List ℕ) (es : Some) → HasContents said.kind said items body es → ⊥) → ⊥
+  pub not_contents : (items : List (List ℕ)) → items ≡ picked false 0 blocks → ((body : List ℕ) (es : Directory) → HasContents said.kind said items body es → ⊥) → ⊥
   not_contents items same none =
       let kind : i.0.1.kind ≡ said.kind = sym h.kind ∙ ap (λ (b : InodeBlock). b.kind) is_said in
       none i.0.1.body i.1 (subst (λ (l : List (List ℕ)). HasContents said.kind said l i.0.1.body i.1) (sym same) (subst (λ (b : InodeBlock). HasContents said.kind b (picked false 0 blocks) i.0.1.body i.1) is_said

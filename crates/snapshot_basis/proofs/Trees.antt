@@ -1,8 +1,7 @@
 -- What the directories of a tree contain.
-use Rattle.std.proofs.Common.{◌≡◌, ℕ, ◌⊎◌, inl, inr, Bool, true, false, cond, List, [], ◌∷◌, Some, None, refl, sym, ap, ◌∙◌, subst}
+use Rattle.std.proofs.Common.{◌≡◌, ℕ, inl, inr, Bool, true, false, cond, List, [], ◌∷◌, Some, None, refl, sym, ap, ◌∙◌, subst}
 use Rattle.std.specs.Prelude.{IsTrue, if◌then◌else◌}
 use Rattle.std.specs.List.{AllByRecursion, filter_map, cons_option}
-use Rattle.std.specs.Cmp.{tied_itself}
 use Rattle.std.specs.Ordering.{is_lt, is_eq, ordering_reverse}
 use Rattle.std.specs.declared.cmp.Ordering.{Ordering}
 use Rattle.std.specs.declared.cmp.Ordering.TheVariants.{Less, Equal, Greater}
@@ -15,7 +14,7 @@ use Rattle.tree_model.specs.Tree.{Tree, Inode, Place, same_key, directory_kind, 
 use Rattle.tree_model.proofs.Keys.{keys_total, same_key_is, same_key_itself}
 use Rattle.tree_model.proofs.Sound.{both_true}
 use Rattle.snapshot_model.specs.Reading.{IsWholeTree}
-use Rattle.snapshot_model.proofs.SameNames.{Has, has_each}
+use Rattle.snapshot_model.proofs.SameNames.{Has}
 use Rattle.snapshot_basis.specs.Inodes.{contained}
 
 -- ---- what holds of all that a list has

@@ -1,6 +1,5 @@
 -- When blocks that were read are an even list, told by how many bytes each has.
 use Rattle.std.specs.Prelude.{ℕ, zero, suc, Bool, true, ◌&&◌, nat_eq, nat_le, List, [], ◌∷◌, length}
-use Rattle.snapshot_model.specs.Reading.{Part}
 use Rattle.snapshot_basis.specs.Picks.{Blocks, picked}
 
 abbrev pub is_some : ℕ → ℕ → Bool

@@ -37,11 +37,7 @@ pub(crate) fn all_entries(
 }
 
 /// Appends copies of the entries. The error is want of memory.
-fn copy_all(
-    alloc: Global,
-    all: &mut Vec<(Bytes, Key)>,
-    entries: &[Entry<'_>],
-) -> Result<(), Memory>
+fn copy_all(alloc: Global, all: &mut Vec<(Bytes, Key)>, entries: &[Entry<'_>]) -> Result<(), Memory>
     ensures { OnOk result (all.new.items ≡ all.old.items ++ entries_of entries.now) }
 {
     'each: for entry in entries {

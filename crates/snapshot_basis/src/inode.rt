@@ -72,11 +72,7 @@ fn contents_of(
 }
 
 /// The same of a file.
-fn file(
-    alloc: Global,
-    inode: &InodeBlock<'_>,
-    pieces: &[&[u8]],
-) -> Result<Option<Contents>, Memory>
+fn file(alloc: Global, inode: &InodeBlock<'_>, pieces: &[&[u8]]) -> Result<Option<Contents>, Memory>
     ensures { IfOk result (AreContentsOf Kind.Reg (inode_of inode.now) (map (λ b. b.now) pieces.now)) }
 {
     if !are_full(pieces, PIECE) {

@@ -9,10 +9,12 @@
 //! Within: `picking` takes the blocks of a level out of all that were read, `evenness` tests lists, `entries` reads what a
 //! directory contains, `inode` what an inode does, `inodes` goes from inode to inode, and `ending` is the whole.
 //! Definitions: `specs/Picks.antt` is the blocks of a level, `specs/Evenness.antt` even lists by the bytes of their blocks,
-//! `specs/Contents.antt` what an inode contains, `specs/Inodes.antt` inodes by their blocks, and `specs/Ends.antt` the whole.
+//! `specs/Contents.antt` what an inode contains, `specs/Inodes.antt` inodes by their blocks, `specs/Ends.antt` the whole, and
+//! `specs/Answers.antt` what each function answers by these.
 //! Lemmas, each file on those before it: `proofs/Layers.antt` (levels of lists), `proofs/Sizes.antt` (even lists by bytes),
-//! `proofs/Stretches.antt` (from inode to inode), `proofs/Entries.antt`, `proofs/Inodes.antt` (an inode, shown and told),
-//! `proofs/Trees.antt` (one tree), `proofs/Bounds.antt`, and `proofs/Ends.antt`.
+//! `proofs/Stretches.antt` (from inode to inode), `proofs/Runs.antt` (entries, block by block), `proofs/Told.antt` (inodes, as
+//! they are shown and as the blocks tell of them), `proofs/Trees.antt` (what directories contain), `proofs/Bounds.antt`,
+//! `proofs/Built.antt` (one tree has these inodes), `proofs/Steps.antt` (as it is read), and `proofs/Ends.antt`.
 //!
 //! Costs: each block is read once more, and gone through once for each level of the lists, of which there are at most three.
 //! Nothing is spelled or hashed.

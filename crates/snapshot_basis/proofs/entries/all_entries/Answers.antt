@@ -1,8 +1,6 @@
 use Rattle.std.proofs.Common.{◌++◌, length, map, sym, ap, ◌∙◌, subst, arith}
 use Rattle.std.proofs.lemmas.List.{length-map, take_all}
-use Rattle.snapshot_model.specs.Blocks.{AreEntries, Says, entries_block}
 use Rattle.snapshot_blocks.specs.Parsed.{entries_of, entry_of}
-use Rattle.snapshot_basis.specs.Contents.{HaveEntries}
 use Rattle.snapshot_basis.proofs.Runs.{AreDone, all_done, none_after, none_at, one_at}
 use Rattle.snapshot_basis.proofs.entries.all_entries.Goals as goal
 

@@ -1,4 +1,3 @@
-use Rattle.std.proofs.Common.{rules}
 use Rattle.snapshot_basis.proofs.inode.directory.Goals as goal
 
 pub returns-in_default : goal.returns-in_default
