@@ -13,10 +13,9 @@ use Rattle.snapshot_model.specs.Reading.{Part, Root, AnInode, HasBounds, IsBasis
 use Rattle.snapshot_model.proofs.OneBlock.{one_root}
 use Rattle.snapshot_model.proofs.OneNames.{one_said}
 use Rattle.snapshot_model.proofs.SameNames.{listed_fit}
-use Rattle.session_model.specs.Refreshing.{Loaded}
 use Rattle.snapshot_loading.specs.declared.load.Read.{Read}
 use Rattle.snapshot_loading.specs.Roles.{part_of}
-use Rattle.snapshot_loading.specs.Loading.{Loading, ComesTo, IsReadWhole, bytes_of}
+use Rattle.snapshot_loading.specs.Loading.{bytes_of}
 use Rattle.snapshot_loading.proofs.Order.{listed_ascend}
 use Rattle.snapshot_wholes.specs.Forests.{Forest, nothing, block, flat, named_in, Fits, below_by}
 use Rattle.snapshot_wholes.specs.Wholes.{ShowsBasis}
@@ -141,16 +140,6 @@ read_is_of root first rest basis h is =
 
     by_rest : {a b : Part × List ℕ} {xs ys : Blocks} → a ∷ xs ≡ b ∷ ys → xs ≡ ys
     by_rest e = cc
-
-pub some_read : (root : Key) → AreReadFrom [] root → ⊥
-some_read root h = let w = read_is_forest root [] h in no_first w.order
-  where
-    no_first : {a : Part × List ℕ} {xs : Blocks} → a ∷ xs ≡ [] → ⊥
-    no_first e = cc
-
-pub comes_to : (l : Loading) (read : List Read) (basis : Option Basis) → IsReadWhole l read → AreOfBasis (bytes_of read) basis → ComesTo l (Loaded basis)
-comes_to l read (Some b) whole h = whole.of_one b h.0
-comes_to l read None whole h = whole.of_none h
 
 -- ---- and what wasn't told
 

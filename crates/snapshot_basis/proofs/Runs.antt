@@ -57,9 +57,6 @@ pub record AreDone (done : List (List ℕ)) (before : ℕ) (all : Directory) : T
   pub run : run_of each ≡ all
   pub next : (rest : List Directory) → full_after 32 32 (each ++ rest) ≡ full_after 32 before rest
 
-pub none_done : AreDone [] 32 []
-none_done = record { each = []; spelled = refl; fit = tt; run = refl; next = λ rest. refl }
-
 one_more : (each : List Directory) (es : Directory) → run_of (each ++ es ∷ []) ≡ run_of each ++ es
 one_more [] es = append-nil es
 one_more (xs ∷ each) es = ap (λ (l : Directory). xs ++ l) (one_more each es) ∙ sym (append_assoc xs (run_of each) es)

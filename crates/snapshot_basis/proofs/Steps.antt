@@ -1,14 +1,13 @@
 -- What was read, step by step.
-use Rattle.std.proofs.Common.{◌≡◌, ℕ, zero, suc, ◌-◌, ◌<◌, Bool, true, false, ◌&&◌, List, [], ◌∷◌, ◌++◌, map, refl, sym, ap, ◌∙◌, subst, arith}
+use Rattle.std.proofs.Common.{◌≡◌, ℕ, Bool, true, List, [], ◌∷◌, ◌++◌, map, sym, ap, ◌∙◌, subst}
 use Rattle.std.specs.Prelude.{if◌then◌else◌}
-use Rattle.std.proofs.lemmas.List.{append-nil, append_assoc, map-append}
+use Rattle.std.proofs.lemmas.List.{append_assoc, map-append}
 use Rattle.tree_building.specs.declared.parts.InodeParts.{InodeParts}
 use Rattle.snapshot_model.specs.Reading.{Part}
 use Rattle.snapshot_loading.specs.declared.load.Read.{Read}
 use Rattle.snapshot_loading.specs.Roles.{part_of}
 use Rattle.snapshot_wholes.specs.Laws.{blocks_read}
-use Rattle.snapshot_basis.specs.Picks.{Blocks, is_inode, within, inodes_in, picked}
-use Rattle.snapshot_basis.specs.Evenness.{are_full, full_down}
+use Rattle.snapshot_basis.specs.Picks.{Blocks, is_inode, within, inodes_in}
 use Rattle.snapshot_basis.specs.Inodes.{Item, IsInode, AreInodes}
 use Rattle.snapshot_basis.specs.Answers.{item_of}
 
@@ -21,9 +20,6 @@ pub record AreSoFar (whole left : Blocks) (all : List InodeParts) : Type 0 where
   pub split : inodes_in whole ≡ done ++ inodes_in left
   pub are : AreInodes done (map item_of all)
 
-pub none_so_far : (whole : Blocks) → AreSoFar whole whole []
-none_so_far whole = record { done = []; split = refl; are = tt }
-
 one_more : (done : List Stretch) (s : Stretch) (items : List Item) (i : Item) → AreInodes done items → IsInode s.0 s.1 i → AreInodes (done ++ s ∷ []) (items ++ i ∷ [])
 one_more [] s [] i h g = (g, tt)
 one_more [] s (j ∷ items) i h g = absurd h
@@ -31,13 +27,6 @@ one_more (d ∷ done) s [] i h g = absurd h
 one_more (d ∷ done) s (j ∷ items) i h g = (h.0, one_more done s items i h.1 g)
 
 module _ (whole : Blocks) (part : Part) (bytes : List ℕ) (rest : Blocks) (all : List InodeParts) (h : AreSoFar whole ((part, bytes) ∷ rest) all) where
-  pub passed : is_inode part ≡ false → AreSoFar whole rest all
-  passed other = record {
-    done = h.done;
-    split = h.split ∙ ap (λ (b : Bool). h.done ++ (if b then (bytes, within rest) ∷ inodes_in rest else inodes_in rest)) other;
-    are = h.are;
-  }
-
   here : is_inode part ≡ true → inodes_in whole ≡ h.done ++ (bytes, within rest) ∷ inodes_in rest
   here is = h.split ∙ ap (λ (b : Bool). h.done ++ (if b then (bytes, within rest) ∷ inodes_in rest else inodes_in rest)) is
 
@@ -57,9 +46,6 @@ module _ (whole : Blocks) (part : Part) (bytes : List ℕ) (rest : Blocks) (all 
   pub none_there : is_inode part ≡ true → ((i : Item) → IsInode bytes (within rest) i → ⊥) → (items : List Item) → AreInodes (inodes_in whole) items → ⊥
   none_there is none items g = none_behind h.done items none (subst (λ (l : List Stretch). AreInodes l items) (here is) g)
 
-pub all_there : (whole : Blocks) (all : List InodeParts) → AreSoFar whole [] all → AreInodes (inodes_in whole) (map item_of all)
-all_there whole all h = subst (λ (l : List Stretch). AreInodes l (map item_of all)) (sym (h.split ∙ append-nil h.done)) h.are
-
 -- ---- as it was read
 
 module _ (whole : Blocks) (left rest : List Read) (first : Read) (all : List InodeParts) (cut : left ≡ first ∷ rest) (h : AreSoFar whole (blocks_read left) all) (is : is_inode (part_of first.role) ≡ true) where
@@ -76,9 +62,3 @@ module _ (whole : Blocks) (left rest : List Read) (first : Read) (all : List Ino
     one_read p one =
         taken whole (part_of first.role) first.bytes (blocks_read rest) all so_far is p
         (subst (λ (l : Blocks). IsInode first.bytes l (item_of p)) all_within (subst (λ (b : List ℕ). IsInode b below (item_of p)) of_first one))
-
--- ---- levels
-
-pub next_down : (inodes : Bool) (level : ℕ) (blocks : Blocks) → 0 < level → full_down inodes level blocks ≡ (are_full 10252 (picked inodes level blocks) && full_down inodes (level - 1) blocks)
-next_down inodes zero blocks some = absurd (omega (arith, some))
-next_down inodes (suc level) blocks some = let one_less : suc level - 1 ≡ level = omega arith in ap (λ (n : ℕ). are_full 10252 (picked inodes (suc level) blocks) && full_down inodes n blocks) (sym one_less)

@@ -127,9 +127,6 @@ ItemParts = (((Key × Kind) × Attributes) × List ℕ) × Directory
 abbrev item_with : ItemParts → Item
 item_with p = ((p.0.0.0.0, record { kind = p.0.0.0.1; attributes = p.0.0.1; body = p.0.1 }), p.1)
 
-abbrev parts_of_item : Item → ItemParts
-parts_of_item i = ((((i.0.0, i.0.1.kind), i.0.1.attributes), i.0.1.body), i.1)
-
 one_item : (bytes : List ℕ) (blocks : Blocks) (i j : Item) → IsInode bytes blocks i → IsInode bytes blocks j → i ≡ j
 one_item bytes blocks i j h g =
     let one : h.said ≡ g.said = one_said one_inode h.says g.says in
