@@ -1,0 +1,10 @@
+pub mod Layers
+pub mod Sizes
+pub mod Stretches
+pub mod Runs
+pub mod Told
+pub mod Trees
+pub mod Bounds
+pub mod Built
+pub mod Steps
+pub mod Ends

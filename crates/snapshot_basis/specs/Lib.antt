@@ -1,0 +1,6 @@
+pub mod Picks
+pub mod Evenness
+pub mod Contents
+pub mod Inodes
+pub mod Ends
+pub mod Answers
