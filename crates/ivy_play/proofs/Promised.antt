@@ -4,10 +4,10 @@ use Rattle.script_driver.specs.Run.{Goes, Outcome}
 use Rattle.world_model.specs.Logs.{Played}
 use Rattle.world_model.specs.Step.{IvyStep}
 use Rattle.completeness_laws.proofs.CalmLines.{lines_are_served}
-use Rattle.stage_laws.specs.Stage.{KeepsAll, StageStep}
+use Rattle.stage_laws.specs.Stage.{StageStep}
 use Rattle.stage_laws.proofs.Replies.{stage_has_headline}
 use Rattle.stage_laws.proofs.Stage.{what_goes_is_a_step}
-use Rattle.ivy_play.specs.Promise.{Promise, StagePromises}
+use Rattle.ivy_play.specs.Promise.{StagePromises}
 
 -- a line of the stage that goes on is a line of all steps
 goes_on : (w : Played) (line : List ℕ) (outcome : Outcome Played) → StageStep w line outcome → (next : Played) (output : List ℕ) → outcome ≡ Goes next output → IvyStep w line (Goes next output)

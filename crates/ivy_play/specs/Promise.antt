@@ -7,7 +7,7 @@ use Rattle.completeness_laws.specs.CalmLines.{IsServedWhereCalm}
 use Rattle.stage_laws.specs.Stage.{KeepsAll, StageStep}
 
 -- The headline: each turn is on the replay of one closed set of verified records, and each other reply has its cause. And where the world was reached calmly, what was acknowledged may be read, a call misses nothing,
--- and a round moves each block to its owners.
+-- a round moves each block to its owners, and where it was reached tidily too, a call's turn takes all that was written.
 pub record Promise (w : Played) (line : List ℕ) (outcome : Outcome Played) : Type 0 where
   pub headline : Headline w line outcome
   pub calm : IsServedWhereCalm w line outcome

@@ -25,12 +25,13 @@ pub type Status = u8;
 /// before the next one is looked at; a line that is refused shows `refused N`, with its number from 1, and one that meets a
 /// limit `limit N`; either ends the run. What follows the line `end` isn't looked at.
 ///
-/// A run is defined line by line, by the step of `world_model` and what is promised of each line (`PromisedStep`, `specs/Promise.antt`). In every run, whatever sessions stand
-/// open beside each other, whatever asks are lost and blocks spoilt, each reply of a turn is the answer of NFS version 3 (RFC 1813)
-/// on the replay, from nothing, of one causally closed set of verified records, and any other reply has its cause (`Headline`
-/// of `world_laws`). And where no ask was lost so far, no block spoilt, and fewer nodes stopped between two rounds than own a key
-/// (`IsCalmAt` of `world_laws`), whatever a put of was acknowledged is held and read, and no whole call fails for want of a block
-/// (`IsServedWhereCalm` of `completeness_laws`).
+/// A run is defined line by line, by the step of `world_model` with what is promised of each line (`PromisedStep` of
+/// `specs/Promise.antt`). In every run, whatever sessions stand open beside each other, whatever asks are lost and blocks spoilt, each
+/// reply of a turn is the answer of NFS version 3 (RFC 1813) on the replay, from nothing, of one causally closed set of verified
+/// records, and any other reply has its cause (`Headline` of `world_laws`). And where no ask was lost so far, no block spoilt, and
+/// fewer nodes stopped between two rounds than own a key (`IsCalmAt` of `world_laws`), whatever a put of was acknowledged is held and
+/// read, no whole call fails for want of a block, and in tidy scripts its turn takes all that was written (`IsServedWhereCalm` of
+/// `completeness_laws`).
 pub fn play<Q: Source, W: Sink>(alloc: Global, source: &mut Q, sink: &mut W) -> Status
     ensures statuses { (result ≡ 0) ⊎ (result ≡ 3) ⊎ (result ≡ 4) ⊎ (result ≡ 5) ⊎ (result ≡ 6) ⊎ (result ≡ 7) }
 

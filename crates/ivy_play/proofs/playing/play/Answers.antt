@@ -1,6 +1,5 @@
 use Rattle.script_driver.specs.Run.{Ended, RefusedAt, LimitAt}
 use Rattle.ivy_play.specs.Playing.{beginning}
-use Rattle.std.proofs.Common.{inl, inr, refl}
 use Rattle.ivy_play.proofs.Plays.{told_all, told_front, told_less, stops_short, runs_fully, read_rose, write_rose, lacked, begins, played, ends_alike}
 use Rattle.ivy_play.proofs.playing.play.Goals as goal
 
