@@ -53,7 +53,7 @@ impl Grown {
             sec: self.count,
             nsec: 7,
         };
-        let made = read_back(alloc, moment, step)?;
+        let made = read_back(alloc, &record_of_step(alloc, moment, step))?;
         self.take(alloc, &made)
     }
 
@@ -100,18 +100,22 @@ impl Grown {
     }
 }
 
-/// The record of that operation as it is read from its block, so that it has one. None where it has none.
-fn read_back(alloc: Global, moment: Moment, step: Step) -> Option<Record>
-    ensures { IfSome result (λ r. HasSpelling (record_of r)) }
-{
-    let record = Record {
+/// The record of that operation.
+fn record_of_step(alloc: Global, moment: Moment, step: Step) -> Record {
+    Record {
         owner: OWNER,
         seq: step.seq,
         prev: Key([5; 20]),
         vector: Vector::empty(alloc),
         moment,
         op: step.op,
-    };
+    }
+}
+
+/// The record as it is read from its block, so that it has one. None where it has none.
+fn read_back(alloc: Global, record: &Record) -> Option<Record>
+    ensures { IfSome result (λ r. HasSpelling (record_of r)) }
+{
     let block = record.write(alloc).ok()?;
     Record::read(alloc, block.as_slice(), &OWNER).ok()
 }

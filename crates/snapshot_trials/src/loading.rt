@@ -37,8 +37,8 @@ pub enum End {
 
 /// Changes the byte there.
 pub fn spoil(bytes: &mut [u8], at: usize) {
-    if let Some(byte) = bytes.get_mut(at) {
-        *byte = byte.wrapping_add(1);
+    if at < bytes.len() {
+        bytes[at] = bytes[at].wrapping_add(1);
     }
 }
 

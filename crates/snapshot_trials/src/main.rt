@@ -5,7 +5,7 @@
 //! - `inode NUMBER reg|dir|lnk TARGET`, `link DIR NAME NUMBER`, `unlink DIR NAME`, `write NUMBER OFFSET TEXT`: does the operation
 //! - `fill NUMBER OFFSET COUNT VALUE`: writes so many bytes of that value, by operations of 8,192 bytes at most
 //! - `many DIR FIRST COUNT`: makes so many files, and names each by its number
-//! - `cover COUNT`: from now on snapshots cover so many logs, and where these are some, a greatest rank
+//! - `cover BLOCK`: from now on snapshots cover what that root block says, which is given by hexadecimal digits
 //! - `snapshot`: makes a snapshot, and tells how many blocks it has and its root's name
 //! - `load`: loads it block by block, and tells what that came to; of a basis the name of the root of a snapshot made anew
 //! - `lack`: loads it without each block in turn, and tells how often that came to what; of bases how many gave the same root

@@ -5,56 +5,12 @@ use crate::loading::{End, Wrong, load};
 use crate::trying::{forge, lack, spoil};
 use crate::words::{OWNER, key_of, linked, made, step_of, words_of, written};
 use ivy_base::{Bytes, Key, Kind};
-use snapshot_blocks::{Listed, RootBlock};
 use snapshot_store::Made;
 use std::alloc::Global;
-use std::fmt;
-use version_vectors::{Entry, Rank, Vector};
 use view_blocks::View;
 
 /// The most bytes that an operation writes.
 const MOST_WRITTEN: u32 = 8192;
-
-/// A name in hexadecimal digits.
-#[derive(Drop)]
-struct Digits<'a>(&'a Key);
-
-impl fmt::Display for Digits<'_> {
-    fn fmt<W: fmt::Write>(&self, f: &mut fmt::Formatter<W>) -> fmt::Result {
-        for byte in &self.0.0 {
-            write!(f, "{byte:02x}")?;
-        }
-        Ok(())
-    }
-}
-
-/// What a snapshot covers: so many logs, and a rank where these are some. `None` is want of memory.
-fn covering(alloc: Global, count: u8) -> Option<Bytes> {
-    let mut front = Vector::empty(alloc);
-    for number in 0..count {
-        let entry = Entry {
-            log: Key([number; 20]),
-            seq: u32::from(number) + 1,
-            name: Key([9; 20]),
-        };
-        front = front.with(alloc, entry).ok()?;
-    }
-    let tide = Rank {
-        weight: 5_000_000_000,
-        owner: OWNER,
-        seq: 3,
-    };
-    let root = RootBlock {
-        view: Key([0; 20]),
-        front,
-        tide: if count == 0 { None } else { Some(tide) },
-        inodes: Listed {
-            level: 0,
-            top: Key([0; 20]),
-        },
-    };
-    root.write(alloc).ok()
-}
 
 /// So many bytes of that value. `None` is want of memory.
 fn filled(alloc: Global, size: u64, value: u8) -> Option<Bytes> {
@@ -63,7 +19,7 @@ fn filled(alloc: Global, size: u64, value: u8) -> Option<Bytes> {
     Some(Bytes::of(bytes))
 }
 
-/// The tree, the view, a root that says what snapshots cover, and the last snapshot.
+/// The tree, the view, a root block that says what snapshots cover, and the last snapshot.
 #[derive(Drop)]
 pub struct Trial {
     view: View,
@@ -76,11 +32,10 @@ impl Trial {
     /// The root alone. `None` is want of memory.
     pub fn new(alloc: Global) -> Option<Trial> {
         let view = View::make(alloc, &[OWNER], &[]).ok()?;
-        let covers = covering(alloc, 0)?;
         let tree = Grown::new(alloc)?;
         Some(Trial {
             view,
-            covers,
+            covers: Bytes::of(Vec::new(alloc)),
             tree,
             made: None,
         })
@@ -103,16 +58,14 @@ impl Trial {
     fn change(&mut self, alloc: Global, words: &[&str]) -> Option<()> {
         match words {
             ["new"] => self.begin(alloc),
-            ["cover", count] => self.cover(alloc, count),
+            ["cover", digits] => self.cover(alloc, digits),
             ["fill", ino, rest @ ..] => self.fill(alloc, key_of(ino)?, rest),
-            ["many", dir, first, count] => {
-                self.make_many(
-                    alloc,
-                    key_of(dir)?,
-                    first.parse().ok()?,
-                    count.parse().ok()?,
-                )
-            }
+            ["many", dir, first, count] => self.make_many(
+                alloc,
+                key_of(dir)?,
+                first.parse().ok()?,
+                count.parse().ok()?,
+            ),
             _ => self.tree.grow(alloc, step_of(alloc, words)?),
         }
     }
@@ -122,8 +75,8 @@ impl Trial {
         Some(())
     }
 
-    fn cover(&mut self, alloc: Global, count: &str) -> Option<()> {
-        self.covers = covering(alloc, count.parse().ok()?)?;
+    fn cover(&mut self, alloc: Global, digits: &str) -> Option<()> {
+        self.covers = Bytes::of(hex::decode(alloc, digits).ok()?);
         Some(())
     }
 
@@ -162,35 +115,39 @@ impl Trial {
     }
 
     fn snapshot(&mut self, alloc: Global) -> Option<String> {
-        let made = self
-            .tree
-            .snapshot(alloc, &self.view, self.covers.as_slice())?;
-        let (count, root) = (made.blocks.len(), Digits(&made.root));
-        let text = format!(in alloc; ": {count} blocks, root {root}").ok()?;
-        self.made = Some(made);
-        Some(text)
+        let covers = self.covers.as_slice();
+        self.made = Some(self.tree.snapshot(alloc, &self.view, covers)?);
+        let made = self.made.as_ref()?;
+        let root = hex::encode(alloc, &made.root.0[..]).ok()?;
+        format!(in alloc; ": {} blocks, root {root}", made.blocks.len()).ok()
     }
 
     /// What loads of the last snapshot come to.
     fn ask(&self, alloc: Global, question: &str) -> Option<String> {
         let made = self.made.as_ref()?;
         let counts = match question {
-            "load" => return self.load(alloc, made),
             "lack" => lack(alloc, &self.view, made)?,
             "spoil" => spoil(alloc, &self.view, made)?,
             "forge" => forge(alloc, &self.view, made)?,
-            _ => return None,
+            _ => return self.load(alloc, made),
         };
         format!(in alloc; ": {counts}").ok()
     }
 
     fn load(&self, alloc: Global, made: &Made) -> Option<String> {
         let blocks = made.blocks.as_slice();
-        match load(alloc, &self.view, blocks, Wrong::Nothing, made.root)? {
-            End::Missing => format!(in alloc; ": missing").ok(),
-            End::Damaged => format!(in alloc; ": damaged").ok(),
-            End::Malformed => format!(in alloc; ": malformed").ok(),
-            End::Basis(root) => format!(in alloc; ": a basis, root {}", Digits(&root)).ok(),
-        }
+        let word = match load(alloc, &self.view, blocks, Wrong::Nothing, made.root)? {
+            End::Missing => "missing",
+            End::Damaged => "damaged",
+            End::Malformed => "malformed",
+            End::Basis(root) => return basis(alloc, &root),
+        };
+        format!(in alloc; ": {word}").ok()
     }
+}
+
+/// A basis whose snapshot has that root. `None` is want of memory.
+fn basis(alloc: Global, root: &Key) -> Option<String> {
+    let root = hex::encode(alloc, &root.0[..]).ok()?;
+    format!(in alloc; ": a basis, root {root}").ok()
 }
