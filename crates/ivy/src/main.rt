@@ -8,8 +8,9 @@
 
 use ivy_base::Memory;
 use ivy_cli::run;
-use ivy_io::{Failing, StdSink, StdSource};
+use ivy_io::{Failing, Sink, Source, StdSink, StdSource};
 use ivy_outside::{FixedClock, MemKeepers, MemPorts};
+use std::alloc::Global;
 use std::env;
 use std::io::ErrorKind;
 use std::process::ExitCode;
@@ -26,9 +27,18 @@ fn words(rt: &HostRuntime) -> Result<Vec<String>, Memory> {
     }
 }
 
-/// No call is to fail.
-fn no_failures(rt: &HostRuntime) -> Failing {
-    Failing::of(Vec::new(rt.alloc()))
+/// Does what the words ask for, and gives the status. Nothing is said of it here, so that the rest isn't proved beside all that `run`
+/// promises.
+fn obey<Q: Source, W: Sink>(
+    alloc: Global,
+    words: &[String],
+    source: &mut Q,
+    sink: &mut W,
+    ports: &mut MemPorts,
+) -> u8 {
+    let mut clock = FixedClock::new(0, 0);
+    let mut keepers = MemKeepers::new(alloc, Failing::of(Vec::new(alloc)));
+    run(alloc, words, source, sink, &mut clock, ports, &mut keepers)
 }
 
 /// Does what the words ask for, and gives the status. The error is want of memory before anything was done.
@@ -36,18 +46,9 @@ fn status(rt: &HostRuntime) -> Result<u8, Memory> {
     let words = words(rt)?;
     let mut source = StdSource::new(rt.reader());
     let mut sink = StdSink::new(std::io::writer(rt));
-    let mut clock = FixedClock::new(0, 0);
-    let mut ports = MemPorts::new(rt.alloc(), Vec::new(rt.alloc()), no_failures(rt))?;
-    let mut keepers = MemKeepers::new(rt.alloc(), no_failures(rt));
-    Ok(run(
-        rt.alloc(),
-        &words,
-        &mut source,
-        &mut sink,
-        &mut clock,
-        &mut ports,
-        &mut keepers,
-    ))
+    let failing = Failing::of(Vec::new(rt.alloc()));
+    let mut ports = MemPorts::new(rt.alloc(), Vec::new(rt.alloc()), failing)?;
+    Ok(obey(rt.alloc(), &words, &mut source, &mut sink, &mut ports))
 }
 
 fn main(rt: HostRuntime) -> ExitCode {

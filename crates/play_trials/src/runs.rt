@@ -2,7 +2,7 @@
 
 use crate::ends::{Course, Halting, Slow};
 use ivy_base::{Bytes, Memory};
-use ivy_io::{Failing, MemSink, MemSource, StdSink, StdSource};
+use ivy_io::{Failing, MemSink, MemSource, Sink, Source, StdSink, StdSource};
 use ivy_play::{Status, play};
 use std::alloc::Global;
 
@@ -33,10 +33,15 @@ fn memory(alloc: Global, script: &[u8], plan: Plan) -> Result<(MemSource, MemSin
     Ok((source, sink))
 }
 
+/// Plays a script. Nothing is said of it here, so that the trials aren't proved beside all that `play` promises.
+fn status_of<Q: Source, W: Sink>(alloc: Global, source: &mut Q, sink: &mut W) -> Status {
+    play(alloc, source, sink)
+}
+
 /// The run over bytes in memory.
 pub fn played(alloc: Global, script: &[u8], plan: Plan) -> Result<Run, Memory> {
     let (mut source, mut sink) = memory(alloc, script, plan)?;
-    let status = play(alloc, &mut source, &mut sink);
+    let status = status_of(alloc, &mut source, &mut sink);
     let text = sink.written().to_vec(alloc)?;
     Ok(Run { status, text })
 }
@@ -46,7 +51,7 @@ pub fn played_slowly(alloc: Global, script: &[u8]) -> Result<Run, Memory> {
     let (source, sink) = memory(alloc, script, Plan::NONE)?;
     let mut source = Slow { inner: source };
     let mut sink = Slow { inner: sink };
-    let status = play(alloc, &mut source, &mut sink);
+    let status = status_of(alloc, &mut source, &mut sink);
     let text = sink.inner.written().to_vec(alloc)?;
     Ok(Run { status, text })
 }
@@ -61,7 +66,7 @@ pub fn played_over_std(alloc: Global, script: &[u8], reads: Course, writes: Cour
         inner: Vec::new(alloc),
         course: writes,
     });
-    let status = play(alloc, &mut source, &mut sink);
+    let status = status_of(alloc, &mut source, &mut sink);
     let text = sink.into_writer().inner;
     Run { status, text }
 }
