@@ -4,7 +4,7 @@ use Rattle.ivy_io.specs.Causes.{Rose}
 use Rattle.ivy_io.specs.Known.{then}
 use Rattle.script_driver.specs.Run.{Ran, Ending, Ended, RefusedAt, LimitAt}
 use Rattle.script_driver.specs.Told.{TellsAll, TellsFront, TellsLess, StopsShort}
-use Rattle.ivy_play.specs.Promise.{PromisedStep}
+use Rattle.stage_laws.specs.Promise.{PromisedStep}
 use Rattle.ivy_play.specs.Playing.{beginning, ivy_runs, IsPlayed, RunsFully}
 use Rattle.ivy_play.specs.Status.{status_of}
 use Rattle.ivy_cli.specs.declared.words.Asked.{Asked}

@@ -8,7 +8,7 @@ use Rattle.world_model.specs.Logs.{Played}
 use Rattle.world_model.specs.Story.{empty_story}
 use Rattle.world_model.specs.World.{empty_world}
 use Rattle.stage_laws.specs.FullRuns.{HasMemoryAlong, HasOneFullRun, LacksOrClashes, RunComesTo}
-use Rattle.ivy_play.specs.Promise.{PromisedStep}
+use Rattle.stage_laws.specs.Promise.{PromisedStep}
 use Rattle.ivy_play.specs.Status.{status_of}
 
 -- a script begins in the empty world, of which nothing is told

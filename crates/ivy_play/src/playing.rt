@@ -4,7 +4,7 @@ ghost use Rattle.std.specs.Prelude.{◌≡◌, ◌⊎◌, ◌≤◌, ℕ, List, 
 ghost use Rattle.ivy_io.specs.Causes.{Rose};
 ghost use Rattle.script_driver.specs.Run.{Ran, Ending, Ended, RefusedAt, LimitAt};
 ghost use Rattle.script_driver.specs.Told.{TellsAll, TellsFront, TellsLess, StopsShort};
-ghost use Rattle.ivy_play.specs.Promise.{PromisedStep};
+ghost use Rattle.stage_laws.specs.Promise.{PromisedStep};
 ghost use Rattle.ivy_play.specs.Playing.{beginning, ivy_runs, IsPlayed, RunsFully};
 ghost use Rattle.ivy_play.specs.Status.{status_of};
 
@@ -26,7 +26,7 @@ pub type Status = u8;
 /// limit `limit N`; either ends the run. What follows the line `end` isn't looked at.
 ///
 /// A run is defined line by line, by the step of `world_model` with what is promised of each line (`PromisedStep` of
-/// `specs/Promise.antt`). In every run, whatever sessions stand open beside each other, whatever asks are lost and blocks spoilt, each
+/// `stage_laws`). In every run, whatever sessions stand open beside each other, whatever asks are lost and blocks spoilt, each
 /// reply of a turn is the answer of NFS version 3 (RFC 1813) on the replay, from nothing, of one causally closed set of verified
 /// records, and any other reply has its cause (`Headline` of `world_laws`). And where no ask was lost so far, no block spoilt, and
 /// fewer nodes stopped between two rounds than own a key (`IsCalmAt` of `world_laws`), whatever a put of was acknowledged is held and

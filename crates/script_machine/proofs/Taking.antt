@@ -13,7 +13,9 @@ use Rattle.script_model.specs.Lines.{command_of}
 use Rattle.world_model.specs.Logs.{Played}
 use Rattle.world_model.specs.Step.{MayDo, MayDoFirst}
 use Rattle.script_machine.specs.WorldState.{KeepsAll, LineDoes, ShowsWorld, WorldState}
+use Rattle.stage_laws.specs.Promise.{PromisedStep}
 use Rattle.stage_laws.specs.Stage.{StageStep, stage_command}
+use Rattle.stage_laws.proofs.Promised.{each_promises}
 use Rattle.script_machine.specs.Limits.{meets_limit}
 
 -- ---- the limit
@@ -51,10 +53,18 @@ told_of Step before after taken.Ended does w shows keeps = (Ends, does w shows k
 told_of Step before after taken.Refused does w shows keeps = (Refuses, does w shows keeps, tt)
 told_of Step before after taken.Exceeded does w shows keeps = (Exceeds, does w shows keeps, tt)
 
--- what was done of a line's command is what may be done of the line, in each world that the machine may stand for
+-- what was done of a line's command is what the line does
 pub taken_of : {E : Type 0} (result : Result Taken E) (before after : WorldState) (line : List ℕ) (o : Option Command) → o ≡ command_of line
     → IfOk result (λ how. LineDoes (λ w outcome. MayDoFirst w (stage_command o) outcome) before how after)
-    → IfOk result (λ how. (w : Played) → ShowsWorld before w → KeepsAll w → (outcome : Outcome Played) × StageStep w line outcome × IsSeenAs ShowsWorld (outcome_told how after) outcome)
-taken_of (Ok how) before after line o is does =
-    told_of (λ w outcome. StageStep w line outcome) before after how (subst (λ (p : Option Command). LineDoes (λ w outcome. MayDoFirst w (stage_command p) outcome) before how after) is does)
+    → IfOk result (λ how. LineDoes (λ w outcome. StageStep w line outcome) before how after)
+taken_of (Ok how) before after line o is does = subst (λ (p : Option Command). LineDoes (λ w outcome. MayDoFirst w (stage_command p) outcome) before how after) is does
 taken_of (Err e) before after line o is does = tt
+
+-- and a line that does so does it with its promise, in each world that the machine may stand for
+pub promised_of : {E : Type 0} (result : Result Taken E) (before after : WorldState) (line : List ℕ)
+    → IfOk result (λ how. LineDoes (λ w outcome. StageStep w line outcome) before how after)
+    → IfOk result (λ how. (w : Played) → ShowsWorld before w → KeepsAll w → (outcome : Outcome Played) × PromisedStep w line outcome × IsSeenAs ShowsWorld (outcome_told how after) outcome)
+promised_of (Ok how) before after line does w shows keeps =
+    let told = told_of (λ v outcome. StageStep v line outcome) before after how does w shows keeps in
+    (told.0, ((told.1, each_promises w line told.0 keeps told.1), told.2))
+promised_of (Err e) before after line does = tt

@@ -4,8 +4,9 @@
 //! `script_driver`, by the definitions of `world_model` and the laws of `world_laws` and `stage_laws`; below `play`.
 //! For the layer above: [`ScriptMachine`] is a machine of `script_driver` whose wholes are worlds with their stories. It may stand
 //! for each that its world may be (`ShowsWorld` in `specs/WorldState.antt`: a world in code has no story, nor the heads that left an
-//! agent, and a session in code may be many); its step is `StageStep` of `stage_laws`, the step of all lines but that those that make
-//! a snapshot are refused for now; and [`ScriptMachine::new`] may be the world in which a script begins.
+//! agent, and a session in code may be many); its step is `PromisedStep` of `stage_laws`, the step of all lines with what is promised
+//! of each (the headline, and that calm scripts are served), but that those that make a snapshot are refused for now; and
+//! [`ScriptMachine::new`] may be the world in which a script begins.
 //! Within, each function of a world is a line of a script, which does in each world that it may be, and that keeps what it should,
 //! what the definitions say (`LineDoes`); each error is want of memory, after which the world is of no more use.
 //! Definitions: `specs/WorldState.antt`, `specs/Ends.antt`, `specs/Limits.antt`, and `world_model`'s.

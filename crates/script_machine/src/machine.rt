@@ -5,6 +5,7 @@ ghost use Rattle.world_model.specs.Logs.{Played};
 ghost use Rattle.world_model.specs.Step.{MayDo, MayDoFirst};
 ghost use Rattle.world_laws.proofs.LineFits.{Fits};
 ghost use Rattle.script_machine.specs.WorldState.{HasWorld, LineDoes, ShowsWorld};
+ghost use Rattle.stage_laws.specs.Promise.{PromisedStep};
 ghost use Rattle.stage_laws.specs.Stage.{StageStep, stage_command};
 ghost use Rattle.script_machine.specs.Limits.{is_full, meets_limit};
 
@@ -43,6 +44,18 @@ impl ScriptMachine {
     {
         ScriptMachine {
             world: World::new(alloc),
+        }
+    }
+
+    /// Takes a line: what was done is what the line may do by the step, in each world that the machine may stand for. The error is
+    /// want of memory.
+    fn take_line(&mut self, alloc: Global, line: &[u8]) -> Result<Taken, Memory>
+        requires kept { HasWorld self.old }
+        ensures { IfOk result (λ taken. LineDoes (λ w outcome. StageStep w line.now outcome) self.old taken self.new) }
+    {
+        match read_command(alloc, line)? {
+            Some(command) => self.take_command(alloc, command),
+            None => Ok(self.refuse()),
         }
     }
 
@@ -153,26 +166,23 @@ fn let_go(_command: Command) {}
 
 impl Machine for ScriptMachine {
     ghost use Rattle.script_machine.specs.WorldState.{KeepsAll};
-    ghost use Rattle.stage_laws.proofs.Stage.{long_lines_stop, stage_does_something, stage_keeps};
+    ghost use Rattle.stage_laws.proofs.Promised.{promised_does_something, promised_keeps, promised_long_lines_stop};
 
     ghost Whole = { Played };
 
     ghost shows = { λ machine whole. ShowsWorld machine whole };
 
-    ghost step = { StageStep };
+    ghost step = { PromisedStep };
 
     ghost keeps = { KeepsAll };
 
     fn take(&mut self, alloc: Global, line: &[u8]) -> Result<Taken, Memory> {
-        match read_command(alloc, line)? {
-            Some(command) => self.take_command(alloc, command),
-            None => Ok(self.refuse()),
-        }
+        self.take_line(alloc, line)
     }
 
-    ghost step_keeps = { stage_keeps };
+    ghost step_keeps = { promised_keeps };
 
-    ghost some_outcome = { stage_does_something };
+    ghost some_outcome = { promised_does_something };
 
-    ghost long_stops = { λ whole line next output _ long step. long_lines_stop whole next line output long step };
+    ghost long_stops = { promised_long_lines_stop };
 }

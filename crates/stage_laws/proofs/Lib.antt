@@ -1,3 +1,4 @@
 pub mod Stage
 pub mod Replies
 pub mod FullRuns
+pub mod Promised

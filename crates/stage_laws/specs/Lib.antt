@@ -1,3 +1,4 @@
 pub mod Stage
 pub mod Laws
 pub mod FullRuns
+pub mod Promise

@@ -1,6 +1,7 @@
 //! What holds of the step of this stage.
 
 ghost use Rattle.stage_laws.specs.FullRuns.{StageRunsFully, StageRunsTell};
+ghost use Rattle.stage_laws.specs.Promise.{PromisedDoesSomething, PromisedKeeps, PromisedLongLinesStop, StagePromises};
 ghost use Rattle.stage_laws.specs.Laws.{
   LongLinesStop,
   OthersAreSteps,
@@ -41,4 +42,14 @@ pub fn stage_has_headline()
 pub fn stage_runs_fully()
     ensures fully { StageRunsFully }
     ensures tell { StageRunsTell }
+{}
+
+/// Laws and no code: what is promised of a line holds of each line of this stage from such a world: the headline, and that calm
+/// scripts are served. So the step with its promise leads on to such worlds, each line has an outcome by it, and one that is too long
+/// doesn't go on.
+pub fn stage_lines_are_promised()
+    ensures promises { StagePromises }
+    ensures keeps { PromisedKeeps }
+    ensures does { PromisedDoesSomething }
+    ensures stops { PromisedLongLinesStop }
 {}
