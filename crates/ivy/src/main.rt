@@ -10,7 +10,6 @@ use ivy_base::Memory;
 use ivy_cli::run;
 use ivy_io::{Failing, Sink, Source, StdSink, StdSource};
 use ivy_outside::{FixedClock, MemKeepers, MemPorts};
-use std::alloc::Global;
 use std::env;
 use std::io::ErrorKind;
 use std::process::ExitCode;
@@ -30,15 +29,25 @@ fn words(rt: &HostRuntime) -> Result<Vec<String>, Memory> {
 /// Does what the words ask for, and gives the status. Nothing is said of it here, so that the rest isn't proved beside all that `run`
 /// promises.
 fn obey<Q: Source, W: Sink>(
-    alloc: Global,
+    rt: &HostRuntime,
     words: &[String],
     source: &mut Q,
     sink: &mut W,
     ports: &mut MemPorts,
 ) -> u8 {
+    let alloc = rt.alloc();
     let mut clock = FixedClock::new(0, 0);
     let mut keepers = MemKeepers::new(alloc, Failing::of(Vec::new(alloc)));
-    run(alloc, words, source, sink, &mut clock, ports, &mut keepers)
+    run(
+        rt,
+        alloc,
+        words,
+        source,
+        sink,
+        &mut clock,
+        ports,
+        &mut keepers,
+    )
 }
 
 /// Does what the words ask for, and gives the status. The error is want of memory before anything was done.
@@ -48,7 +57,7 @@ fn status(rt: &HostRuntime) -> Result<u8, Memory> {
     let mut sink = StdSink::new(std::io::writer(rt));
     let failing = Failing::of(Vec::new(rt.alloc()));
     let mut ports = MemPorts::new(rt.alloc(), Vec::new(rt.alloc()), failing)?;
-    Ok(obey(rt.alloc(), &words, &mut source, &mut sink, &mut ports))
+    Ok(obey(rt, &words, &mut source, &mut sink, &mut ports))
 }
 
 fn main(rt: HostRuntime) -> ExitCode {

@@ -26,10 +26,11 @@ const STATUS_MEMORY: Status = 6;
 /// Does what the words behind the program's name ask for: `play` plays the script of the source, and `load SEED CALLS` a
 /// generated one. Status 2 comes exactly where they are of no such form, and then the sink is told the usage line.
 ///
-/// The words of `crowd` and `serve` aren't served yet, and so are of no form. The clock, the ports and the keepers are for
-/// these, and stay as they were: what they hold, and their counts. A handle of the runtime, for threads and waiting, comes
-/// with them, since a function that takes one owes no return.
-pub fn run<Q: Source, W: Sink, C: Clock, P: Ports, K: Keepers>(
+/// The words of `crowd` and `serve` aren't served yet, and so are of no form. The runtime, the clock, the ports and the keepers
+/// are for these. The last three stay as they were: what they hold, and their counts. Of the runtime nothing is asked yet, so
+/// that `run` returns: one that may start threads or wait would owe no return.
+pub fn run<R, Q: Source, W: Sink, C: Clock, P: Ports, K: Keepers>(
+    _rt: &R,
     alloc: Global,
     words: &[String],
     source: &mut Q,
