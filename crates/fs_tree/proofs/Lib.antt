@@ -1,3 +1,4 @@
 pub mod Written
 pub mod Joined
 pub mod Copied
+pub mod OwnOperations

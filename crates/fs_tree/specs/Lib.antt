@@ -3,3 +3,4 @@ pub mod View
 pub mod Tied
 pub mod Applicable
 pub mod Bases
+pub mod Laws

@@ -17,9 +17,11 @@
 
 pub mod basis;
 mod contents;
+mod laws;
 mod tree;
 
 pub use basis::Basis;
 pub use dir_replay::ROOT;
 pub use inode_replay::Attr;
+pub use laws::{files_hang_on_their_own, names_hang_on_names};
 pub use tree::Tree;
