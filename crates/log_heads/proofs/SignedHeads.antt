@@ -238,3 +238,14 @@ other_head key bytes owner newest part signature f front differs judged g =
     let message = front ∙ signed_front bytes g.owner (stamp judged.seq judged.name) g.signature g.head in
     let accepted : HssAccepts g.owner.0 part g.signature = subst (λ (m : List ℕ). HssAccepts g.owner.0 m g.signature) (sym message) g.accepted in
     differs (g.key_is ∙ sym (ap (λ (p : Parts). head_key_of p.0.0) same), subst (λ (p : Parts). HssAccepts p.0.0.0 part p.1) (sym same) accepted)
+
+-- the number that stands in a head is that of its verdict
+pub judged_below : (key : Key) (bytes : List ℕ) (owner : PubKey) (newest : Stamp) (signature : List ℕ) (seq : ℕ) → IsHeadOf owner bytes newest signature → newest.seq < seq → (judged : Judged) → hss_judged key bytes ≡ Some judged → judged.seq < seq
+judged_below key bytes owner newest signature seq f below judged is =
+    let g = to_head key bytes judged is in
+    let same : ((owner, newest), signature) ≡ ((g.owner, stamp judged.seq judged.name), g.signature) = whole one_head ((owner, newest), signature) ((g.owner, stamp judged.seq judged.name), g.signature)
+    (f.owner_is_key, (f.some, f.few), f.name, f.short) (g.head.owner_is_key, (g.head.some, g.head.few), g.head.name, g.head.short) (sym f.spelled ∙ g.head.spelled) in
+    subst (λ (p : Parts). p.0.1.seq < seq) same below
+
+pub none_judged : (key : Key) (bytes : List ℕ) (seq : ℕ) → ((owner : PubKey) (newest : Stamp) (signature : List ℕ) → IsHeadOf owner bytes newest signature → ⊥) → (judged : Judged) → hss_judged key bytes ≡ Some judged → judged.seq < seq
+none_judged key bytes seq absent judged is = absurd (no_head key bytes absent judged (to_head key bytes judged is))

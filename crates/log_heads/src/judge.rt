@@ -30,6 +30,14 @@ impl Judge for HssJudge {
     fn judge(&self, key: &Key, bytes: &[u8]) -> Option<Judged> {
         judged(key, bytes)
     }
+
+    // By the number that stands in the head: nothing is verified.
+    fn may_reach(&self, _key: &Key, bytes: &[u8], seq: u32) -> bool {
+        match Head::read(bytes) {
+            Some(head) => head.seq >= seq,
+            None => false,
+        }
+    }
 }
 
 /// What the bytes say as a signed head under the key.

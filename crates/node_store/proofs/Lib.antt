@@ -3,3 +3,4 @@ pub mod Held
 pub mod Maps
 pub mod Puts
 pub mod Sums
+mod Numbers

@@ -1,6 +1,6 @@
 //! All blocks that a node holds.
 
-ghost use Rattle.std.specs.Prelude.{◌≡◌, [], map, IfOk, OnOk, OnErr, Some, None, MatchBool, option_copied};
+ghost use Rattle.std.specs.Prelude.{◌≡◌, [], false, map, IfOk, OnOk, OnErr, Some, None, MatchBool, option_copied};
 ghost use Rattle.std.specs.FinMap.Entries.{put};
 ghost use Rattle.node_store.specs.Stores.{older as older_than};
 ghost use Rattle.ivy_base.specs.Naming.{key_cmp};
@@ -39,6 +39,7 @@ impl Model for Store {
 
 impl Store {
     ghost use Rattle.node_store.specs.declared.kind.Kind.{Kind};
+    ghost use Rattle.node_store.specs.Numbers.{IsBelow};
     ghost use Rattle.node_store.specs.Stores.{IsStore, Tells, bytes_at, bytes_held, content, content_fault, full, head, head_fault, number_at, post_of, with_byte, without};
 
     /// No blocks. It takes no memory.
@@ -84,7 +85,7 @@ impl Store {
         let Some(new) = judge.judge(key, bytes) else {
             return Err(PutFault::Refused(StoreFault::NotJudged));
         };
-        if let Some(fault) = older(self.number_at(judge, key, bytes, new), new) {
+        if let Some(fault) = self.older_at(judge, key, bytes, new) {
             return Err(PutFault::Refused(fault));
         }
         self.hold(alloc, key, Kind::Head, bytes)
@@ -157,6 +158,34 @@ impl Store {
             None => 0,
         };
         self.total - replaced + bytes.len() as u64
+    }
+
+    // Older, where the head that is held under the key has a number that isn't below the new one's. It is judged only where it
+    // may have such a number: in the course of a log's heads never, as their numbers ascend.
+    fn older_at<J: Judge>(
+        &self,
+        judge: &J,
+        key: &Key,
+        known: &[u8],
+        new: Judged,
+    ) -> Option<StoreFault>
+        requires { J.judges judge.now key.now known.now ≡ Some new }
+        ensures { result ≡ older_than (number_at (J.judges judge.now) key.now self.now) (Some new) }
+    {
+        if !self.may_reach(judge, key, new.seq) {
+            return None;
+        }
+        older(self.number_at(judge, key, known, new), new)
+    }
+
+    // Whether a head may be held under the key whose number isn't below that one.
+    fn may_reach<J: Judge>(&self, judge: &J, key: &Key, seq: u32) -> bool
+        ensures { result ≡ false → IsBelow seq (number_at (J.judges judge.now) key.now self.now) }
+    {
+        match self.blocks.get(key) {
+            Some(block) => judge.may_reach(key, block.as_slice(), seq),
+            None => false,
+        }
     }
 
     // The number of the head that is held under the key. It isn't judged again where it has those bytes.
