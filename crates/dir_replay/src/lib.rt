@@ -20,6 +20,7 @@
 mod entries;
 mod keys;
 mod listing;
+mod name;
 mod names;
 mod nodes;
 mod touched;
