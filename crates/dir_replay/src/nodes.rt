@@ -1,13 +1,14 @@
 //! All inodes by their numbers, each with the names that lead to it and from it.
 
-ghost use Rattle.std.specs.Prelude.{◌≡◌, ℕ, List, Bool, IfOk, OnOk, OnErr, Some, None, []};
+ghost use Rattle.std.specs.Prelude.{◌≡◌, ℕ, List, Bool, T, IfOk, OnOk, OnErr, Some, None, []};
 ghost use Rattle.std.specs.Option.{option_copied};
 ghost use Rattle.std.specs.List.{list_any};
-ghost use Rattle.std.specs.FinMap.Entries.{find as value_at, put};
+ghost use Rattle.std.specs.FinMap.Entries.{find as value_at, put, is_sorted};
 ghost use Rattle.ivy_base.specs.Naming.{key_cmp};
 ghost use Rattle.dir_replay.specs.Counts.{less_one_if};
 
 use crate::entries::Entries;
+use crate::keys::both_same;
 use ivy_base::{Key, Kind, Memory};
 use shared_map::{EntryTest, SharedMap};
 use std::alloc::Global;
@@ -105,7 +106,8 @@ impl Nodes {
 
     // A copy of the inode of that number, which shares its names. The error is a count of owners that is full.
     fn copy_of(&self, ino: &Key) -> Result<Option<Node>, Memory>
-        ensures { IfOk result (λ node. node ≡ value_at key_cmp ino.now self.now) }
+        ensures value { IfOk result (λ node. node ≡ value_at key_cmp ino.now self.now) }
+        ensures ordered { T (is_sorted key_cmp self.now) }
     {
         match self.map.get(ino) {
             None => Ok(None),
@@ -200,7 +202,8 @@ impl Nodes {
         }
     }
 
-    /// Notes which directory has the name of a directory. The error is want of memory, and then nothing has changed.
+    /// Notes which directory has the name of a directory, which takes no memory where that is noted already. The error
+    /// is want of memory, and then nothing has changed.
     pub fn set_parent(
         &mut self,
         alloc: Global,
@@ -213,6 +216,9 @@ impl Nodes {
         let Some(mut node) = self.copy_of(ino)? else {
             return Ok(());
         };
+        if both_same(node.parent, parent) {
+            return Ok(());
+        }
         node.parent = parent;
         self.insert(alloc, ino, node)
     }
