@@ -1,21 +1,15 @@
 -- std's maps against the lists of entries that the definitions speak of.
-use Rattle.std.proofs.Common.{◌≡◌, ℕ, suc, List, [], ◌∷◌, ◌++◌, Some, None, Bool, true, false, cond, length, ◌↔◌, not, refl, sym, ap, ◌∙◌}
+use Rattle.std.proofs.Common.{◌≡◌, List, [], ◌∷◌, Some, None, Bool, true, false, cond, refl, ap, ◌∙◌}
 use Rattle.std.specs.declared.cmp.Ordering.{Ordering}
 use Rattle.std.specs.declared.cmp.Ordering.TheVariants.{Less, Equal, Greater}
-use Rattle.std.specs.declared.vec.Vec.{Vec}
-use Rattle.std.specs.Cmp.{IsTotalOrder, Equal-is, tied_itself}
-use Rattle.std.specs.Cmp.Lexicographic.{nat_list_cmp_total}
-use Rattle.std.proofs.lemmas.List.{append-nil, append_assoc}
-use Rattle.std.proofs.lemmas.Map.Lookups.{exact_bytes}
-use Rattle.tree_model.proofs.Parents.{same_truth}
-use Rattle.std.specs.List.{AllByRecursion, AllZip}
+use Rattle.std.specs.Cmp.{IsTotalOrder}
+use Rattle.std.specs.List.{AllByRecursion}
 use Rattle.std.specs.List.Sorted.{IsStrictlySortedBy}
-use Rattle.std.specs.Ordering.{eq_by_cmp, is_eq, match_ordering}
-use Rattle.std.specs.FinMap.Entries.{find as value_at, put, by_order, where_key}
-use Rattle.std.specs.Map.{lookup, keys_of, set_value, remove_entry}
+use Rattle.std.specs.Ordering.{is_eq, match_ordering}
+use Rattle.std.specs.FinMap.Entries.{find as value_at, put, by_order}
+use Rattle.std.specs.Map.{lookup, keys_of, set_value}
 use Rattle.std.specs.BTreeMap.{insert_entry}
 use Rattle.std.proofs.lemmas.Map.Keys.{sorted_head, sorted_tail}
-use Rattle.ivy_base.specs.declared.key.Key.{Key}
 
 pub find-lookup : {K X : Type 0} (cmp : K → K → Ordering) (k : K) (es : List (K × X)) → value_at cmp k es ≡ lookup (λ q. is_eq (cmp k q)) es
 find-lookup cmp k [] = refl

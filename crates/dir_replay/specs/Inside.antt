@@ -1,5 +1,5 @@
 -- A name that stands inside a directory.
-use Rattle.std.specs.Prelude.{List, Bool, ◌&&◌}
+use Rattle.std.specs.Prelude.{Bool, ◌&&◌}
 use Rattle.std.specs.List.{list_any}
 use Rattle.ivy_base.specs.declared.key.Key.{Key}
 use Rattle.tree_model.specs.Tree.{Tree, Place, same_key, inode_at, is_directory, is_inside}

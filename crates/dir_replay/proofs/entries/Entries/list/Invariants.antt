@@ -1,4 +1,4 @@
-use Rattle.std.proofs.Common.{◌≡◌, map, take}
+use Rattle.std.proofs.Common.{◌≡◌, take}
 use Rattle.dir_replay.proofs.entries.Entries.list.Given as goal
 
 abbrev pub invariant-names : goal.invariant-names
