@@ -1,5 +1,5 @@
 -- What a change of one inode in the list of all leaves as it was.
-use Rattle.std.proofs.Common.{◌≡◌, ℕ, List, [], ◌∷◌, ◌++◌, Option, Some, None, Bool, true, false, cond, not, option_map, refl, sym, ap, ◌∙◌, subst}
+use Rattle.std.proofs.Common.{◌≡◌, ℕ, List, [], ◌∷◌, ◌++◌, Option, Some, None, Bool, true, false, cond, not, option_map, T, refl, sym, ap, ◌∙◌, subst}
 use Rattle.std.specs.Ordering.{is_eq, eq_by_cmp, ordering_then}
 use Rattle.std.specs.declared.cmp.Ordering.{Ordering}
 use Rattle.std.specs.declared.cmp.Ordering.TheVariants.{Less, Equal, Greater}
@@ -14,7 +14,7 @@ use Rattle.tree_model.proofs.Sound.{both_true, from_test, to_test}
 use Rattle.dir_replay.specs.declared.nodes.Node.{Node}
 use Rattle.dir_replay.specs.Bare.{bare_inode}
 use Rattle.dir_replay.specs.Entries.{name_cmp}
-use Rattle.dir_replay.specs.Nodes.{changed_node, at_node, entered, left}
+use Rattle.dir_replay.specs.Nodes.{changed_node, at_node, entered, left, moved_to}
 use Rattle.dir_replay.specs.View.{names_in, all_names, all_inodes}
 use Rattle.dir_replay.proofs.Sorted.{sorted-all_inodes, put_same, find_below, found_later}
 use Rattle.dir_replay.proofs.Views.{inode_at-tree_of, other_then}
@@ -57,6 +57,13 @@ names_changed k f kept nodes sorted (Some n) is = all_names-put_same k n (f n) n
 
 pub names-at_node : (k : Key) (f : Node → Node) → ((n : Node) → (f n).entries ≡ n.entries) → (nodes : List (Key × Node)) → is_sorted key_cmp nodes ≡ true → all_names (at_node nodes k f) ≡ all_names nodes
 names-at_node k f kept nodes sorted = names_changed k f kept nodes sorted (value_at key_cmp k nodes) refl
+
+-- where that directory is noted already
+pub unmoved : (k : Key) (parent : Option Key) (n : Node) (nodes : List (Key × Node)) → T (is_sorted key_cmp nodes) → Some n ≡ value_at key_cmp k nodes → n.parent ≡ parent → nodes ≡ at_node nodes k (moved_to parent)
+unmoved k parent n nodes sorted found same =
+    sym (put_same key_cmp keys_total k n nodes (to_test _ sorted) (sym found))
+    ∙ ap (λ above. put key_cmp k (moved_to above n) nodes) same
+    ∙ ap (λ o. changed_node nodes k o (moved_to parent)) found
 
 -- ---- a name more
 

@@ -1,12 +1,11 @@
 -- Whether an inode lies inside a directory: by its name or by one of its names.
-use Rattle.std.proofs.Common.{◌≡◌, ℕ, List, [], ◌∷◌, ◌++◌, Some, Bool, true, false, cond, ◌&&◌, ◌||◌, map, ◌↔◌, refl, sym, ap, ◌∙◌, subst, ◌⊎◌, inl, inr}
+use Rattle.std.proofs.Common.{◌≡◌, ℕ, List, [], ◌∷◌, ◌++◌, Some, Bool, true, false, cond, ◌&&◌, ◌||◌, ◌↔◌, refl, sym, ap, ◌∙◌, subst, ◌⊎◌, inl, inr}
 use Rattle.std.specs.Prelude.{IsTrue}
 use Rattle.std.specs.List.{list_any}
 use Rattle.std.specs.Ordering.{eq_by_cmp}
 use Rattle.std.specs.FinMap.Entries.{find as value_at, is_sorted, below_all}
 use Rattle.std.proofs.lemmas.List.{append_assoc}
 use Rattle.std.proofs.lemmas.List.Folds.{list_any-append}
-use Rattle.std.specs.declared.vec.Vec.{Vec}
 use Rattle.ivy_base.specs.declared.key.Key.{Key}
 use Rattle.tree_model.specs.Tree.{Tree, Place, place_cmp, same_key, inode_at, is_directory, is_inside, IsInside, itself, named}
 use Rattle.tree_model.specs.Sound.{Names, IsSound}
@@ -14,9 +13,8 @@ use Rattle.tree_model.proofs.Climb.{either, or_right, found_behind, inside_by_te
 use Rattle.tree_model.proofs.Keys.{same_key_is, same_key_itself, same_place_is, same_place_itself}
 use Rattle.tree_model.proofs.Sound.{both_true}
 use Rattle.dir_replay.specs.declared.nodes.Node.{Node}
-use Rattle.dir_replay.specs.Entries.{by_bytes}
-use Rattle.dir_replay.specs.Inside.{stands_inside}
-use Rattle.dir_replay.specs.View.{names_in, all_names}
+use Rattle.dir_replay.specs.Inside.{stands_inside, has_name_inside}
+use Rattle.dir_replay.specs.View.{names_in, all_names, tree_of}
 
 -- ---- a name that passes a test
 
@@ -51,30 +49,6 @@ found_any f (e ∷ es) p x found h = by (eq_by_cmp place_cmp p e.0) refl found (
     by : (b : Bool) → eq_by_cmp place_cmp p e.0 ≡ b → cond b (Some e.1) (value_at place_cmp p es) ≡ Some x → (value_at place_cmp p es ≡ Some x → f (p, x) ≡ true → list_any f es ≡ true) → (f e || list_any f es) ≡ true
     by true same found again = let inode : e.1 ≡ x = cc in ap (λ b. b || list_any f es) (here (same_place_is p e.0 same) inode)
     by false other found again = or_right (f e) _ (again found h)
-
--- ---- the names of one directory
-
-any-by_bytes : {A : Type 0} (f : Key → Bool) (es : List (Vec ℕ A × Key)) → list_any f (map (λ e. e.1) es) ≡ list_any (λ e. f e.1) (by_bytes es)
-any-by_bytes f [] = refl
-any-by_bytes f (e ∷ es) = ap (λ b. f e.1 || b) (any-by_bytes f es)
-
--- one of the names leads to an inode exactly where one of the kept numbers is its own
-pub all_numbers : {A : Type 0} (f : Key → Bool) (left : List Key) (es : List (Vec ℕ A × Key)) (names : List (List ℕ × Key))
-    → left ≡ map (λ e. e.1) es → by_bytes es ≡ names → list_any f left ≡ list_any (λ e. f e.1) names
-all_numbers f left es names all is = ap (λ (ks : List Key). list_any f ks) all ∙ any-by_bytes f es ∙ ap (λ (ns : List (List ℕ × Key)). list_any (λ e. f e.1) ns) is
-
-module _ (f : Key → Bool) (b : Bool) (left : List Key) (so_far : list_any f left ≡ b) where
-  first_number : (rest : List Key) (k : Key) → left ≡ k ∷ rest → b ≡ (f k || list_any f rest)
-  first_number rest k step = sym so_far ∙ ap (λ (ks : List Key). list_any f ks) step
-
-  pub this_number : (rest : List Key) (k : Key) → left ≡ k ∷ rest → true ≡ f k → true ≡ b
-  this_number rest k step is = ap (λ a. a || list_any f rest) is ∙ sym (first_number rest k step)
-
-  pub other_number : (rest : List Key) (k : Key) → left ≡ k ∷ rest → false ≡ f k → list_any f rest ≡ b
-  other_number rest k step is = ap (λ a. a || list_any f rest) is ∙ sym (first_number rest k step)
-
-  pub no_number : left ≡ [] → false ≡ b
-  no_number none = ap (λ (ks : List Key). list_any f ks) (sym none) ∙ so_far
 
 -- ---- the names of all directories
 
@@ -156,32 +130,19 @@ named_inside t s x k b is = (λ h. up (either (same_key x k) _ (sym is ∙ h)), 
 
 -- ---- going through the directories
 
-found_here : (a b c : Bool) → true ≡ a → true ≡ b → ((a && b) || c) ≡ true
-found_here true true c p q = refl
-found_here false b c p q = cc
-found_here true false c p q = cc
+same_and : (a d i : Bool) → (a ≡ true → d ≡ true) → (a && (d && i)) ≡ (a && i)
+same_and true d i h = ap (λ b. b && i) (h refl)
+same_and false d i h = refl
 
-not_here : (a c : Bool) → a ≡ false → (a || c) ≡ c
-not_here true c p = cc
-not_here false c p = refl
+any_of_rest : (t : Tree) → IsSound t → (x k : Key) (left : List (Key × Node)) → IsRest t left → list_any (has_name_inside t x k) left ≡ list_any (stands_inside t x k) (all_names left)
+any_of_rest t s x k [] r = refl
+any_of_rest t s x k (e ∷ es) r =
+    (λ i. same_and (list_any (λ n. same_key x n.1) e.1.entries) (is_directory (inode_at t e.0)) (is_inside t e.0 k) (has_names t s x e.0 e.1 (e ∷ es) es r refl) i || any_of_rest t s x k es (less_left t (e ∷ es) es e.0 e.1 r refl) i)
+    ∙ sym (any_first t x k e.0 e.1 es)
 
-pub no_left : (a b : Bool) → false ≡ a → (a && b) ≡ false
-no_left true b e = cc
-no_left false b e = refl
-
-pub no_right : (a b : Bool) → false ≡ b → (a && b) ≡ false
-no_right true b e = sym e
-no_right false b e = refl
-
-module _ (t : Tree) (x k : Key) (left rest : List (Key × Node)) (above : Key) (n : Node) (step : left ≡ (above, n) ∷ rest)
-    (so_far : list_any (stands_inside t x k) (all_names left) ≡ list_any (stands_inside t x k) t.names) where
-  first_apart : list_any (stands_inside t x k) t.names ≡ ((list_any (λ e. same_key x e.1) n.entries && is_inside t above k) || list_any (stands_inside t x k) (all_names rest))
-  first_apart = sym so_far ∙ ap (λ (es : List (Key × Node)). list_any (stands_inside t x k) (all_names es)) step ∙ any_first t x k above n rest
-
-  -- a name of the directory stands inside
-  pub one_found : true ≡ list_any (λ e. same_key x e.1) n.entries → true ≡ is_inside t above k → true ≡ list_any (stands_inside t x k) t.names
-  one_found leads inside = sym (first_apart ∙ found_here _ _ _ leads inside)
-
-  -- none does, so that one of the other directories' has to
-  pub none_found : (list_any (λ e. same_key x e.1) n.entries && is_inside t above k) ≡ false → list_any (stands_inside t x k) (all_names rest) ≡ list_any (stands_inside t x k) t.names
-  none_found none = sym (first_apart ∙ not_here _ _ none)
+-- where an inode has a name inside, a name stands inside
+pub any_of_all : (t : Tree) → IsSound t → (x k : Key) (nodes : List (Key × Node)) → tree_of nodes ≡ t → (b : Bool) → b ≡ list_any (has_name_inside t x k) nodes → b ≡ list_any (stands_inside t x k) t.names
+any_of_all t s x k nodes seen b is =
+    is
+    ∙ any_of_rest t s x k nodes (all_left t nodes nodes refl (ap (λ (u : Tree). u.names) seen))
+    ∙ ap (λ (u : Tree). list_any (stands_inside t x k) u.names) seen

@@ -1,5 +1,7 @@
 pub mod Maps
 pub mod Written
+pub mod Without
+pub mod Listed
 pub mod Sorted
 pub mod Views
 pub mod Puts

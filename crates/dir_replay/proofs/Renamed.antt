@@ -295,14 +295,14 @@ module _ (nodes : List (Key × Node)) (tied : IsTied nodes) (dir : Key) (name : 
     tied-renamed : IsTied after
     tied-renamed = tied_by after then tree_of-renamed (sound_then, parents_then, names_then, subdirs_then)
 
--- ---- what `enter`, `unname_any`, `leave` and then `set_parent` leave
+-- ---- what `enter`, `unname_any`, `leave` and then `set_parent` leave of a copy
 
 pub renamed : (nodes : List (Key × Node)) → IsTied nodes → (t : Tree) → tree_of nodes ≡ t → (dir : Key) (name : List ℕ) (moved to_dir : Key) (to_name : List ℕ) → Some moved ≡ entry t dir name → true ≡ may_rename t moved to_dir to_name
     → (o : Option Key) → o ≡ entry t to_dir to_name → (directory : Bool) → directory ≡ is_directory (inode_at t moved) → (subdirs : ℕ) → subdirs ≡ one_more_if (subdirectory_count t to_dir) (is_directory (inode_at t moved) && is_none o)
-    → (above : Option Key) → above ≡ cond directory (Some to_dir) None → (copied : List ℕ) → copied ≡ to_name
-    → (first second third after : List (Key × Node)) → first ≡ at_node nodes to_dir (entered copied moved subdirs) → second ≡ any_unnamed first o → third ≡ at_node second dir (left name directory) → after ≡ at_node third moved (moved_to above)
+    → (above : Option Key) → above ≡ cond directory (Some to_dir) None
+    → (copy first second third after : List (Key × Node)) → copy ≡ nodes → first ≡ at_node copy to_dir (entered to_name moved subdirs) → second ≡ any_unnamed first o → third ≡ at_node second dir (left name directory) → after ≡ at_node third moved (moved_to above)
     → (tree_of after ≡ names_after t (op.Rename dir name to_dir to_name)) × IsTied after
-renamed nodes tied t seen dir name moved to_dir to_name found may o at_target directory isd subdirs counted above up copied same first second third after entering unnaming leaving moving =
+renamed nodes tied t seen dir name moved to_dir to_name found may o at_target directory isd subdirs counted above up copy first second third after same entering unnaming leaving moving =
     subst (λ (u : Tree). Some moved ≡ entry u dir name → true ≡ may_rename u moved to_dir to_name → o ≡ entry u to_dir to_name → directory ≡ is_directory (inode_at u moved) → subdirs ≡ one_more_if (subdirectory_count u to_dir) (is_directory (inode_at u moved) && is_none o) → (tree_of after ≡ names_after u (op.Rename dir name to_dir to_name)) × IsTied after) seen
     (λ found may at_target isd counted.
     let a = is_directory (inode_at (tree_of nodes) to_dir) in
@@ -312,7 +312,7 @@ renamed nodes tied t seen dir name moved to_dir to_name found may o at_target di
     let replace : may_replace (tree_of nodes) moved o ≡ true = ap (may_replace (tree_of nodes) moved) at_target ∙ ab.1 in
     let effective : is_effective (tree_of nodes) (op.Rename dir name to_dir to_name) ≡ true = ap (λ e. option_map_or (λ x. may_rename (tree_of nodes) x to_dir to_name) e false) (sym found) ∙ sym may in
     let is : after ≡ at_node (at_node (any_unnamed (at_node nodes to_dir (entered to_name moved subdirs)) o) dir (left name directory)) moved (moved_to above) =
-    moving ∙ ap (λ ns. at_node ns moved (moved_to above)) (leaving ∙ ap (λ ns. at_node ns dir (left name directory)) (unnaming ∙ ap (λ ns. any_unnamed ns o) (entering ∙ ap (λ bytes. at_node nodes to_dir (entered bytes moved subdirs)) same))) in (
+    moving ∙ ap (λ ns. at_node ns moved (moved_to above)) (leaving ∙ ap (λ ns. at_node ns dir (left name directory)) (unnaming ∙ ap (λ ns. any_unnamed ns o) (entering ∙ ap (λ ns. at_node ns to_dir (entered to_name moved subdirs)) same))) in (
       ap tree_of is ∙ tree_of-renamed nodes tied dir name moved to_dir to_name (sym found) o (sym at_target) ab.0 replace effective subdirs counted directory isd above up
           ∙ sym (after_is nodes tied dir name moved to_dir to_name (sym found) o (sym at_target) ab.0 replace effective),
       subst (λ (ns : List (Key × Node)). IsTied ns) (sym is) (tied-renamed nodes tied dir name moved to_dir to_name (sym found) o (sym at_target) ab.0 replace effective subdirs counted directory isd above up),

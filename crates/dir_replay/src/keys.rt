@@ -1,6 +1,6 @@
 //! The root's number, and when two numbers are one.
 
-ghost use Rattle.std.specs.Prelude.{◌≡◌};
+ghost use Rattle.std.specs.Prelude.{◌≡◌, IsTrue};
 ghost use Rattle.ivy_base.specs.Naming.{root_number};
 ghost use Rattle.tree_model.specs.Tree.{same_key};
 
@@ -14,6 +14,17 @@ pub(crate) fn same(a: &Key, b: &Key) -> bool
     ensures { result ≡ same_key a.now b.now }
 {
     a == b
+}
+
+// Whether both are one number, or neither is any.
+pub(crate) fn both_same(a: Option<Key>, b: Option<Key>) -> bool
+    ensures { IsTrue result → a ≡ b }
+{
+    match (a, b) {
+        (Some(a), Some(b)) => same(&a, &b),
+        (None, None) => true,
+        _ => false,
+    }
 }
 
 // Whether it is the root's number.

@@ -9,17 +9,24 @@
 //! Where memory is short the names stay as they were. Lemmas to cite: `proofs/Bare` (what an operation does to
 //! names depends on neither contents nor moments), `proofs/Effects` (what it does to a whole tree).
 //!
-//! Inside, `entries` is what stands in one directory, `nodes` all inodes by their numbers, and `names` the rules.
+//! Inside, `name` is what entries are kept under, `entries` what stands in one directory, `nodes` all inodes by their
+//! numbers, and `names` the rules. Entries and inodes are maps of `shared_map`: an operation changes a copy of the inodes,
+//! which takes their place once all has succeeded.
 //! Definitions: `specs/View.antt` is the tree that the kept maps stand for, `specs/Tied.antt` what holds of them.
 //!
-//! Costs, counted in comparisons: a question or an operation takes the logarithm of the number of inodes and of the
-//! names in its directories. Whether one directory lies inside another takes that for each step of the way up, and whether
-//! anything else does, a look at every name.
+//! Costs: a copy of the names takes constant time and no memory. All else is counted in comparisons: a question or an
+//! operation takes the logarithm of the number of inodes and of the names in its directories. Whether one directory lies
+//! inside another takes that for each step of the way up, and whether anything else does, a look at every name. An
+//! operation makes the nodes on the way to each inode and name that it changes anew, and shares the others with the copies:
+//! a new inode is one such way among the inodes; a Link and an Unlink are two there, and one among the directory's names; a
+//! Rename is two and two, one more where it takes the place of another name, and one more where a directory gets another
+//! parent.
 #![tactic(auto)]
 
 mod entries;
 mod keys;
 mod listing;
+mod name;
 mod names;
 mod nodes;
 mod touched;

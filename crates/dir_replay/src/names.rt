@@ -20,13 +20,20 @@ use crate::listing::Listing;
 use crate::nodes::{Node, Nodes};
 use crate::touched::Touched;
 use ivy_base::{Key, Kind, Memory, Op};
+use shared_map::EntryTest;
 use std::alloc::Global;
 use std::marker::Model;
 
 /// The names of all directories and the kind of each inode, which contracts see as a tree of bare inodes.
-#[derive(Drop)]
 pub struct Names {
     nodes: Nodes,
+}
+
+// By hand, so that the functions of crates above aren't proved over the parts of maps again.
+impl Drop for Names {
+    fn drop(self) {
+        let Names { nodes: _ } = self;
+    }
 }
 
 impl Model for Names {
@@ -47,8 +54,8 @@ impl Names {
     pub fn fresh(alloc: Global) -> Result<Names, Memory>
         ensures { IfOk result (λ t. t ≡ bare empty_tree) }
     {
-        let mut nodes = Nodes::new(alloc);
-        nodes.insert(ROOT, new_node(alloc, Kind::Dir))?;
+        let mut nodes = Nodes::new();
+        nodes.insert(alloc, &ROOT, new_node(Kind::Dir))?;
         Ok(Names { nodes })
     }
 
@@ -64,7 +71,7 @@ impl Names {
         match op {
             Op::Inode { ino, kind, .. } => self.add(alloc, *ino, *kind),
             Op::Link { dir, name, ino } => self.link(alloc, dir, name.as_slice(), ino),
-            Op::Unlink { dir, name } => Ok(self.unlink(dir, name.as_slice())),
+            Op::Unlink { dir, name } => self.unlink(alloc, dir, name.as_slice()),
             Op::Rename {
                 dir,
                 name,
@@ -92,7 +99,7 @@ impl Names {
         if self.nodes.get(&ino).is_some() {
             return Ok(Touched::nothing());
         }
-        self.nodes.insert(ino, new_node(alloc, kind))?;
+        self.nodes.insert(alloc, &ino, new_node(kind))?;
         Ok(Touched::nothing())
     }
 
@@ -108,27 +115,31 @@ impl Names {
         let directory = self.is_directory(ino);
         let names = one_more_if(self.names_of(ino), true)?;
         let subdirs = one_more_if(self.subdirs(dir), directory)?;
-        let name = name.to_vec(alloc)?;
-        self.nodes.enter(dir, name, *ino, subdirs)?;
-        self.nodes.set_named(ino, given_if(directory, dir), names);
+        let mut nodes = self.nodes.copy()?;
+        nodes.enter(alloc, dir, name, *ino, subdirs)?;
+        nodes.set_named(alloc, ino, given_if(directory, dir), names)?;
+        self.nodes = nodes;
         Ok(Touched::only(*dir))
     }
 
     // Removes a name, where it is there and may be lost.
-    fn unlink(&mut self, dir: &Key, name: &[u8]) -> Touched
-        ensures names { self.new ≡ names_after self.old (op.Unlink dir.now name.now) }
-        ensures touched { result ≡ touched_by self.old (op.Unlink dir.now name.now) }
+    fn unlink(&mut self, alloc: Global, dir: &Key, name: &[u8]) -> Result<Touched, Memory>
+        ensures ok { OnOk result (self.new ≡ names_after self.old (op.Unlink dir.now name.now)) }
+        ensures touched { IfOk result (λ dirs. dirs ≡ touched_by self.old (op.Unlink dir.now name.now)) }
+        ensures err { OnErr result (self.new ≡ self.old) }
     {
         let Some(ino) = self.entry(dir, name) else {
-            return Touched::nothing();
+            return Ok(Touched::nothing());
         };
         if !self.may_lose_name(&ino) {
-            return Touched::nothing();
+            return Ok(Touched::nothing());
         }
         let directory = self.is_directory(&ino);
-        self.nodes.leave(dir, name, directory);
-        self.nodes.unname(&ino);
-        Touched::only(*dir)
+        let mut nodes = self.nodes.copy()?;
+        nodes.leave(alloc, dir, name, directory)?;
+        nodes.unname(alloc, &ino)?;
+        self.nodes = nodes;
+        Ok(Touched::only(*dir))
     }
 
     // Moves a name to its new place, where it is there and may be moved, in place of the name that stands there.
@@ -154,12 +165,12 @@ impl Names {
         let directory = self.is_directory(&moved);
         let new = is_new(directory, target);
         let subdirs = one_more_if(self.subdirs(to_dir), new)?;
-        let to_name = to_name.to_vec(alloc)?;
-        // The new name comes first, as it alone may fail.
-        self.nodes.enter(to_dir, to_name, moved, subdirs)?;
-        self.nodes.unname_any(target);
-        self.nodes.leave(dir, name, directory);
-        self.nodes.set_parent(&moved, given_if(directory, to_dir));
+        let mut nodes = self.nodes.copy()?;
+        nodes.enter(alloc, to_dir, to_name, moved, subdirs)?;
+        nodes.unname_any(alloc, target)?;
+        nodes.leave(alloc, dir, name, directory)?;
+        nodes.set_parent(alloc, &moved, given_if(directory, to_dir))?;
+        self.nodes = nodes;
         Ok(Touched::both(*dir, *to_dir))
     }
 
@@ -269,7 +280,8 @@ impl Names {
         Ok(Listing::of(node.entries.list(alloc)?))
     }
 
-    /// Equal names, which later changes of these don't reach. The error is want of memory.
+    /// Equal names, which later changes of these don't reach. A copy takes constant time and no memory: the only error
+    /// is a count of owners that is full.
     pub fn copy(&self, _alloc: Global) -> Result<Names, Memory>
         ensures { IfOk result (λ copy. copy ≡ self.now) }
     {
@@ -295,12 +307,11 @@ impl Names {
         ensures { result ≡ list_any (stands_inside self.now ino.now dir.now) self.now.names }
     {
         self.laws();
-        'directories: for (above, node) in self.nodes.iter() {
-            if node.entries.lead_to(ino) && self.is_inside(above, dir) {
-                return true;
-            }
-        }
-        false
+        self.nodes.any(&HasNameInside {
+            names: self,
+            ino: *ino,
+            dir: *dir,
+        })
     }
 
     // Whether there is a directory of that number.
@@ -348,8 +359,28 @@ impl Names {
     }
 }
 
+// Whether an inode is a directory inside one, and has a name that leads to another.
+#[derive(Drop)]
+struct HasNameInside<'a> {
+    names: &'a Names,
+    ino: Key,
+    dir: Key,
+}
+
+impl EntryTest<Key, Node> for HasNameInside<'_> {
+    ghost use Rattle.dir_replay.specs.Inside.{has_name_inside};
+
+    ghost passes = { λ test e. has_name_inside test.names.now test.ino test.dir e };
+
+    fn test(&self, above: &Key, node: &Node) -> bool {
+        node.entries.lead_to(&self.ino)
+            && self.names.is_directory(above)
+            && self.names.is_inside(above, &self.dir)
+    }
+}
+
 // An inode without names.
-fn new_node(alloc: Global, kind: Kind) -> Node
+fn new_node(kind: Kind) -> Node
     ensures { result ≡ record { kind = kind; parent = None; names = 0; subdirs = 0; entries = [] } }
 {
     Node {
@@ -357,7 +388,7 @@ fn new_node(alloc: Global, kind: Kind) -> Node
         parent: None,
         names: 0,
         subdirs: 0,
-        entries: Entries::new(alloc),
+        entries: Entries::new(),
     }
 }
 

@@ -1,20 +1,21 @@
 //! All inodes by their numbers, each with the names that lead to it and from it.
 
-ghost use Rattle.std.specs.Prelude.{◌≡◌, ℕ, List, Bool, IfOk, OnOk, OnErr, Some, None, []};
+ghost use Rattle.std.specs.Prelude.{◌≡◌, ℕ, List, Bool, T, IfOk, OnOk, OnErr, Some, None, []};
 ghost use Rattle.std.specs.Option.{option_copied};
-ghost use Rattle.std.specs.FinMap.Entries.{find as value_at, put};
+ghost use Rattle.std.specs.List.{list_any};
+ghost use Rattle.std.specs.FinMap.Entries.{find as value_at, put, is_sorted};
 ghost use Rattle.ivy_base.specs.Naming.{key_cmp};
 ghost use Rattle.dir_replay.specs.Counts.{less_one_if};
 
 use crate::entries::Entries;
+use crate::keys::both_same;
 use ivy_base::{Key, Kind, Memory};
+use shared_map::{EntryTest, SharedMap};
 use std::alloc::Global;
-use std::collections::BTreeMap;
-use std::collections::btree_map::Iter;
 use std::marker::Model;
 
 /// An inode's kind, with what the rules of names ask of it.
-#[derive(Clone, Drop)]
+#[derive(Drop)]
 pub struct Node {
     /// What it is.
     pub kind: Kind,
@@ -28,10 +29,25 @@ pub struct Node {
     pub entries: Entries,
 }
 
-/// All inodes by their numbers.
+impl Node {
+    // An equal inode, which shares its names. The error is a count of owners that is full.
+    fn copy(&self) -> Result<Node, Memory>
+        ensures { IfOk result (λ copy. copy ≡ self.now) }
+    {
+        Ok(Node {
+            kind: self.kind,
+            parent: self.parent,
+            names: self.names,
+            subdirs: self.subdirs,
+            entries: self.entries.copy()?,
+        })
+    }
+}
+
+/// All inodes by their numbers. A copy shares what it has in common with them.
 #[derive(Drop)]
 pub struct Nodes {
-    map: BTreeMap<Key, Node>,
+    map: SharedMap<Key, Node>,
 }
 
 impl Model for Nodes {
@@ -41,18 +57,18 @@ impl Model for Nodes {
 
     ghost Value = { List (Key × Node) };
 
-    ghost view = { λ n. n.map.entries };
+    ghost view = { λ n. n.map };
 }
 
 impl Nodes {
     ghost use Rattle.dir_replay.specs.Nodes.{at_node, entered, left, named, unnamed, any_unnamed, moved_to};
 
     /// No inodes.
-    pub fn new(alloc: Global) -> Nodes
+    pub fn new() -> Nodes
         ensures { result ≡ [] }
     {
         Nodes {
-            map: BTreeMap::new(alloc),
+            map: SharedMap::new(),
         }
     }
 
@@ -63,90 +79,148 @@ impl Nodes {
         self.map.get(ino)
     }
 
-    /// All inodes, in the order of their numbers.
-    pub fn iter(&self) -> Iter<'_, Key, Node>
-        ensures { result ≡ self.now }
+    /// Whether an inode passes the test.
+    pub fn any<P: EntryTest<Key, Node>>(&self, test: &P) -> bool
+        ensures { result ≡ list_any (P.passes test.now) self.now }
     {
-        self.map.iter()
+        self.map.any(test)
     }
 
-    /// Lets the number stand for that inode. The error is want of memory, and then nothing has changed.
-    pub fn insert(&mut self, ino: Key, node: Node) -> Result<(), Memory>
-        ensures ok { OnOk result (self.new ≡ put key_cmp ino node self.old) }
-        ensures err { OnErr result (self.new ≡ self.old) }
-    {
-        self.map.insert(ino, node)?;
-        Ok(())
-    }
-
-    /// The same inodes. The error is want of memory.
+    /// The same inodes. They take no memory: the only error is a count of owners that is full.
     pub fn copy(&self) -> Result<Nodes, Memory>
         ensures { IfOk result (λ copy. copy ≡ self.now) }
     {
         Ok(Nodes {
-            map: self.map.clone()?,
+            map: self.map.copy()?,
         })
+    }
+
+    /// Lets the number stand for that inode. The error is want of memory, and then nothing has changed.
+    pub fn insert(&mut self, alloc: Global, ino: &Key, node: Node) -> Result<(), Memory>
+        ensures ok { OnOk result (self.new ≡ put key_cmp ino.now node self.old) }
+        ensures err { OnErr result (self.new ≡ self.old) }
+    {
+        self.map.insert(alloc, *ino, node)?;
+        Ok(())
+    }
+
+    // A copy of the inode of that number, which shares its names. The error is a count of owners that is full.
+    fn copy_of(&self, ino: &Key) -> Result<Option<Node>, Memory>
+        ensures value { IfOk result (λ node. node ≡ value_at key_cmp ino.now self.now) }
+        ensures ordered { T (is_sorted key_cmp self.now) }
+    {
+        match self.map.get(ino) {
+            None => Ok(None),
+            Some(node) => Ok(Some(node.copy()?)),
+        }
     }
 
     /// Puts a name for the inode into the directory, which then has so many subdirectories; without such a
     /// directory nothing changes. The error is want of memory, and then nothing has changed.
-    pub fn enter(&mut self, dir: &Key, name: Vec<u8>, ino: Key, subdirs: u64) -> Result<(), Memory>
-        ensures ok { OnOk result (self.new ≡ at_node self.old dir.now (entered name.items ino subdirs)) }
+    pub fn enter(
+        &mut self,
+        alloc: Global,
+        dir: &Key,
+        name: &[u8],
+        ino: Key,
+        subdirs: u64,
+    ) -> Result<(), Memory>
+        ensures ok { OnOk result (self.new ≡ at_node self.old dir.now (entered name.now ino subdirs)) }
         ensures err { OnErr result (self.new ≡ self.old) }
     {
-        if let Some(node) = self.map.get_mut(dir) {
-            node.entries.insert(name, ino)?;
-            node.subdirs = subdirs;
-        }
-        Ok(())
+        let Some(mut node) = self.copy_of(dir)? else {
+            return Ok(());
+        };
+        node.entries.insert(alloc, name, ino)?;
+        node.subdirs = subdirs;
+        self.insert(alloc, dir, node)
     }
 
-    /// Takes a name out of the directory, and a subdirectory where the name led to one.
-    pub fn leave(&mut self, dir: &Key, name: &[u8], directory: bool)
-        ensures { self.new ≡ at_node self.old dir.now (left name.now directory) }
+    /// Takes a name out of the directory, and a subdirectory where the name led to one. The error is want of memory,
+    /// and then nothing has changed.
+    pub fn leave(
+        &mut self,
+        alloc: Global,
+        dir: &Key,
+        name: &[u8],
+        directory: bool,
+    ) -> Result<(), Memory>
+        ensures ok { OnOk result (self.new ≡ at_node self.old dir.now (left name.now directory)) }
+        ensures err { OnErr result (self.new ≡ self.old) }
     {
-        if let Some(node) = self.map.get_mut(dir) {
-            node.entries.remove(name);
-            node.subdirs = less_one_if(node.subdirs, directory);
+        let Some(mut node) = self.copy_of(dir)? else {
+            return Ok(());
+        };
+        node.entries.remove(alloc, name)?;
+        node.subdirs = less_one_if(node.subdirs, directory);
+        self.insert(alloc, dir, node)
+    }
+
+    /// Notes that so many names lead to the inode, and which directory has the name of a directory. The error is want
+    /// of memory, and then nothing has changed.
+    pub fn set_named(
+        &mut self,
+        alloc: Global,
+        ino: &Key,
+        parent: Option<Key>,
+        names: u64,
+    ) -> Result<(), Memory>
+        ensures ok { OnOk result (self.new ≡ at_node self.old ino.now (named parent names)) }
+        ensures err { OnErr result (self.new ≡ self.old) }
+    {
+        let Some(mut node) = self.copy_of(ino)? else {
+            return Ok(());
+        };
+        node.parent = parent;
+        node.names = names;
+        self.insert(alloc, ino, node)
+    }
+
+    /// Notes that a name less leads to the inode: to a directory none. The error is want of memory, and then nothing
+    /// has changed.
+    pub fn unname(&mut self, alloc: Global, ino: &Key) -> Result<(), Memory>
+        ensures ok { OnOk result (self.new ≡ at_node self.old ino.now unnamed) }
+        ensures err { OnErr result (self.new ≡ self.old) }
+    {
+        let Some(mut node) = self.copy_of(ino)? else {
+            return Ok(());
+        };
+        node.parent = None;
+        node.names = less_one_if(node.names, true);
+        self.insert(alloc, ino, node)
+    }
+
+    /// Notes that a name less leads to the inode, where one is given. The error is want of memory, and then nothing
+    /// has changed.
+    pub fn unname_any(&mut self, alloc: Global, ino: Option<Key>) -> Result<(), Memory>
+        ensures ok { OnOk result (self.new ≡ any_unnamed self.old ino) }
+        ensures err { OnErr result (self.new ≡ self.old) }
+    {
+        match ino {
+            Some(ino) => self.unname(alloc, &ino),
+            None => Ok(()),
         }
     }
 
-    /// Notes that so many names lead to the inode, and which directory has the name of a directory.
-    pub fn set_named(&mut self, ino: &Key, parent: Option<Key>, names: u64)
-        ensures { self.new ≡ at_node self.old ino.now (named parent names) }
+    /// Notes which directory has the name of a directory, which takes no memory where that is noted already. The error
+    /// is want of memory, and then nothing has changed.
+    pub fn set_parent(
+        &mut self,
+        alloc: Global,
+        ino: &Key,
+        parent: Option<Key>,
+    ) -> Result<(), Memory>
+        ensures ok { OnOk result (self.new ≡ at_node self.old ino.now (moved_to parent)) }
+        ensures err { OnErr result (self.new ≡ self.old) }
     {
-        if let Some(node) = self.map.get_mut(ino) {
-            node.parent = parent;
-            node.names = names;
+        let Some(mut node) = self.copy_of(ino)? else {
+            return Ok(());
+        };
+        if both_same(node.parent, parent) {
+            return Ok(());
         }
-    }
-
-    /// Notes that a name less leads to the inode: to a directory none.
-    pub fn unname(&mut self, ino: &Key)
-        ensures { self.new ≡ at_node self.old ino.now unnamed }
-    {
-        if let Some(node) = self.map.get_mut(ino) {
-            node.parent = None;
-            node.names = less_one_if(node.names, true);
-        }
-    }
-
-    /// Notes that a name less leads to the inode, where one is given.
-    pub fn unname_any(&mut self, ino: Option<Key>)
-        ensures { self.new ≡ any_unnamed self.old ino }
-    {
-        if let Some(ino) = ino {
-            self.unname(&ino);
-        }
-    }
-
-    /// Notes which directory has the name of a directory.
-    pub fn set_parent(&mut self, ino: &Key, parent: Option<Key>)
-        ensures { self.new ≡ at_node self.old ino.now (moved_to parent) }
-    {
-        if let Some(node) = self.map.get_mut(ino) {
-            node.parent = parent;
-        }
+        node.parent = parent;
+        self.insert(alloc, ino, node)
     }
 }
 

@@ -3,20 +3,20 @@ use Rattle.dir_replay.specs.Counts.{one_more_if}
 use Rattle.dir_replay.proofs.Linked.{linked}
 use Rattle.dir_replay.proofs.names.Names.link.Goals as goal
 
-pub invariant_of-self-2 : goal.invariant_of-self-2
-invariant_of-self-2 c =
+pub invariant_of-self : goal.invariant_of-self
+invariant_of-self c =
     (linked c.self.inside.nodes c.self.invariant c.args.self.now c.self.view_is c.args.dir.now c.args.name.now c.args.ino.now c.if-not-may_link.ensures
-    c.in_ok-name.name.items (c.in_ok-name.ensures.items_if_clones_equal (λ x y e. e)) c.in_ok-subdirs.subdirs c.in_ok-names.names c.given_if.result
+    c.in_ok-subdirs.subdirs c.in_ok-names.names c.given_if.result
     (c.in_ok-subdirs.ensures ∙ (λ i. one_more_if (c.subdirs.ensures i) (c.is_directory-directory.ensures i)))
     (c.in_ok-names.ensures ∙ ap (λ n. one_more_if n true) c.names_of.ensures)
     (c.given_if.ensures ∙ ap (λ b. cond b (Some c.args.dir.now) None) c.is_directory-directory.ensures)
-    c.enter.new.self c.set_named.new.self c.in_ok-enter.ensures.ok c.set_named.ensures).1
+    c.in_ok-nodes.nodes c.enter.new.self c.set_named.new.self c.in_ok-nodes.ensures c.in_ok-enter.ensures.ok c.in_ok-set_named.ensures.ok).1
 
 pub returns-clause-ok : goal.returns-clause-ok
 returns-clause-ok c =
     (linked c.self.inside.nodes c.self.invariant c.args.self.now c.self.view_is c.args.dir.now c.args.name.now c.args.ino.now c.if-not-may_link.ensures
-    c.in_ok-name.name.items (c.in_ok-name.ensures.items_if_clones_equal (λ x y e. e)) c.in_ok-subdirs.subdirs c.in_ok-names.names c.given_if.result
+    c.in_ok-subdirs.subdirs c.in_ok-names.names c.given_if.result
     (c.in_ok-subdirs.ensures ∙ (λ i. one_more_if (c.subdirs.ensures i) (c.is_directory-directory.ensures i)))
     (c.in_ok-names.ensures ∙ ap (λ n. one_more_if n true) c.names_of.ensures)
     (c.given_if.ensures ∙ ap (λ b. cond b (Some c.args.dir.now) None) c.is_directory-directory.ensures)
-    c.enter.new.self c.set_named.new.self c.in_ok-enter.ensures.ok c.set_named.ensures).0
+    c.in_ok-nodes.nodes c.enter.new.self c.set_named.new.self c.in_ok-nodes.ensures c.in_ok-enter.ensures.ok c.in_ok-set_named.ensures.ok).0

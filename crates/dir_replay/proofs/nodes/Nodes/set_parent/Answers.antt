@@ -1,11 +1,6 @@
-use Rattle.std.proofs.Common.{refl, sym, ap}
-use Rattle.dir_replay.specs.Nodes.{moved_to}
-use Rattle.dir_replay.proofs.Written.{at_node-some, at_node-none}
+use Rattle.std.proofs.Common.{refl, sym, ◌∙◌}
+use Rattle.dir_replay.proofs.Changes.{unmoved}
 use Rattle.dir_replay.proofs.nodes.Nodes.set_parent.Goals as goal
-use Rattle.dir_replay.proofs.nodes.Nodes.set_parent.Goals.{in-Some, in_default}
 
-pub returns : goal.returns
-returns c = elim c.match-get_mut.branch [
-  | in-Some w ↦ rw (w.self-inside-is, ← c.self.view_is) (at_node-some c.self.inside.map.entries _ c.args.ino.now _ _ (moved_to c.args.parent) (sym w.in-Some.ensures.value) w.in-Some.ensures.ordered (c.get_mut.follows.holds _).0 refl)
-  | in_default w ↦ rw (w.self-inside-is, ← c.self.view_is) (at_node-none c.self.inside.map.entries _ c.args.ino.now (moved_to c.args.parent) (sym w.in_default.ensures.value) (ap (λ m. m.entries) c.get_mut.follows.holds-at-none))
-]
+pub returns-then-both_same-clause-ok : goal.returns-then-both_same-clause-ok
+returns-then-both_same-clause-ok c = unmoved c.args.ino.now c.args.parent c.in-Some.node c.args.self.now c.in_ok-node.ensures.ordered (sym c.in-Some.is ∙ c.in_ok-node.ensures.value) (c.if-both_same.ensures refl)
