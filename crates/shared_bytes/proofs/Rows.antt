@@ -264,6 +264,9 @@ module _ (c : ℕ) where
     unfolding bytes_in
     length-bytes_in p size = omega (arith, length-take size (row c p size), length-row p size, enough size)
 
+    pub size_is : (p : ℕ → List ℕ) (size : ℕ) (bytes : List ℕ) → bytes_in c p size ≡ bytes → size ≡ length bytes
+    size_is p size bytes is = sym (length-bytes_in p size) ∙ ap length is
+
     pub bytes_grown : (p : ℕ → List ℕ) (size n : ℕ) → Fit c p size → size ≤ n → bytes_in c p n ≡ bytes_in c p size ++ replicate (n - size) 0
     unfolding bytes_in
     bytes_grown p size n fit h =
