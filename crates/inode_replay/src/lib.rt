@@ -13,6 +13,7 @@
 #![tactic(auto)]
 
 mod attr;
+mod body;
 mod content;
 
 pub use attr::Attr;
