@@ -1,5 +1,5 @@
 -- What is made of a list piece by piece.
-use Rattle.std.proofs.Common.{◌≡◌, ℕ, ◌+◌, ◌-◌, ◌<◌, ◌≤◌, List, ◌++◌, length, take, drop, min, replicate, sym, ap, ◌∙◌, arith, length-append, length-take}
+use Rattle.std.proofs.Common.{◌≡◌, ℕ, ◌+◌, ◌-◌, ◌<◌, ◌≤◌, List, ◌++◌, length, take, drop, replicate, sym, ap, ◌∙◌, arith, length-append, length-take}
 use Rattle.std.proofs.lemmas.List.{append_assoc, take_at, drop-drop, take-take, length-take-le, length-replicate}
 use Rattle.std.proofs.Math.Seq.{take-add, drop-append-add}
 use Rattle.shared_bytes.specs.Pieces.{resized, overwritten}
@@ -21,11 +21,11 @@ overwritten_more old bytes offset done n changed new fits so_far next =
     let behind : offset + done + n ≡ length (front ++ a) + n = omega arith in
     let end : offset + length a + n ≡ offset + length (take (done + n) bytes) = omega arith in
     let end_is : drop (offset + done + n) changed ≡ drop (offset + length (take (done + n) bytes)) old =
-        ap (drop (offset + done + n)) so_far
-        ∙ ap (λ i. drop i (front ++ a ++ rest)) behind
-        ∙ drop-append-add (front ++ a) rest n
-        ∙ drop-drop n (offset + length a) old
-        ∙ ap (λ i. drop i old) end in
+    ap (drop (offset + done + n)) so_far
+    ∙ ap (λ i. drop i (front ++ a ++ rest)) behind
+    ∙ drop-append-add (front ++ a) rest n
+    ∙ drop-drop n (offset + length a) old
+    ∙ ap (λ i. drop i old) end in
     next
     ∙ ap (λ l. l ++ b ++ drop (offset + done + n) changed) start_is
     ∙ ap (λ l. front ++ a ++ b ++ l) end_is

@@ -1,7 +1,7 @@
 -- Pieces in a row, and what a change of one makes of the places below the size.
-use Rattle.std.proofs.Common.{◌≡◌, ◌≢◌, ℕ, zero, suc, ◌+◌, ◌*◌, ◌-◌, ◌<◌, ◌≤◌, List, [], ◌++◌, length, take, drop, max, min, replicate, inl, inr, refl, sym, ap, ◌∙◌, arith, rules, length-append, length-take, length-drop}
+use Rattle.std.proofs.Common.{◌≡◌, ◌≢◌, ℕ, zero, suc, ◌+◌, ◌*◌, ◌-◌, ◌<◌, ◌≤◌, List, [], ◌++◌, length, take, drop, max, min, replicate, inl, inr, refl, sym, ap, ◌∙◌, arith, length-append, length-take, length-drop}
 use Rattle.std.proofs.lemmas.Bool.{cases_lt, cases_eq}
-use Rattle.std.proofs.lemmas.List.{append-nil, append_assoc, take_all, drop_all, take-take, take_at, drop-drop, take-append-le, drop-append-le, take-replicate, drop-replicate, take-append-drop, drop-take, length-replicate, replicate-append-replicate}
+use Rattle.std.proofs.lemmas.List.{append-nil, append_assoc, take_all, drop_all, take-take, take_at, take-append-le, drop-append-le, take-replicate, drop-replicate, take-append-drop, drop-take, length-replicate, replicate-append-replicate}
 use Rattle.std.proofs.Math.Nat.{mul-suc, mul-le-mul_left, le-mul_of_pos_right, mul_comm}
 use Rattle.std.proofs.Math.Seq.{take-append-add, drop-append-add}
 use Rattle.shared_bytes.specs.Pieces.{overwritten, ChangesOne, Fit, padded, row, bytes_in}
@@ -80,6 +80,13 @@ drop_zeros xs e r = elim (cases_lt e (length xs)) [
 
 pub length-overwritten : (xs part : List ℕ) (at : ℕ) → length (overwritten xs at part) ≡ max (length xs) (at + length part)
 length-overwritten xs part at = simp (length-append, length-take, length-drop, length-replicate) (omega arith)
+
+-- a list's start, with zeros behind it up to a place further on
+grown_from : (r xs : List ℕ) (size n k : ℕ) → take size r ≡ xs → length xs ≡ size → size ≤ n → drop size r ≡ replicate k 0 → n - size ≤ k → take n r ≡ xs ++ replicate (n - size) 0
+grown_from r xs size n k start long h end far =
+    let is : n ≡ length xs + (n - size) = omega arith in
+    let whole : r ≡ xs ++ replicate k 0 = sym (take-append-drop size r) ∙ ap (λ l. l ++ drop size r) start ∙ ap (λ l. xs ++ l) end in
+    ap (λ m. take m r) is ∙ ap (take (length xs + (n - size))) whole ∙ take-append-add xs (replicate k 0) (n - size) ∙ ap (λ l. xs ++ l) (take-replicate (n - size) k 0 far)
 
 -- ---- one piece
 
@@ -188,36 +195,44 @@ module _ (c : ℕ) where
         ∙ ap (λ i. take m (drop s (padded c (p i)))) (sym same)
   ]
 
-  -- behind the size there are zeros
+  padded_nothing : (bytes : List ℕ) → length bytes ≤ 0 → padded c bytes ≡ replicate c 0
+  padded_nothing bytes none =
+      let all : c - max 0 (length bytes) ≡ c = omega arith in
+      drop_padded bytes 0 (omega arith) ∙ ap (λ l. l ++ replicate (c - max 0 (length bytes)) 0) (drop_all 0 bytes none) ∙ ap (λ k. replicate k 0) all
+
+  -- behind the size there are zeros: it ends before a piece, in which there is then nothing, or in that piece
+  end_before : (xs bytes : List ℕ) (size n : ℕ) → length xs ≡ n → size ≤ n → length bytes ≤ 0 → drop size xs ≡ replicate (n - size) 0 → drop size (xs ++ padded c bytes) ≡ replicate (n + c - size) 0
+  end_before xs bytes size n long below none before =
+      let more : (n - size) + c ≡ n + c - size = omega arith in
+      drop-append-le size xs (padded c bytes) (omega arith)
+      ∙ ap (λ l. l ++ padded c bytes) before
+      ∙ ap (λ l. replicate (n - size) 0 ++ l) (padded_nothing bytes none)
+      ∙ replicate-append-replicate (n - size) c 0
+      ∙ ap (λ k. replicate k 0) more
+
+  end_inside : (xs bytes : List ℕ) (size n t : ℕ) → length xs ≡ n → size ≡ n + t → length bytes ≤ c → length bytes ≤ t → drop size (xs ++ padded c bytes) ≡ replicate (n + c - size) 0
+  end_inside xs bytes size n t long is short before =
+      let start : size ≡ length xs + t = omega arith in
+      let all : c - max t (length bytes) ≡ n + c - size = omega arith in
+      ap (λ i. drop i (xs ++ padded c bytes)) start
+      ∙ drop-append-add xs (padded c bytes) t
+      ∙ drop_padded bytes t short
+      ∙ ap (λ l. l ++ replicate (c - max t (length bytes)) 0) (drop_all t bytes before)
+      ∙ ap (λ k. replicate k 0) all
+
   row_end : (p : ℕ → List ℕ) (size : ℕ) → Fit c p size → (n : ℕ) → drop size (row c p n) ≡ replicate (c * n - size) 0
   unfolding row
   row_end p size fit zero =
       let none : 0 ≡ c * 0 - size = omega arith in
       drop_all size [] (omega arith) ∙ ap (λ k. replicate k 0) none
-  row_end p size fit (suc n) = elim (cases_lt size (c * n)) [
-    | inl l ↦
-        let long = length-row p n in
-        let ends = fit n in
-        let none : c - max 0 (length (p n)) ≡ c = omega arith in
-        let all : (c * n - size) + c ≡ c * suc n - size = omega (arith, mul-suc c n) in
-        let empty : drop 0 (p n) ≡ [] = drop_all 0 (p n) (omega arith) in
-        drop-append-le size (row c p n) (padded c (p n)) (omega arith)
-        ∙ ap (λ l. l ++ padded c (p n)) (row_end p size fit n)
-        ∙ ap (λ l. replicate (c * n - size) 0 ++ l) (drop_padded (p n) 0 ends.0 ∙ ap (λ l. l ++ replicate (c - max 0 (length (p n))) 0) empty ∙ ap (λ k. replicate k 0) none)
-        ∙ replicate-append-replicate (c * n - size) c 0
-        ∙ ap (λ k. replicate k 0) all
-    | inr l ↦
-        let long = length-row p n in
-        let ends = fit n in
-        let t = size - c * n in
-        let start : size ≡ length (row c p n) + t = omega arith in
-        let all : c - max t (length (p n)) ≡ c * suc n - size = omega (arith, mul-suc c n) in
-        ap (λ i. drop i (row c p n ++ padded c (p n))) start
-        ∙ drop-append-add (row c p n) (padded c (p n)) t
-        ∙ drop_padded (p n) t ends.0
-        ∙ ap (λ l. l ++ replicate (c - max t (length (p n))) 0) (drop_all t (p n) ends.1)
-        ∙ ap (λ k. replicate k 0) all
-  ]
+  row_end p size fit (suc n) =
+      let ends = fit n in
+      let next : c * n + c - size ≡ c * suc n - size = omega (arith, mul-suc c n) in
+      elim (cases_lt size (c * n)) [
+        | inl l ↦ end_before (row c p n) (p n) size (c * n) (length-row p n) (omega arith) (omega arith) (row_end p size fit n)
+        | inr l ↦ end_inside (row c p n) (p n) size (c * n) (size - c * n) (length-row p n) (omega arith) ends.0 ends.1
+      ]
+      ∙ ap (λ k. replicate k 0) next
 
   -- ---- one of them changed
 
@@ -270,16 +285,8 @@ module _ (c : ℕ) where
     pub bytes_grown : (p : ℕ → List ℕ) (size n : ℕ) → Fit c p size → size ≤ n → bytes_in c p n ≡ bytes_in c p size ++ replicate (n - size) 0
     unfolding bytes_in
     bytes_grown p size n fit h =
-        let r = row c p n in
         let far = enough n in
-        let long : length (take size r) ≡ size = omega (arith, length-take size r, length-row p n) in
-        let is : n ≡ length (take size r) + (n - size) = omega arith in
-        ap (λ m. take m r) is
-        ∙ ap (take (length (take size r) + (n - size))) (sym (take-append-drop size r))
-        ∙ take-append-add (take size r) (drop size r) (n - size)
-        ∙ ap (λ l. take size r ++ take (n - size) l) (row_end p size fit n)
-        ∙ ap (λ l. take size r ++ l) (take-replicate (n - size) (c * n - size) 0 (omega arith))
-        ∙ ap (λ l. l ++ replicate (n - size) 0) (same_start p size n h)
+        grown_from (row c p n) (bytes_in c p size) size n (c * n - size) (same_start p size n h) (length-bytes_in p size) h (row_end p size fit n) (omega arith)
 
     pub bytes_part : (p : ℕ → List ℕ) (size place k s m : ℕ) → length (p k) ≤ c → place ≡ c * k + s → s + m ≤ c → 0 < m → place + m ≤ size → take m (drop place (bytes_in c p size)) ≡ take m (drop s (p k)) ++ replicate (m - length (drop s (p k))) 0
     unfolding bytes_in

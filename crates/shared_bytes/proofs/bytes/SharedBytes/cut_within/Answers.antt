@@ -1,4 +1,4 @@
-use Rattle.std.proofs.Common.{◌≡◌, ◌<◌, ◌≤◌, ◌+◌, ◌-◌, ◌*◌, ◌/◌, length, take, sym, ap, ◌∙◌, arith}
+use Rattle.std.proofs.Common.{◌≡◌, ◌<◌, ◌≤◌, ◌+◌, ◌-◌, ◌*◌, ◌/◌, length, take, ap, ◌∙◌, arith}
 use Rattle.shared_bytes.specs.Pieces.{piece_size, pieces_in}
 use Rattle.shared_bytes.proofs.Rows.{size_is, bytes_cut}
 use Rattle.shared_bytes.proofs.bytes.SharedBytes.cut_within.Goals as goal

@@ -1,5 +1,5 @@
-use Rattle.std.proofs.Common.{◌≡◌, ◌≢◌, ℕ, List, take, sym, ap, ◌∙◌, rules}
-use Rattle.shared_bytes.specs.Pieces.{pieces_in, ChangesOne}
+use Rattle.std.proofs.Common.{◌≡◌, take, ◌∙◌, rules}
+use Rattle.shared_bytes.specs.Pieces.{pieces_in}
 use Rattle.shared_bytes.proofs.Found.{put_one, removed_one}
 use Rattle.shared_bytes.proofs.pieces.Pieces.cut.Goals as goal
 

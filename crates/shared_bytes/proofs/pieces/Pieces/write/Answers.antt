@@ -1,5 +1,5 @@
 use Rattle.std.proofs.Common.{◌∙◌, ap}
-use Rattle.shared_bytes.specs.Pieces.{pieces_in, overwritten}
+use Rattle.shared_bytes.specs.Pieces.{overwritten}
 use Rattle.shared_bytes.proofs.Found.{put_one}
 use Rattle.shared_bytes.proofs.pieces.Pieces.write.Goals as goal
 
