@@ -1,3 +1,2 @@
-pub mod Overwritten
 pub mod Applied
 mod Examples

@@ -7,6 +7,7 @@ ghost use Rattle.inode_replay.specs.Attributes.{attributes_of};
 ghost use Rattle.inode_replay.specs.Contents.{MakesInode, ChangesContent, made, changed, touched_inode, written, set_where_possible};
 
 use crate::attr::Attr;
+use crate::body::Body;
 use ivy_base::{Bytes, Change, Kind, Memory, Moment, Op};
 use std::alloc::Global;
 use std::marker::Model;
@@ -18,16 +19,20 @@ use std::marker::Model;
 pub struct Content {
     kind: Kind,
     attr: Attr,
-    body: Vec<u8>,
+    body: Body,
 }
 
 impl Model for Content {
-    ghost use Rattle.tree_model.specs.Tree.{Inode};
+    ghost use Rattle.std.specs.Prelude.{◌≡◌};
+    ghost use Rattle.tree_model.specs.Tree.{Inode, file_kind};
     ghost use Rattle.inode_replay.specs.Attributes.{attributes_of};
+    ghost use Rattle.inode_replay.specs.Bodies.{bytes_of, is_file_body};
 
     ghost Value = { Inode };
 
-    ghost view = { λ c. record { kind = c.kind; attributes = attributes_of c.attr; body = c.body.items } };
+    ghost view = { λ c. record { kind = c.kind; attributes = attributes_of c.attr; body = bytes_of c.body } };
+
+    ghost invariant = { λ c. is_file_body c.body ≡ file_kind c.kind };
 }
 
 impl Content {
@@ -50,27 +55,33 @@ impl Content {
         Ok(Content {
             kind: *kind,
             attr: Attr::at(moment, *mode, *uid, *gid),
-            body: target.as_slice().to_vec(alloc)?,
+            body: Body::of(alloc, *kind == Kind::Reg, target.as_slice())?,
         })
     }
 
     /// Does what a Write or a SetAttrs does to this inode at that moment; one that may not be done changes nothing,
     /// and is no error. A file's bytes end at 16,777,216 at most. The error is want of memory, and then the inode is
     /// as it was.
-    pub fn apply_content(&mut self, _alloc: Global, moment: Moment, op: &Op) -> Result<(), Memory>
+    pub fn apply_content(&mut self, alloc: Global, moment: Moment, op: &Op) -> Result<(), Memory>
         requires { ChangesContent op.now }
         ensures ok { OnOk result (self.new ≡ changed moment op.now self.old) }
         ensures err { OnErr result (self.new ≡ self.old) }
     {
         match op {
-            Op::Write { offset, bytes, .. } => self.write(moment, *offset, bytes.as_slice()),
-            Op::SetAttrs { change, .. } => self.set_attributes(moment, change),
+            Op::Write { offset, bytes, .. } => self.write(alloc, moment, *offset, bytes.as_slice()),
+            Op::SetAttrs { change, .. } => self.set_attributes(alloc, moment, change),
             _ => unreachable!(),
         }
     }
 
     // Replaces a regular file's bytes from the offset on.
-    fn write(&mut self, moment: Moment, offset: u64, bytes: &[u8]) -> Result<(), Memory>
+    fn write(
+        &mut self,
+        alloc: Global,
+        moment: Moment,
+        offset: u64,
+        bytes: &[u8],
+    ) -> Result<(), Memory>
         requires { offset + length bytes.now < 2 ^ 64 }
         ensures ok { OnOk result (self.new ≡ (if file_kind self.old.kind then written moment offset bytes.now self.old else self.old)) }
         ensures err { OnErr result (self.new ≡ self.old) }
@@ -78,13 +89,18 @@ impl Content {
         if !self.is_file() {
             return Ok(());
         }
-        overwrite(&mut self.body, offset as usize, bytes)?;
+        self.body.overwrite(alloc, offset, bytes)?;
         self.touch(moment);
         Ok(())
     }
 
     // Sets what is given; only a regular file takes a size.
-    fn set_attributes(&mut self, moment: Moment, change: &Change) -> Result<(), Memory>
+    fn set_attributes(
+        &mut self,
+        alloc: Global,
+        moment: Moment,
+        change: &Change,
+    ) -> Result<(), Memory>
         ensures ok { OnOk result (self.new ≡ set_where_possible moment change.now self.old) }
         ensures err { OnErr result (self.new ≡ self.old) }
     {
@@ -92,7 +108,7 @@ impl Content {
             return Ok(());
         }
         if let Some(size) = change.size {
-            self.body.resize(size as usize, 0)?;
+            self.body.resize(alloc, size)?;
             self.attr.mtime = moment;
         }
         let attr = self.attr;
@@ -126,7 +142,7 @@ impl Content {
     pub fn size(&self) -> u64
         ensures { result ≡ length self.now.body }
     {
-        self.body.len() as u64
+        self.body.len()
     }
 
     /// The inode's attributes.
@@ -141,7 +157,7 @@ impl Content {
         requires { self.now.kind ≡ Kind.Lnk }
         ensures { result.now ≡ self.now.body }
     {
-        self.body.as_slice()
+        self.body.text()
     }
 
     /// The bytes from the offset on, at most so many: fewer where the end comes first, and none at or past the end.
@@ -149,20 +165,18 @@ impl Content {
     pub fn read_range(&self, alloc: Global, offset: u64, count: u32) -> Result<Bytes, Memory>
         ensures { IfOk result (λ bytes. bytes ≡ take count (drop offset self.now.body)) }
     {
-        let start = self.body.len().min(offset as usize);
-        let rest = &self.body[start..];
-        let length = rest.len().min(count as usize);
-        Bytes::copy_of(alloc, &rest[..length])
+        self.body.read(alloc, offset, count)
     }
 
-    /// An inode of its own with the same kind, attributes and bytes. The error is want of memory.
-    pub fn copy(&self, alloc: Global) -> Result<Content, Memory>
+    /// An inode of its own with the same kind, attributes and bytes. It takes no memory: the only error is that a part of
+    /// the bytes already has as many owners as can be counted.
+    pub fn copy(&self, _alloc: Global) -> Result<Content, Memory>
         ensures { IfOk result (λ copy. copy ≡ self.now) }
     {
         Ok(Content {
             kind: self.kind,
             attr: self.attr,
-            body: self.body.as_slice().to_vec(alloc)?,
+            body: self.body.copy()?,
         })
     }
 
@@ -172,17 +186,4 @@ impl Content {
     {
         self.kind == Kind::Reg
     }
-}
-
-// Replaces the bytes from the offset on, and fills a gap with zeros. The error is want of memory, and then nothing has
-// changed.
-fn overwrite(body: &mut Vec<u8>, offset: usize, bytes: &[u8]) -> Result<(), Memory>
-    requires { offset + length bytes.now < 2 ^ 64 }
-    ensures ok { OnOk result (body.new.items ≡ overwritten body.old.items offset bytes.now) }
-    ensures err { OnErr result (body.new.items ≡ body.old.items) }
-{
-    let end = offset + bytes.len();
-    body.resize(end.max(body.len()), 0)?;
-    body[offset..end].copy_from_slice(bytes);
-    Ok(())
 }

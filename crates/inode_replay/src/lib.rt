@@ -1,18 +1,23 @@
 //! What an inode is and contains, and what the records of a log make of it.
 //!
-//! Layer: over `ivy_base` and `tree_model`, whose definitions the contracts cite; below whatever keeps the inodes of
-//! a tree. It knows of no names and of no inode's number.
+//! Layer: over `ivy_base`, `tree_model`, whose definitions the contracts cite, and `shared_bytes`, which keeps a regular
+//! file's bytes; below whatever keeps the inodes of a tree. It knows of no names and of no inode's number.
 //! For the layers above: contracts see a [`Content`] as the inode of `tree_model` (`specs/Tree.antt` there).
 //! [`Content::fresh`] is the inode that a record adds, [`Content::apply_content`] changes it as a Write or a SetAttrs
 //! does, [`Content::touch`] as a change of a directory's entries does, and no clause says how the bytes are kept.
 //! Where memory is short an inode stays as it was. Definitions: `specs/Contents.antt` says what a record makes of one
 //! inode. Lemmas to cite: `proofs/Applied`, that it is what `apply` of `tree_model` makes of that inode in a tree.
 //!
-//! Costs: a Write takes the time of its bytes and of the gap that it fills, or of the whole file where the room for
-//! its bytes has to grow; a read takes the time of what it gives, and a copy that of all bytes.
+//! Inside, `body` keeps the bytes: a regular file's in pieces (`specs/Bodies.antt` says which bytes those are), a symbolic
+//! link's text in one block that copies share, and a directory has none.
+//!
+//! Costs: a copy takes constant time and no memory. A Write makes anew the pieces of 8,192 bytes that it touches, and a gap
+//! that it fills costs nothing; a SetAttrs that cuts a file takes a search for each 8,192 bytes that it cuts off; a read
+//! takes the time of what it gives.
 #![tactic(auto)]
 
 mod attr;
+mod body;
 mod content;
 
 pub use attr::Attr;
