@@ -1,3 +1,2 @@
-pub mod Written
 pub mod Joined
-pub mod Copied
+pub mod Numbered
