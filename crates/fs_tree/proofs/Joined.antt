@@ -1,5 +1,5 @@
 -- What an operation leaves of the names and of the contents is what it leaves of the tree.
-use Rattle.std.proofs.Common.{◌≡◌, ℕ, List, Option, Some, None, Bool, true, false, cond, not, ◌&&◌, Result, Ok, Err, OnOk, OnErr, Bor, is_some, count_by, refl, sym, ap, ◌∙◌, subst}
+use Rattle.std.proofs.Common.{◌≡◌, ℕ, List, Option, Some, None, Bool, true, false, cond, ◌&&◌, Result, Ok, Err, OnOk, OnErr, Bor, is_some, count_by, refl, sym, ap, ◌∙◌, subst}
 use Rattle.std.specs.Option.{option_copied}
 use Rattle.std.specs.FinMap.Entries.{find as value_at, put, is_sorted}
 use Rattle.ivy_base.specs.declared.key.Key.{Key}
@@ -9,8 +9,8 @@ use Rattle.ivy_base.specs.declared.operation.Change.{Change}
 use Rattle.ivy_base.specs.declared.operation.Op.{Op}
 use Rattle.ivy_base.specs.declared.operation.Op.TheVariants as op
 use Rattle.ivy_base.specs.Naming.{key_cmp}
-use Rattle.tree_model.specs.Tree.{Tree, Inode, IsInOrder, inode_at, entry, same_key, is_directory, subdirectory_count}
-use Rattle.tree_model.specs.Apply.{apply, at_inode, changed_inode, with_name, without_name}
+use Rattle.tree_model.specs.Tree.{Tree, Inode, IsInOrder, inode_at, entry, same_key, subdirectory_count}
+use Rattle.tree_model.specs.Apply.{apply, at_inode, changed_inode}
 use Rattle.tree_model.specs.Sound.{IsSound}
 use Rattle.tree_model.proofs.Applied.{sound_apply}
 use Rattle.dir_replay.specs.declared.touched.Touched.{Touched}
