@@ -1,7 +1,6 @@
 -- What an operation leaves of the names and of the contents is what it leaves of the tree.
-use Rattle.std.proofs.Common.{◌≡◌, ℕ, List, Option, Some, None, Bool, true, false, cond, not, ◌&&◌, Result, Ok, Err, OnOk, OnErr, Bor, is_some, count_by, refl, sym, ap, ◌∙◌, subst}
+use Rattle.std.proofs.Common.{◌≡◌, ℕ, List, Option, Some, None, Bool, true, false, cond, ◌&&◌, Result, Ok, Err, OnOk, OnErr, Bor, is_some, count_by, refl, sym, ap, ◌∙◌, subst}
 use Rattle.std.specs.Option.{option_copied}
-use Rattle.std.specs.Map.{remove_entry}
 use Rattle.std.specs.FinMap.Entries.{find as value_at, put, is_sorted}
 use Rattle.ivy_base.specs.declared.key.Key.{Key}
 use Rattle.ivy_base.specs.declared.operation.Kind.{Kind}
@@ -10,8 +9,8 @@ use Rattle.ivy_base.specs.declared.operation.Change.{Change}
 use Rattle.ivy_base.specs.declared.operation.Op.{Op}
 use Rattle.ivy_base.specs.declared.operation.Op.TheVariants as op
 use Rattle.ivy_base.specs.Naming.{key_cmp}
-use Rattle.tree_model.specs.Tree.{Tree, Inode, IsInOrder, inode_at, entry, same_key, is_directory, subdirectory_count}
-use Rattle.tree_model.specs.Apply.{apply, at_inode, changed_inode, with_name, without_name}
+use Rattle.tree_model.specs.Tree.{Tree, Inode, IsInOrder, inode_at, entry, same_key, subdirectory_count}
+use Rattle.tree_model.specs.Apply.{apply, at_inode, changed_inode}
 use Rattle.tree_model.specs.Sound.{IsSound}
 use Rattle.tree_model.proofs.Applied.{sound_apply}
 use Rattle.dir_replay.specs.declared.touched.Touched.{Touched}
@@ -21,7 +20,6 @@ use Rattle.dir_replay.proofs.Bare.{sound-bare, sound_if_bare, bare-at_inode, is_
 use Rattle.dir_replay.proofs.Effects.{apply_names_is, bare-apply}
 use Rattle.inode_replay.specs.Contents.{made, changed, touched_inode}
 use Rattle.inode_replay.proofs.Applied.{inode-free, inode-used, write-at, attributes-at}
-use Rattle.fs_tree.proofs.Written.{taken_back}
 use Rattle.fs_tree.specs.Contents.{at_content, changed_content, touched_content}
 use Rattle.fs_tree.specs.View.{tree_of}
 use Rattle.fs_tree.specs.Tied.{IsTied}
@@ -78,12 +76,12 @@ module _ (names : Tree) (contents : List (Key × Inode)) (tied : IsTied names co
   names_whole : (now : Moment) (o : Op) → bare (apply names now o) ≡ bare (apply whole now o)
   names_whole now o = ap (λ (u : Tree). bare (apply u now o)) (sym tied.same) ∙ sym (bare-apply whole tied.sound now now o)
 
-  -- other names, and the times of the directories that were touched
-  pub names_changed : (now : Moment) (o : Op) → IsOfNames o → (new : Tree) → new ≡ bare (apply names now o) → (dirs : Touched) → dirs ≡ touched_by names o → (between left : List (Key × Inode)) → between ≡ touched_content now dirs.first contents → left ≡ touched_content now dirs.second between → (tree_of new left ≡ apply whole now o) × IsTied new left
-  names_changed now o of new names_are dirs dirs_are between left first second =
-      joined now o new left (names_are ∙ names_whole now o) (
-      second ∙ ap (λ l. touched_content now dirs.second l) first
-      ∙ ap (λ (d : Touched). touched_content now d.second (touched_content now d.first contents)) (dirs_are ∙ ap (λ (u : Tree). touched_by u o) (sym tied.same) ∙ touched_by-bare whole o)
+  -- other names, and the times of the directories that were touched, both on copies
+  pub names_changed : (now : Moment) (o : Op) → IsOfNames o → (names_copied : Tree) → names_copied ≡ names → (copied : List (Key × Inode)) → copied ≡ contents → (new : Tree) → new ≡ bare (apply names_copied now o) → (dirs : Touched) → dirs ≡ touched_by names_copied o → (between left : List (Key × Inode)) → between ≡ touched_content now dirs.first copied → left ≡ touched_content now dirs.second between → (tree_of new left ≡ apply whole now o) × IsTied new left
+  names_changed now o of names_copied same_names copied same_contents new names_are dirs dirs_are between left first second =
+      joined now o new left (names_are ∙ ap (λ (u : Tree). bare (apply u now o)) same_names ∙ names_whole now o) (
+      second ∙ ap (λ l. touched_content now dirs.second l) (first ∙ ap (λ l. touched_content now dirs.first l) same_contents)
+      ∙ ap (λ (d : Touched). touched_content now d.second (touched_content now d.first contents)) (dirs_are ∙ ap (λ (u : Tree). touched_by u o) (same_names ∙ sym tied.same) ∙ touched_by-bare whole o)
       ∙ sym (inodes-apply whole tied.sound.order.inodes now o of)
       )
 
@@ -99,12 +97,12 @@ module _ (names : Tree) (contents : List (Key × Inode)) (tied : IsTied names co
       by None = refl
       by (Some i) = refl
 
-  -- a new inode
+  -- a new inode, on a copy of the contents
   module _ (now : Moment) (number : Key) (kind : Kind) (mode uid gid : ℕ) (target : List ℕ) (o : Op) (same : o ≡ op.Inode number kind mode uid gid target) where
-    pub inode_added : (i : Inode) → made now o ≡ Some i → value_at key_cmp number contents ≡ None → (new : Tree) → new ≡ bare (apply names now o) → (left : List (Key × Inode)) → left ≡ put key_cmp number i contents → (tree_of new left ≡ apply whole now o) × IsTied new left
-    inode_added i makes free new names_are left contents_are =
+    pub inode_added : (i : Inode) → made now o ≡ Some i → value_at key_cmp number contents ≡ None → (new : Tree) → new ≡ bare (apply names now o) → (copied : List (Key × Inode)) → copied ≡ contents → (left : List (Key × Inode)) → left ≡ put key_cmp number i copied → (tree_of new left ≡ apply whole now o) × IsTied new left
+    inode_added i makes free new names_are copied same_contents left contents_are =
         joined now o new left (names_are ∙ names_whole now o) (
-        contents_are
+        contents_are ∙ ap (λ es. put key_cmp number i es) same_contents
         ∙ ap (λ (u : Tree). u.inodes) (sym (inode-free whole now number kind mode uid gid target i free (ap (made now) (sym same) ∙ makes)))
         ∙ ap (λ (p : Op). (apply whole now p).inodes) (sym same)
         )
@@ -115,12 +113,6 @@ module _ (names : Tree) (contents : List (Key × Inode)) (tied : IsTied names co
         by : (r : Option (Bor Inode)) → option_copied r ≡ value_at key_cmp number contents → true ≡ is_some r → whole ≡ apply whole now o
         by None found there = cc
         by (Some i) found there = sym (inode-used whole now number kind mode uid gid target i.now (sym found)) ∙ ap (λ (p : Op). apply whole now p) (sym same)
-
-  -- an inode that was put in and, as its number got no place among the names, taken out again
-  pub taken_out : (number : Key) (i : Inode) → value_at key_cmp number contents ≡ None → (left : Tree) → left ≡ names → (between after : List (Key × Inode)) → between ≡ put key_cmp number i contents → after ≡ remove_entry (same_key number) between → (tree_of left after ≡ whole) × IsTied left after
-  taken_out number i free left names_are between after put_in taken =
-      let contents_are : after ≡ contents = taken ∙ ap (λ l. remove_entry (same_key number) l) put_in ∙ taken_back number i contents free in
-      (λ j. tree_of (names_are j) (contents_are j), subst (λ (u : Tree). IsTied u after) (sym names_are) (subst (λ l. IsTied names l) (sym contents_are) tied))
 
   pub subdirectories : (dir : Key) → subdirectory_count names dir ≡ subdirectory_count whole dir
   subdirectories dir = ap (λ (u : Tree). subdirectory_count u dir) (sym tied.same) ∙ λ i. count_by (λ e. same_key dir e.0.0 && is_directory-bare whole e.1 i) names.names

@@ -1,4 +1,3 @@
-pub mod Written
 pub mod Joined
-pub mod Copied
+pub mod Numbered
 pub mod OwnOperations

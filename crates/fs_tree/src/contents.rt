@@ -1,23 +1,27 @@
 //! What all inodes contain, by their numbers. It knows of no names.
 
-ghost use Rattle.std.specs.Prelude.{◌≡◌, ℕ, List, Option, OnOk, OnErr, IfOk, [], map};
+ghost use Rattle.std.specs.Prelude.{◌≡◌, OnOk, OnErr, IfOk, [], map};
 ghost use Rattle.std.specs.Option.{option_copied};
-ghost use Rattle.std.specs.Map.{remove_entry};
 ghost use Rattle.std.specs.FinMap.Entries.{find as value_at, put};
 ghost use Rattle.ivy_base.specs.Naming.{key_cmp};
-ghost use Rattle.tree_model.specs.Tree.{same_key};
 ghost use Rattle.inode_replay.specs.Contents.{ChangesContent, changed, touched_inode};
 
 use inode_replay::Content;
 use ivy_base::{Key, Memory, Moment, Op};
+use shared_map::SharedMap;
 use std::alloc::Global;
-use std::collections::BTreeMap;
 use std::marker::Model;
 
 /// The contents of all inodes by their numbers.
-#[derive(Drop)]
 pub struct Contents {
-    map: BTreeMap<Key, Content>,
+    map: SharedMap<Key, Content>,
+}
+
+/// One function, so that whatever drops the contents calls it and isn't proved over the map's parts once more.
+impl Drop for Contents {
+    fn drop(self) {
+        let Contents { map: _ } = self;
+    }
 }
 
 impl Model for Contents {
@@ -27,18 +31,18 @@ impl Model for Contents {
 
     ghost Value = { List (Key × Inode) };
 
-    ghost view = { λ c. c.map.entries };
+    ghost view = { λ c. c.map };
 }
 
 impl Contents {
     ghost use Rattle.fs_tree.specs.Contents.{at_content, touched_content};
 
     /// No inodes.
-    pub fn new(alloc: Global) -> Contents
+    pub fn new() -> Contents
         ensures { result ≡ [] }
     {
         Contents {
-            map: BTreeMap::new(alloc),
+            map: SharedMap::new(),
         }
     }
 
@@ -50,38 +54,31 @@ impl Contents {
     }
 
     /// Lets the number stand for that inode. The error is want of memory, and then nothing has changed.
-    pub fn insert(&mut self, ino: Key, content: Content) -> Result<(), Memory>
+    pub fn insert(&mut self, alloc: Global, ino: Key, content: Content) -> Result<(), Memory>
         ensures ok { OnOk result (self.new ≡ put key_cmp ino content self.old) }
         ensures err { OnErr result (self.new ≡ self.old) }
     {
-        self.map.insert(ino, content)?;
+        self.map.insert(alloc, ino, content)?;
         Ok(())
     }
 
-    /// Takes the inode of that number out, where there is one.
-    pub fn remove(&mut self, ino: &Key)
-        ensures { self.new ≡ remove_entry (same_key ino.now) self.old }
-    {
-        self.map.remove(ino);
-    }
-
-    /// The same inodes, each with bytes of its own. The error is want of memory.
-    pub fn copy(&self, alloc: Global) -> Result<Contents, Memory>
+    /// The same inodes, which both share. It takes no memory: the only error is that a part of them already has as many
+    /// owners as can be counted.
+    pub fn copy(&self) -> Result<Contents, Memory>
         ensures { IfOk result (λ copy. copy ≡ self.now) }
     {
-        let mut copy = Contents::new(alloc);
-        'inodes: for (ino, content) in self.map.iter() {
-            copy.insert(*ino, content.copy(alloc)?)?;
-        }
-        Ok(copy)
+        Ok(Contents {
+            map: self.map.copy()?,
+        })
     }
 
     /// The numbers of all inodes, ascending. The error is want of memory.
     pub fn numbers(&self, alloc: Global) -> Result<Vec<Key>, Memory>
         ensures { IfOk result (λ numbers. numbers.items ≡ map (λ e. e.0) self.now) }
     {
-        let mut numbers = Vec::with_capacity(alloc, self.map.len())?;
-        'inodes: for (ino, _) in self.map.iter() {
+        let inodes = self.map.entries(alloc)?;
+        let mut numbers = Vec::with_capacity(alloc, inodes.len())?;
+        'inodes: for (ino, _) in inodes {
             numbers.push(*ino)?;
         }
         Ok(numbers)
@@ -100,27 +97,41 @@ impl Contents {
         ensures ok { OnOk result (self.new ≡ at_content self.old ino.now (changed moment op.now)) }
         ensures err { OnErr result (self.new ≡ self.old) }
     {
-        if let Some(content) = self.map.get_mut(ino) {
-            content.apply_content(alloc, moment, op)?;
-        }
-        Ok(())
+        let Some(content) = self.map.get(ino) else {
+            return Ok(());
+        };
+        let mut content = content.copy(alloc)?;
+        content.apply_content(alloc, moment, op)?;
+        self.insert(alloc, *ino, content)
     }
 
-    /// Sets the times of the directory whose entries changed at that moment, where one is given.
-    pub fn touch_any(&mut self, dir: Option<Key>, moment: Moment)
-        ensures { self.new ≡ touched_content moment dir self.old }
+    /// Sets the times of the directory whose entries changed at that moment, where one is given. The error is want of
+    /// memory, and then nothing has changed.
+    pub fn touch_any(
+        &mut self,
+        alloc: Global,
+        dir: Option<Key>,
+        moment: Moment,
+    ) -> Result<(), Memory>
+        ensures ok { OnOk result (self.new ≡ touched_content moment dir self.old) }
+        ensures err { OnErr result (self.new ≡ self.old) }
     {
-        if let Some(dir) = dir {
-            self.touch(&dir, moment);
+        match dir {
+            None => Ok(()),
+            Some(dir) => self.touch(alloc, &dir, moment),
         }
     }
 
     // Sets the times of the directory whose entries changed at that moment.
-    fn touch(&mut self, dir: &Key, moment: Moment)
-        ensures { self.new ≡ at_content self.old dir.now (touched_inode moment) }
+    fn touch(&mut self, alloc: Global, dir: &Key, moment: Moment) -> Result<(), Memory>
+        ensures ok { OnOk result (self.new ≡ at_content self.old dir.now (touched_inode moment)) }
+        ensures err { OnErr result (self.new ≡ self.old) }
     {
-        if let Some(content) = self.map.get_mut(dir) {
-            content.touch(moment);
-        }
+        let Some(content) = self.map.get(dir) else {
+            return Ok(());
+        };
+        let mut content = content.copy(alloc)?;
+        content.touch(moment);
+        self.insert(alloc, *dir, content)
     }
 }

@@ -6,13 +6,17 @@
 //! each question is answered as the definition of its name says. Where memory is short the tree stays as it was.
 //! [`Tree::names`] and [`Tree::content`] show the two halves, with all that these answer.
 //!
-//! Inside, `contents` is what the inodes contain by their numbers, and `tree` what an operation does to both halves.
+//! Inside, `contents` is what the inodes contain by their numbers, in a map whose copies share what they have in common,
+//! and `tree` what an operation does to both halves: it works on copies and puts them in place at the end.
 //! Definitions: `specs/View.antt` is the tree that the halves stand for, `specs/Tied.antt` what holds of them,
 //! `specs/Applicable.antt` what an operation must meet, which each record's does.
 //!
 //! Costs, counted in comparisons: a question or an operation takes the logarithm of the number of inodes and of the
-//! names in its directories. A Link or a Rename of a directory that has entries also climbs from its place to the
-//! top, and a Write takes the time of the bytes that it changes.
+//! names in its directories. A Link or a Rename of a directory that has entries also climbs from its place to the top, and
+//! a Write takes the time of the bytes that it changes. Besides, an operation makes anew the inodes that it changes
+//! (`Content::copy`) and the nodes of the map above them, and one that changes names works on a copy of all names
+//! (`Names::copy`). A copy of the tree takes what that of the names takes: the contents are shared, in constant time and
+//! without memory.
 #![tactic(auto)]
 
 pub mod basis;

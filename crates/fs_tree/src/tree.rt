@@ -19,10 +19,19 @@ use std::alloc::Global;
 use std::marker::Model;
 
 /// A tree of directories, files and symbolic links, which contracts see as the tree of the definitions.
-#[derive(Drop)]
 pub struct Tree {
     names: Names,
     contents: Contents,
+}
+
+/// One function, so that whatever drops a tree calls it and isn't proved over all of its parts once more.
+impl Drop for Tree {
+    fn drop(self) {
+        let Tree {
+            names: _,
+            contents: _,
+        } = self;
+    }
 }
 
 impl Model for Tree {
@@ -51,8 +60,9 @@ impl Tree {
             gid: 0,
             target: Bytes::of(Vec::new(alloc)),
         };
-        let mut contents = Contents::new(alloc);
+        let mut contents = Contents::new();
         contents.insert(
+            alloc,
             ROOT,
             Content::fresh(alloc, &root, Moment { sec: 0, nsec: 0 })?,
         )?;
@@ -86,7 +96,7 @@ impl Tree {
     {
         Ok(Tree {
             names: self.names.copy(alloc)?,
-            contents: self.contents.copy(alloc)?,
+            contents: self.contents.copy()?,
         })
     }
 
@@ -102,12 +112,10 @@ impl Tree {
         if self.contents.get(ino).is_some() {
             return Ok(());
         }
-        let content = Content::fresh(alloc, op, moment)?;
-        self.contents.insert(*ino, content)?;
-        if let Err(fault) = self.names.apply_names(alloc, op) {
-            self.contents.remove(ino);
-            return Err(fault);
-        }
+        let mut contents = self.contents.copy()?;
+        contents.insert(alloc, *ino, Content::fresh(alloc, op, moment)?)?;
+        self.names.apply_names(alloc, op)?;
+        self.contents = contents;
         Ok(())
     }
 
@@ -117,9 +125,13 @@ impl Tree {
         ensures ok { OnOk result (self.new ≡ apply self.old moment op.now) }
         ensures err { OnErr result (self.new ≡ self.old) }
     {
-        let touched = self.names.apply_names(alloc, op)?;
-        self.contents.touch_any(touched.first, moment);
-        self.contents.touch_any(touched.second, moment);
+        let mut names = self.names.copy(alloc)?;
+        let mut contents = self.contents.copy()?;
+        let touched = names.apply_names(alloc, op)?;
+        contents.touch_any(alloc, touched.first, moment)?;
+        contents.touch_any(alloc, touched.second, moment)?;
+        self.names = names;
+        self.contents = contents;
         Ok(())
     }
 
