@@ -14,9 +14,8 @@
 //! Costs, counted in comparisons: a question or an operation takes the logarithm of the number of inodes and of the
 //! names in its directories. A Link or a Rename of a directory that has entries also climbs from its place to the top, and
 //! a Write takes the time of the bytes that it changes. Besides, an operation makes anew the inodes that it changes
-//! (`Content::copy`) and the nodes of the map above them, and one that changes names works on a copy of all names
-//! (`Names::copy`). A copy of the tree takes what that of the names takes: the contents are shared, in constant time and
-//! without memory.
+//! and the nodes of the maps above them, on copies of names and contents. A copy of the tree takes constant time and no
+//! memory: it shares all of that until one of the two is changed.
 #![tactic(auto)]
 
 pub mod basis;

@@ -21,7 +21,8 @@
 //! `specs/Replays.antt` the trees at the checkpoints, `specs/States.antt` what is kept, and `specs/Laws.antt` the law.
 //!
 //! Costs: beside the records that it applies, each call copies the tree once, and again for each checkpoint that it passes,
-//! which takes the time and the memory of all inodes. A call with late records copies those behind the first one's place too,
+//! which takes constant time, since copies of a tree share; a copy that is kept costs what was changed since. A call with late
+//! records copies the records behind the first one's place too,
 //! of which the originals are kept until the call can't be taken back. A place is found by as many ranks as the logarithm of
 //! the number of records. Taking a call back moves what it replaced into place again.
 #![tactic(auto)]
