@@ -2,6 +2,6 @@ pub mod Parts
 pub mod Forgotten
 pub mod Renewing
 pub mod Fixing
-pub mod Tallying
-pub mod Around
+pub mod Asked
+pub mod Repaired
 pub mod Whole

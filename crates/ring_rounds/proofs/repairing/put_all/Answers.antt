@@ -1,20 +1,32 @@
-use Rattle.std.proofs.Common.{[], ◌∷◌, ◌++◌, cond, sym, ap, ◌∙◌, rules}
-use Rattle.ring_rounds.proofs.Around.{put_all, put_next, put_none}
+use Rattle.std.proofs.Common.{subst}
+use Rattle.dhash_repair.specs.Repairing.{RepairIsWanted}
+use Rattle.ring_rounds.proofs.Repaired.{asked_made, asks_on, repair_ended, repair_first}
 use Rattle.ring_rounds.proofs.repairing.put_all.Goals as goal
-use Rattle.ring_rounds.proofs.repairing.put_all.Goals.{then-branch+in_ok-push, else-branch}
 
-pub posts-init : goal.posts-init
-posts-init g c = put_none (g.J.Judge.judges c.args.judge.now) c.args.peer.now c.args.replicas c.args.nodes.now c.args.posts.now c.new-dropped.result.items c.new-dropped.ensures.items
+pub asks-init : goal.asks-init
+asks-init g c = repair_first (g.J.Judge.judges c.args.judge.now) c.args.nodes.now c.args.peer.now c.args.replicas c.args.held c.start-repair.result c.start-repair.ensures.after c.start-repair.ensures.begun
 
-pub posts-preserved : goal.posts-preserved
-posts-preserved g c =
-    put_next (g.J.Judge.judges c.args.judge.now) c.args.peer.now c.args.replicas c.args.nodes.now c.posts.nodes c.put_around.new.nodes c.args.posts.now c.posts.post-index _ c.post-item.result c.posts.dropped.items c.if-branch.dropped.items c.in_ok-put_around.field-0 c.posts.invariant (search rules) c.post-item.is
-    c.in_ok-put_around.ensures.puts
-    (elim c.if-branch.branch [
-      | then-branch+in_ok-push w ↦ ap (λ v. v.items) w.dropped-is ∙ w.in_ok-push.ensures.items ∙ sym (ap (λ b. cond b (c.posts.dropped.items ++ c.post-item.result.key ∷ []) c.posts.dropped.items) w.if-branch.true)
-      | else-branch w ↦ ap (λ v. v.items) w.dropped-is ∙ sym (ap (λ b. cond b (c.posts.dropped.items ++ c.post-item.result.key ∷ []) c.posts.dropped.items) w.if-branch.false)
-    ])
-    c.put_around.ensures.made
+pub step-requires-clause-made : goal.step-requires-clause-made
+step-requires-clause-made g c =
+    asked_made (g.J.Judge.judges c.args.judge.now) c.args.nodes.now c.args.peer.now c.args.replicas c.args.held c.asks.nodes c.asks.repair c.next.new.self c.in-Ask.node c.in-Ask.question c.requires c.asks.invariant
+    (subst (RepairIsWanted c.asks.repair c.next.new.self) c.in-Ask.is c.in_ok-node.ensures.wanted)
 
-pub returns-clause-puts : goal.returns-clause-puts
-returns-clause-puts g c = put_all (g.J.Judge.judges c.args.judge.now) c.args.peer.now c.args.replicas c.args.nodes.now c.posts.nodes c.args.posts.now c.posts.post-index c.posts.dropped.items c.posts.invariant (search rules)
+pub asks-preserved-in_ok-step-in-Ask : goal.asks-preserved-in_ok-step-in-Ask
+asks-preserved-in_ok-step-in-Ask g c =
+    asks_on (g.J.Judge.judges c.args.judge.now) c.args.nodes.now c.args.peer.now c.args.replicas c.args.held c.asks.nodes c.step.new.nodes c.asks.repair c.next.new.self c.step.new.repair c.in-Ask.node c.in-Ask.question c.asks.invariant
+    (subst (RepairIsWanted c.asks.repair c.next.new.self) c.in-Ask.is c.in_ok-node.ensures.wanted) c.in_ok-step-in-Ask.ensures.steps c.step.ensures.made
+
+pub asks-preserved-in_ok-step-in-Ask-2 : goal.asks-preserved-in_ok-step-in-Ask-2
+asks-preserved-in_ok-step-in-Ask-2 g c =
+    asks_on (g.J.Judge.judges c.args.judge.now) c.args.nodes.now c.args.peer.now c.args.replicas c.args.held c.asks.nodes c.step.new.nodes c.asks.repair c.next.new.self c.step.new.repair c.in-Ask.node c.in-Ask.question c.asks.invariant
+    (subst (RepairIsWanted c.asks.repair c.next.new.self) c.in-Ask.is c.in_ok-node.ensures.wanted) c.in_ok-step-in-Ask.ensures.steps c.step.ensures.made
+
+pub asks-preserved : goal.asks-preserved
+asks-preserved g c =
+    asks_on (g.J.Judge.judges c.args.judge.now) c.args.nodes.now c.args.peer.now c.args.replicas c.args.held c.asks.nodes c.step.new.nodes c.asks.repair c.next.new.self c.step.new.repair c.in-Ask.node c.in-Ask.question c.asks.invariant
+    (subst (RepairIsWanted c.asks.repair c.next.new.self) c.in-Ask.is c.in_ok-node.ensures.wanted) c.in_ok-step-in-Ask.ensures.steps c.step.ensures.made
+
+pub returns-in-Done-clause-puts : goal.returns-in-Done-clause-puts
+returns-in-Done-clause-puts g c =
+    repair_ended (g.J.Judge.judges c.args.judge.now) c.args.nodes.now c.args.peer.now c.args.replicas c.args.held c.asks.nodes c.asks.repair c.next.new.self c.in-Done.acks c.are_sound.ensures c.requires c.asks.invariant
+    (subst (RepairIsWanted c.asks.repair c.next.new.self) c.in-Done.is c.in_ok-node.ensures.wanted)

@@ -1,6 +1,10 @@
-use Rattle.ring_rounds.proofs.Around.{HasPut}
+use Rattle.dhash_repair.specs.Repairing.{repair_left}
+use Rattle.ring_rounds.proofs.Repaired.{IsRepairing}
 use Rattle.ring_rounds.proofs.repairing.put_all.Given as goal
 
--- the blocks so far
-abbrev pub invariant-posts : goal.invariant-posts
-invariant-posts g l = HasPut (g.J.Judge.judges l.judge) l.peer l.replicas l.fn.nodes l.nodes l.posts l.post-index l.dropped.items
+-- the asks so far
+abbrev pub invariant-asks : goal.invariant-asks
+invariant-asks g l = IsRepairing (g.J.Judge.judges l.judge) l.fn.nodes l.peer l.replicas l.fn.held l.nodes l.repair
+
+abbrev pub decreases-asks : goal.decreases-asks
+decreases-asks g l = repair_left l.repair

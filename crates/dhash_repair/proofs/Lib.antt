@@ -1,0 +1,5 @@
+pub mod Asks
+pub mod Driven
+pub mod Keys
+pub mod Putting
+pub mod Repairing

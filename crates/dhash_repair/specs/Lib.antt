@@ -1,0 +1,4 @@
+pub mod Repairs
+pub mod Putting
+pub mod Machines
+pub mod Repairing
