@@ -66,5 +66,5 @@ pub promised_of : {E : Type 0} (result : Result Taken E) (before after : WorldSt
     → IfOk result (λ how. (w : Played) → ShowsWorld before w → KeepsAll w → (outcome : Outcome Played) × PromisedStep w line outcome × IsSeenAs ShowsWorld (outcome_told how after) outcome)
 promised_of (Ok how) before after line does = λ w shows keeps.
     let told = told_of (λ v outcome. StageStep v line outcome) before after how does w shows keeps in
-    (told.0, ((told.1, each_promises w line told.0 keeps told.1), told.2))
+    (told.0, (told.1, each_promises w line told.0 keeps told.1), told.2)
 promised_of (Err e) before after line does = tt
