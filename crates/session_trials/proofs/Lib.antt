@@ -1,0 +1,2 @@
+mod SameStanding
+mod UnderWay
