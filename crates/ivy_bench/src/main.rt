@@ -21,6 +21,9 @@
 //!
 //! - `trees create N DIRS`: N directories are made and named, in turn in so many directories
 //! - `trees rename N DEPTH`: a directory with an entry is moved N times between two directories at that depth
+//! - `trees copy N TIMES`: a tree of N directories is copied so many times; its making isn't in the time
+//! - `files ordered N`, `files shuffled N`: N pieces of 8,192 bytes are written into a file of 2,048, one behind the other, and
+//!   in an order without a pattern
 //!
 //! The largest causally closed part of logs that were fetched, where nothing is held. Neither the making of the records nor
 //! that of the batch is in the time:
@@ -38,6 +41,7 @@
 //! has such lines alone, since times differ from run to run.
 #![tactic(auto)]
 
+mod files;
 mod gather;
 mod levels;
 mod logs;
@@ -68,6 +72,7 @@ fn answer<R: Clock + Print + Threads>(
         "levels" => levels::answer(rt, alloc, asked),
         "records" => records::answer(rt, alloc, asked),
         "trees" => trees::answer(rt, alloc, asked),
+        "files" => files::answer(rt, alloc, asked),
         "order" => order::answer(rt, alloc, asked),
         "wire" => wire::answer(rt, alloc, asked),
         _ => Ok(None),

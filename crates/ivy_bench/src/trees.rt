@@ -122,6 +122,30 @@ fn time_rename<R: Clock + Print>(
     Ok(time)
 }
 
+/// Copies the tree so many times, each copy dropped before the next one is made.
+fn copy_all(tree: &Tree, alloc: Global, times: u32) -> Result<(), Memory> {
+    for _n in 0..times {
+        let _copy = tree.copy(alloc)?;
+    }
+    Ok(())
+}
+
+fn time_copy<R: Clock + Print>(
+    rt: &R,
+    alloc: Global,
+    count: u32,
+    times: u32,
+) -> io::Result<Duration> {
+    let mut time = Duration::ZERO;
+    if let Ok(tree) = create(alloc, count, 1) {
+        let start = Instant::now(rt)?;
+        let copied = copy_all(&tree, alloc, times).is_ok();
+        time = start.elapsed(rt)?;
+        println!(rt; "copied: {copied}")?;
+    }
+    Ok(time)
+}
+
 fn number_from(word: Option<&str>) -> u32 {
     word.and_then(|word| word.parse().ok()).unwrap_or(0)
 }
@@ -139,6 +163,7 @@ pub fn answer<R: Clock + Print>(
     let time = match what {
         Some("create") => time_create(rt, alloc, count, size)?,
         Some("rename") => time_rename(rt, alloc, count, size)?,
+        Some("copy") => time_copy(rt, alloc, count, size)?,
         _ => return Ok(None),
     };
     Ok(Some(time))
