@@ -1,0 +1,6 @@
+//! A row of marks, one for each place of a file, of which copies share what they have in common.
+#![tactic(auto)]
+
+mod marks;
+
+pub use marks::SharedMarks;
