@@ -2,5 +2,6 @@
 #![tactic(auto)]
 
 mod marks;
+mod ranges;
 
 pub use marks::SharedMarks;

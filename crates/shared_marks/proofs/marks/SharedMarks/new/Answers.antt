@@ -1,0 +1,13 @@
+use Rattle.std.proofs.Common.{◌≡◌, ℕ, T, [], Some, None, refl, sym, ap, subst, ◌∙◌}
+use Rattle.std.specs.FinMap.Entries.{is_sorted}
+use Rattle.shared_marks.specs.Ends.{end_cmp}
+use Rattle.shared_marks.specs.Marks.{marks_of, start_of, AreApart}
+use Rattle.shared_marks.proofs.marks.SharedMarks.new.Goals as goal
+
+pub invariant_of-result : goal.invariant_of-result
+unfolding marks_of
+invariant_of-result c = rw c.new.ensures (tt, record { within = λ e s h. absurd (cc); gap = λ e s f t h k l. absurd (cc) }, refl)
+
+pub returns : goal.returns
+unfolding marks_of
+returns c = refl
