@@ -1,5 +1,5 @@
 -- Ranges put in and taken out, and what that makes of the marks.
-use Rattle.std.proofs.Common.{◌≡◌, ◌≢◌, ℕ, Bool, true, false, ◌+◌, ◌-◌, ◌<◌, ◌≤◌, Option, Some, None, refl, sym, ap, ◌∙◌, inl, inr, arith}
+use Rattle.std.proofs.Common.{◌≡◌, ◌≢◌, ℕ, Bool, true, false, ◌-◌, ◌<◌, ◌≤◌, Option, Some, None, refl, sym, ap, ◌∙◌, inl, inr, arith}
 use Rattle.std.proofs.lemmas.Bool.{cases_lt, cases_eq, both_ways, false_from_ne_true}
 use Rattle.shared_marks.specs.declared.ranges.Range.{Range}
 use Rattle.shared_marks.specs.Marks.{AreApart, AreSet, IsBare, IsFirstFrom}
@@ -56,16 +56,16 @@ module _ (old : ℕ → Option ℕ) (marked : ℕ → Bool) (shows : Shows old m
 
       put_outside : (p : ℕ) → (s ≤ p → p < e → ⊥) → seen p ≡ marked p
       put_outside p outside = same_test (seen p) (marked p)
-        (λ m. let r = shown.from p m in elim (cases_eq r.0 e) [
-          | inl same ↦
-              let starts : s ≡ r.1 = same_start (new e) s r.1 change.0 (ap new (sym same) ∙ r.2) in
-              absurd (outside (omega arith) (omega arith))
-          | inr other ↦ shows.inside p r.0 r.1 (sym (change.1 r.0 other) ∙ r.2) r.3 r.4
-        ])
-        (λ m. let r = shows.from p m in elim (cases_eq r.0 e) [
-          | inl same ↦ absurd (none_there r.1 (ap old (sym same) ∙ r.2))
-          | inr other ↦ shown.inside p r.0 r.1 (change.1 r.0 other ∙ r.2) r.3 r.4
-        ])
+          (λ m. let r = shown.from p m in elim (cases_eq r.0 e) [
+            | inl same ↦
+                let starts : s ≡ r.1 = same_start (new e) s r.1 change.0 (ap new (sym same) ∙ r.2) in
+                absurd (outside (omega arith) (omega arith))
+            | inr other ↦ shows.inside p r.0 r.1 (sym (change.1 r.0 other) ∙ r.2) r.3 r.4
+          ])
+          (λ m. let r = shows.from p m in elim (cases_eq r.0 e) [
+            | inl same ↦ absurd (none_there r.1 (ap old (sym same) ∙ r.2))
+            | inr other ↦ shown.inside p r.0 r.1 (change.1 r.0 other ∙ r.2) r.3 r.4
+          ])
 
       pub put_sets : AreSet marked seen s e true
       put_sets = record {
@@ -132,13 +132,13 @@ module _ (old : ℕ → Option ℕ) (marked : ℕ → Bool) (shows : Shows old m
 
       taken_outside : (p : ℕ) → (s ≤ p → p < e → ⊥) → seen p ≡ marked p
       taken_outside p outside = same_test (seen p) (marked p)
-        (λ m. let r = shown.from p m in shows.inside p r.0 r.1 (kept r.0 r.1 r.2).1 r.3 r.4)
-        (λ m. let r = shows.from p m in elim (cases_eq r.0 e) [
-          | inl same ↦
-              let starts : s ≡ r.1 = same_start (old e) s r.1 there (ap old (sym same) ∙ r.2) in
-              absurd (outside (omega arith) (omega arith))
-          | inr other ↦ shown.inside p r.0 r.1 (change.1 r.0 other ∙ r.2) r.3 r.4
-        ])
+          (λ m. let r = shown.from p m in shows.inside p r.0 r.1 (kept r.0 r.1 r.2).1 r.3 r.4)
+          (λ m. let r = shows.from p m in elim (cases_eq r.0 e) [
+            | inl same ↦
+                let starts : s ≡ r.1 = same_start (old e) s r.1 there (ap old (sym same) ∙ r.2) in
+                absurd (outside (omega arith) (omega arith))
+            | inr other ↦ shown.inside p r.0 r.1 (change.1 r.0 other ∙ r.2) r.3 r.4
+          ])
 
       pub taken_sets : AreSet marked seen s e false
       taken_sets = record {
@@ -146,6 +146,3 @@ module _ (old : ℕ → Option ℕ) (marked : ℕ → Bool) (shows : Shows old m
         before = λ p l. taken_outside p (λ low high. omega arith);
         behind = λ p l. taken_outside p (λ low high. omega arith);
       }
-
-      pub taken_full : (p : ℕ) → s ≤ p → p < e → marked p ≡ true
-      taken_full p low high = shows.inside p e s there low high

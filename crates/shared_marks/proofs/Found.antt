@@ -1,15 +1,12 @@
 -- What the map's entries say of ranges and marks.
-use Rattle.std.proofs.Common.{◌≡◌, ◌≢◌, ℕ, Bool, true, false, not, ◌&&◌, ◌<◌, ◌≤◌, ltb, leb, T, List, [], ◌∷◌, ◌++◌, length, get_or, map, take, drop, Option, Bor, Some, None, refl, sym, ap, subst, ◌∙◌, cond, inl, inr, arith}
+use Rattle.std.proofs.Common.{◌≡◌, ◌≢◌, ℕ, Bool, true, false, not, ◌&&◌, ◌<◌, ◌≤◌, ltb, leb, T, List, [], ◌∷◌, length, get_or, map, take, drop, Option, Bor, Some, None, refl, sym, ap, subst, ◌∙◌, cond, inl, inr, arith}
 use Rattle.std.proofs.lemmas.Bool.{cases_lt, cases_eq, both_ways, and_parts, and_from, or_cases, or_left, or_right, false≢true, ltb-true, leb-true, lt-ltb, le-leb}
 use Rattle.std.proofs.lemmas.List.{nil_from_length}
-use Rattle.std.specs.declared.cmp.Ordering.{Ordering}
 use Rattle.std.specs.declared.cmp.Ordering.TheVariants.{Less, Equal, Greater}
-use Rattle.std.specs.List.{list_any}
 use Rattle.std.specs.Ordering.{nat_cmp, is_eq, is_lt, is_le, eq_by_cmp}
 use Rattle.std.specs.Cmp.{IsTotalOrder, nat_cmp_total, nat_cmp_is}
 use Rattle.std.proofs.lemmas.Cmp.{on_total}
-use Rattle.std.specs.FinMap.Entries.{find as value_at, put, where_key, is_sorted, below_all, find-put, find-where_key, is_sorted-where_key, is_sorted-put}
-use Rattle.shared_marks.specs.declared.ranges.Range.{Range}
+use Rattle.std.specs.FinMap.Entries.{find as value_at, put, where_key, is_sorted, below_all, find-put, find-where_key, is_sorted-where_key}
 use Rattle.shared_marks.specs.declared.ranges.RangeEnd.{RangeEnd}
 use Rattle.shared_marks.specs.Ends.{end_cmp}
 use Rattle.shared_marks.specs.Marks.{start_of, contains, is_marked, IsFirstFrom}
@@ -57,8 +54,7 @@ module _ (k : ℕ) (es : Entries) where
   pub put_one : (v : ℕ) → ChangesOne (start_of es) (start_of (put end_cmp (record { 0 = k }) v es)) k (Some v)
   unfolding found
   put_one v =
-      let after = λ (n : ℕ). find-put end_cmp total (record { 0 = n }) (record { 0 = k }) v es in
-      (
+      let after = λ (n : ℕ). find-put end_cmp total (record { 0 = n }) (record { 0 = k }) v es in (
         after k ∙ ap (λ b. cond b (Some v) (found k)) (same_eq k),
         λ n h. after n ∙ ap (λ b. cond b (Some v) (found n)) (apart_eq n k h),
       )
@@ -160,12 +156,11 @@ first_in [] others end start h is = absurd (cc)
 first_in (e ∷ es) others end start h is =
     let parts = both_parts (below_all end_cmp e.0 es) (is_sorted end_cmp es) h in
     let ends : e.0.0 ≡ end = ap (λ l. (get_or l 0 e).0.0) is in
-    let starts : e.1 ≡ start = ap (λ l. (get_or l 0 e).1) is in
-    (
+    let starts : e.1 ≡ start = ap (λ l. (get_or l 0 e).1) is in (
       ap (start_of (e ∷ es)) (sym ends) ∙ first_found e es ∙ ap Some starts,
       λ n l.
-        let below : n < e.0.0 = omega arith in
-        ap (λ b. cond b (Some e.1) (start_of es n)) (apart_eq n e.0.0 (λ same. omega arith)) ∙ none_before e.0 es n parts.0 (omega arith),
+          let below : n < e.0.0 = omega arith in
+          ap (λ b. cond b (Some e.1) (start_of es n)) (apart_eq n e.0.0 (λ same. omega arith)) ∙ none_before e.0 es n parts.0 (omega arith),
     )
 
 empty : (es : Entries) → take 1 es ≡ [] → (n : ℕ) → start_of es n ≡ None

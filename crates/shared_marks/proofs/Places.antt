@@ -1,10 +1,10 @@
 -- Lists of marks, place by place.
-use Rattle.std.proofs.Common.{◌≡◌, ℕ, zero, suc, Bool, true, false, ◌+◌, ◌-◌, ◌<◌, ◌≤◌, min, max, List, [], ◌∷◌, ◌++◌, length, get_or, map, take, drop, replicate, cond, Option, Some, refl, sym, ap, ◌∙◌, inl, inr, arith, length-append, length-take, length-drop}
-use Rattle.std.proofs.lemmas.Bool.{cases_lt, false_from_ne_true}
+use Rattle.std.proofs.Common.{◌≡◌, ℕ, zero, suc, Bool, true, false, ◌+◌, ◌-◌, ◌<◌, ◌≤◌, min, max, List, [], ◌∷◌, ◌++◌, length, map, take, drop, replicate, cond, refl, sym, ap, ◌∙◌, inl, inr, arith, length-append, length-take, length-drop}
+use Rattle.std.proofs.lemmas.Bool.{cases_lt}
 use Rattle.std.proofs.lemmas.List.{ext_get_or, get_or_append_left, get_or-append_right, get_or-take, get_or-drop, get_or_past, get_or-replicate, length-replicate, take_all}
 use Rattle.std.proofs.lemmas.List.Sums.{sum_by-cons, sum_by_more}
 use Rattle.std.proofs.lemmas.List.FromFn.{length-map-range_with_len, get_or-map-range_with_len}
-use Rattle.std.specs.List.{count_by, range_with_len}
+use Rattle.std.specs.List.{range_with_len}
 use Rattle.shared_marks.specs.Marks.{start_of, is_marked, marks_of, count_marked, mark_at, AreApart, AreSet}
 use Rattle.shared_marks.proofs.Found.{Entries, Shows}
 use Rattle.shared_marks.proofs.Changes.{none_behind}

@@ -1,5 +1,5 @@
 -- Marks as ranges of places: each range is kept under its end, and its start is the value.
-use Rattle.std.specs.Prelude.{◌≡◌, ◌≢◌, ℕ, ◌+◌, ◌-◌, ◌<◌, ◌≤◌, Bool, true, false, ◌&&◌, nat_le, nat_lt, List, length, map, count_by, slice_index_or, Option, Some, None}
+use Rattle.std.specs.Prelude.{◌≡◌, ℕ, ◌+◌, ◌-◌, ◌<◌, ◌≤◌, Bool, true, false, ◌&&◌, nat_le, nat_lt, List, length, map, count_by, slice_index_or, Option, Some, None}
 use Rattle.std.specs.List.{list_any, range_with_len}
 use Rattle.std.specs.FinMap.Entries.{find as value_at}
 use Rattle.shared_marks.specs.declared.ranges.Range.{Range}
@@ -35,11 +35,11 @@ pub record IsFirstFrom (starts : ℕ → Option ℕ) (place : ℕ) (range : Rang
   pub behind : place ≤ range.end
   pub first : (e : ℕ) → place ≤ e → e < range.end → starts e ≡ None
 
--- the mark at a place; none behind the end
+-- the mark at a place; behind the end there is none
 abbrev pub mark_at : List Bool → ℕ → Bool
 mark_at marks place = slice_index_or marks place false
 
--- no place from the start to the end is marked, nor one beside them
+-- neither a place from the start to the end is marked, nor one beside them: a range there would touch no other
 abbrev pub IsBare : (ℕ → Bool) → ℕ → ℕ → Type 0
 IsBare marked start end = (p : ℕ) → start ≤ p + 1 → p ≤ end → marked p ≡ false
 
@@ -49,7 +49,7 @@ pub record AreSet (old new : ℕ → Bool) (start end : ℕ) (mark : Bool) : Typ
   pub before : (p : ℕ) → p < start → new p ≡ old p
   pub behind : (p : ℕ) → end ≤ p → new p ≡ old p
 
--- the range was one of those that have a place from the start to the end or beside them, and none of its places is marked any more
+-- the range shared a place with those from the start to the end or touched them, and none of its places is marked any more
 pub record IsTakenOut (old new : List Bool) (start end : ℕ) (range : Range) : Type 0 where
   pub beside : (range.start ≤ end) × (start ≤ range.end)
   pub within : (range.start < range.end) × (range.end ≤ length old)
@@ -59,7 +59,7 @@ pub record IsTakenOut (old new : List Bool) (start end : ℕ) (range : Range) : 
   pub bare : IsBare (mark_at new) range.start range.end
   pub fewer : count_marked old ≡ count_marked new + (range.end - range.start)
 
--- the wide range is the range with the marked places in a row with it, and nothing has changed but inside of it
+-- the wide range has this range's places and else only marked ones, and nothing has changed but in it
 pub record IsWidened (old new : List Bool) (range wide : Range) : Type 0 where
   pub around : (wide.start ≤ range.start) × (range.end ≤ wide.end)
   pub within : wide.end ≤ length old

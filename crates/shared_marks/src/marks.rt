@@ -3,14 +3,14 @@
 ghost use Rattle.std.specs.Prelude.{◌≡◌, ℕ, ◌+◌, ◌-◌, ◌^◌, ◌<◌, ◌≤◌, [], ◌++◌, true, false, length, count_by, take, drop, replicate, max, IfOk, OnOk, OnErr, IfNone, IfSome};
 ghost use Rattle.shared_marks.specs.Marks.{mark_at, count_marked, IsBare, AreSet, IsTakenOut, IsWidened};
 
-use crate::ranges::{first_from, Range, RangeEnd};
+use crate::ranges::{Range, RangeEnd, first_from};
 use ivy_base::Memory;
 use shared_map::SharedMap;
 use std::alloc::Global;
 use std::marker::Model;
 
-/// A row of marks, one for each place: each place is marked or not. A copy shares its ranges with this row, and what is
-/// changed in one of the two later doesn't reach the other.
+/// A row of places, each of which is marked or not. A copy shares its ranges with this row, and what is changed in one of
+/// the two later doesn't reach the other.
 ///
 /// Contracts see the list of them, true where a place is marked.
 pub struct SharedMarks {
@@ -111,7 +111,7 @@ impl SharedMarks {
         Ok(())
     }
 
-    // Lets so many places be there, of which none is marked behind that size.
+    // Makes the row that long; no place from that size on may be marked.
     fn set_size(&mut self, size: u64)
         requires { (p : ℕ) → size ≤ p → mark_at self.old p ≡ false }
         ensures size { length self.new ≡ size }
@@ -134,7 +134,7 @@ impl SharedMarks {
         self.put_in(alloc, wide)
     }
 
-    // Takes out the ranges that have places of this one or beside them; answers this one widened by them. The error is
+    // Takes out the ranges that share a place with this one or touch it; answers this one widened by them. The error is
     // want of memory.
     fn take_beside(&mut self, alloc: Global, range: Range) -> Result<Range, Memory>
         requires some { range.start < range.end }
@@ -162,7 +162,7 @@ impl SharedMarks {
         Ok(())
     }
 
-    // Clears the places from the size on of the first range that has some; answers whether there is one. The error is
+    // Clears the places from the size on of the first range that has some; answers whether there was one. The error is
     // want of memory.
     fn cut_first(&mut self, alloc: Global, size: u64) -> Result<bool, Memory>
         requires { size < length self.old }
@@ -187,7 +187,8 @@ impl SharedMarks {
         Ok(true)
     }
 
-    // Takes out the first range that has a place from the start to the end or beside them. The error is want of memory.
+    // Takes out the first range that shares a place with those from the start to the end, or touches them; answers it,
+    // if there is one. The error is want of memory.
     fn take_out(&mut self, alloc: Global, start: u64, end: u64) -> Result<Option<Range>, Memory>
         ensures none { IfOk result (λ taken. IfNone taken ((self.new ≡ self.old) × IsBare (mark_at self.old) start end)) }
         ensures some { IfOk result (λ taken. IfSome taken (IsTakenOut self.old self.new start end)) }
@@ -203,7 +204,7 @@ impl SharedMarks {
         Ok(Some(range))
     }
 
-    // Marks the places of a range of which none is marked, nor one beside it. The error is want of memory.
+    // Marks the places of a range that shares no place with another, and touches none. The error is want of memory.
     fn put_in(&mut self, alloc: Global, range: Range) -> Result<(), Memory>
         requires some { range.start < range.end }
         requires within { range.end ≤ length self.old }
@@ -212,8 +213,7 @@ impl SharedMarks {
         ensures set { OnOk result (AreSet (mark_at self.old) (mark_at self.new) range.start range.end true) }
         ensures more { OnOk result (count_marked self.new ≡ count_marked self.old + (range.end - range.start)) }
     {
-        self.ranges
-            .insert(alloc, RangeEnd(range.end), range.start)?;
+        self.ranges.insert(alloc, RangeEnd(range.end), range.start)?;
         self.count += range.end - range.start;
         Ok(())
     }

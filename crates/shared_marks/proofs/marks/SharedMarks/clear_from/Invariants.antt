@@ -5,7 +5,7 @@ use Rattle.shared_marks.proofs.marks.SharedMarks.clear_from.Given as goal
 abbrev pub invariant-cutting : goal.invariant-cutting
 invariant-cutting l = record {
   long : length l.self ≡ length l.fn.self;
-  before : (p : ℕ) → p < l.size → mark_at l.self p ≡ mark_at l.fn.self p
+  before : (p : ℕ) → p < l.size → mark_at l.self p ≡ mark_at l.fn.self p;
 }
 
 abbrev pub decreases-cutting : goal.decreases-cutting

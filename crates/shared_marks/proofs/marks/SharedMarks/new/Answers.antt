@@ -1,7 +1,5 @@
-use Rattle.std.proofs.Common.{◌≡◌, ℕ, T, [], Some, None, refl, sym, ap, subst, ◌∙◌}
-use Rattle.std.specs.FinMap.Entries.{is_sorted}
-use Rattle.shared_marks.specs.Ends.{end_cmp}
-use Rattle.shared_marks.specs.Marks.{marks_of, start_of, AreApart}
+use Rattle.std.proofs.Common.{refl}
+use Rattle.shared_marks.specs.Marks.{marks_of}
 use Rattle.shared_marks.proofs.marks.SharedMarks.new.Goals as goal
 
 pub invariant_of-result : goal.invariant_of-result

@@ -1,4 +1,3 @@
-use Rattle.std.proofs.Common.{◌≡◌, ◌<◌}
 use Rattle.shared_marks.specs.Marks.{count_marked, IsWidened}
 use Rattle.shared_marks.proofs.marks.SharedMarks.take_beside.Given as goal
 
