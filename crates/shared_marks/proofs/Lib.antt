@@ -1,0 +1,4 @@
+mod Changes
+mod Found
+mod Places
+mod Steps
