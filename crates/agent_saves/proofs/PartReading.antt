@@ -10,7 +10,7 @@ use Rattle.wire_model.proofs.Fronts.{both, no_first, no_second}
 use Rattle.log_model.specs.Spelling.{IsKey, vector_entry}
 use Rattle.log_model.specs.Vector.{Vector}
 use Rattle.log_model.specs.View.{View}
-use Rattle.log_records.specs.Parts.{constant_bytes, key_bytes, IsOptional}
+use Rattle.block_parts.specs.Parts.{constant_bytes, key_bytes, IsOptional}
 use Rattle.log_records.proofs.Constants.{one_constant}
 use Rattle.version_vectors.specs.Reading.{ReadFault}
 use Rattle.version_vectors.specs.Vectors.{VectorFits}

@@ -4,7 +4,7 @@ ghost use Rattle.std.specs.Prelude.{◌≡◌, length, IfOk, IfErr, OnErr};
 ghost use Rattle.wire_model.specs.Xdr.{optional, IsAny};
 ghost use Rattle.wire_model.specs.OneReading.{IsFront, HasNoFront};
 ghost use Rattle.log_model.specs.Spelling.{IsKey};
-ghost use Rattle.log_records.specs.Parts.{constant_bytes, key_bytes, IsOptional};
+ghost use Rattle.block_parts.specs.Parts.{constant_bytes, key_bytes, IsOptional};
 ghost use Rattle.agent_saves.specs.Parts.{IsTold, mark, told, told_bytes};
 ghost use Rattle.agent_saves.specs.Refusals.{Refuses, RefusesFront};
 

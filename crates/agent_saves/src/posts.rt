@@ -6,7 +6,7 @@ ghost use Rattle.std.specs.Prelude.{nat_lt};
 ghost use Rattle.wire_model.specs.Xdr.{array, AreSoMany, IsAny};
 ghost use Rattle.wire_model.specs.OneReading.{IsFront, HasNoFront};
 ghost use Rattle.log_model.specs.Spelling.{IsKey};
-ghost use Rattle.log_records.specs.Parts.{key_bytes};
+ghost use Rattle.block_parts.specs.Parts.{key_bytes};
 ghost use Rattle.agent_model.specs.SavedBytes.{HasItsName, post_bytes};
 ghost use Rattle.agent_saves.specs.Parts.{ArePosts, IsPost, kind_bytes};
 ghost use Rattle.agent_saves.specs.Refusals.{RefusesFront};

@@ -7,7 +7,7 @@ use Rattle.std.proofs.lemmas.Bool.{lt-ltb}
 use Rattle.wire_model.specs.Xdr.{fixed, IsOfLength}
 use Rattle.wire_model.specs.OneReading.{IsFront, HasNoFront}
 use Rattle.log_model.specs.Spelling.{IsBlock}
-use Rattle.snapshot_model.specs.Parts.{as_it_stands}
+use Rattle.block_parts.specs.Parts.{as_it_stands}
 
 both : (a b : Bool) → a ≡ true → b ≡ true → (a && b) ≡ true
 both true b h g = g

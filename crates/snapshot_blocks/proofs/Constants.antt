@@ -4,7 +4,7 @@ use Rattle.std.specs.Prelude.{◌≢◌}
 use Rattle.wire_model.specs.Xdr.{fixed, IsAny, IsOfLength}
 use Rattle.wire_model.specs.OneReading.{ReadsOne, IsFront, HasNoFront}
 use Rattle.wire_model.proofs.OneReading.{of_length, always}
-use Rattle.snapshot_model.specs.Parts.{constant_bytes}
+use Rattle.block_parts.specs.Parts.{constant_bytes}
 use Rattle.snapshot_blocks.proofs.Bytes.{fixed_block}
 
 pub one_constant : (front : List ℕ) → ReadsOne IsAny (constant_bytes front)

@@ -11,7 +11,7 @@ use Rattle.wire_model.proofs.Dependent.{PartsOf, none_of_some}
 use Rattle.wire_model.proofs.Arrays.{AreFew, more_items, no_next, no_count, too_many, no_counted}
 use Rattle.log_model.specs.Spelling.{IsKey}
 use Rattle.snapshot_model.specs.Blocks.{AreEntries, IsEntry, entries_block, entry_bytes}
-use Rattle.snapshot_model.specs.Parts.{constant_bytes, key_bytes}
+use Rattle.block_parts.specs.Parts.{constant_bytes, key_bytes}
 use Rattle.snapshot_model.proofs.OneBlock.{one_entry, one_name, one_of_entries}
 use Rattle.snapshot_blocks.specs.Parts.{AreSomeEntries}
 use Rattle.snapshot_blocks.proofs.Constants.{one_constant}

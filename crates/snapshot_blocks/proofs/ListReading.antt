@@ -14,7 +14,8 @@ use Rattle.wire_model.proofs.Arrays.{AreFew, no_count, too_many, no_counted}
 use Rattle.tree_model.proofs.Sound.{both_true}
 use Rattle.log_model.specs.Spelling.{IsKey}
 use Rattle.snapshot_model.specs.Blocks.{AreNamed, list_block}
-use Rattle.snapshot_model.specs.Parts.{constant_bytes, key_bytes, list_tag}
+use Rattle.block_parts.specs.Parts.{constant_bytes, key_bytes}
+use Rattle.snapshot_model.specs.Parts.{list_tag}
 use Rattle.snapshot_model.proofs.OneBlock.{one_key}
 use Rattle.snapshot_blocks.specs.Parsed.{keys_of}
 use Rattle.snapshot_blocks.specs.Parts.{AreNamesIn}

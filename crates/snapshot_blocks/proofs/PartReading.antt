@@ -14,7 +14,7 @@ use Rattle.wire_model.proofs.Fronts.{both, no_first, no_second, only_misfit, fro
 use Rattle.wire_model.proofs.Dependent.{PartsOf, none_of_some}
 use Rattle.log_model.specs.Spelling.{IsKey, IsMoment, no_name}
 use Rattle.snapshot_model.specs.Blocks.{Listed, IsListed, listed_bytes, AreAttributes, attributes_bytes}
-use Rattle.snapshot_model.specs.Parts.{key_bytes, IsAtMost}
+use Rattle.block_parts.specs.Parts.{key_bytes, IsAtMost}
 use Rattle.snapshot_model.proofs.OneBlock.{AttributeParts, attribute_parts, of_attribute_parts, one_at_most, one_key, one_time}
 
 pub no_such_size : {bytes middle : List ℕ} {n : ℕ} → IsFront IsDoubleWord double_word bytes n middle → 16777216 < n → HasNoFront (IsAtMost 16777216) double_word bytes

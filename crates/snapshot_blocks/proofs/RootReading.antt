@@ -14,7 +14,7 @@ use Rattle.version_vectors.specs.declared.fault.VectorFault.{VectorFault}
 use Rattle.version_vectors.specs.declared.fault.VectorFault.TheVariants as vector
 use Rattle.version_vectors.specs.Reading.{ReadFault}
 use Rattle.snapshot_model.specs.Blocks.{Listed, RootBlock, root_block, rank_bytes, listed_bytes, IsRankSpelled, IsVectorSpelled, IsListed, IsRootBlock}
-use Rattle.snapshot_model.specs.Parts.{constant_bytes, as_it_stands, key_bytes}
+use Rattle.block_parts.specs.Parts.{constant_bytes, as_it_stands, key_bytes}
 use Rattle.snapshot_model.proofs.OneBlock.{RootParts, root_parts, of_root_parts, one_block, one_key, one_front, one_tide}
 use Rattle.snapshot_blocks.specs.Parts.{IsTide}
 use Rattle.snapshot_blocks.specs.Refusals.{RefusesFront, fault_of_vector}

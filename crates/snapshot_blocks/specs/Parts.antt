@@ -8,7 +8,7 @@ use Rattle.log_model.specs.Rank as log
 use Rattle.log_model.specs.Spelling.{IsKey, kind_number}
 use Rattle.version_vectors.specs.declared.rank.Rank.{Rank}
 use Rattle.snapshot_model.specs.Blocks.{IsEntry, IsRankSpelled}
-use Rattle.snapshot_model.specs.Parts.{key_bytes}
+use Rattle.block_parts.specs.Parts.{key_bytes}
 
 abbrev pub number_of_kind : Kind → ℕ
 number_of_kind kind = kind_number kind

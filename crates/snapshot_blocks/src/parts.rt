@@ -7,7 +7,7 @@ ghost use Rattle.wire_model.specs.OneReading.{IsFront, HasNoFront};
 ghost use Rattle.log_model.specs.Spelling.{IsBlock, IsKey, IsMoment};
 ghost use Rattle.inode_replay.specs.Attributes.{attributes_of};
 ghost use Rattle.snapshot_model.specs.Blocks.{AreAttributes, attributes_bytes};
-ghost use Rattle.snapshot_model.specs.Parts.{constant_bytes, as_it_stands, key_bytes, kind_word, IsAtMost};
+ghost use Rattle.block_parts.specs.Parts.{constant_bytes, as_it_stands, key_bytes, kind_word, IsAtMost};
 
 use crate::fault::Malformed;
 use inode_replay::Attr;

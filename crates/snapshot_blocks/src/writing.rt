@@ -4,8 +4,8 @@ ghost use Rattle.std.specs.Prelude.{◌≡◌, ◌+◌, ◌^◌, ◌<◌, ◌≤
 ghost use Rattle.wire_model.specs.Xdr.{moment};
 ghost use Rattle.inode_replay.specs.Attributes.{attributes_of};
 ghost use Rattle.snapshot_model.specs.Blocks.{attributes_bytes};
-ghost use Rattle.snapshot_model.specs.Parts.{key_bytes};
-ghost use Rattle.snapshot_blocks.specs.Parts.{opaque_size};
+ghost use Rattle.block_parts.specs.Parts.{key_bytes};
+ghost use Rattle.block_parts.specs.Parts.{opaque_size};
 
 use inode_replay::Attr;
 use ivy_base::{Key, Moment};

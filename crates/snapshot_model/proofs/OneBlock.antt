@@ -15,7 +15,8 @@ use Rattle.log_model.specs.Rank.{Rank}
 use Rattle.log_model.specs.Vector.{Entry, Vector}
 use Rattle.log_model.specs.Spelling.{IsBlock, IsKey, IsMoment, IsTarget, vector_entry}
 use Rattle.snapshot_model.specs.Blocks.{Listed, InodeBlock, RootBlock, listed_bytes, attributes_bytes, rank_bytes, entry_bytes, list_block, entries_block, inode_block, root_block, IsListed, AreAttributes, IsEntry, IsStamped, IsVectorSpelled, IsRankSpelled, AreNamed, AreEntries, IsInodeBlock, IsRootBlock, most_bytes, most_levels}
-use Rattle.snapshot_model.specs.Parts.{key_bytes, kind_word, list_tag, IsAtMost, HasInodeParts, FitsKind}
+use Rattle.block_parts.specs.Parts.{key_bytes, kind_word, IsAtMost}
+use Rattle.snapshot_model.specs.Parts.{list_tag, HasInodeParts, FitsKind}
 use Rattle.snapshot_model.specs.Laws.{BlocksAreOne}
 
 -- ---- parts

@@ -7,7 +7,7 @@ use Rattle.std.proofs.lemmas.Bool.{lt-ltb}
 use Rattle.wire_model.specs.Xdr.{fixed, IsOfLength}
 use Rattle.wire_model.specs.OneReading.{IsFront, HasNoFront}
 use Rattle.log_model.specs.Spelling.{IsBlock}
-use Rattle.log_records.specs.Parts.{as_it_stands}
+use Rattle.block_parts.specs.Parts.{as_it_stands}
 
 both : (a b : Bool) → a ≡ true → b ≡ true → (a && b) ≡ true
 both true b h g = g
@@ -38,3 +38,6 @@ no_block count bytes h absent = record {
 
 pub is_block : (count : ℕ) (item array : List ℕ) → length item ≡ count → array ≡ item → ((i : ℕ) → get_or item i 0 < 256) → IsBlock count array
 is_block count item array l e below = rw e (record { size = l; each = all_bytes item below })
+
+pub counted : (count : ℕ) (array item : List ℕ) → length array ≡ count → item ≡ array → IsBlock (length item) item → IsBlock count array
+counted count array item size same fits = record { size = size; each = rw same at fits.each }

@@ -4,8 +4,8 @@ use Rattle.std.specs.Prelude.{◌≢◌}
 use Rattle.wire_model.specs.Xdr.{fixed, IsAny, IsOfLength}
 use Rattle.wire_model.specs.OneReading.{ReadsOne, IsFront, HasNoFront}
 use Rattle.wire_model.proofs.OneReading.{of_length, always}
-use Rattle.log_records.specs.Parts.{constant_bytes}
-use Rattle.log_records.proofs.Bytes.{fixed_block}
+use Rattle.block_parts.specs.Parts.{constant_bytes}
+use Rattle.block_parts.proofs.Bytes.{fixed_block}
 
 pub one_constant : (front : List ℕ) → ReadsOne IsAny (constant_bytes front)
 one_constant front = always front

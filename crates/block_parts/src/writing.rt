@@ -1,11 +1,11 @@
-//! Writing the parts that blocks share.
+//! Writing parts.
 
 ghost use Rattle.std.specs.Prelude.{◌≡◌, ◌+◌, ◌^◌, ◌<◌, ◌≤◌, ◌++◌, length, IfSome};
 ghost use Rattle.wire_model.specs.Xdr.{moment};
-ghost use Rattle.log_records.specs.Parts.{key_bytes};
-ghost use Rattle.log_records.specs.Sizes.{opaque_size, IsShort};
+ghost use Rattle.log_model.specs.Spelling.{kind_number as number_of_kind};
+ghost use Rattle.block_parts.specs.Parts.{key_bytes, opaque_size, IsShort};
 
-use ivy_base::{Key, Moment, PubKey};
+use ivy_base::{Key, Kind, Moment, PubKey};
 use xdr_codec::XdrWrite;
 
 /// How many bytes a text takes; none where it has 2^32 bytes or more.
@@ -21,7 +21,7 @@ pub fn opaque_len(bytes: &[u8]) -> Option<usize>
     Some(4 + len + (4 - len % 4) % 4)
 }
 
-/// Appends what the blocks of a format begin with.
+/// Appends what the blocks of a form begin with.
 pub fn put_constant(out: &mut XdrWrite, constant: &[u8; 4])
     requires { 4 ≤ out.old.spare }
     ensures written { out.new.written ≡ out.old.written ++ constant.now }
@@ -30,7 +30,7 @@ pub fn put_constant(out: &mut XdrWrite, constant: &[u8; 4])
     out.put_fixed(constant);
 }
 
-/// Appends a public key.
+/// Appends a public key: 60 bytes.
 pub fn put_owner(out: &mut XdrWrite, owner: &PubKey)
     requires { 60 ≤ out.old.spare }
     ensures written { out.new.written ≡ out.old.written ++ owner.now.0 }
@@ -39,7 +39,7 @@ pub fn put_owner(out: &mut XdrWrite, owner: &PubKey)
     out.put_fixed(&owner.0);
 }
 
-/// Appends a key.
+/// Appends a key: 20 bytes.
 pub fn put_key(out: &mut XdrWrite, key: &Key)
     requires { 20 ≤ out.old.spare }
     ensures written { out.new.written ≡ out.old.written ++ key_bytes key.now }
@@ -56,4 +56,15 @@ pub fn put_moment(out: &mut XdrWrite, m: Moment)
 {
     out.put_u32(m.sec);
     out.put_u32(m.nsec);
+}
+
+/// The number of a kind: 1 for a regular file, 2 for a directory, 5 for a symbolic link.
+pub fn kind_number(kind: Kind) -> u32
+    ensures { result ≡ number_of_kind kind }
+{
+    match kind {
+        Kind::Reg => 1,
+        Kind::Dir => 2,
+        Kind::Lnk => 5,
+    }
 }
