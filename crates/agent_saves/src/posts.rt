@@ -11,8 +11,8 @@ ghost use Rattle.agent_model.specs.SavedBytes.{HasItsName, post_bytes};
 ghost use Rattle.agent_saves.specs.Parts.{ArePosts, IsPost, kind_bytes};
 ghost use Rattle.agent_saves.specs.Refusals.{RefusesFront};
 
-use crate::fault::{Malformed, Refusal};
-use crate::parts::read_key;
+use crate::fault::Refusal;
+use block_parts::{Malformed, read_key};
 use dht_ids::{Post, PostKind, Posts};
 use ivy_base::{Bytes, Key, Memory, name_of};
 use std::alloc::Global;

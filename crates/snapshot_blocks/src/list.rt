@@ -11,9 +11,7 @@ ghost use Rattle.snapshot_model.specs.Parts.{list_tag};
 ghost use Rattle.snapshot_blocks.specs.Parts.{AreNamesIn};
 ghost use Rattle.snapshot_blocks.specs.Refusals.{SaysNothing};
 
-use crate::fault::Malformed;
-use crate::parts::read_constant;
-use crate::writing::{put_constant, put_key};
+use block_parts::{Malformed, put_constant, put_key, read_constant};
 use ivy_base::{Bytes, Key, Memory};
 use std::alloc::Global;
 use xdr_codec::{XdrRead, XdrWrite};

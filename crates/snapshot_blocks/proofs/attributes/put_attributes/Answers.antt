@@ -1,6 +1,6 @@
 use Rattle.wire_model.specs.Xdr.{word, moment}
 use Rattle.snapshot_blocks.proofs.Appended.{six_steps}
-use Rattle.snapshot_blocks.proofs.writing.put_attributes.Goals as goal
+use Rattle.snapshot_blocks.proofs.attributes.put_attributes.Goals as goal
 
 pub returns-clause-written : goal.returns-clause-written
 returns-clause-written c =

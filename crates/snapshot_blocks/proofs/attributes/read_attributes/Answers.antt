@@ -1,6 +1,6 @@
 use Rattle.wire_model.proofs.Dependent.{on_err}
 use Rattle.snapshot_blocks.proofs.PartReading.{attributes_front, no_mode, no_uid, no_gid, no_atime, no_mtime, no_ctime}
-use Rattle.snapshot_blocks.proofs.parts.read_attributes.Goals as goal
+use Rattle.snapshot_blocks.proofs.attributes.read_attributes.Goals as goal
 
 pub returns-in_err-mode-clause-err : goal.returns-in_err-mode-clause-err
 returns-in_err-mode-clause-err c = on_err c.from_residual.result (no_mode c.in_err-mode.ensures.err)
