@@ -7,7 +7,7 @@ use Rattle.ivy_base.specs.Naming.{head_key_of}
 use Rattle.wire_model.proofs.OneReading.{whole}
 use Rattle.log_model.specs.Vector.{Vector, seq_of}
 use Rattle.log_model.specs.View.{View, IsView, is_named}
-use Rattle.log_records.specs.Parts.{IsOptional}
+use Rattle.block_parts.specs.Parts.{IsOptional}
 use Rattle.view_blocks.specs.Faults.{HasKeys}
 use Rattle.version_vectors.specs.Vectors.{VectorFits}
 use Rattle.snapshot_model.specs.Blocks.{IsVectorSpelled}

@@ -10,13 +10,14 @@ use Rattle.wire_model.proofs.Fronts.{both, no_first, no_second}
 use Rattle.log_model.specs.Spelling.{IsKey, vector_entry}
 use Rattle.log_model.specs.Vector.{Vector}
 use Rattle.log_model.specs.View.{View}
-use Rattle.log_records.specs.Parts.{constant_bytes, key_bytes, IsOptional}
-use Rattle.log_records.proofs.Constants.{one_constant}
+use Rattle.block_parts.specs.Parts.{constant_bytes, key_bytes, IsOptional}
+use Rattle.block_parts.proofs.Constants.{one_constant}
 use Rattle.version_vectors.specs.Reading.{ReadFault}
 use Rattle.version_vectors.specs.Vectors.{VectorFits}
 use Rattle.version_vectors.specs.declared.fault.VectorFault.{VectorFault}
 use Rattle.version_vectors.specs.declared.fault.VectorFault.TheVariants as vector
-use Rattle.version_vectors.proofs.OneVector.{one_key, one_vector}
+use Rattle.version_vectors.proofs.OneVector.{one_vector}
+use Rattle.block_parts.proofs.OneParts.{one_key}
 use Rattle.dht_ids.specs.declared.post.Post.{Post}
 use Rattle.agent_model.specs.SavedBytes.{post_bytes}
 use Rattle.agent_saves.specs.declared.fault.Refusal.{Refusal}

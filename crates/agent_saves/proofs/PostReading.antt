@@ -9,8 +9,8 @@ use Rattle.wire_model.proofs.Fronts.{both, no_second}
 use Rattle.wire_model.proofs.Dependent.{PartsOf, none_of_some}
 use Rattle.wire_model.proofs.Arrays.{more_items, no_next}
 use Rattle.log_model.specs.Spelling.{IsKey}
-use Rattle.log_records.specs.Parts.{key_bytes}
-use Rattle.version_vectors.proofs.OneVector.{one_key}
+use Rattle.block_parts.specs.Parts.{key_bytes}
+use Rattle.block_parts.proofs.OneParts.{one_key}
 use Rattle.dht_ids.specs.declared.post.Post.{Post}
 use Rattle.dht_ids.specs.declared.post.PostKind.{PostKind}
 use Rattle.dht_ids.specs.declared.post.PostKind.TheVariants as kind

@@ -8,7 +8,7 @@ use Rattle.wire_model.specs.Xdr.{word, opaque, array, optional, IsAny, IsWord, I
 use Rattle.log_model.specs.Spelling.{IsKey, most_records, vector_entry}
 use Rattle.log_model.specs.Vector.{Vector, seq_of}
 use Rattle.log_model.specs.View.{View, IsView, is_named}
-use Rattle.log_records.specs.Parts.{constant_bytes, key_bytes, IsOptional}
+use Rattle.block_parts.specs.Parts.{constant_bytes, key_bytes, IsOptional}
 use Rattle.view_blocks.specs.Faults.{HasKeys}
 use Rattle.version_vectors.specs.Vectors.{VectorFits}
 use Rattle.dht_ids.specs.declared.post.Post.{Post}

@@ -1,21 +1,12 @@
 //! Why saved bytes are refused, inside.
 
+use block_parts::Malformed;
 use dht_ids::LoadFault;
 use ivy_base::Memory;
 use std::alloc::{AllocError, AllocFailed};
 use version_vectors::VectorFault;
 use view_blocks::ViewFault;
 use xdr_codec::XdrFault;
-
-/// The bytes don't begin with what was to be read.
-#[derive(Clone, Copy)]
-pub struct Malformed;
-
-impl From<XdrFault> for Malformed {
-    fn from(_: XdrFault) -> Self {
-        Malformed
-    }
-}
 
 /// Why bytes are refused, where reading takes memory.
 #[derive(Clone, Copy)]

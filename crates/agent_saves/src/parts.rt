@@ -1,16 +1,17 @@
 //! Saved bytes part by part, before the signer is loaded.
 
-ghost use Rattle.std.specs.Prelude.{◌≡◌, length, IfOk, IfErr, OnErr};
-ghost use Rattle.wire_model.specs.Xdr.{optional, IsAny};
+ghost use Rattle.std.specs.Prelude.{◌≡◌, IfOk, IfErr, OnErr};
+ghost use Rattle.wire_model.specs.Xdr.{optional};
 ghost use Rattle.wire_model.specs.OneReading.{IsFront, HasNoFront};
 ghost use Rattle.log_model.specs.Spelling.{IsKey};
-ghost use Rattle.log_records.specs.Parts.{constant_bytes, key_bytes, IsOptional};
-ghost use Rattle.agent_saves.specs.Parts.{IsTold, mark, told, told_bytes};
+ghost use Rattle.block_parts.specs.Parts.{key_bytes, IsOptional};
+ghost use Rattle.agent_saves.specs.Parts.{IsTold, told, told_bytes};
 ghost use Rattle.agent_saves.specs.Refusals.{Refuses, RefusesFront};
 
-use crate::fault::{Malformed, Refusal};
+use crate::fault::Refusal;
 use crate::posts::read_posts;
 use crate::view::read_view;
+use block_parts::{Malformed, read_constant, read_key};
 use dht_ids::Posts;
 use ivy_base::Key;
 use std::alloc::Global;
@@ -55,7 +56,7 @@ fn read_parts<'a>(alloc: Global, reader: &mut XdrRead<'a>) -> Result<Parts<'a>, 
     ensures ok { IfOk result (λ parts. IsFront IsTold told_bytes reader.old (told parts) reader.new) }
     ensures err { IfErr result (RefusesFront IsTold told_bytes reader.old) }
 {
-    read_mark(reader)?;
+    read_constant(reader, &MAGIC)?;
     let signer = reader.opaque(u32::MAX)?;
     let view = read_view(alloc, reader)?;
     let reach = reader.u32()?;
@@ -70,37 +71,6 @@ fn read_parts<'a>(alloc: Global, reader: &mut XdrRead<'a>) -> Result<Parts<'a>, 
         pending,
         snapshot,
     })
-}
-
-/// What all saved bytes begin with.
-fn read_mark(reader: &mut XdrRead) -> Result<(), Malformed>
-    ensures ok { IfOk result (λ u. IsFront IsAny (constant_bytes mark) reader.old u reader.new) }
-    ensures err { OnErr result (HasNoFront IsAny (constant_bytes mark) reader.old) }
-{
-    if reader.fixed(4)? != MAGIC.as_slice() {
-        return Err(Malformed);
-    }
-    Ok(())
-}
-
-/// A key: 20 bytes.
-pub fn read_key(reader: &mut XdrRead) -> Result<Key, Malformed>
-    ensures ok { IfOk result (λ key. IsFront IsKey key_bytes reader.old key reader.new) }
-    ensures err { OnErr result (HasNoFront IsKey key_bytes reader.old) }
-{
-    let item = reader.fixed(20)?;
-    Ok(key_of(item))
-}
-
-/// The key of these bytes.
-fn key_of(item: &[u8]) -> Key
-    requires { length item.now ≡ 20 }
-    ensures same { result.0 ≡ item.now }
-    ensures fits { IsKey result }
-{
-    let mut bytes = [0; 20];
-    bytes.copy_from_slice(item);
-    Key(bytes)
 }
 
 /// A name, where there is one, behind whether there is.

@@ -6,13 +6,13 @@ ghost use Rattle.std.specs.Prelude.{nat_lt};
 ghost use Rattle.wire_model.specs.Xdr.{array, AreSoMany, IsAny};
 ghost use Rattle.wire_model.specs.OneReading.{IsFront, HasNoFront};
 ghost use Rattle.log_model.specs.Spelling.{IsKey};
-ghost use Rattle.log_records.specs.Parts.{key_bytes};
+ghost use Rattle.block_parts.specs.Parts.{key_bytes};
 ghost use Rattle.agent_model.specs.SavedBytes.{HasItsName, post_bytes};
 ghost use Rattle.agent_saves.specs.Parts.{ArePosts, IsPost, kind_bytes};
 ghost use Rattle.agent_saves.specs.Refusals.{RefusesFront};
 
-use crate::fault::{Malformed, Refusal};
-use crate::parts::read_key;
+use crate::fault::Refusal;
+use block_parts::{Malformed, read_key};
 use dht_ids::{Post, PostKind, Posts};
 use ivy_base::{Bytes, Key, Memory, name_of};
 use std::alloc::Global;

@@ -2,7 +2,7 @@
 
 ghost use Rattle.std.specs.Prelude.{◌≡◌, IfOk, IfErr};
 ghost use Rattle.wire_model.specs.OneReading.{IsFront};
-ghost use Rattle.log_records.specs.Parts.{IsOptional};
+ghost use Rattle.block_parts.specs.Parts.{IsOptional};
 ghost use Rattle.agent_model.specs.SavedBytes.{view_bytes};
 ghost use Rattle.agent_saves.specs.Parts.{IsLegal, view_part};
 ghost use Rattle.agent_saves.specs.Refusals.{Refuses, RefusesFront};

@@ -24,9 +24,11 @@ use Rattle.version_vectors.specs.Vectors.{EntryFits}
 use Rattle.log_records.specs.declared.frame.Frame.{Frame}
 use Rattle.log_records.specs.Frames.{IsCited, IsFrame, frame_block, AreParts, parts_block, IsWellPlaced}
 use Rattle.log_records.specs.Heads.{IsNumber}
-use Rattle.log_records.specs.Parts.{key_bytes, kind_word, IsAtMost, change_block, IsOfKind}
+use Rattle.block_parts.specs.Parts.{key_bytes, kind_word, IsAtMost}
+use Rattle.log_records.specs.Parts.{change_block, IsOfKind}
 use Rattle.log_records.proofs.Frames.{one_frame}
-use Rattle.log_records.proofs.OneBody.{one_block, one_key, one_at_most, one_record_moment, one_kind, one_name, one_size, change_of_parts, change_parts, one_change, target_fits}
+use Rattle.block_parts.proofs.OneParts.{one_block, one_key, one_at_most, one_time, one_kind, one_name, one_size}
+use Rattle.log_records.proofs.OneBody.{change_of_parts, change_parts, one_change, target_fits}
 use Rattle.log_records.proofs.OneRecord.{one_of_parts, parts_in, record_with, is_record, misplaced}
 use Rattle.reading_laws.proofs.Deciding.{Reads, IsReadable, HasParts, ◌then◌, a_word, a_double_word, a_moment, a_front, a_data, a_raw, an_array, an_optional, reads_then, reads_then_by, reads_fewer, reads_parts, reads_either, fronts, whole_or_not, same_or_not}
 
@@ -111,7 +113,7 @@ a_size = (one_size, reads_fewer a_double_word (λ n f. omega (arith, f)) (λ n f
 
 a_record_moment : IsReadable IsMoment moment
 a_record_moment = (
-  one_record_moment,
+  one_time,
   reads_fewer a_moment (λ m f. (f.sec, omega (arith, f.nsec))) (λ m f. elim (cases_lt m.nsec 1000000000) [
     | inl few ↦ inl (record { sec = f.0; nsec = few })
     | inr many ↦ inr (λ g. absurd (omega (arith, many, g.nsec)))

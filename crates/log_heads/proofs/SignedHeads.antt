@@ -19,7 +19,7 @@ use Rattle.log_model.specs.Spelling.{IsBlock, most_records, head_message, head_b
 use Rattle.dht_ids.specs.declared.judge.Judged.{Judged}
 use Rattle.log_records.specs.Heads.{Parts, stamp, owner_in, seq_in, name_in, is_block}
 use Rattle.log_records.proofs.OneHead.{one_head}
-use Rattle.log_records.proofs.Bytes.{all_bytes}
+use Rattle.block_parts.proofs.Bytes.{all_bytes}
 use Rattle.hash_signature_model.specs.declared.set.LmsFault.{LmsFault}
 use Rattle.hash_signature_model.proofs.Readings.{IsBytes}
 use Rattle.hss_keys.specs.Hss.{HssAccepts}

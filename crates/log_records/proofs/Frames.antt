@@ -13,12 +13,12 @@ use Rattle.log_model.specs.View.{most_cited}
 use Rattle.version_vectors.specs.Vectors.{VectorFits}
 use Rattle.version_vectors.proofs.OneVector.{one_vector}
 use Rattle.log_records.specs.declared.frame.Frame.{Frame}
-use Rattle.log_records.specs.Parts.{constant_bytes, key_bytes}
+use Rattle.block_parts.specs.Parts.{constant_bytes, key_bytes}
 use Rattle.log_records.specs.Heads.{IsNumber}
 use Rattle.log_records.specs.Frames.{IsCited, IsFrame, frame_block}
-use Rattle.log_records.proofs.Constants.{one_constant}
+use Rattle.block_parts.proofs.Constants.{one_constant}
 use Rattle.wire_model.proofs.Dependent.{PartsOf, none_of_some}
-use Rattle.log_records.proofs.OneBody.{one_key, one_record_moment}
+use Rattle.block_parts.proofs.OneParts.{one_key, one_time}
 use Rattle.log_records.proofs.OneHead.{one_number}
 
 -- ---- what is cited
@@ -65,7 +65,7 @@ abbrev seven : Key → Seven → List ℕ
 seven log p = four log p.0.0.0 ++ word p.0.0.1 ++ moment p.0.1 ++ array vector_entry p.1
 
 one_seven : (log : Key) → ReadsOne (IsSeven log) (seven log)
-one_seven log = one_four log ▷ one_number ▷ one_record_moment ▷ one_cited log
+one_seven log = one_four log ▷ one_number ▷ one_time ▷ one_cited log
 
 abbrev chain : Frame → Seven
 chain f = ((((((tt, f.kind), tt), f.prev), f.seq), f.moment), f.vector)
@@ -117,7 +117,7 @@ pub no_frame_cited : (log : Key) {b0 b1 b2 b3 b4 b5 b6 : List ℕ} {u w : Unit {
     → IsFront IsAny (constant_bytes record_tag) b0 u b1 → IsFront IsWord word b1 kind b2 → IsFront IsAny (constant_bytes log.0) b2 w b3
     → IsFront IsKey key_bytes b3 prev b4 → IsFront IsNumber word b4 seq b5 → IsFront IsMoment moment b5 m b6 → HasNoFront (IsCited log) (array vector_entry) b6 → HasNoFront (IsFrame log) (frame_block log) b0
 no_frame_cited log f kind own prev seq m absent =
-    none_of_some (parts_of_frame log) (no_second (one_four log ▷ one_number ▷ one_record_moment) (both (both (both (both (both f kind) own) prev) seq) m) absent)
+    none_of_some (parts_of_frame log) (no_second (one_four log ▷ one_number ▷ one_time) (both (both (both (both (both f kind) own) prev) seq) m) absent)
 
 -- all seven
 pub frame_front : (log : Key) {b0 b1 b2 b3 b4 b5 b6 b7 : List ℕ} {u w : Unit {0}} {kind seq : ℕ} {prev : Key} {m : Moment} {v : Vector}

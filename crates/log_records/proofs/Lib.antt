@@ -1,9 +1,7 @@
-pub mod Bytes
 pub mod Chains
 pub mod OneBody
 pub mod ReadParts
 pub mod Operations
-pub mod Constants
 pub mod OneHead
 pub mod Tested
 pub mod Fitting

@@ -1,4 +1,4 @@
--- Each part of a record, and each operation of one kind, has one spelling.
+-- Each operation of one kind has one spelling.
 use Rattle.std.proofs.Common.{◌≡◌, ℕ, ◌^◌, ◌<◌, ◌≤◌, List, ◌++◌, length, Option, refl, sym, ap, ◌∙◌, arith, append_assoc}
 use Rattle.std.specs.Prelude.{IfSome}
 use Rattle.ivy_base.specs.declared.key.Key.{Key}
@@ -11,44 +11,14 @@ use Rattle.ivy_base.specs.declared.operation.Op.TheVariants as op
 use Rattle.ivy_base.specs.Naming.{IsFileName}
 use Rattle.wire_model.specs.Xdr.{word, double_word, opaque, moment, IsAny}
 use Rattle.wire_model.specs.OneReading.{ReadsOne}
-use Rattle.wire_model.proofs.OneReading.{◌▷◌, of_fewer, of_parts, one_word, one_double_word, one_moment, one_raw, one_short_opaque, one_optional}
+use Rattle.wire_model.proofs.OneReading.{◌▷◌, of_parts, one_word, one_double_word, one_short_opaque, one_optional}
+use Rattle.block_parts.proofs.OneParts.{one_block, one_key, one_at_most, one_time, one_kind, one_name, one_size}
 use Rattle.log_model.specs.Spelling.{record_kind, body, IsKey, IsBlock, IsMoment, IsTarget, IsChange, OperationFits}
-use Rattle.log_records.specs.Parts.{key_bytes, kind_word, IsAtMost, place_block, IsPlace, piece_block, IsPiece, change_block, IsOfKind}
-
-pub one_block : (count : ℕ) → ReadsOne (IsBlock count) (λ bytes. bytes)
-one_block count = of_fewer (λ bytes f. f.size) (one_raw count)
-
-pub one_key : ReadsOne IsKey key_bytes
-one_key = of_parts (λ (k : Key). k.0) (λ k f. f) (λ k. refl) (λ k l e. ap (λ (bytes : List ℕ). record { 0 = bytes }) e) (one_block 20)
-
-pub one_at_most : (most : ℕ) → most < 2 ^ 32 → ReadsOne (IsAtMost most) word
-one_at_most most h = of_fewer (λ n f. omega arith) one_word
-
-pub one_record_moment : ReadsOne IsMoment moment
-one_record_moment = of_fewer (λ m f. (f.sec, omega (arith, f.nsec))) one_moment
-
-pub one_kind : ReadsOne IsAny kind_word
-one_kind = record { one = kinds }
-  where
-    kinds : (x y : Kind) (r s : List ℕ) → IsAny x → IsAny y → kind_word x ++ r ≡ kind_word y ++ s → (x ≡ y) × (r ≡ s)
-    kinds Reg Reg r s f g e = (refl, (one_word.one 1 1 r s (omega arith) (omega arith) e).1)
-    kinds Reg Dir r s f g e = cc
-    kinds Reg Lnk r s f g e = cc
-    kinds Dir Reg r s f g e = cc
-    kinds Dir Dir r s f g e = (refl, (one_word.one 2 2 r s (omega arith) (omega arith) e).1)
-    kinds Dir Lnk r s f g e = cc
-    kinds Lnk Reg r s f g e = cc
-    kinds Lnk Dir r s f g e = cc
-    kinds Lnk Lnk r s f g e = (refl, (one_word.one 5 5 r s (omega arith) (omega arith) e).1)
-
-pub one_name : ReadsOne IsFileName opaque
-one_name = of_fewer (λ bytes f. f.short) (one_short_opaque 255 (omega arith))
+use Rattle.block_parts.specs.Parts.{key_bytes, kind_word, IsAtMost}
+use Rattle.log_records.specs.Parts.{place_block, IsPlace, piece_block, IsPiece, change_block, IsOfKind}
 
 pub one_place : ReadsOne IsPlace place_block
 one_place = one_key ▷ one_name
-
-pub one_size : ReadsOne (IsAtMost 16777216) double_word
-one_size = of_fewer {Fewer = IsAtMost 16777216} (λ n f. omega arith) one_double_word
 
 -- the parts of a change, side by side
 abbrev pub ChangeParts : Type 0
@@ -62,7 +32,7 @@ change_of_parts p = record { mode = p.0.0.0.0.0; uid = p.0.0.0.0.1; gid = p.0.0.
 
 pub one_change : ReadsOne IsChange change_block
 one_change = of_parts change_parts (λ c f. (((((f.mode, f.uid), f.gid), f.size), f.atime), f.mtime)) (λ c. refl) (λ c d e. ap change_of_parts e)
-    (one_optional (one_at_most 4095 (omega arith)) ▷ one_optional one_word ▷ one_optional one_word ▷ one_optional one_size ▷ one_optional one_record_moment ▷ one_optional one_record_moment)
+    (one_optional (one_at_most 4095 (omega arith)) ▷ one_optional one_word ▷ one_optional one_word ▷ one_optional one_size ▷ one_optional one_time ▷ one_optional one_time)
 
 -- ---- operations
 

@@ -10,12 +10,12 @@ use Rattle.wire_model.proofs.OneReading.{◌▷◌, of_fewer, of_parts, one_word
 use Rattle.wire_model.proofs.Fronts.{both, no_first, no_second, front_of_parts}
 use Rattle.log_model.specs.Vector.{Stamp}
 use Rattle.log_model.specs.Spelling.{IsBlock, IsKey, head_block, IsHeadOf}
-use Rattle.log_records.specs.Parts.{constant_bytes, as_it_stands, key_bytes}
+use Rattle.block_parts.specs.Parts.{constant_bytes, as_it_stands, key_bytes}
 use Rattle.log_records.specs.Heads.{stamp, IsNumber, Parts, IsHead, head_bytes}
 use Rattle.log_records.specs.Laws.{HeadsAreOne}
-use Rattle.log_records.proofs.Constants.{one_constant}
+use Rattle.block_parts.proofs.Constants.{one_constant}
 use Rattle.wire_model.proofs.Dependent.{PartsOf, none_of_some}
-use Rattle.log_records.proofs.OneBody.{one_block, one_key}
+use Rattle.block_parts.proofs.OneParts.{one_block, one_key}
 
 -- ---- heads
 

@@ -10,9 +10,11 @@ use Rattle.wire_model.specs.OneReading.{ReadsOne, IsFront, HasNoFront}
 use Rattle.wire_model.proofs.OneReading.{◌▷◌, one_word}
 use Rattle.wire_model.proofs.Fronts.{both, no_first, no_second, front_of_parts}
 use Rattle.log_model.specs.Spelling.{body, IsKey, IsBlock, IsTarget, IsChange}
-use Rattle.log_records.specs.Parts.{as_it_stands, key_bytes, kind_word, IsAtMost, place_block, IsPlace, piece_block, IsPiece, change_block, IsOfKind}
+use Rattle.block_parts.specs.Parts.{as_it_stands, key_bytes, kind_word, IsAtMost}
+use Rattle.log_records.specs.Parts.{place_block, IsPlace, piece_block, IsPiece, change_block, IsOfKind}
 use Rattle.wire_model.proofs.Dependent.{PartsOf, both_by, none_of_some, no_first_by, no_second_by}
-use Rattle.log_records.proofs.OneBody.{one_key, one_kind, one_at_most, one_place}
+use Rattle.block_parts.proofs.OneParts.{one_key, one_kind, one_at_most}
+use Rattle.log_records.proofs.OneBody.{one_place}
 
 -- ---- inodes
 

@@ -18,6 +18,7 @@ use Rattle.log_model.specs.Spelling.{IsBlock, most_records, head_block, IsHeadOf
 use Rattle.dht_ids.specs.declared.judge.Judged.{Judged}
 use Rattle.log_records.specs.Heads.{Parts, stamp, IsPlainHead, owner_in, seq_in, name_in, is_block, is_plain, is_plain_head, plain_judged}
 use Rattle.log_records.specs.Laws.{PlainHeadsAreJudged}
+use Rattle.block_parts.proofs.Tested.{same_key}
 use Rattle.log_records.proofs.OneHead.{one_head}
 
 first : (a b : Bool) → (a && b) ≡ true → a ≡ true
@@ -37,9 +38,6 @@ block_from count bytes h = record { size = eqb-true (length bytes) count (first 
 
 block_tested : (count : ℕ) (bytes : List ℕ) → IsBlock count bytes → is_block count bytes ≡ true
 block_tested count bytes f = both _ _ (eq-eqb (length bytes) count f.size) f.each
-
-same_key : (a b : Key) → a.0 ≡ b.0 → a ≡ b
-same_key a b e = ap (λ (bytes : List ℕ). record { 0 = bytes }) e
 
 pub keys_decide : (a b c : Key) (same : Bool) → same ≡ bytes_eq a.0 b.0 → b ≡ c → (same ≡ true) ↔ (a ≡ c)
 keys_decide a b c same e is =

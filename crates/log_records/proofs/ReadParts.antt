@@ -10,43 +10,17 @@ use Rattle.wire_model.specs.OneReading.{ReadsOne, IsFront, HasNoFront}
 use Rattle.wire_model.proofs.OneReading.{◌▷◌, one_boolean, one_word, one_double_word, one_short_opaque, one_optional}
 use Rattle.wire_model.proofs.Fronts.{both, no_first, no_second, only_misfit, front_of_parts}
 use Rattle.log_model.specs.Spelling.{IsKey, IsMode, IsMoment, IsChange}
-use Rattle.log_records.specs.Parts.{key_bytes, place_block, IsPlace, IsAtMost, IsOptional, piece_block, IsPiece, change_block}
+use Rattle.block_parts.specs.Parts.{key_bytes, IsAtMost, IsOptional}
+use Rattle.log_records.specs.Parts.{place_block, IsPlace, piece_block, IsPiece, change_block}
 use Rattle.wire_model.proofs.Dependent.{PartsOf, none_of_some}
-use Rattle.log_records.proofs.OneBody.{one_key, one_at_most, one_size, one_record_moment, ChangeParts, change_parts}
+use Rattle.block_parts.proofs.OneParts.{one_key, one_at_most, one_size, one_time}
+use Rattle.log_records.proofs.OneBody.{ChangeParts, change_parts}
 
-one_name_of_255 : ReadsOne (IsUpTo 255) opaque
-one_name_of_255 = one_short_opaque 255 (omega arith)
-
-pub name_front : {bytes rest name copy : List ℕ} → IsFront (IsUpTo 255) opaque bytes name rest → IsFileName name → copy ≡ name → IsFront IsFileName opaque bytes copy rest
-name_front {bytes} {rest} f fits same = subst (λ (n : List ℕ). IsFront IsFileName opaque bytes n rest) (sym same) (record { fits = fits; spelled = f.spelled })
-
-pub no_such_name : {bytes rest name : List ℕ} {b : Bool} → IsFront (IsUpTo 255) opaque bytes name rest → (IsFileName name → IsTrue b) → b ≡ false → HasNoFront IsFileName opaque bytes
-no_such_name f tested e = only_misfit one_name_of_255 f (λ n h. h.short) (λ h. let t = tested h in absurd (cc (t, e)))
+pub copied_place : {bytes middle rest name copy : List ℕ} {k : Key} → IsFront IsKey key_bytes bytes k middle → IsFront IsFileName opaque middle name rest → copy ≡ name → IsFront IsPlace place_block bytes (k, copy) rest
+copied_place {bytes} {rest = rest} {k = k} f g same = subst (λ (n : List ℕ). IsFront IsPlace place_block bytes (k, n) rest) (sym same) (both f g)
 
 pub no_name_behind : {bytes middle : List ℕ} {k : Key} → IsFront IsKey key_bytes bytes k middle → HasNoFront IsFileName opaque middle → HasNoFront IsPlace place_block bytes
 no_name_behind f absent = no_second one_key f absent
-
--- optional data
-pub no_flag : {A : Type 0} (Fits : A → Type 0) (item : A → List ℕ) {bytes : List ℕ} → HasNoFront IsAny boolean bytes → HasNoFront (IsOptional Fits) (optional item) bytes
-no_flag {A} Fits item {bytes} absent = record { none = options }
-  where
-    options : (o : Option A) (rest : List ℕ) → IsFront (IsOptional Fits) (optional item) bytes o rest → ⊥
-    options None rest f = absent.none false rest (record { fits = tt; spelled = f.spelled })
-    options (Some x) rest f = absent.none true (item x ++ rest) (record { fits = tt; spelled = f.spelled })
-
-pub no_item : {A : Type 0} (Fits : A → Type 0) (item : A → List ℕ) {bytes middle : List ℕ} → IsFront IsAny boolean bytes true middle → HasNoFront Fits item middle → HasNoFront (IsOptional Fits) (optional item) bytes
-no_item {A} Fits item {bytes} {middle} flag absent = record { none = options }
-  where
-    options : (o : Option A) (rest : List ℕ) → IsFront (IsOptional Fits) (optional item) bytes o rest → ⊥
-    options None rest f = let p = (one_boolean.one true false middle rest tt tt (sym flag.spelled ∙ f.spelled)).0 in absurd (cc p)
-    options (Some x) rest f = absent.none x rest (record { fits = f.fits; spelled = (one_boolean.one true true middle (item x ++ rest) tt tt (sym flag.spelled ∙ f.spelled)).1 })
-
-no_such_size : {bytes middle : List ℕ} {n : ℕ} → IsFront IsDoubleWord double_word bytes n middle → 16777216 < n → HasNoFront (IsAtMost 16777216) double_word bytes
-no_such_size f h = only_misfit one_double_word f (λ n g. omega arith) (λ g. omega (arith, g, h))
-
-pub no_size_behind : {bytes middle rest : List ℕ} {n : ℕ} → IsFront IsAny boolean bytes true middle → IsFront IsDoubleWord double_word middle n rest → 16777216 < n
-    → HasNoFront (IsOptional (IsAtMost 16777216)) (optional double_word) bytes
-no_size_behind flag f h = no_item (IsAtMost 16777216) double_word flag (no_such_size f h)
 
 pub no_piece : {bytes middle rest piece : List ℕ} {offset : ℕ} → IsFront IsDoubleWord double_word bytes offset middle → IsFront (IsUpTo 8192) opaque middle piece rest
     → (IsPiece (offset, piece) → ⊥) → HasNoFront IsPiece piece_block bytes
@@ -103,7 +77,7 @@ pub no_mtime : {b0 b1 b2 b3 b4 b5 : List ℕ} {mode uid gid size : Option ℕ} {
     → IsFront (IsOptional (IsAtMost 16777216)) (optional double_word) b3 size b4 → IsFront (IsOptional IsMoment) (optional moment) b4 atime b5
     → HasNoFront (IsOptional IsMoment) (optional moment) b5 → HasNoFront IsChange change_block b0
 no_mtime mode uid gid size atime absent =
-    none_of_some parts_of_change (no_second (one_four ▷ one_optional one_record_moment) (both (both (both (both mode uid) gid) size) atime) absent)
+    none_of_some parts_of_change (no_second (one_four ▷ one_optional one_time) (both (both (both (both mode uid) gid) size) atime) absent)
 
 -- all six
 pub change_front : {b0 b1 b2 b3 b4 b5 b6 : List ℕ} {mode uid gid size : Option ℕ} {atime mtime : Option Moment}

@@ -9,23 +9,7 @@ use Rattle.ivy_base.specs.declared.key.Key.{Key}
 use Rattle.log_model.specs.Spelling.{no_name}
 use Rattle.log_records.specs.declared.frame.Frame.{Frame}
 use Rattle.log_records.specs.Frames.{CitesNothing}
-use Rattle.xdr_codec.specs.Reading.{EndFault}
-use Rattle.xdr_codec.specs.declared.fault.XdrFault.{XdrFault}
-use Rattle.xdr_codec.specs.declared.fault.XdrFault.TheVariants.{Short, TooLong, Padding, NotBool, Trailing}
-
-pub ended : (rest : List ℕ) (fault : XdrFault) → EndFault rest fault → rest ≢ []
-ended rest Trailing f = f
-ended rest Short f = absurd f
-ended rest TooLong f = absurd f
-ended rest Padding f = absurd f
-ended rest NotBool f = absurd f
-
-untrue : (b : Bool) → not b ≡ true → b ≡ true → ⊥
-untrue true h g = cc
-untrue false h g = cc
-
-pub not_same : (xs ys zs : List ℕ) (b : Bool) → b ≡ not (bytes_eq xs ys) → b ≡ true → ys ≡ zs → xs ≢ zs
-not_same xs ys zs b e t s same = untrue (bytes_eq xs ys) (sym e ∙ t) ((bytes_eq-Decides xs ys).1 (same ∙ sym s))
+use Rattle.block_parts.proofs.Tested.{same_key}
 
 pub is_found : {A B : Type 0} (f : A → B) (s : Option A) (r : Option B) (b : Bool) → r ≡ option_map f s → b ≡ is_some r → b ≡ true → s ≢ None
 is_found f None r b g h t e = let k : is_some r ≡ false = ap is_some g in absurd (cc (h, t, k))
@@ -35,9 +19,6 @@ is_found f (Some x) r b g h t e = absurd (cc e)
 pub is_empty : {A : Type 0} (xs : List A) → length xs ≡ 0 → xs ≡ []
 is_empty [] e = refl
 is_empty (x ∷ xs) e = absurd (omega (arith, e))
-
-same_key : (a b : Key) → a.0 ≡ b.0 → a ≡ b
-same_key a b e = ap (λ (bytes : List ℕ). record { 0 = bytes }) e
 
 pub cites_nothing : (f : Frame) (same : Bool) (n : ℕ) (b : Bool) → same ≡ bytes_eq f.prev.0 no_name.0 → same ≡ true → n ≡ length f.vector → b ≡ nat_eq n 0 → IsTrue b ↔ CitesNothing f
 cites_nothing f same n b e t size is = (

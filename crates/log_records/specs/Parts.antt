@@ -1,5 +1,5 @@
 -- Parts of a record's block that are read and written as one, with their bounds.
-use Rattle.std.specs.Prelude.{◌≡◌, ℕ, ◌+◌, ◌≤◌, List, ◌++◌, length, Option, IfSome}
+use Rattle.std.specs.Prelude.{◌≡◌, ℕ, ◌+◌, ◌≤◌, List, ◌++◌, length}
 use Rattle.ivy_base.specs.declared.key.Key.{Key}
 use Rattle.ivy_base.specs.declared.operation.Kind.{Kind}
 use Rattle.ivy_base.specs.declared.operation.Kind.TheVariants.{Reg, Dir, Lnk}
@@ -7,25 +7,7 @@ use Rattle.ivy_base.specs.declared.operation.Change.{Change}
 use Rattle.ivy_base.specs.declared.operation.Op.{Op}
 use Rattle.ivy_base.specs.Naming.{IsFileName}
 use Rattle.wire_model.specs.Xdr.{word, double_word, opaque, optional, moment}
-use Rattle.log_model.specs.Spelling.{kind_number, record_kind, IsKey, OperationFits}
-
--- the same bytes, whatever else the block has
-abbrev pub constant_bytes : List ℕ → Unit {0} → List ℕ
-constant_bytes front u = front
-
--- bytes as they stand, and a key's
-abbrev pub as_it_stands : List ℕ → List ℕ
-as_it_stands bytes = bytes
-
-abbrev pub key_bytes : Key → List ℕ
-key_bytes k = k.0
-
-abbrev pub kind_word : Kind → List ℕ
-kind_word kind = word (kind_number kind)
-
--- at most so much
-abbrev pub IsAtMost : ℕ → ℕ → Type 0
-IsAtMost most n = n ≤ most
+use Rattle.log_model.specs.Spelling.{record_kind, IsKey, OperationFits}
 
 -- a name in a directory
 abbrev pub place_block : Key × List ℕ → List ℕ
@@ -53,7 +35,3 @@ abbrev pub target_bound : Kind → ℕ
 target_bound Reg = 0
 target_bound Dir = 0
 target_bound Lnk = 1024
-
--- where there is one, it is such
-abbrev pub IsOptional : {A : Type 0} → (A → Type 0) → Option A → Type 0
-IsOptional Fits o = IfSome o Fits

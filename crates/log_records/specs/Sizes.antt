@@ -1,16 +1,9 @@
 -- How many bytes the parts of a record take, and which texts have a count that a word holds.
-use Rattle.std.specs.Prelude.{ℕ, ◌+◌, ◌<◌, ◌^◌, List, length, Option, Some, None}
+use Rattle.std.specs.Prelude.{ℕ, ◌+◌}
 use Rattle.ivy_base.specs.declared.operation.Change.{Change}
 use Rattle.ivy_base.specs.declared.operation.Op.{Op}
 use Rattle.ivy_base.specs.declared.operation.Op.TheVariants as op
-use Rattle.xdr_codec.specs.Writing.{padded}
-
-abbrev pub opaque_size : List ℕ → ℕ
-opaque_size bytes = 4 + padded (length bytes)
-
-abbrev pub optional_size : {A : Type 0} → ℕ → Option A → ℕ
-optional_size size None = 4
-optional_size size (Some x) = 4 + size
+use Rattle.block_parts.specs.Parts.{opaque_size, optional_size, IsShort}
 
 abbrev pub change_size : Change → ℕ
 change_size c = optional_size 4 c.mode + optional_size 4 c.uid + optional_size 4 c.gid + optional_size 8 c.size + optional_size 8 c.atime + optional_size 8 c.mtime
@@ -25,9 +18,6 @@ body_size (op.Prepare dir name verifier) = 28 + opaque_size name
 body_size (op.Cancel seq) = 4
 body_size (op.SetAttrs number change) = 20 + change_size change
 body_size op.End = 0
-
-abbrev pub IsShort : List ℕ → Type 0
-IsShort bytes = length bytes < 2 ^ 32
 
 -- a word holds the count of each text
 abbrev pub HasShortTexts : Op → Type 0

@@ -8,9 +8,8 @@ ghost use Rattle.log_records.specs.Reading.{Refuses};
 
 use crate::change::read_change;
 use crate::part_fault::PartFault;
-use crate::parts::{
-    read_at_most, read_block, read_key, read_kind, read_piece, read_place, read_target,
-};
+use crate::parts::{read_piece, read_place, read_target};
+use block_parts::{read_at_most, read_block, read_key, read_kind};
 use ivy_base::Op;
 use std::alloc::Global;
 use xdr_codec::XdrRead;

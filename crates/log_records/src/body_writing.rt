@@ -2,13 +2,15 @@
 
 ghost use Rattle.std.specs.Prelude.{◌≡◌, ◌+◌, ◌^◌, ◌<◌, ◌≤◌, ◌++◌, length, IfSome};
 ghost use Rattle.wire_model.specs.Xdr.{opaque};
-ghost use Rattle.log_model.specs.Spelling.{kind_number as number_of_kind, record_kind, body};
-ghost use Rattle.log_records.specs.Parts.{key_bytes, place_block};
-ghost use Rattle.log_records.specs.Sizes.{opaque_size, body_size, IsShort, HasShortTexts};
+ghost use Rattle.log_model.specs.Spelling.{record_kind, body};
+ghost use Rattle.block_parts.specs.Parts.{key_bytes};
+ghost use Rattle.log_records.specs.Parts.{place_block};
+ghost use Rattle.block_parts.specs.Parts.{opaque_size, IsShort};
+ghost use Rattle.log_records.specs.Sizes.{body_size, HasShortTexts};
 
 use crate::change_writing::{change_len, put_change};
-use crate::writing::{opaque_len, put_key};
-use ivy_base::{Bytes, Key, Kind, Op};
+use block_parts::{kind_number, opaque_len, put_key};
+use ivy_base::{Bytes, Key, Op};
 use xdr_codec::XdrWrite;
 
 /// Which operation it is, 1 to 9.
@@ -101,17 +103,6 @@ pub fn put_body(out: &mut XdrWrite, op: &Op)
             put_change(out, change);
         }
         Op::End => {}
-    }
-}
-
-/// The number of a kind: 1 for a regular file, 2 for a directory, 5 for a symbolic link.
-fn kind_number(kind: Kind) -> u32
-    ensures { result ≡ number_of_kind kind }
-{
-    match kind {
-        Kind::Reg => 1,
-        Kind::Dir => 2,
-        Kind::Lnk => 5,
     }
 }
 

@@ -4,10 +4,10 @@ ghost use Rattle.std.specs.Prelude.{◌≡◌, IfOk, OnErr};
 ghost use Rattle.wire_model.specs.Xdr.{word, double_word, optional, moment, IsWord};
 ghost use Rattle.wire_model.specs.OneReading.{IsFront, HasNoFront};
 ghost use Rattle.log_model.specs.Spelling.{IsMode, IsMoment, IsChange};
-ghost use Rattle.log_records.specs.Parts.{IsOptional, IsAtMost, change_block};
+ghost use Rattle.block_parts.specs.Parts.{IsOptional, IsAtMost};
+ghost use Rattle.log_records.specs.Parts.{change_block};
 
-use crate::part_fault::Malformed;
-use crate::parts::{LONGEST_FILE, read_at_most, read_moment};
+use block_parts::{Malformed, read_at_most, read_moment, read_size};
 use ivy_base::{Change, Moment};
 use xdr_codec::XdrRead;
 
@@ -33,7 +33,7 @@ pub fn read_change(reader: &mut XdrRead) -> Result<Change, Malformed>
 }
 
 /// A mode of 12 bits, where there is one.
-#[tactic(auto, using(crate::proofs::ReadParts::no_flag, crate::proofs::ReadParts::no_item))]
+#[tactic(auto, using(block_parts::proofs::Optional::no_flag, block_parts::proofs::Optional::no_item))]
 fn read_optional_mode(reader: &mut XdrRead) -> Result<Option<u32>, Malformed>
     ensures ok { IfOk result (λ o. IsFront (IsOptional IsMode) (optional word) reader.old o reader.new) }
     ensures err { OnErr result (HasNoFront (IsOptional IsMode) (optional word) reader.old) }
@@ -46,7 +46,7 @@ fn read_optional_mode(reader: &mut XdrRead) -> Result<Option<u32>, Malformed>
 }
 
 /// The number of a user or a group, where there is one.
-#[tactic(auto, using(crate::proofs::ReadParts::no_flag, crate::proofs::ReadParts::no_item))]
+#[tactic(auto, using(block_parts::proofs::Optional::no_flag, block_parts::proofs::Optional::no_item))]
 fn read_optional_id(reader: &mut XdrRead) -> Result<Option<u32>, Malformed>
     ensures ok { IfOk result (λ o. IsFront (IsOptional IsWord) (optional word) reader.old o reader.new) }
     ensures err { OnErr result (HasNoFront (IsOptional IsWord) (optional word) reader.old) }
@@ -59,7 +59,7 @@ fn read_optional_id(reader: &mut XdrRead) -> Result<Option<u32>, Malformed>
 }
 
 /// The size of a file, where there is one.
-#[tactic(auto, using(crate::proofs::ReadParts::no_flag, crate::proofs::ReadParts::no_item, crate::proofs::ReadParts::no_size_behind))]
+#[tactic(auto, using(block_parts::proofs::Optional::no_flag, block_parts::proofs::Optional::no_item))]
 fn read_optional_size(reader: &mut XdrRead) -> Result<Option<u64>, Malformed>
     ensures ok { IfOk result (λ o. IsFront (IsOptional (IsAtMost 16777216)) (optional double_word) reader.old o reader.new) }
     ensures err { OnErr result (HasNoFront (IsOptional (IsAtMost 16777216)) (optional double_word) reader.old) }
@@ -67,15 +67,12 @@ fn read_optional_size(reader: &mut XdrRead) -> Result<Option<u64>, Malformed>
     if !reader.boolean()? {
         return Ok(None);
     }
-    let size = reader.u64()?;
-    if size > LONGEST_FILE {
-        return Err(Malformed);
-    }
+    let size = read_size(reader)?;
     Ok(Some(size))
 }
 
 /// A moment, where there is one.
-#[tactic(auto, using(crate::proofs::ReadParts::no_flag, crate::proofs::ReadParts::no_item))]
+#[tactic(auto, using(block_parts::proofs::Optional::no_flag, block_parts::proofs::Optional::no_item))]
 fn read_optional_moment(reader: &mut XdrRead) -> Result<Option<Moment>, Malformed>
     ensures ok { IfOk result (λ o. IsFront (IsOptional IsMoment) (optional moment) reader.old o reader.new) }
     ensures err { OnErr result (HasNoFront (IsOptional IsMoment) (optional moment) reader.old) }

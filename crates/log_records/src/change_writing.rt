@@ -3,9 +3,10 @@
 ghost use Rattle.std.specs.Prelude.{◌≡◌, ◌+◌, ◌≤◌, ◌++◌};
 ghost use Rattle.wire_model.specs.Xdr.{word, double_word, optional, moment};
 ghost use Rattle.log_records.specs.Parts.{change_block};
-ghost use Rattle.log_records.specs.Sizes.{optional_size, change_size};
+ghost use Rattle.block_parts.specs.Parts.{optional_size};
+ghost use Rattle.log_records.specs.Sizes.{change_size};
 
-use crate::writing::put_moment;
+use block_parts::put_moment;
 use ivy_base::{Change, Moment};
 use xdr_codec::XdrWrite;
 

@@ -8,7 +8,8 @@ ghost use Rattle.log_records.specs.Frames.{IsCited, IsFrame, frame_block};
 ghost use Rattle.log_records.specs.Reading.{Refuses};
 
 use crate::part_fault::PartFault;
-use crate::parts::{read_constant, read_key, read_moment, read_number};
+use crate::parts::read_number;
+use block_parts::{read_constant, read_key, read_moment};
 use ivy_base::{Key, Moment};
 use std::alloc::Global;
 use version_vectors::Vector;

@@ -7,9 +7,10 @@ ghost use Rattle.log_model.specs.Vector.{Stamp};
 ghost use Rattle.log_model.specs.Spelling.{head_block, IsHeadOf};
 ghost use Rattle.log_records.specs.Heads.{stamp, IsHead, head_bytes};
 
-use crate::part_fault::Malformed;
-use crate::parts::{read_block, read_constant, read_key, read_number};
-use crate::writing::{opaque_len, put_constant, put_key, put_owner};
+use crate::parts::read_number;
+use block_parts::{
+    Malformed, opaque_len, put_constant, put_key, put_owner, read_block, read_constant, read_key,
+};
 use ivy_base::{Bytes, Key, Memory, PubKey};
 use std::alloc::Global;
 use xdr_codec::{XdrRead, XdrWrite};

@@ -58,7 +58,6 @@ pub mod places;
 pub mod record;
 pub mod records;
 mod spelled;
-mod writing;
 
 pub use batch::{Batch, Chain};
 pub use batch_laws::chains_go_on;

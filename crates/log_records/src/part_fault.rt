@@ -1,19 +1,10 @@
 //! Why parts of blocks are not read.
 
 use crate::fault::RecordFault;
+use block_parts::Malformed;
 use ivy_base::Memory;
 use version_vectors::VectorFault;
 use xdr_codec::XdrFault;
-
-/// The bytes don't begin with what was to be read.
-#[derive(Clone, Copy)]
-pub struct Malformed;
-
-impl From<XdrFault> for Malformed {
-    fn from(_: XdrFault) -> Self {
-        Malformed
-    }
-}
 
 /// Why a part of a block was not read, where it takes memory.
 #[derive(Clone, Copy)]

@@ -16,7 +16,7 @@ use crate::body_writing::{body_len, kind_of, put_body};
 use crate::fault::RecordFault;
 use crate::frame::{Frame, MAGIC, read_frame};
 use crate::part_fault::PartFault;
-use crate::writing::{put_constant, put_key, put_moment};
+use block_parts::{put_constant, put_key, put_moment};
 use ivy_base::{Bytes, Key, Memory, Moment, Op, PubKey, head_key, name_of, number_of};
 use std::alloc::Global;
 use version_vectors::{Rank, Vector};

@@ -2,7 +2,7 @@
 
 ghost use Rattle.std.specs.Prelude.{◌≡◌, ◌<◌, ◌≤◌, ◌^◌, ◌+◌, ◌↔◌, [], length, IsTrue, IfSome};
 ghost use Rattle.ivy_base.specs.Naming.{head_key_of};
-ghost use Rattle.log_model.specs.Spelling.{no_name, HasSpelling, IsMode, IsMoment, IsTarget, IsBlock, IsChange, OperationFits};
+ghost use Rattle.log_model.specs.Spelling.{no_name, HasSpelling, IsMode, IsMoment, IsTarget, IsChange, OperationFits};
 ghost use Rattle.log_records.specs.Frames.{IsCited};
 ghost use Rattle.log_records.specs.Heads.{IsNumber};
 ghost use Rattle.log_records.specs.Records.{record_of};
@@ -10,8 +10,9 @@ ghost use Rattle.log_records.specs.Spelled.{IsInPlace};
 
 use crate::chain::is_same;
 use crate::frame::MOST_CITED;
-use crate::parts::{LONGEST_FILE, MOST_RECORDS, is_piece};
+use crate::parts::{MOST_RECORDS, is_piece};
 use crate::record::{NO_NAME, Record, is_end};
+use block_parts::{LONGEST_FILE, check_block};
 use ivy_base::{Change, Key, Kind, Moment, Op, name_ok};
 use version_vectors::Vector;
 
@@ -20,26 +21,12 @@ pub fn is_spelled(record: &Record, log: &Key) -> bool
     requires { log.now ≡ head_key_of «record».now.owner }
     ensures { IsTrue result ↔ HasSpelling (record_of «record».now) }
 {
-    check_key(&record.prev.0);
+    check_block(&record.prev.0);
     is_number(record.seq)
         && is_moment(record.moment)
         && may_cite(log, &record.vector)
         && operation_fits(&record.op)
         && is_in_place(record)
-}
-
-/// What the type says of a key's bytes.
-fn check_key(key: &[u8; 20])
-    ensures { IsBlock 20 key.now }
-{
-    let _ = key.as_slice();
-}
-
-/// What the type says of a verifier.
-fn check_verifier(bytes: &[u8; 8])
-    ensures { IsBlock 8 bytes.now }
-{
-    let _ = bytes.as_slice();
 }
 
 /// Whether a record may have that number.
@@ -95,22 +82,22 @@ fn operation_fits(op: &Op) -> bool
             gid,
             target,
         } => {
-            check_key(&ino.0);
+            check_block(&ino.0);
             check_word(*uid);
             check_word(*gid);
             is_mode(*mode) && is_target(*kind, target.as_slice())
         }
         Op::Write { ino, offset, bytes } => {
-            check_key(&ino.0);
+            check_block(&ino.0);
             is_written(*offset, bytes.as_slice())
         }
         Op::Link { dir, name, ino } => {
-            check_key(&dir.0);
-            check_key(&ino.0);
+            check_block(&dir.0);
+            check_block(&ino.0);
             name_ok(name.as_slice())
         }
         Op::Unlink { dir, name } => {
-            check_key(&dir.0);
+            check_block(&dir.0);
             name_ok(name.as_slice())
         }
         Op::Rename {
@@ -119,13 +106,13 @@ fn operation_fits(op: &Op) -> bool
             to_dir,
             to_name,
         } => {
-            check_key(&dir.0);
-            check_key(&to_dir.0);
+            check_block(&dir.0);
+            check_block(&to_dir.0);
             name_ok(name.as_slice()) && name_ok(to_name.as_slice())
         }
         Op::Prepare { dir, name, verf } => {
-            check_key(&dir.0);
-            check_verifier(verf);
+            check_block(&dir.0);
+            check_block(verf);
             name_ok(name.as_slice())
         }
         Op::Cancel { seq } => {
@@ -133,7 +120,7 @@ fn operation_fits(op: &Op) -> bool
             true
         }
         Op::SetAttrs { ino, change } => {
-            check_key(&ino.0);
+            check_block(&ino.0);
             is_change(change)
         }
         Op::End => true,

@@ -11,10 +11,11 @@ use Rattle.wire_model.proofs.Dependent.{PartsOf, none_of_some}
 use Rattle.wire_model.proofs.Arrays.{AreFew, more_items, no_next, no_count, too_many, no_counted}
 use Rattle.log_model.specs.Spelling.{IsKey}
 use Rattle.snapshot_model.specs.Blocks.{AreEntries, IsEntry, entries_block, entry_bytes}
-use Rattle.snapshot_model.specs.Parts.{constant_bytes, key_bytes}
-use Rattle.snapshot_model.proofs.OneBlock.{one_entry, one_name, one_of_entries}
+use Rattle.block_parts.specs.Parts.{constant_bytes, key_bytes}
+use Rattle.block_parts.proofs.OneParts.{one_name}
+use Rattle.snapshot_model.proofs.OneBlock.{one_entry, one_of_entries}
 use Rattle.snapshot_blocks.specs.Parts.{AreSomeEntries}
-use Rattle.snapshot_blocks.proofs.Constants.{one_constant}
+use Rattle.block_parts.proofs.Constants.{one_constant}
 
 abbrev Item : Type 0
 Item = List ℕ × Key

@@ -10,9 +10,11 @@ use Rattle.wire_model.proofs.Fronts.{both, no_first, no_second, front_of_parts}
 use Rattle.wire_model.proofs.Dependent.{PartsOf, none_of_some}
 use Rattle.log_model.specs.Spelling.{IsKey}
 use Rattle.snapshot_model.specs.Blocks.{Listed, InodeBlock, inode_block, attributes_bytes, listed_bytes, AreAttributes, IsListed}
-use Rattle.snapshot_model.specs.Parts.{constant_bytes, key_bytes, kind_word, IsAtMost, HasInodeParts}
-use Rattle.snapshot_model.proofs.OneBlock.{InodeParts, inode_parts, of_inode_parts, one_key, one_kind, one_attributes, one_size}
-use Rattle.snapshot_blocks.proofs.Constants.{one_constant}
+use Rattle.block_parts.specs.Parts.{constant_bytes, key_bytes, kind_word, IsAtMost}
+use Rattle.snapshot_model.specs.Parts.{HasInodeParts}
+use Rattle.block_parts.proofs.OneParts.{one_key, one_kind, one_size}
+use Rattle.snapshot_model.proofs.OneBlock.{InodeParts, inode_parts, of_inode_parts, one_attributes}
+use Rattle.block_parts.proofs.Constants.{one_constant}
 
 -- "IVI1"
 abbrev magic : List ℕ

@@ -1,5 +1,3 @@
-pub mod Bytes
-pub mod Constants
 pub mod Wholes
 pub mod PartReading
 pub mod ListReading

@@ -14,11 +14,12 @@ use Rattle.wire_model.proofs.Arrays.{AreFew, no_count, too_many, no_counted}
 use Rattle.tree_model.proofs.Sound.{both_true}
 use Rattle.log_model.specs.Spelling.{IsKey}
 use Rattle.snapshot_model.specs.Blocks.{AreNamed, list_block}
-use Rattle.snapshot_model.specs.Parts.{constant_bytes, key_bytes, list_tag}
-use Rattle.snapshot_model.proofs.OneBlock.{one_key}
+use Rattle.block_parts.specs.Parts.{constant_bytes, key_bytes}
+use Rattle.snapshot_model.specs.Parts.{list_tag}
+use Rattle.block_parts.proofs.OneParts.{one_key}
 use Rattle.snapshot_blocks.specs.Parsed.{keys_of}
 use Rattle.snapshot_blocks.specs.Parts.{AreNamesIn}
-use Rattle.snapshot_blocks.proofs.Constants.{one_constant}
+use Rattle.block_parts.proofs.Constants.{one_constant}
 
 abbrev is_byte : ℕ → Bool
 is_byte b = nat_lt b 256

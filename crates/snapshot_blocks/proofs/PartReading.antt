@@ -14,17 +14,10 @@ use Rattle.wire_model.proofs.Fronts.{both, no_first, no_second, only_misfit, fro
 use Rattle.wire_model.proofs.Dependent.{PartsOf, none_of_some}
 use Rattle.log_model.specs.Spelling.{IsKey, IsMoment, no_name}
 use Rattle.snapshot_model.specs.Blocks.{Listed, IsListed, listed_bytes, AreAttributes, attributes_bytes}
-use Rattle.snapshot_model.specs.Parts.{key_bytes, IsAtMost}
-use Rattle.snapshot_model.proofs.OneBlock.{AttributeParts, attribute_parts, of_attribute_parts, one_at_most, one_key, one_time}
-
-pub no_such_size : {bytes middle : List ℕ} {n : ℕ} → IsFront IsDoubleWord double_word bytes n middle → 16777216 < n → HasNoFront (IsAtMost 16777216) double_word bytes
-no_such_size f h = only_misfit one_double_word f (λ n g. omega arith) (λ g. omega (arith, g, h))
-
-pub name_front : {bytes rest name : List ℕ} → IsFront (IsUpTo 255) opaque bytes name rest → IsFileName name → IsFront IsFileName opaque bytes name rest
-name_front f fits = record { fits = fits; spelled = f.spelled }
-
-pub no_such_name : {bytes rest name : List ℕ} {b : Bool} → IsFront (IsUpTo 255) opaque bytes name rest → (IsFileName name → IsTrue b) → b ≡ false → HasNoFront IsFileName opaque bytes
-no_such_name f tested e = only_misfit (one_short_opaque 255 (omega arith)) f (λ n h. h.short) (λ h. let t = tested h in absurd (cc (t, e)))
+use Rattle.block_parts.specs.Parts.{key_bytes, IsAtMost}
+use Rattle.block_parts.proofs.OneParts.{one_at_most, one_key, one_time}
+use Rattle.block_parts.proofs.Tested.{same_key}
+use Rattle.snapshot_model.proofs.OneBlock.{AttributeParts, attribute_parts, of_attribute_parts}
 
 -- ---- attributes
 
@@ -107,9 +100,6 @@ module _ {b0 b1 : List ℕ} {level : ℕ} (f : IsFront (IsAtMost 3) word b0 leve
           let tops : top ≡ l.top = ap (λ (q : ListedParts). q.1) p.0 in
           differs (λ zero. tops ∙ h.fits.none (sym levels ∙ zero));
     }
-
-same_key : (a b : Key) → a.0 ≡ b.0 → a ≡ b
-same_key a b e = ap (λ (bytes : List ℕ). record { 0 = bytes }) e
 
 pub with_a_level : (level : ℕ) (top : Key) (b : Bool) → (level ≡ 0 → ⊥) → b ≡ true → IsTrue b ↔ (level ≡ 0 → top ≡ no_name)
 with_a_level level top b some t = (λ h zero. absurd (some zero), λ h. t)

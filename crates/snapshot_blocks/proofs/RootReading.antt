@@ -14,11 +14,11 @@ use Rattle.version_vectors.specs.declared.fault.VectorFault.{VectorFault}
 use Rattle.version_vectors.specs.declared.fault.VectorFault.TheVariants as vector
 use Rattle.version_vectors.specs.Reading.{ReadFault}
 use Rattle.snapshot_model.specs.Blocks.{Listed, RootBlock, root_block, rank_bytes, listed_bytes, IsRankSpelled, IsVectorSpelled, IsListed, IsRootBlock}
-use Rattle.snapshot_model.specs.Parts.{constant_bytes, as_it_stands, key_bytes}
-use Rattle.snapshot_model.proofs.OneBlock.{RootParts, root_parts, of_root_parts, one_block, one_key, one_front, one_tide}
-use Rattle.snapshot_blocks.specs.Parts.{IsTide}
+use Rattle.block_parts.specs.Parts.{constant_bytes, as_it_stands, key_bytes, IsOptional}
+use Rattle.block_parts.proofs.OneParts.{one_block, one_key}
+use Rattle.snapshot_model.proofs.OneBlock.{RootParts, root_parts, of_root_parts, one_front, one_tide}
 use Rattle.snapshot_blocks.specs.Refusals.{RefusesFront, fault_of_vector}
-use Rattle.snapshot_blocks.proofs.Constants.{one_constant}
+use Rattle.block_parts.proofs.Constants.{one_constant}
 
 -- ---- ranks
 
@@ -43,29 +43,6 @@ module _ {b0 b1 : List ℕ} {weight : ℕ} (f : IsFront IsDoubleWord double_word
     pub rank_front : {b3 : List ℕ} {seq : ℕ} → IsFront IsWord word b2 seq b3 → IsFront IsRankSpelled rank_bytes b0 (record { weight = weight; owner = record { 0 = owner }; seq = seq }) b3
     rank_front h = front_of_parts (λ (p : RankParts). record { weight = p.0.0; owner = record { 0 = p.0.1 }; seq = p.1 }) (record { weight = f.fits; owner = g.fits; seq = h.fits }) refl (both (both f g) h)
 
--- ---- the tide
-
-pub no_flag : {bytes : List ℕ} → HasNoFront IsAny boolean bytes → HasNoFront IsTide (optional rank_bytes) bytes
-no_flag {bytes} absent = record { none = options }
-  where
-    options : (o : Option Rank) (rest : List ℕ) → IsFront IsTide (optional rank_bytes) bytes o rest → ⊥
-    options None rest f = absent.none false rest (record { fits = tt; spelled = f.spelled })
-    options (Some x) rest f = absent.none true (rank_bytes x ++ rest) (record { fits = tt; spelled = f.spelled })
-
-module _ {bytes middle : List ℕ} {b : Bool} (flag : IsFront IsAny boolean bytes b middle) where
-  pub no_rank : b ≡ true → HasNoFront IsRankSpelled rank_bytes middle → HasNoFront IsTide (optional rank_bytes) bytes
-  no_rank is absent = record { none = options }
-    where
-      options : (o : Option Rank) (rest : List ℕ) → IsFront IsTide (optional rank_bytes) bytes o rest → ⊥
-      options None rest f = let p = (one_boolean.one b false middle rest tt tt (sym flag.spelled ∙ f.spelled)).0 in absurd (cc (p, is))
-      options (Some x) rest f = absent.none x rest (record { fits = f.fits; spelled = (one_boolean.one b true middle (rank_bytes x ++ rest) tt tt (sym flag.spelled ∙ f.spelled)).1 })
-
-  pub some_tide : {rest : List ℕ} {rank : Rank} → b ≡ true → IsFront IsRankSpelled rank_bytes middle rank rest → IsFront IsTide (optional rank_bytes) bytes (Some rank) rest
-  some_tide is f = record { fits = f.fits; spelled = flag.spelled ∙ ap (λ (s : List ℕ). boolean b ++ s) f.spelled ∙ rw is refl }
-
-  pub no_tide : b ≡ false → IsFront IsTide (optional rank_bytes) bytes None middle
-  no_tide is = record { fits = tt; spelled = rw is at flag.spelled }
-
 -- ---- fronts
 
 pub spelled_vector : (v : Vector) → VectorFits 4294967295 v → IsVectorSpelled v
@@ -84,7 +61,7 @@ abbrev magic : List ℕ
 magic = 73 ∷ 86 ∷ 83 ∷ 49 ∷ []
 
 abbrev HasParts : RootParts → Type 0
-HasParts p = (((IsAny p.0.0.0.0 × IsKey p.0.0.0.1) × IsVectorSpelled p.0.0.1) × IsTide p.0.1) × IsListed 3 p.1
+HasParts p = (((IsAny p.0.0.0.0 × IsKey p.0.0.0.1) × IsVectorSpelled p.0.0.1) × IsOptional IsRankSpelled p.0.1) × IsListed 3 p.1
 
 abbrev parts_bytes : RootParts → List ℕ
 parts_bytes p = constant_bytes magic p.0.0.0.0 ++ key_bytes p.0.0.0.1 ++ array vector_entry p.0.0.1 ++ optional rank_bytes p.0.1 ++ listed_bytes p.1
@@ -93,25 +70,25 @@ parts_of : (b : RootBlock) → IsRootBlock b → PartsOf HasParts parts_bytes (r
 parts_of b f = record { part = root_parts b; fits = ((((tt, f.view), f.front), f.tide), f.inodes); spelled = refl }
 
 pub no_magic : {b0 : List ℕ} → HasNoFront IsAny (constant_bytes magic) b0 → HasNoFront IsRootBlock root_block b0
-no_magic absent = none_of_some parts_of (no_first (IsListed 3) listed_bytes (no_first IsTide (optional rank_bytes) (no_first IsVectorSpelled (array vector_entry) (no_first IsKey key_bytes absent))))
+no_magic absent = none_of_some parts_of (no_first (IsListed 3) listed_bytes (no_first (IsOptional IsRankSpelled) (optional rank_bytes) (no_first IsVectorSpelled (array vector_entry) (no_first IsKey key_bytes absent))))
 
 module _ {b0 b1 : List ℕ} {u : Unit {0}} (f : IsFront IsAny (constant_bytes magic) b0 u b1) where
   pub no_view : HasNoFront IsKey key_bytes b1 → HasNoFront IsRootBlock root_block b0
-  no_view absent = none_of_some parts_of (no_first (IsListed 3) listed_bytes (no_first IsTide (optional rank_bytes) (no_first IsVectorSpelled (array vector_entry) (no_second (one_constant magic) f absent))))
+  no_view absent = none_of_some parts_of (no_first (IsListed 3) listed_bytes (no_first (IsOptional IsRankSpelled) (optional rank_bytes) (no_first IsVectorSpelled (array vector_entry) (no_second (one_constant magic) f absent))))
 
   module _ {b2 : List ℕ} {view : Key} (g : IsFront IsKey key_bytes b1 view b2) where
     no_vector : HasNoFront IsVectorSpelled (array vector_entry) b2 → HasNoFront IsRootBlock root_block b0
-    no_vector absent = none_of_some parts_of (no_first (IsListed 3) listed_bytes (no_first IsTide (optional rank_bytes) (no_second (one_constant magic ▷ one_key) (both f g) absent)))
+    no_vector absent = none_of_some parts_of (no_first (IsListed 3) listed_bytes (no_first (IsOptional IsRankSpelled) (optional rank_bytes) (no_second (one_constant magic ▷ one_key) (both f g) absent)))
 
     pub no_front : (fault : VectorFault) → ReadFault 4294967295 b2 fault → RefusesFront IsRootBlock root_block b0 (fault_of_vector fault)
     no_front vector.Malformed absent = no_vector (none_of_fewer short_vector absent)
     no_front vector.Memory absent = tt
 
     module _ {b3 : List ℕ} {front : Vector} (h : IsFront IsVectorSpelled (array vector_entry) b2 front b3) where
-      pub no_tide_behind : HasNoFront IsTide (optional rank_bytes) b3 → HasNoFront IsRootBlock root_block b0
+      pub no_tide_behind : HasNoFront (IsOptional IsRankSpelled) (optional rank_bytes) b3 → HasNoFront IsRootBlock root_block b0
       no_tide_behind absent = none_of_some parts_of (no_first (IsListed 3) listed_bytes (no_second (one_constant magic ▷ one_key ▷ one_front) (both (both f g) h) absent))
 
-      module _ {b4 : List ℕ} {tide : Option Rank} (i : IsFront IsTide (optional rank_bytes) b3 tide b4) where
+      module _ {b4 : List ℕ} {tide : Option Rank} (i : IsFront (IsOptional IsRankSpelled) (optional rank_bytes) b3 tide b4) where
         pub no_inodes : HasNoFront (IsListed 3) listed_bytes b4 → HasNoFront IsRootBlock root_block b0
         no_inodes absent = none_of_some parts_of (no_second (one_constant magic ▷ one_key ▷ one_front ▷ one_tide) (both (both (both f g) h) i) absent)
 

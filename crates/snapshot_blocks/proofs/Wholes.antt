@@ -5,27 +5,10 @@ use Rattle.std.specs.Str.{bytes_eq}
 use Rattle.std.proofs.lemmas.List.{append-nil}
 use Rattle.std.proofs.lemmas.Slice.Eq.{bytes_eq-Decides}
 use Rattle.wire_model.specs.OneReading.{ReadsOne, IsFront, HasNoFront}
-use Rattle.xdr_codec.specs.Reading.{EndFault}
-use Rattle.xdr_codec.specs.declared.fault.XdrFault.{XdrFault}
-use Rattle.xdr_codec.specs.declared.fault.XdrFault.TheVariants.{Short, TooLong, Padding, NotBool, Trailing}
 use Rattle.snapshot_model.specs.Blocks.{Says}
 use Rattle.snapshot_blocks.specs.declared.fault.BlockFault.{BlockFault}
 use Rattle.snapshot_blocks.specs.declared.fault.BlockFault.TheVariants.{Malformed, Memory}
 use Rattle.snapshot_blocks.specs.Refusals.{SaysNothing, Refuses, RefusesFront}
-
-pub ended : (rest : List ℕ) (fault : XdrFault) → EndFault rest fault → rest ≢ []
-ended rest Trailing f = f
-ended rest Short f = absurd f
-ended rest TooLong f = absurd f
-ended rest Padding f = absurd f
-ended rest NotBool f = absurd f
-
-untrue : (b : Bool) → not b ≡ true → b ≡ true → ⊥
-untrue true h g = cc
-untrue false h g = cc
-
-pub not_same : (xs ys zs : List ℕ) (b : Bool) → b ≡ not (bytes_eq xs ys) → b ≡ true → ys ≡ zs → xs ≢ zs
-not_same xs ys zs b e t s same = untrue (bytes_eq xs ys) (sym e ∙ t) ((bytes_eq-Decides xs ys).1 (same ∙ sym s))
 
 -- what is at the front is the whole where nothing follows
 pub says_whole : {A : Type 0} {Fits : A → Type 0} {spell : A → List ℕ} {bytes rest : List ℕ} {x : A} → IsFront Fits spell bytes x rest → rest ≡ [] → Says Fits spell bytes x

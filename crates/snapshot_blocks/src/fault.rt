@@ -1,5 +1,6 @@
 //! Why blocks are not read.
 
+use block_parts::Malformed;
 use std::alloc::{AllocError, AllocFailed};
 use thiserror::Error;
 use version_vectors::VectorFault;
@@ -14,16 +15,6 @@ pub enum BlockFault {
     /// Memory ran out. No clause ties this to a cause.
     #[error("out of memory")]
     Memory,
-}
-
-/// The bytes don't begin with what was to be read.
-#[derive(Clone, Copy)]
-pub struct Malformed;
-
-impl From<XdrFault> for Malformed {
-    fn from(_: XdrFault) -> Self {
-        Malformed
-    }
 }
 
 impl From<Malformed> for BlockFault {

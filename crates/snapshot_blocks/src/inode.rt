@@ -2,17 +2,17 @@
 
 ghost use Rattle.std.specs.Prelude.{◌≡◌, ◌≤◌, ◌↔◌, IsTrue, length, IfOk, IfSome, IfNone, OnErr};
 ghost use Rattle.wire_model.specs.OneReading.{IsFront, HasNoFront};
-ghost use Rattle.log_model.specs.Spelling.{kind_number};
 ghost use Rattle.snapshot_model.specs.Blocks.{IsInodeBlock, Says, inode_block};
 ghost use Rattle.snapshot_model.specs.Parts.{FitsKind, HasInodeParts};
 ghost use Rattle.snapshot_blocks.specs.Parsed.{inode_of};
-ghost use Rattle.snapshot_blocks.specs.Parts.{number_of_kind};
 ghost use Rattle.snapshot_blocks.specs.Refusals.{SaysNothing};
 
-use crate::fault::Malformed;
+use crate::attributes::{put_attributes, read_attributes};
 use crate::listed::{Listed, put_listed, read_listed};
-use crate::parts::{read_attributes, read_constant, read_key, read_kind, read_size};
-use crate::writing::{opaque_len, put_attributes, put_constant, put_key};
+use block_parts::{
+    Malformed, kind_number, opaque_len, put_constant, put_key, read_constant, read_key, read_kind,
+    read_size,
+};
 use inode_replay::Attr;
 use ivy_base::{Bytes, Key, Kind, Memory};
 use std::alloc::Global;
@@ -117,16 +117,5 @@ fn fits_kind(inode: &InodeBlock<'_>) -> bool
         Kind::Reg => inode.target.is_empty(),
         Kind::Dir => inode.size == 0 && inode.target.is_empty(),
         Kind::Lnk => inode.size == 0 && !inode.target.is_empty() && inode.items.level == 0,
-    }
-}
-
-/// The number of a kind: 1 for a regular file, 2 for a directory, 5 for a symbolic link.
-fn kind_number(kind: Kind) -> u32
-    ensures { result ≡ number_of_kind kind }
-{
-    match kind {
-        Kind::Reg => 1,
-        Kind::Dir => 2,
-        Kind::Lnk => 5,
     }
 }

@@ -6,13 +6,12 @@ ghost use Rattle.wire_model.specs.Xdr.{IsAny, array};
 ghost use Rattle.wire_model.specs.OneReading.{IsFront, HasNoFront};
 ghost use Rattle.snapshot_model.specs.Blocks.{AreNamed, Says, list_block};
 ghost use Rattle.snapshot_blocks.specs.Parsed.{keys_of};
-ghost use Rattle.snapshot_model.specs.Parts.{constant_bytes, key_bytes, list_tag};
+ghost use Rattle.block_parts.specs.Parts.{constant_bytes, key_bytes};
+ghost use Rattle.snapshot_model.specs.Parts.{list_tag};
 ghost use Rattle.snapshot_blocks.specs.Parts.{AreNamesIn};
 ghost use Rattle.snapshot_blocks.specs.Refusals.{SaysNothing};
 
-use crate::fault::Malformed;
-use crate::parts::read_constant;
-use crate::writing::{put_constant, put_key};
+use block_parts::{Malformed, put_constant, put_key, read_constant};
 use ivy_base::{Bytes, Key, Memory};
 use std::alloc::Global;
 use xdr_codec::{XdrRead, XdrWrite};

@@ -6,9 +6,7 @@ ghost use Rattle.wire_model.specs.OneReading.{IsFront, HasNoFront};
 ghost use Rattle.snapshot_model.specs.Blocks.{IsListed, listed_bytes};
 ghost use Rattle.snapshot_blocks.specs.Parsed.{listed_of};
 
-use crate::fault::Malformed;
-use crate::parts::{read_at_most, read_key};
-use crate::writing::put_key;
+use block_parts::{Malformed, put_key, read_at_most, read_key};
 use ivy_base::Key;
 use xdr_codec::{XdrRead, XdrWrite};
 

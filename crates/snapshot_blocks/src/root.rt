@@ -6,13 +6,14 @@ ghost use Rattle.wire_model.specs.OneReading.{IsFront, HasNoFront};
 ghost use Rattle.version_vectors.specs.Ranks.{rank_of};
 ghost use Rattle.snapshot_model.specs.Blocks.{IsRootBlock, IsRankSpelled, Says, rank_bytes, root_block};
 ghost use Rattle.snapshot_blocks.specs.Parsed.{root_of, tide_of};
-ghost use Rattle.snapshot_blocks.specs.Parts.{IsTide, tide_size};
+ghost use Rattle.block_parts.specs.Parts.{IsOptional, optional_size};
 ghost use Rattle.snapshot_blocks.specs.Refusals.{Refuses, RefusesFront};
 
-use crate::fault::{BlockFault, Malformed};
+use crate::fault::BlockFault;
 use crate::listed::{Listed, put_listed, read_listed};
-use crate::parts::{read_block, read_constant, read_key};
-use crate::writing::{put_constant, put_key};
+use block_parts::{
+    Malformed, put_constant, put_key, put_owner, read_block, read_constant, read_key,
+};
 use ivy_base::{Bytes, Key, Memory, PubKey};
 use std::alloc::Global;
 use version_vectors::{Rank, Vector};
@@ -85,15 +86,16 @@ fn read_root(alloc: Global, reader: &mut XdrRead) -> Result<RootBlock, BlockFaul
 }
 
 /// The tide, where there is one.
+#[tactic(auto, using(block_parts::proofs::Optional::no_flag, block_parts::proofs::Optional::no_item))]
 fn read_tide(reader: &mut XdrRead) -> Result<Option<Rank>, Malformed>
-    ensures ok { IfOk result (λ tide. IsFront IsTide (optional rank_bytes) reader.old (tide_of tide) reader.new) }
-    ensures err { OnErr result (HasNoFront IsTide (optional rank_bytes) reader.old) }
+    ensures ok { IfOk result (λ tide. IsFront (IsOptional IsRankSpelled) (optional rank_bytes) reader.old (tide_of tide) reader.new) }
+    ensures err { OnErr result (HasNoFront (IsOptional IsRankSpelled) (optional rank_bytes) reader.old) }
 {
-    if reader.boolean()? {
-        Ok(Some(read_rank(reader)?))
-    } else {
-        Ok(None)
+    if !reader.boolean()? {
+        return Ok(None);
     }
+    let rank = read_rank(reader)?;
+    Ok(Some(rank))
 }
 
 /// A rank: the weight, the owner's public key and the number.
@@ -109,9 +111,9 @@ fn read_rank(reader: &mut XdrRead) -> Result<Rank, Malformed>
 
 /// Appends the tide, where there is one.
 fn put_tide(out: &mut XdrWrite, tide: &Option<Rank>)
-    requires { tide_size tide.now ≤ out.old.spare }
+    requires { optional_size 72 tide.now ≤ out.old.spare }
     ensures written { out.new.written ≡ out.old.written ++ optional rank_bytes (tide_of tide.now) }
-    ensures spare { out.new.spare + tide_size tide.now ≡ out.old.spare }
+    ensures spare { out.new.spare + optional_size 72 tide.now ≡ out.old.spare }
 {
     match tide {
         Some(rank) => {
@@ -129,6 +131,6 @@ fn put_rank(out: &mut XdrWrite, rank: &Rank)
     ensures spare { out.new.spare + 72 ≡ out.old.spare }
 {
     out.put_u64(rank.weight);
-    out.put_fixed(&rank.owner.0);
+    put_owner(out, &rank.owner);
     out.put_u32(rank.seq);
 }

@@ -10,47 +10,15 @@ use Rattle.ivy_base.specs.Naming.{IsFileName}
 use Rattle.tree_model.specs.Tree.{Attributes}
 use Rattle.wire_model.specs.Xdr.{word, double_word, opaque, optional, array, moment, IsAny}
 use Rattle.wire_model.specs.OneReading.{ReadsOne}
-use Rattle.wire_model.proofs.OneReading.{◌▷◌, always, of_fewer, of_parts, one_word, one_double_word, one_moment, one_raw, one_short_opaque, one_optional, one_array}
+use Rattle.wire_model.proofs.OneReading.{◌▷◌, always, of_fewer, of_parts, one_word, one_double_word, one_short_opaque, one_optional, one_array}
 use Rattle.log_model.specs.Rank.{Rank}
 use Rattle.log_model.specs.Vector.{Entry, Vector}
 use Rattle.log_model.specs.Spelling.{IsBlock, IsKey, IsMoment, IsTarget, vector_entry}
 use Rattle.snapshot_model.specs.Blocks.{Listed, InodeBlock, RootBlock, listed_bytes, attributes_bytes, rank_bytes, entry_bytes, list_block, entries_block, inode_block, root_block, IsListed, AreAttributes, IsEntry, IsStamped, IsVectorSpelled, IsRankSpelled, AreNamed, AreEntries, IsInodeBlock, IsRootBlock, most_bytes, most_levels}
-use Rattle.snapshot_model.specs.Parts.{key_bytes, kind_word, list_tag, IsAtMost, HasInodeParts, FitsKind}
+use Rattle.block_parts.specs.Parts.{key_bytes}
+use Rattle.block_parts.proofs.OneParts.{one_block, one_key, one_at_most, one_time, one_kind, one_name, one_size}
+use Rattle.snapshot_model.specs.Parts.{list_tag, HasInodeParts, FitsKind}
 use Rattle.snapshot_model.specs.Laws.{BlocksAreOne}
-
--- ---- parts
-
-pub one_block : (count : ℕ) → ReadsOne (IsBlock count) (λ bytes. bytes)
-one_block count = of_fewer (λ bytes f. f.size) (one_raw count)
-
-pub one_key : ReadsOne IsKey key_bytes
-one_key = of_parts (λ (k : Key). k.0) (λ k f. f) (λ k. refl) (λ k l e. ap (λ (bytes : List ℕ). record { 0 = bytes }) e) (one_block 20)
-
-pub one_at_most : (most : ℕ) → most < 2 ^ 32 → ReadsOne (IsAtMost most) word
-one_at_most most h = of_fewer (λ n f. omega arith) one_word
-
-pub one_time : ReadsOne IsMoment moment
-one_time = of_fewer (λ m f. (f.sec, omega (arith, f.nsec))) one_moment
-
-pub one_kind : ReadsOne IsAny kind_word
-one_kind = record { one = kinds }
-  where
-    kinds : (x y : Kind) (r s : List ℕ) → IsAny x → IsAny y → kind_word x ++ r ≡ kind_word y ++ s → (x ≡ y) × (r ≡ s)
-    kinds Reg Reg r s f g e = (refl, (one_word.one 1 1 r s (omega arith) (omega arith) e).1)
-    kinds Reg Dir r s f g e = cc
-    kinds Reg Lnk r s f g e = cc
-    kinds Dir Reg r s f g e = cc
-    kinds Dir Dir r s f g e = (refl, (one_word.one 2 2 r s (omega arith) (omega arith) e).1)
-    kinds Dir Lnk r s f g e = cc
-    kinds Lnk Reg r s f g e = cc
-    kinds Lnk Dir r s f g e = cc
-    kinds Lnk Lnk r s f g e = (refl, (one_word.one 5 5 r s (omega arith) (omega arith) e).1)
-
-pub one_name : ReadsOne IsFileName opaque
-one_name = of_fewer (λ bytes f. f.short) (one_short_opaque 255 (omega arith))
-
-pub one_size : ReadsOne (IsAtMost 16777216) double_word
-one_size = of_fewer {Fewer = IsAtMost 16777216} (λ n f. omega arith) one_double_word
 
 -- ---- attributes
 

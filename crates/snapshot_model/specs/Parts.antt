@@ -1,32 +1,14 @@
 -- Parts of a snapshot's blocks, for their readers and writers.
 use Rattle.std.specs.Prelude.{ℕ, ◌≤◌, List, ◌∷◌, length}
-use Rattle.ivy_base.specs.declared.key.Key.{Key}
 use Rattle.ivy_base.specs.declared.operation.Kind.{Kind}
 use Rattle.wire_model.specs.Xdr.{word, IsAny}
-use Rattle.log_model.specs.Spelling.{IsKey, IsTarget, kind_number}
+use Rattle.log_model.specs.Spelling.{IsKey, IsTarget}
+use Rattle.block_parts.specs.Parts.{IsAtMost}
 use Rattle.snapshot_model.specs.Blocks.{InodeBlock, IsListed, AreAttributes, most_bytes, most_levels}
-
--- the same bytes, whatever else the block has
-abbrev pub constant_bytes : List ℕ → Unit {0} → List ℕ
-constant_bytes front u = front
-
--- bytes as they stand, and a key's
-abbrev pub as_it_stands : List ℕ → List ℕ
-as_it_stands bytes = bytes
-
-abbrev pub key_bytes : Key → List ℕ
-key_bytes k = k.0
-
-abbrev pub kind_word : Kind → List ℕ
-kind_word kind = word (kind_number kind)
 
 -- what a list block of that level begins with
 abbrev pub list_tag : ℕ → List ℕ
 list_tag level = 73 ∷ 86 ∷ 76 ∷ 49 ∷ word level
-
--- at most so much
-abbrev pub IsAtMost : ℕ → ℕ → Type 0
-IsAtMost most n = n ≤ most
 
 -- an inode's parts have their bounds, whatever the kind is
 abbrev pub HasInodeParts : InodeBlock → Type 0

@@ -1,5 +1,5 @@
 use Rattle.std.proofs.lemmas.Result.{err_from_is_err_and}
-use Rattle.log_records.proofs.Tested.{ended}
+use Rattle.block_parts.proofs.Tested.{ended}
 use Rattle.agent_saves.proofs.PartReading.{more_behind, refused_whole, whole_bytes}
 use Rattle.agent_saves.proofs.parts.read_whole.Goals as goal
 

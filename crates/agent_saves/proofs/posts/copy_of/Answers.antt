@@ -1,5 +1,5 @@
 use Rattle.std.proofs.Common.{arith}
-use Rattle.log_records.proofs.Bytes.{all_bytes}
+use Rattle.block_parts.proofs.Bytes.{all_bytes}
 use Rattle.agent_saves.proofs.posts.copy_of.Goals as goal
 
 pub returns-clause-each : goal.returns-clause-each

@@ -1,5 +1,5 @@
 use Rattle.wire_model.proofs.Dependent.{on_err}
-use Rattle.log_records.proofs.Tested.{ended}
+use Rattle.block_parts.proofs.Tested.{ended}
 use Rattle.log_records.proofs.OneHead.{no_whole_head, more_than_a_head}
 use Rattle.log_records.proofs.head.read_whole.Goals as goal
 

@@ -1,7 +1,7 @@
 use Rattle.std.proofs.lemmas.Result.{err_from_is_err_and}
 use Rattle.wire_model.proofs.Dependent.{both_by}
 use Rattle.log_records.proofs.Chains.{more_behind}
-use Rattle.log_records.proofs.Tested.{ended}
+use Rattle.block_parts.proofs.Tested.{ended}
 use Rattle.log_records.proofs.OneRecord.{kind_in, one_of_parts, no_frame, no_operation}
 use Rattle.log_records.proofs.record.read_parts.Goals as goal
 

@@ -1,5 +1,6 @@
 use Rattle.std.proofs.lemmas.Result.{err_from_is_err_and}
-use Rattle.snapshot_blocks.proofs.Wholes.{ended, says_whole, says_nothing, more_behind, refused_whole, fewer_say_nothing, misfit_says_nothing}
+use Rattle.block_parts.proofs.Tested.{ended}
+use Rattle.snapshot_blocks.proofs.Wholes.{says_whole, says_nothing, more_behind, refused_whole, fewer_say_nothing, misfit_says_nothing}
 use Rattle.snapshot_blocks.proofs.EntryReading.{one_some, without_order}
 use Rattle.snapshot_blocks.proofs.entries.read_entries.Goals as goal
 

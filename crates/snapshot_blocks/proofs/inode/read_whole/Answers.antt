@@ -1,7 +1,8 @@
 use Rattle.std.proofs.Common.{refl}
 use Rattle.wire_model.proofs.Dependent.{on_err}
 use Rattle.snapshot_model.proofs.OneBlock.{inode_parts_fit, of_its_kind, one_of_inode_parts, with_kind}
-use Rattle.snapshot_blocks.proofs.Wholes.{ended, says_whole, says_nothing, more_behind, fewer_say_nothing, misfit_says_nothing}
+use Rattle.block_parts.proofs.Tested.{ended}
+use Rattle.snapshot_blocks.proofs.Wholes.{says_whole, says_nothing, more_behind, fewer_say_nothing, misfit_says_nothing}
 use Rattle.snapshot_blocks.proofs.inode.read_whole.Goals as goal
 
 pub returns-in_err-inode-clause-err : goal.returns-in_err-inode-clause-err

@@ -1,5 +1,5 @@
 use Rattle.std.proofs.Common.{arith}
-use Rattle.snapshot_blocks.proofs.Bytes.{all_bytes}
+use Rattle.block_parts.proofs.Bytes.{all_bytes}
 use Rattle.snapshot_blocks.proofs.ListReading.{names_of_chunks}
 use Rattle.snapshot_blocks.proofs.list.names_in.Goals as goal
 

@@ -1,6 +1,6 @@
 use Rattle.std.proofs.Common.{◌≡◌, ◌+◌, ◌*◌, ◌++◌, take}
 use Rattle.std.specs.List.{flat_map}
-use Rattle.snapshot_model.specs.Parts.{key_bytes}
+use Rattle.block_parts.specs.Parts.{key_bytes}
 use Rattle.snapshot_blocks.proofs.list.put_names.Given as goal
 
 abbrev pub invariant-loop-name : goal.invariant-loop-name

@@ -1,6 +1,7 @@
 use Rattle.wire_model.proofs.Dependent.{on_err}
 use Rattle.snapshot_model.proofs.OneBlock.{one_list}
-use Rattle.snapshot_blocks.proofs.Wholes.{ended, says_whole, says_nothing, more_behind}
+use Rattle.block_parts.proofs.Tested.{ended}
+use Rattle.snapshot_blocks.proofs.Wholes.{says_whole, says_nothing, more_behind}
 use Rattle.snapshot_blocks.proofs.ListReading.{no_tag, no_names_behind, list_front}
 use Rattle.snapshot_blocks.proofs.list.read_whole.Goals as goal
 

@@ -1,6 +1,7 @@
 use Rattle.std.proofs.lemmas.Result.{err_from_is_err_and}
 use Rattle.snapshot_model.proofs.OneBlock.{one_root}
-use Rattle.snapshot_blocks.proofs.Wholes.{ended, says_whole, says_nothing, more_behind, refused_whole}
+use Rattle.block_parts.proofs.Tested.{ended}
+use Rattle.snapshot_blocks.proofs.Wholes.{says_whole, says_nothing, more_behind, refused_whole}
 use Rattle.snapshot_blocks.proofs.root.RootBlock.read.Goals as goal
 
 pub returns-in_err-root-clause-err : goal.returns-in_err-root-clause-err

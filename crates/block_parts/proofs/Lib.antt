@@ -1,0 +1,6 @@
+pub mod Bytes
+pub mod OneParts
+pub mod Constants
+pub mod Optional
+pub mod Misfits
+pub mod Tested

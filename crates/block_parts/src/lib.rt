@@ -1,0 +1,27 @@
+//! The parts that blocks of records, of snapshots and of what is saved share: read from the front of bytes, and appended.
+//!
+//! Layer: over `xdr_codec`, whose readers and writers carry the bytes, and `log_model`, which says what a key, a moment
+//! and the number of a kind are; below the crates that read and write blocks of one form.
+//! For the layers above: each reader takes its part from the front exactly where one with its bounds is spelled there
+//! (`IsFront` of `wire_model`); else it says [`Malformed`], and may stand anywhere. None takes memory. Each `put_` function
+//! appends exactly the spelling of its part, and wants room for it (`spare` of a writer), so that it can't fail.
+//!
+//! Inside, `reading` and `writing` have one function for each part.
+//! Definitions: `specs/Parts.antt` has the spellings, bounds and sizes that are not `log_model`'s. For readers of whole
+//! blocks `proofs/OneParts.antt` and `proofs/Constants.antt` have that a part can be read in one way only,
+//! `proofs/Optional.antt` where a part that may be left out can't be read, `proofs/Bytes.antt` when bytes are so many, and
+//! `proofs/Tested.antt` what tests of bytes tell.
+#![tactic(auto)]
+
+mod fault;
+mod reading;
+mod writing;
+
+pub use fault::Malformed;
+pub use reading::{
+    LONGEST_FILE, check_block, check_bytes, read_at_most, read_block, read_constant, read_key, read_kind,
+    read_moment, read_name, read_size,
+};
+pub use writing::{
+    kind_number, opaque_len, put_constant, put_key, put_moment, put_owner,
+};

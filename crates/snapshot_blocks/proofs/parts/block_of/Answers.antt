@@ -1,6 +1,0 @@
-use Rattle.std.proofs.Common.{arith}
-use Rattle.snapshot_blocks.proofs.Bytes.{is_block}
-use Rattle.snapshot_blocks.proofs.parts.block_of.Goals as goal
-
-pub returns-clause-fits : goal.returns-clause-fits
-returns-clause-fits g c = is_block g.row.N c.args.item.now c.copy_from_slice.new.self c.requires c.copy_from_slice.ensures.after (λ i. omega (arith, c.type_inv.item i))
