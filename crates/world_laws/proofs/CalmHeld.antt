@@ -1,4 +1,4 @@
--- What was acknowledged is held by an owner, in calm runs in which the ring stays.
+-- What holds of the world of a calm run in which the ring stays, and the rank of a post.
 use Rattle.std.proofs.Common.{◌≡◌, ℕ, suc, Bool, true, false, cond, ◌&&◌, List, [], ◌∷◌, ◌++◌, length, map, Option, Some, None, refl, sym, ap, ◌∙◌, subst, nat_lt, Contains, append_assoc, is_some, option_map}
 use Rattle.std.specs.List.{AllByRecursion}
 use Rattle.std.specs.Option.{option_map_or}
@@ -176,20 +176,3 @@ post_rank_is p = by (is_head p.kind) (hss_judged p.key p.bytes) refl
         head_rank : (o : Option Judged) → option_map_or (λ (j : Judged). j.seq) o 0 ≡ option_map_or (λ (seq : ℕ). seq) (option_map (λ (j : Judged). j.seq) o) 0
         head_rank None = refl
         head_rank (Some j) = refl
-
-pub owners_are : (r : ℕ) (base : List Shape) (links : _) (start : ℕ) (w : World) → IsRing r base links start w → live_in_order w ≡ order_by base
-owners_are r base links start w h = order_shape w ∙ ap order_by h.within.shapes
-
-pub acked_is_held : LinesKeep → AckedIsHeld HasSameRing
-acked_is_held lines_keep r w count lines p same calm acked =
-    let world = still_world lines_keep r w (Stopped count) lines same calm in
-    let made = world.run.made in
-    let held = each (IsAckHeld r (shapes_of made) (links_in made) made.asked world.run.first.ring w.0) w.1.acked p world.good.acked acked in
-    let order = owners_are r (shapes_of made) (links_in made) made.asked w.0 world.still in (
-      held.0,
-      subst (λ l. IsAmong held.0 (owners place r l (number p.key))) (sym order) held.1,
-      subst (λ v. IsAtLeast v (rank_in w.0 p.key held.0)) (sym (post_rank_is p)) (at_least held.0 _ held.2.held),
-    )
-  where
-    at_least : (m : Peer) (v : ℕ) → IsHeld w.0 p.key (kind_of p) v m → IsAtLeast v (rank_in w.0 p.key m)
-    at_least m v h = subst (λ o. IsAtLeast v (option_map (rank hss_judged p.key) o)) (sym h.1) h.3

@@ -108,8 +108,6 @@ pub mod CalmLines
 pub mod CalmCommands
 pub mod CalmRuns
 pub mod CalmHeld
-pub mod CalmGets
-pub mod CalmGiven
 pub mod CalmRounds
 mod FullLoads
 mod FullFetches

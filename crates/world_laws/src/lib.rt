@@ -31,8 +31,9 @@
 //! (an ask has a fate), `proofs/ExistingPuts.antt` and `proofs/ExistingSessions.antt` (sessions to their end),
 //! `proofs/ExistingAsks.antt` (look-ups and whole puts), `proofs/ExistingRounds.antt` and `proofs/ExistingRepairs.antt`
 //! (rounds), `proofs/ExistingMessages.antt` (what becomes of a message).
-//! That a ring stays: `proofs/CalmNodes.antt`, `CalmPuts.antt`, `CalmGets.antt` (what its nodes hold, and what puts and gets
-//! come to in it), `proofs/CalmStates.antt` and those up to `CalmCommands.antt` (each step and each line keeps that),
+//! That a ring stays: `proofs/CalmNodes.antt` and `CalmPuts.antt` (what its nodes hold, and what puts come to in it),
+//! `proofs/CalmStates.antt` and those up to `CalmCommands.antt` (each step and each line keeps that), `proofs/CalmRuns.antt` and
+//! `CalmHeld.antt` (calm runs in which it stays),
 //! `proofs/CalmRounds.antt` (stops, joins and rounds).
 //! That memory may be there: `proofs/FullLoads.antt`, `proofs/FullFetches.antt` and `proofs/FullRefreshes.antt` (a refresh wants
 //! something finitely often), `proofs/FullPlans.antt` (whom a get asks), `proofs/FullGets.antt` and `proofs/FullRuns.antt` (a
@@ -52,7 +53,7 @@
 //! runs, so there are no costs.
 #![tactic(auto)]
 
-ghost use Rattle.world_laws.specs.Calm.{AckedIsHeld, AreAny, BlocksAreGiven, HasSameRing, HeadsAreGiven, RingStays};
+ghost use Rattle.world_laws.specs.Calm.{AreAny, RingStays};
 ghost use Rattle.world_laws.specs.Frames.{DamageLinesKeep, JoinLinesKeep, KeeperLinesKeep, LogLinesKeep, MildChangesKeep, MoreBlocksKeep, RestartLinesKeep, RingLinesKeep, RoundLinesKeep, StillLinesKeep, StopLinesKeep, UseLinesKeep, ViewLinesKeep};
 ghost use Rattle.world_laws.specs.FullRuns.{BytesCome, EmptyHasBytes, EmptyPublishesFew, FewPostsCome, FullLines, FullScripts, FullStarts, MemoryIsDecided, MessagesAreBytes, ThereIsRoom};
 ghost use Rattle.world_laws.specs.FullTurns.{SessionsEndOrClash, SessionsGoToTheirEnds, TurnsExist};
@@ -272,19 +273,6 @@ pub fn headline_holds()
 /// each later line but between a join and its round.
 pub fn rings_stay()
     ensures { RingStays AreAny }
-{}
-
-/// A law and no code: in a calm script in which no node joins or stops and no round is made an owner of its key holds each post of
-/// which a put was acknowledged, or a newer head.
-pub fn acknowledged_is_held()
-    ensures { AckedIsHeld HasSameRing }
-{}
-
-/// Laws and no code: in such a script a get of a block of which a put was acknowledged gives it, and a get of a head gives one of
-/// its number or a greater one.
-pub fn acknowledged_is_given()
-    ensures blocks { BlocksAreGiven HasSameRing }
-    ensures heads { HeadsAreGiven HasSameRing }
 {}
 
 /// Laws and no code: where memory is there and names tell the blocks apart, a step of a session in hand leads to one world, story
