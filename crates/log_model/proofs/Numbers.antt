@@ -50,7 +50,7 @@ keys_apply t now (op.Cancel seq) keys fits = keys
 keys_apply t now (op.SetAttrs number change) keys fits = either _ t _ keys (keys_at_inode t number _ keys)
 keys_apply t now op.End keys fits = keys
 
-keys_apply_all : (t : Tree) (ops : List (Moment × Op)) → NumbersAreKeys t → AllByRecursion (λ o. OperationFits o.1) ops → NumbersAreKeys (apply_all t ops)
+pub keys_apply_all : (t : Tree) (ops : List (Moment × Op)) → NumbersAreKeys t → AllByRecursion (λ o. OperationFits o.1) ops → NumbersAreKeys (apply_all t ops)
 keys_apply_all t [] keys fit = keys
 keys_apply_all t (o ∷ ops) keys fit = keys_apply_all (apply t o.0 o.1) ops (keys_apply t o.0 o.1 keys fit.0) fit.1
 
