@@ -1,5 +1,5 @@
 -- Bytes of a known count: they fill whole words, and each is below 256.
-use Rattle.std.proofs.Common.{◌≡◌, ℕ, suc, ◌<◌, ◌-◌, ◌%◌, Bool, true, false, ◌&&◌, List, [], ◌∷◌, ◌++◌, length, get_or, refl, sym, ap, ◌∙◌}
+use Rattle.std.proofs.Common.{◌≡◌, ℕ, suc, ◌<◌, ◌-◌, ◌%◌, true, List, [], ◌∷◌, ◌++◌, length, get_or, refl, sym, ap, ◌∙◌}
 use Rattle.std.specs.Prelude.{nat_lt, replicate}
 use Rattle.std.specs.List.{list_all}
 use Rattle.std.proofs.lemmas.List.{append-nil}
@@ -7,11 +7,8 @@ use Rattle.std.proofs.lemmas.Bool.{lt-ltb}
 use Rattle.wire_model.specs.Xdr.{fixed, IsOfLength}
 use Rattle.wire_model.specs.OneReading.{IsFront, HasNoFront}
 use Rattle.log_model.specs.Spelling.{IsBlock}
+use Rattle.log_model.proofs.Lists.{both}
 use Rattle.block_parts.specs.Parts.{as_it_stands}
-
-both : (a b : Bool) → a ≡ true → b ≡ true → (a && b) ≡ true
-both true b h g = g
-both false b h g = cc
 
 pub all_bytes : (xs : List ℕ) → ((i : ℕ) → get_or xs i 0 < 256) → list_all (λ b. nat_lt b 256) xs ≡ true
 all_bytes [] h = refl
@@ -36,8 +33,11 @@ no_block count bytes h absent = record {
   });
 }
 
+pub block : (count : ℕ) (bytes : List ℕ) → length bytes ≡ count → ((i : ℕ) → get_or bytes i 0 < 256) → IsBlock count bytes
+block count bytes size below = record { size = size; each = all_bytes bytes below }
+
 pub is_block : (count : ℕ) (item array : List ℕ) → length item ≡ count → array ≡ item → ((i : ℕ) → get_or item i 0 < 256) → IsBlock count array
-is_block count item array l e below = rw e (record { size = l; each = all_bytes item below })
+is_block count item array size same below = rw same (block count item size below)
 
 pub counted : (count : ℕ) (array item : List ℕ) → length array ≡ count → item ≡ array → IsBlock (length item) item → IsBlock count array
 counted count array item size same fits = record { size = size; each = rw same at fits.each }

@@ -1,4 +1,5 @@
 pub mod Bytes
+pub mod Blocks
 pub mod OneParts
 pub mod Constants
 pub mod Optional

@@ -19,7 +19,7 @@ mod writing;
 
 pub use fault::Malformed;
 pub use reading::{
-    LONGEST_FILE, check_block, check_bytes, read_at_most, read_block, read_constant, read_key,
-    read_kind, read_moment, read_name, read_size,
+    LONGEST_FILE, check_block, check_bytes, read_at_most, read_block, read_blocks, read_constant,
+    read_key, read_kind, read_moment, read_name, read_size,
 };
 pub use writing::{kind_number, opaque_len, put_constant, put_key, put_moment, put_owner};

@@ -1,8 +1,9 @@
 //! Reading parts.
 
-ghost use Rattle.std.specs.Prelude.{◌≡◌, ◌≤◌, ◌%◌, length, IfOk, OnErr};
+ghost use Rattle.std.specs.Prelude.{◌≡◌, ◌<◌, ◌≤◌, ◌^◌, ◌%◌, length, IfOk, OnErr};
+ghost use Rattle.std.specs.List.{flat_map};
 ghost use Rattle.ivy_base.specs.Naming.{IsFileName};
-ghost use Rattle.wire_model.specs.Xdr.{word, double_word, opaque, moment, IsAny};
+ghost use Rattle.wire_model.specs.Xdr.{word, double_word, opaque, moment, AreSoMany, IsAny};
 ghost use Rattle.wire_model.specs.OneReading.{IsFront, HasNoFront};
 ghost use Rattle.log_model.specs.Spelling.{IsBlock, IsKey, IsMoment};
 ghost use Rattle.block_parts.specs.Parts.{constant_bytes, as_it_stands, key_bytes, kind_word, IsAtMost};
@@ -64,6 +65,23 @@ pub fn check_bytes(bytes: &[u8])
     ensures { IsBlock (length bytes.now) bytes.now }
 {
     let _ = bytes;
+}
+
+/// So many arrays of so many bytes, one behind the other, where no zeros fill them up.
+pub fn read_blocks<'a, const N: usize>(
+    reader: &mut XdrRead<'a>,
+    count: u32,
+) -> Result<&'a [[u8; N]], Malformed>
+    requires some { 0 < N }
+    requires few { N < 2 ^ 32 }
+    requires words { N % 4 ≡ 0 }
+    ensures ok { IfOk result (λ blocks. IsFront (AreSoMany (IsBlock N) count) (flat_map as_it_stands) reader.old blocks.now reader.new) }
+    ensures err { OnErr result (HasNoFront (AreSoMany (IsBlock N) count) (flat_map as_it_stands) reader.old) }
+{
+    let item = reader.fixed(count as usize * N)?;
+    check_bytes(item);
+    let (blocks, _) = item.as_chunks::<N>();
+    Ok(blocks)
 }
 
 /// A key: 20 bytes.

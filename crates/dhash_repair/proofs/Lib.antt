@@ -1,5 +1,4 @@
 pub mod Asks
 pub mod Driven
-pub mod Keys
 pub mod Putting
 pub mod Repairing

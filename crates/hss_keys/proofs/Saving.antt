@@ -1,51 +1,19 @@
 -- The saved bytes of a signer, part by part.
-use Rattle.std.proofs.Common.{◌≡◌, ℕ, suc, ◌<◌, ◌≤◌, ◌-◌, ◌%◌, Bool, true, false, ◌&&◌, List, [], ◌∷◌, ◌++◌, length, get_or, refl, sym, ap, ◌∙◌, arith, append_assoc, subst}
-use Rattle.std.specs.Prelude.{nat_lt, replicate}
-use Rattle.std.specs.List.{list_all, AllByRecursion, flat_map}
+use Rattle.std.proofs.Common.{◌≡◌, ℕ, ◌<◌, ◌≤◌, List, [], ◌++◌, length, sym, ◌∙◌, arith, append_assoc, subst}
+use Rattle.std.specs.List.{AllByRecursion, flat_map}
 use Rattle.std.proofs.lemmas.List.{append-nil}
-use Rattle.std.proofs.lemmas.Bool.{lt-ltb}
-use Rattle.wire_model.specs.Xdr.{word, double_word, array, fixed, IsWord, IsDoubleWord, IsOfLength, IsAny, AreSoMany}
+use Rattle.wire_model.specs.Xdr.{word, double_word, array, IsWord, IsDoubleWord, IsAny, AreSoMany}
 use Rattle.wire_model.specs.OneReading.{IsFront, HasNoFront}
 use Rattle.wire_model.proofs.OneReading.{◌▷◌, one_word}
 use Rattle.wire_model.proofs.Fronts.{both, no_first, no_second, none_of_fewer}
 use Rattle.wire_model.proofs.Arrays.{AreFew, no_next, no_count, too_many, no_counted, counted}
+use Rattle.block_parts.specs.Parts.{as_it_stands}
+use Rattle.block_parts.proofs.OneParts.{one_block}
 use Rattle.hash_signature_model.specs.declared.set.Set.{Set}
 use Rattle.hss_keys.specs.Signer.{Signer, capacity}
 use Rattle.hss_keys.specs.Saved.{set_bytes, saved_bytes, AreOctets, AreLevels, IsSigner}
-use Rattle.hss_keys.specs.ToldApart.{one_block, one_set, any_sets, one_secrets, one_levels, one_parts, all_of}
-use Rattle.hss_keys.specs.SavedReading.{as_it_stands, secrets_bytes, AreSecrets, parts_bytes, AreParts}
-
--- ---- bytes of a known count
-
-two : (a b : Bool) → a ≡ true → b ≡ true → (a && b) ≡ true
-two true b h g = g
-two false b h g = cc
-
-all_bytes : (xs : List ℕ) → ((i : ℕ) → get_or xs i 0 < 256) → list_all (λ b. nat_lt b 256) xs ≡ true
-all_bytes [] h = refl
-all_bytes (x ∷ xs) h = two (nat_lt x 256) (list_all (λ b. nat_lt b 256) xs) (lt-ltb x 256 (h 0)) (all_bytes xs (λ i. h (suc i)))
-
--- nothing fills up a multiple of four
-fixed_block : (bytes : List ℕ) → length bytes % 4 ≡ 0 → fixed bytes ≡ bytes
-fixed_block bytes h = ap (λ n. bytes ++ replicate ((4 - n) % 4) 0) h ∙ append-nil bytes
-
-pub block_front : (count : ℕ) (bytes item rest : List ℕ) → count % 4 ≡ 0 → IsFront (IsOfLength count) fixed bytes item rest → AreOctets count item
-    → IsFront (AreOctets count) as_it_stands bytes item rest
-block_front count bytes item rest h f fits = record {
-  fits = fits;
-  spelled = f.spelled ∙ ap (λ (s : List ℕ). s ++ rest) (fixed_block item (ap (λ n. n % 4) f.fits ∙ h));
-}
-
-pub no_block : (count : ℕ) (bytes : List ℕ) → count % 4 ≡ 0 → HasNoFront (IsOfLength count) fixed bytes → HasNoFront (AreOctets count) as_it_stands bytes
-no_block count bytes h absent = record {
-  none = λ x rest f. absent.none x rest (record {
-    fits = f.fits.size;
-    spelled = f.spelled ∙ ap (λ (s : List ℕ). s ++ rest) (sym (fixed_block x (ap (λ n. n % 4) f.fits.size ∙ h)));
-  });
-}
-
-pub are_octets : (count : ℕ) (item array : List ℕ) → length item ≡ count → array ≡ item → ((i : ℕ) → get_or item i 0 < 256) → AreOctets count array
-are_octets count item array l e below = rw e (record { size = l; each = all_bytes item below })
+use Rattle.hss_keys.specs.ToldApart.{one_set, any_sets, one_secrets, one_levels, one_parts, all_of}
+use Rattle.hss_keys.specs.SavedReading.{secrets_bytes, AreSecrets, parts_bytes, AreParts}
 
 -- ---- sets
 

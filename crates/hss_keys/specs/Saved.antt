@@ -1,7 +1,7 @@
 -- A signer's saved bytes, whose numbers are spelled as in XDR (RFC 4506). The form is this project's own.
-use Rattle.std.specs.Prelude.{◌≡◌, ℕ, ◌<◌, ◌≤◌, List, ◌++◌, length, IsTrue, nat_lt}
-use Rattle.std.specs.List.{list_all}
+use Rattle.std.specs.Prelude.{◌≡◌, ℕ, ◌<◌, ◌≤◌, List, ◌++◌, length}
 use Rattle.wire_model.specs.Xdr.{word, double_word, array}
+use Rattle.log_model.specs.Spelling.{IsBlock}
 use Rattle.hash_signature_model.specs.declared.set.Width.{Width}
 use Rattle.hash_signature_model.specs.declared.set.Width.TheVariants.{W4, W8}
 use Rattle.hash_signature_model.specs.declared.set.Set.{Set}
@@ -22,9 +22,8 @@ abbrev pub saved_bytes : Signer → List ℕ
 saved_bytes signer = signer.id ++ signer.seed ++ array set_bytes signer.sets ++ double_word signer.made
 
 -- so many bytes
-pub record AreOctets (count : ℕ) (bytes : List ℕ) : Type 0 where
-  pub size : length bytes ≡ count
-  pub each : IsTrue (list_all (λ b. nat_lt b 256) bytes)
+abbrev pub AreOctets : ℕ → List ℕ → Type 0
+AreOctets count = IsBlock count
 
 -- one to three levels
 pub record AreLevels (sets : List Set) : Type 0 where

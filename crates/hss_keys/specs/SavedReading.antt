@@ -9,10 +9,6 @@ use Rattle.hss_keys.specs.declared.save.Saved.{Saved}
 use Rattle.hss_keys.specs.Signer.{Signer}
 use Rattle.hss_keys.specs.Saved.{bits, set_bytes, AreOctets, AreLevels}
 
--- bytes as they stand
-abbrev pub as_it_stands : List ℕ → List ℕ
-as_it_stands bytes = bytes
-
 abbrev pub width_bytes : Width → List ℕ
 width_bytes w = word (bits w)
 

@@ -12,9 +12,10 @@ use Rattle.hash_signature_model.specs.declared.set.Height.{Height}
 use Rattle.hash_signature_model.specs.declared.set.Height.TheVariants.{H5, H10}
 use Rattle.hash_signature_model.specs.declared.set.Set.{Set}
 use Rattle.hash_signature_model.specs.Parameters.{leaves}
+use Rattle.block_parts.proofs.OneParts.{one_block}
 use Rattle.hss_keys.specs.Signer.{Signer, capacity}
-use Rattle.hss_keys.specs.Saved.{set_bytes, saved_bytes, AreOctets, AreLevels, IsSigner, SavedOnce}
-use Rattle.hss_keys.specs.SavedReading.{as_it_stands, width_bytes, height_bytes, secrets_bytes, AreSecrets, parts_bytes, AreParts}
+use Rattle.hss_keys.specs.Saved.{set_bytes, saved_bytes, AreLevels, IsSigner, SavedOnce}
+use Rattle.hss_keys.specs.SavedReading.{width_bytes, height_bytes, secrets_bytes, AreSecrets, parts_bytes, AreParts}
 
 -- ---- how many signatures
 
@@ -43,9 +44,6 @@ at_most_three [] le = omega arith
 at_most_three (set ∷ lower) le = mul-le (leaves set.h) (capacity lower) 1024 1048576 (few_leaves set.h) (at_most_two lower (omega (arith, le)))
 
 -- ---- each part reads one way
-
-pub one_block : (count : ℕ) → ReadsOne (AreOctets count) as_it_stands
-one_block count = of_length count (λ bytes f. f.size) (λ a b f g e. e)
 
 one_width : ReadsOne IsAny width_bytes
 one_width = of_length 4 (λ w f. refl) widths

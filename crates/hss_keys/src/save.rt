@@ -1,14 +1,15 @@
 //! The saved bytes of a signer, read and written.
 
-ghost use Rattle.std.specs.Prelude.{◌≡◌, ℕ, ◌+◌, ◌*◌, ◌<◌, ◌≤◌, ◌%◌, ◌++◌, [], length, take, IfOk, IfSome, IfNone};
+ghost use Rattle.std.specs.Prelude.{◌≡◌, ℕ, ◌+◌, ◌*◌, ◌<◌, ◌≤◌, ◌++◌, [], length, take, IfOk, IfSome, IfNone};
 ghost use Rattle.std.specs.List.{AllByRecursion, flat_map};
 ghost use Rattle.wire_model.specs.Xdr.{array, IsAny, AreSoMany};
 ghost use Rattle.wire_model.specs.OneReading.{IsFront, HasNoFront};
 ghost use Rattle.hss_keys.specs.Signer.{Signer};
-ghost use Rattle.hss_keys.specs.Saved.{bits, set_bytes, saved_bytes, AreOctets, AreLevels, IsSigner, SavedOnce};
-ghost use Rattle.hss_keys.specs.SavedReading.{as_it_stands, width_bytes, height_bytes, secrets_bytes, AreSecrets, parts_bytes, AreParts, said};
+ghost use Rattle.hss_keys.specs.Saved.{bits, set_bytes, saved_bytes, AreLevels, IsSigner, SavedOnce};
+ghost use Rattle.hss_keys.specs.SavedReading.{width_bytes, height_bytes, secrets_bytes, AreSecrets, parts_bytes, AreParts, said};
 
 use crate::spelling::count_messages;
+use block_parts::read_block;
 use ivy_base::{Bytes, Memory};
 use lms_core::{Height, Set, Width};
 use std::alloc::Global;
@@ -30,28 +31,6 @@ pub struct Saved {
     pub count: u32,
     /// How many signatures were made.
     pub made: u64,
-}
-
-/// So many bytes, where no zeros fill them up.
-#[tactic(auto, using(crate::proofs::Saving::block_front, crate::proofs::Saving::no_block))]
-fn read_block<const N: usize>(reader: &mut XdrRead) -> Option<[u8; N]>
-    requires { N % 4 ≡ 0 }
-    ensures some { IfSome result (λ bytes. IsFront (AreOctets N) as_it_stands reader.old bytes reader.new) }
-    ensures none { IfNone result (HasNoFront (AreOctets N) as_it_stands reader.old) }
-{
-    let item = reader.fixed(N).ok()?;
-    Some(block_of(item))
-}
-
-/// The bytes as an array.
-fn block_of<const N: usize>(item: &[u8]) -> [u8; N]
-    requires { length item.now ≡ N }
-    ensures same { result ≡ item.now }
-    ensures fits { AreOctets N result }
-{
-    let mut bytes = [0; N];
-    bytes.copy_from_slice(item);
-    bytes
 }
 
 /// w: 4 or 8.
@@ -126,8 +105,8 @@ fn read_secrets(reader: &mut XdrRead) -> Option<([u8; 16], [u8; 32])>
     ensures some { IfSome result (λ s. IsFront AreSecrets secrets_bytes reader.old (s.0, s.1) reader.new) }
     ensures none { IfNone result (HasNoFront AreSecrets secrets_bytes reader.old) }
 {
-    let id = read_block::<16>(reader)?;
-    let seed = read_block::<32>(reader)?;
+    let id = read_block::<16>(reader).ok()?;
+    let seed = read_block::<32>(reader).ok()?;
     Some((id, seed))
 }
 

@@ -1,4 +1,3 @@
-pub mod Ids
 pub mod Putting
 pub mod Places
 pub mod Reaching

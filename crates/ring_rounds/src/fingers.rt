@@ -1,7 +1,7 @@
 //! The third part of a round: fingers are fixed by look-ups.
 
 ghost use Rattle.std.specs.Prelude.{◌≡◌, ◌<◌, IfOk};
-ghost use Rattle.log_model.specs.Spelling.{IsBlock, IsKey};
+ghost use Rattle.log_model.specs.Spelling.{IsKey};
 ghost use Rattle.ring_model.specs.Circle.{number};
 ghost use Rattle.ring_model.specs.Members.{IsAmong};
 ghost use Rattle.ring_model.specs.Ring.{start};
@@ -11,6 +11,7 @@ ghost use Rattle.world_model.specs.World.{World};
 ghost use Rattle.ring_nodes.specs.NodesState.{AreAllAmong, IsNodesOf, made_peers, with_nodes};
 ghost use Rattle.ring_rounds.specs.Parts.{first_found};
 
+use block_parts::check_block;
 use dhash_client::Miss;
 use dht_ids::{Judge, Peer, Peers, finger_start};
 use ivy_base::{Key, Memory};
@@ -85,15 +86,8 @@ fn start_of(peer: &Peer, index: u32) -> Key
     ensures start { number result ≡ start place 160 peer.now index }
 {
     let key = finger_start(&peer.id, index + 1);
-    check_key(&key.0);
+    check_block(&key.0);
     key
-}
-
-/// What the type says of a key's bytes.
-fn check_key(key: &[u8; 20])
-    ensures { IsBlock 20 key.now }
-{
-    let _ = key.as_slice();
 }
 
 /// The first owner that was found, where one was.

@@ -1,34 +1,11 @@
 -- Participants by their names, and the keys of logs.
-use Rattle.std.proofs.Common.{◌≡◌, ℕ, Bool, true, false, cond, List, [], ◌∷◌, ◌++◌, map, find, Option, Some, refl, sym, ap, subst, ◌∙◌}
-use Rattle.std.specs.Prelude.{option_map, nat_eq}
-use Rattle.std.specs.Ordering.{eq_by_cmp}
+use Rattle.std.proofs.Common.{◌≡◌, ℕ, Bool, true, false, cond, List, [], ◌∷◌, ◌++◌, map, find, Option, Some, refl, sym, ap, ◌∙◌}
+use Rattle.std.specs.Prelude.{option_map}
 use Rattle.std.specs.Str.{bytes_eq}
-use Rattle.std.proofs.lemmas.Bool.Decides.{Decides-eqb}
-use Rattle.std.proofs.lemmas.Slice.Eq.{slice_eq-Decides}
-use lib.Pointwise.{pointwise}
 use Rattle.ivy_base.specs.declared.key.PubKey.{PubKey}
-use Rattle.ivy_base.specs.Naming.{owner_cmp}
-use Rattle.log_model.proofs.Opening.{same_owner}
-use Rattle.log_model.proofs.Owners.{owner_itself}
 use Rattle.world_model.specs.Logs.{keys_of}
 use Rattle.world_model.specs.World.{World, participant}
 use Rattle.script_participants.specs.ParticipantState.{ParticipantState, HasParticipants, state_of}
-
--- ---- keys
-
-same_answer : (b c : Bool) → (b ≡ true → c ≡ true) → (c ≡ true → b ≡ true) → b ≡ c
-same_answer true true f g = refl
-same_answer true false f g = sym (f refl)
-same_answer false true f g = g refl
-same_answer false false f g = refl
-
--- keys are one where their bytes are
-pub same_keys : (a b : PubKey) → pointwise nat_eq a.0 b.0 ≡ eq_by_cmp owner_cmp a b
-same_keys a b =
-    let decides = slice_eq-Decides Decides-eqb a.0 b.0 (pointwise nat_eq a.0 b.0) refl in
-    same_answer (pointwise nat_eq a.0 b.0) (eq_by_cmp owner_cmp a b)
-    (λ h. let bytes : a.0 ≡ b.0 = decides.0 h in subst (λ (c : PubKey). eq_by_cmp owner_cmp a c ≡ true) (λ i. record { 0 = bytes i }) (owner_itself a))
-    (λ h. decides.1 (ap (λ (c : PubKey). c.0) (sym (same_owner a b h))))
 
 -- ---- names
 

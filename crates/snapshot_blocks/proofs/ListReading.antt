@@ -1,28 +1,22 @@
 -- Names in list blocks: as many as their count says, each of 20 bytes.
-use Rattle.std.proofs.Common.{◌≡◌, ◌≢◌, ℕ, zero, suc, ◌*◌, ◌^◌, ◌/◌, ◌%◌, ◌<◌, ◌≤◌, true, nat_lt, Bool, List, [], ◌∷◌, ◌++◌, length, take, drop, refl, sym, ap, ◌∙◌, arith, append_assoc, length-append, length-drop}
-use Rattle.std.specs.List.{AllByRecursion, list_all, flat_map}
-use Rattle.std.specs.Simd.{first_chunks}
-use Rattle.std.proofs.lemmas.List.{append-nil, append_cancel_left, take-append-drop, length-take-le}
-use Rattle.std.proofs.lemmas.List.Folds.{list_all-append}
+use Rattle.std.proofs.Common.{◌≡◌, ◌≢◌, ℕ, ◌^◌, ◌<◌, ◌≤◌, List, [], ◌∷◌, ◌++◌, length, refl, sym, ap, ◌∙◌, arith, append_assoc}
+use Rattle.std.specs.List.{flat_map}
+use Rattle.std.proofs.lemmas.List.{append_cancel_left}
 use Rattle.ivy_base.specs.declared.key.Key.{Key}
-use Rattle.wire_model.specs.Xdr.{word, padding, fixed, array, IsAny, IsWord, IsOfLength}
+use Rattle.wire_model.specs.Xdr.{word, array, IsAny, IsWord, AreSoMany}
 use Rattle.wire_model.specs.OneReading.{IsFront, HasNoFront}
 use Rattle.wire_model.proofs.OneReading.{one_word}
 use Rattle.wire_model.proofs.Fronts.{both, no_first, no_second, none_of_fewer}
 use Rattle.wire_model.proofs.Dependent.{PartsOf, none_of_some}
-use Rattle.wire_model.proofs.Arrays.{AreFew, no_count, too_many, no_counted}
-use Rattle.tree_model.proofs.Sound.{both_true}
-use Rattle.log_model.specs.Spelling.{IsKey}
-use Rattle.snapshot_model.specs.Blocks.{AreNamed, list_block}
-use Rattle.block_parts.specs.Parts.{constant_bytes, key_bytes}
-use Rattle.snapshot_model.specs.Parts.{list_tag}
-use Rattle.block_parts.proofs.OneParts.{one_key}
-use Rattle.snapshot_blocks.specs.Parsed.{keys_of}
-use Rattle.snapshot_blocks.specs.Parts.{AreNamesIn}
+use Rattle.wire_model.proofs.Arrays.{AreFew, counted, no_count, too_many, no_counted}
+use Rattle.log_model.specs.Spelling.{IsBlock}
+use Rattle.block_parts.specs.Parts.{constant_bytes, as_it_stands, key_bytes}
+use Rattle.block_parts.proofs.Blocks.{made_front, none_made}
 use Rattle.block_parts.proofs.Constants.{one_constant}
-
-abbrev is_byte : ℕ → Bool
-is_byte b = nat_lt b 256
+use Rattle.block_parts.proofs.OneParts.{one_key}
+use Rattle.snapshot_model.specs.Blocks.{AreNamed, list_block}
+use Rattle.snapshot_model.specs.Parts.{list_tag}
+use Rattle.snapshot_blocks.specs.Parsed.{keys_of}
 
 -- "IVL1"
 abbrev magic : List ℕ
@@ -65,60 +59,16 @@ no_names {count = count} {middle = middle} f none = record {
       omega (arith, p.0, g.fits.some, none);
 }
 
-parts_are_bytes : (xs ys : List ℕ) → list_all is_byte (xs ++ ys) ≡ true → (list_all is_byte xs ≡ true) × (list_all is_byte ys ≡ true)
-parts_are_bytes xs ys h = both_true (list_all is_byte xs) (list_all is_byte ys) (sym (list_all-append is_byte xs ys) ∙ h)
-
--- the pieces of so many bytes are keys, whose bytes these are
-record ArePieces (n : ℕ) (bytes : List ℕ) (keys : List Key) : Type 0 where
-  count : length keys ≡ n
-  each : AllByRecursion IsKey keys
-  joined : flat_map key_bytes keys ≡ bytes
-
-pieces : (n : ℕ) (bytes : List ℕ) → length bytes ≡ n * 20 → list_all is_byte bytes ≡ true → ArePieces n bytes (keys_of (first_chunks 20 n bytes))
-pieces zero [] h b = record { count = refl; each = tt; joined = refl }
-pieces zero (x ∷ xs) h b = absurd (omega (arith, h))
-pieces (suc n) bytes h b =
-    let long : 20 ≤ length bytes = omega (arith, h) in
-    let parts = parts_are_bytes (take 20 bytes) (drop 20 bytes) (ap (λ (xs : List ℕ). list_all is_byte xs) (take-append-drop 20 bytes) ∙ b) in
-    let rest = pieces n (drop 20 bytes) (omega (arith, length-drop 20 bytes, h)) parts.1 in
-    record {
-      count = ap suc rest.count;
-      each = (record { size = length-take-le 20 bytes long; each = parts.0 }, rest.each);
-      joined = ap (λ (xs : List ℕ). take 20 bytes ++ xs) rest.joined ∙ take-append-drop 20 bytes;
-    }
-
-no_padding : (n : ℕ) → n % 4 ≡ 0 → padding n ≡ []
-no_padding n h = rw h refl
-
-fixed_is : (bytes : List ℕ) (count : ℕ) → length bytes ≡ 20 * count → fixed bytes ≡ bytes
-fixed_is bytes count h = ap (λ (zeros : List ℕ). bytes ++ zeros) (no_padding (length bytes) (omega (arith, h))) ∙ append-nil bytes
-
-pub names_of_chunks : (item : List ℕ) → length item % 20 ≡ 0 → list_all is_byte item ≡ true → AreNamesIn item (keys_of (first_chunks 20 (length item / 20) item))
-names_of_chunks item whole are = let p = pieces (length item / 20) item (omega (arith, whole)) are in record { each = p.each; joined = p.joined }
-
-length-names : (keys : List Key) → AllByRecursion IsKey keys → length (flat_map key_bytes keys) ≡ 20 * length keys
-length-names [] h = refl
-length-names (k ∷ ks) h = omega (arith, length-append k.0 (flat_map key_bytes ks), h.0.size, length-names ks h.1)
-
-pub names_front : {bytes middle item rest : List ℕ} {count : ℕ} {keys : List Key} → IsFront IsWord word bytes count middle → IsFront (IsOfLength (20 * count)) fixed middle item rest
-    → 1 ≤ count → count ≤ 512 → AreNamesIn item keys → IsFront AreNamed (array key_bytes) bytes keys rest
-names_front {item = item} {rest = rest} {count = count} {keys = keys} f g some few h =
-    let size : length item ≡ 20 * count = g.fits in
-    let long : 20 * length keys ≡ length item = sym (length-names keys h.each) ∙ ap length h.joined in
-    let n : length keys ≡ count = omega (arith, size, long) in
-    record {
-      fits = record { some = omega (arith, some, n); few = omega (arith, few, n); each = h.each };
-      spelled = f.spelled ∙ ap (λ (xs : List ℕ). word count ++ xs) (g.spelled ∙ ap (λ (xs : List ℕ). xs ++ rest) (fixed_is item count size ∙ sym h.joined))
-          ∙ sym (append_assoc (word count) (flat_map key_bytes keys) rest) ∙ ap (λ (k : ℕ). (word k ++ flat_map key_bytes keys) ++ rest) (sym n);
-    }
+pub names_front : {bytes middle rest : List ℕ} {count : ℕ} {each : List (List ℕ)} → IsFront IsWord word bytes count middle → IsFront (AreSoMany (IsBlock 20) count) (flat_map as_it_stands) middle each rest
+    → 1 ≤ count → count ≤ 512 → IsFront AreNamed (array key_bytes) bytes (keys_of each) rest
+names_front {each = each} f g some few =
+    let keys = made_front key_bytes (λ bytes. record { 0 = bytes }) (λ bytes. refl) 20 g in
+    let all = counted one_key f few (record { fits = keys.fits.each; spelled = keys.spelled }) keys.fits.size in
+    record { fits = record { some = omega (arith, some, keys.fits.size); few = all.fits.0; each = all.fits.1 }; spelled = all.spelled }
 
 -- without the bytes of so many keys there are no such names
-pub no_item : {bytes middle : List ℕ} {count : ℕ} → IsFront IsWord word bytes count middle → HasNoFront (IsOfLength (20 * count)) fixed middle → HasNoFront AreNamed (array key_bytes) bytes
-no_item {bytes} {middle} {count} f absent = none_of_fewer few_names (no_counted one_key 512 (omega arith) f (record {
-  none = λ keys rest g.
-      let size : length (flat_map key_bytes keys) ≡ 20 * count = length-names keys g.fits.each ∙ ap (λ (n : ℕ). 20 * n) g.fits.size in
-      absent.none (flat_map key_bytes keys) rest (record { fits = size; spelled = g.spelled ∙ ap (λ (xs : List ℕ). xs ++ rest) (sym (fixed_is (flat_map key_bytes keys) count size)) });
-}))
+pub no_item : {bytes middle : List ℕ} {count : ℕ} → IsFront IsWord word bytes count middle → HasNoFront (AreSoMany (IsBlock 20) count) (flat_map as_it_stands) middle → HasNoFront AreNamed (array key_bytes) bytes
+no_item f absent = none_of_fewer few_names (no_counted one_key 512 (omega arith) f (none_made key_bytes (λ bytes. record { 0 = bytes }) (λ bytes. refl) 20 absent))
 
 -- ---- the block
 

@@ -1,6 +1,6 @@
 //! Blocks of lists: the names of other blocks.
 
-ghost use Rattle.std.specs.Prelude.{◌≡◌, ◌+◌, ◌*◌, ◌%◌, ◌≤◌, ◌++◌, length, IfOk, IfSome, IfNone, OnErr};
+ghost use Rattle.std.specs.Prelude.{◌≡◌, ◌+◌, ◌*◌, ◌≤◌, ◌++◌, length, IfOk, IfSome, IfNone, OnErr};
 ghost use Rattle.std.specs.List.{flat_map};
 ghost use Rattle.wire_model.specs.Xdr.{IsAny, array};
 ghost use Rattle.wire_model.specs.OneReading.{IsFront, HasNoFront};
@@ -8,10 +8,9 @@ ghost use Rattle.snapshot_model.specs.Blocks.{AreNamed, Says, list_block};
 ghost use Rattle.snapshot_blocks.specs.Parsed.{keys_of};
 ghost use Rattle.block_parts.specs.Parts.{constant_bytes, key_bytes};
 ghost use Rattle.snapshot_model.specs.Parts.{list_tag};
-ghost use Rattle.snapshot_blocks.specs.Parts.{AreNamesIn};
 ghost use Rattle.snapshot_blocks.specs.Refusals.{SaysNothing};
 
-use block_parts::{Malformed, put_constant, put_key, read_constant};
+use block_parts::{Malformed, put_constant, put_key, read_blocks, read_constant};
 use ivy_base::{Bytes, Key, Memory};
 use std::alloc::Global;
 use xdr_codec::{XdrRead, XdrWrite};
@@ -66,17 +65,8 @@ fn read_names<'a>(reader: &mut XdrRead<'a>) -> Result<&'a [[u8; NAME_LEN]], Malf
     if count == 0 || count > MOST_NAMES {
         return Err(Malformed);
     }
-    let item = reader.fixed(NAME_LEN * count as usize)?;
-    Ok(names_in(item))
-}
-
-/// The names that stand in these bytes, one behind the other.
-fn names_in(item: &[u8]) -> &[[u8; NAME_LEN]]
-    requires { length item.now % NAME_LEN ≡ 0 }
-    ensures { AreNamesIn item.now (keys_of result.now) }
-{
-    let (names, _) = item.as_chunks::<NAME_LEN>();
-    names
+    let names = read_blocks::<NAME_LEN>(reader, count)?;
+    Ok(names)
 }
 
 /// The list block of that level over the blocks of these names. The error is want of memory.

@@ -1,29 +1,15 @@
 -- An entry is read part by part.
-use Rattle.std.proofs.Common.{◌≡◌, ℕ, ◌-◌, ◌%◌, ◌≤◌, List, ◌++◌, length, refl, sym, ap, ◌∙◌, subst, arith}
-use Rattle.std.specs.Prelude.{replicate, take}
-use Rattle.std.proofs.lemmas.List.{append-nil, take_all}
+use Rattle.std.proofs.Common.{◌≡◌, ℕ, ◌≤◌, List, refl, arith}
 use Rattle.ivy_base.specs.declared.key.Key.{Key}
-use Rattle.wire_model.specs.Xdr.{word, fixed, IsWord, IsOfLength}
+use Rattle.wire_model.specs.Xdr.{word, IsWord}
 use Rattle.wire_model.specs.OneReading.{IsFront, HasNoFront}
 use Rattle.wire_model.proofs.OneReading.{one_word, ◌▷◌}
 use Rattle.wire_model.proofs.Fronts.{both, no_second, only_misfit, none_of_parts}
 use Rattle.log_model.specs.Spelling.{IsKey, vector_entry}
 use Rattle.version_vectors.specs.Vectors.{EntryFits}
-use Rattle.version_vectors.specs.Reading.{key_bytes}
-use Rattle.version_vectors.proofs.OneVector.{parts_of, PartsFit, parts_fit, one_key, one_of_parts}
-
--- 20 bytes take no padding
-pub fixed_key : (bytes : List ℕ) → length bytes ≡ 20 → fixed bytes ≡ bytes
-fixed_key bytes size = subst (λ n. bytes ++ replicate ((4 - n % 4) % 4) 0 ≡ bytes) (sym size) (append-nil bytes)
-
-pub front_key : {old rest item : List ℕ} (k : Key) → IsFront (IsOfLength 20) fixed old item rest → k.0 ≡ take 20 item → IsKey k → IsFront IsKey key_bytes old k rest
-front_key {old} {rest} {item} k f same fits = record {
-  fits = fits;
-  spelled = f.spelled ∙ ap (λ (bytes : List ℕ). bytes ++ rest) (fixed_key item f.fits ∙ sym (same ∙ take_all 20 item (omega (arith, f.fits))));
-}
-
-pub no_key : {old : List ℕ} → HasNoFront (IsOfLength 20) fixed old → HasNoFront IsKey key_bytes old
-no_key {old} absent = none_of_parts (λ (k : Key). k.0) (λ k f. f.size) (λ k f. sym (fixed_key k.0 f.size)) absent
+use Rattle.block_parts.specs.Parts.{key_bytes}
+use Rattle.block_parts.proofs.OneParts.{one_key}
+use Rattle.version_vectors.proofs.OneVector.{parts_of, PartsFit, parts_fit, one_of_parts}
 
 -- an entry by its parts, whatever its number is
 front_parts : {old middle last rest : List ℕ} {log name : Key} {seq : ℕ}

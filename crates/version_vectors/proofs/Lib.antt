@@ -1,5 +1,3 @@
-pub mod Bytes
-pub mod Partial
 pub mod OneVector
 pub mod Lengths
 pub mod EntryReading

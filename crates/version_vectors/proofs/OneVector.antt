@@ -3,14 +3,11 @@ use Rattle.std.proofs.Common.{ℕ, ◌<◌, ◌^◌, List, refl, ap, arith}
 use Rattle.ivy_base.specs.declared.key.Key.{Key}
 use Rattle.wire_model.specs.Xdr.{array}
 use Rattle.wire_model.specs.OneReading.{ReadsOne}
-use Rattle.wire_model.proofs.OneReading.{one_word, one_raw, one_array, of_parts, of_fewer, ◌▷◌}
+use Rattle.wire_model.proofs.OneReading.{one_word, one_array, of_parts, of_fewer, ◌▷◌}
 use Rattle.log_model.specs.Vector.{Entry}
 use Rattle.log_model.specs.Spelling.{IsKey, vector_entry}
 use Rattle.version_vectors.specs.Vectors.{EntryFits, VectorFits}
-use Rattle.version_vectors.specs.Reading.{key_bytes}
-
-pub one_key : ReadsOne IsKey key_bytes
-one_key = of_parts (λ (k : Key). k.0) (λ k f. f.size) (λ k. refl) (λ k l e. ap (λ (bytes : List ℕ). record { 0 = bytes }) e) (one_raw 20)
+use Rattle.block_parts.proofs.OneParts.{one_key}
 
 abbrev pub EntryParts : Type 0
 EntryParts = (Key × ℕ) × Key

@@ -1,7 +1,6 @@
 -- What stands in front of bytes, part by part, and why no vector was read.
 use Rattle.std.specs.Prelude.{ℕ, List, ⊤}
 use Rattle.std.specs.List.{flat_map}
-use Rattle.ivy_base.specs.declared.key.Key.{Key}
 use Rattle.wire_model.specs.Xdr.{array}
 use Rattle.wire_model.specs.OneReading.{HasNoFront}
 use Rattle.log_model.specs.Spelling.{vector_entry}
@@ -9,10 +8,6 @@ use Rattle.log_model.specs.Vector.{Vector}
 use Rattle.version_vectors.specs.Vectors.{VectorFits, EntriesFit}
 use Rattle.version_vectors.specs.declared.fault.VectorFault.{VectorFault}
 use Rattle.version_vectors.specs.declared.fault.VectorFault.TheVariants.{Malformed, Memory}
-
--- a key is spelled by its bytes
-abbrev pub key_bytes : Key → List ℕ
-key_bytes k = k.0
 
 -- entries without their count
 abbrev pub entries_bytes : Vector → List ℕ

@@ -1,13 +1,14 @@
 //! One log of a vector.
 
-ghost use Rattle.std.specs.Prelude.{◌≡◌, ◌+◌, ◌*◌, ◌^◌, ◌<◌, ◌≤◌, ◌++◌, length, if◌then◌else◌, IfSome, IfNone};
+ghost use Rattle.std.specs.Prelude.{◌≡◌, ◌+◌, ◌*◌, ◌^◌, ◌<◌, ◌≤◌, ◌++◌, length, if◌then◌else◌, IfOk, OnErr};
 ghost use Rattle.log_model.specs.Vector.{later, weight_of};
 ghost use Rattle.wire_model.specs.OneReading.{IsFront, HasNoFront};
 ghost use Rattle.log_model.specs.Spelling.{IsKey, vector_entry};
 ghost use Rattle.version_vectors.specs.Vectors.{EntryFits};
 ghost use Rattle.version_vectors.specs.Entries.{stamped, vector_of};
-ghost use Rattle.version_vectors.specs.Reading.{key_bytes, entries_bytes};
+ghost use Rattle.version_vectors.specs.Reading.{entries_bytes};
 
+use block_parts::{Malformed, check_block, put_key, read_key};
 use ivy_base::Key;
 use std::cmp::Ordering;
 use xdr_codec::{XdrRead, XdrWrite};
@@ -44,42 +45,23 @@ pub fn check_types(entry: Entry)
     ensures seq { entry.seq < 2 ^ 32 }
     ensures name { IsKey entry.name }
 {
-    let _ = key_of(&entry.log.0);
-    let _ = key_of(&entry.name.0);
+    check_block(&entry.log.0);
+    check_block(&entry.name.0);
 }
 
-/// The entry at the front. There is none where the bytes are too few, or the number is 0; then the reader may
-/// stand anywhere.
-pub fn read_entry(reader: &mut XdrRead<'_>) -> Option<Entry>
-    ensures some { IfSome result (λ e. IsFront EntryFits vector_entry reader.old (stamped e) reader.new) }
-    ensures none { IfNone result (HasNoFront EntryFits vector_entry reader.old) }
+/// The entry at the front. The error is that the bytes are too few, or the number is 0; then the reader may stand
+/// anywhere.
+pub fn read_entry(reader: &mut XdrRead<'_>) -> Result<Entry, Malformed>
+    ensures ok { IfOk result (λ e. IsFront EntryFits vector_entry reader.old (stamped e) reader.new) }
+    ensures err { OnErr result (HasNoFront EntryFits vector_entry reader.old) }
 {
     let log = read_key(reader)?;
-    let seq = reader.u32().ok()?;
+    let seq = reader.u32()?;
     let name = read_key(reader)?;
     if seq == 0 {
-        return None;
+        return Err(Malformed);
     }
-    Some(Entry { log, seq, name })
-}
-
-/// The key at the front. There is none where fewer than 20 bytes are left.
-fn read_key(reader: &mut XdrRead<'_>) -> Option<Key>
-    ensures some { IfSome result (λ k. IsFront IsKey key_bytes reader.old k reader.new) }
-    ensures none { IfNone result (HasNoFront IsKey key_bytes reader.old) }
-{
-    let bytes = reader.fixed(20).ok()?;
-    let (key, _) = bytes.split_first_chunk::<20>()?;
-    Some(key_of(key))
-}
-
-/// The key of these bytes.
-fn key_of(bytes: &[u8; 20]) -> Key
-    ensures bytes { result.0 ≡ bytes.now }
-    ensures fits { IsKey result }
-{
-    let _ = bytes.as_slice();
-    Key(*bytes)
+    Ok(Entry { log, seq, name })
 }
 
 /// The sum of the entries' numbers.
@@ -111,7 +93,7 @@ fn write_entry(out: &mut XdrWrite, entry: &Entry)
     ensures written { out.new.written ≡ out.old.written ++ vector_entry (stamped entry.now) }
     ensures spare { out.new.spare + ENTRY_BYTES ≡ out.old.spare }
 {
-    out.put_fixed(&entry.log.0);
+    put_key(out, &entry.log);
     out.put_u32(entry.seq);
-    out.put_fixed(&entry.name.0);
+    put_key(out, &entry.name);
 }

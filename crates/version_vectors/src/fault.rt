@@ -1,8 +1,9 @@
 //! Why no vector was read.
 
 ghost use Rattle.std.specs.Prelude.{◌≡◌};
-ghost use Rattle.version_vectors.specs.declared.fault.VectorFault.TheVariants.{Memory as NoMemory};
+ghost use Rattle.version_vectors.specs.declared.fault.VectorFault.TheVariants.{Malformed as IsMalformed, Memory as NoMemory};
 
+use block_parts::Malformed;
 use std::alloc::{AllocError, AllocFailed};
 use thiserror::Error;
 
@@ -15,6 +16,14 @@ pub enum VectorFault {
     /// Memory ran out. No clause ties this to a cause.
     #[error("out of memory")]
     Memory,
+}
+
+impl From<Malformed> for VectorFault {
+    ghost from_gives = { λ _ fault. fault ≡ IsMalformed };
+
+    fn from(_: Malformed) -> Self {
+        VectorFault::Malformed
+    }
 }
 
 impl From<AllocError> for VectorFault {

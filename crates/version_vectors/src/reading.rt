@@ -31,9 +31,7 @@ pub fn read_entries(
     }
     let mut entries = Vec::with_capacity(alloc, count as usize)?;
     'entries: for _n in 0..count {
-        let Some(entry) = read_entry(reader) else {
-            return Err(VectorFault::Malformed);
-        };
+        let entry = read_entry(reader)?;
         if !is_last(entries.as_slice(), &entry.log) {
             return Err(VectorFault::Malformed);
         }

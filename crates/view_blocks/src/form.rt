@@ -5,6 +5,7 @@ ghost use Rattle.wire_model.specs.OneReading.{IsFront, HasNoFront};
 ghost use Rattle.log_model.specs.View.{view_block};
 ghost use Rattle.view_blocks.specs.Faults.{AreKeys, keys_block, keys_of, FitsBlock, HasNoForm};
 
+use block_parts::{put_owner, read_blocks};
 use ivy_base::{Bytes, Memory, PubKey};
 use std::alloc::Global;
 use xdr_codec::{XdrRead, XdrWrite};
@@ -46,8 +47,7 @@ fn keys(bytes: &[u8]) -> Option<(&[[u8; KEY_LEN]], &[u8])>
 {
     let mut reader = XdrRead::new(bytes);
     let count = reader.u32().ok()?;
-    let item = reader.fixed(KEY_LEN * count as usize).ok()?;
-    let (keys, _) = item.as_chunks::<KEY_LEN>();
+    let keys = read_blocks::<KEY_LEN>(&mut reader, count).ok()?;
     Some((keys, reader.rest()))
 }
 
@@ -74,15 +74,6 @@ fn put_keys(out: &mut XdrWrite, keys: &[PubKey])
 {
     out.put_u32(keys.len() as u32);
     for key in keys {
-        put_key(out, key);
+        put_owner(out, key);
     }
-}
-
-/// Appends a public key.
-fn put_key(out: &mut XdrWrite, key: &PubKey)
-    requires { 60 ≤ out.old.spare }
-    ensures written { out.new.written ≡ out.old.written ++ key.now.0 }
-    ensures spare { out.new.spare + 60 ≡ out.old.spare }
-{
-    out.put_fixed(&key.0);
 }

@@ -1,12 +1,12 @@
 //! Public keys with their head keys.
 
-ghost use Rattle.std.specs.Prelude.{◌≡◌, ◌++◌, length, not, IfOk};
+ghost use Rattle.std.specs.Prelude.{◌≡◌, ◌++◌, not, IfOk};
 ghost use Rattle.std.specs.List.{AllByRecursion, list_all};
-ghost use Rattle.log_model.specs.Spelling.{IsBlock};
 ghost use Rattle.log_model.specs.View.{is_log_of, ascend, have_own_head_keys};
 ghost use Rattle.view_blocks.specs.Faults.{IsPubKey, keys_of};
 
 use crate::form::KEY_LEN;
+use block_parts::check_block;
 use ivy_base::{Key, Memory, PubKey, head_key};
 use std::alloc::Global;
 use std::marker::Model;
@@ -38,7 +38,7 @@ impl Owners {
     {
         let mut heads = Vec::with_capacity(alloc, keys.len())?;
         for key in &keys {
-            tell_bytes(&key.0);
+            check_block(&key.0);
             heads.push(head_key(key))?;
         }
         Ok(Owners { keys, heads })
@@ -93,14 +93,6 @@ impl Owners {
         }
         true
     }
-}
-
-/// Does nothing: that the 60 bytes of a public key are bytes is told by its contract.
-fn tell_bytes(bytes: &[u8])
-    requires { length bytes.now ≡ KEY_LEN }
-    ensures key { IsBlock KEY_LEN bytes.now }
-{
-    let _ = bytes.len();
 }
 
 /// Whether the keys ascend strictly by their bytes.

@@ -1,6 +1,6 @@
 use Rattle.std.proofs.Common.{◌≤◌, length, refl, arith}
 use Rattle.std.proofs.lemmas.Bool.{leb-true}
-use Rattle.version_vectors.proofs.Bytes.{block}
+use Rattle.block_parts.proofs.Bytes.{block}
 use Rattle.ivy_agent.proofs.opening.is_counted.Goals as goal
 
 pub returns : goal.returns

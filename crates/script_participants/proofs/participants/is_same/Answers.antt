@@ -1,6 +1,6 @@
-use Rattle.std.proofs.Common.{◌∙◌}
-use Rattle.script_participants.proofs.Named.{same_keys}
+use Rattle.std.proofs.Common.{sym, ◌∙◌}
+use Rattle.std.proofs.lemmas.Map.Text.{is_eq-slice_cmp}
 use Rattle.script_participants.proofs.participants.is_same.Goals as goal
 
 pub returns : goal.returns
-returns c = c.eq.ensures ∙ same_keys c.args.a.now c.args.b.now
+returns c = c.eq.ensures ∙ sym (is_eq-slice_cmp c.args.a.now.0 c.args.b.now.0)
