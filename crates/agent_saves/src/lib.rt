@@ -1,8 +1,8 @@
 //! What was saved of an agent, read again from its bytes, so that it can start again.
 //!
 //! Layer: a format above `agent_model`, whose `specs/SavedBytes.antt` says what may be saved and how it is spelled, over
-//! `xdr_codec`, `version_vectors`, `view_blocks`, `dht_ids` and `hss_keys`, whose readers read its parts; below `ivy_agent`,
-//! which saves these bytes and starts again from them.
+//! `xdr_codec`, `block_parts`, `version_vectors`, `view_blocks`, `dht_ids` and `hss_keys`, whose readers read its parts;
+//! below `ivy_agent`, which saves these bytes and starts again from them.
 //! For the layers above: [`read_saved`] takes exactly the bytes that are saved of something that may be (`IsKept`), which is
 //! one agent's alone, and gives that; of all other bytes it says that there is none. [`Saved::read`] does so for each kind
 //! of keys that [`hss_keys::Signs`]; where such a key's own saved bytes may have 2^32 or more, which no word counts, it speaks of

@@ -12,7 +12,7 @@ ghost use Rattle.agent_saves.specs.Parts.{ArePosts, IsPost, kind_bytes};
 ghost use Rattle.agent_saves.specs.Refusals.{RefusesFront};
 
 use crate::fault::Refusal;
-use block_parts::{Malformed, read_key};
+use block_parts::{Malformed, check_bytes, read_key};
 use dht_ids::{Post, PostKind, Posts};
 use ivy_base::{Bytes, Key, Memory, name_of};
 use std::alloc::Global;
@@ -83,5 +83,6 @@ fn copy_of(alloc: Global, block: &[u8]) -> Result<Bytes, Memory>
     ensures same { IfOk result (λ copy. copy ≡ block.now) }
     ensures each { IsTrue (list_all (λ b. nat_lt b 256) block.now) }
 {
+    check_bytes(block);
     Bytes::copy_of(alloc, block)
 }

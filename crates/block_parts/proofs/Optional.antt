@@ -1,5 +1,5 @@
 -- A part that may be left out, behind whether it is there.
-use Rattle.std.proofs.Common.{◌≡◌, ℕ, true, false, List, ◌++◌, Option, Some, None, sym, ◌∙◌}
+use Rattle.std.proofs.Common.{ℕ, true, false, List, ◌++◌, Option, Some, None, sym, ◌∙◌}
 use Rattle.wire_model.specs.Xdr.{boolean, optional, IsAny}
 use Rattle.wire_model.specs.OneReading.{IsFront, HasNoFront}
 use Rattle.wire_model.proofs.OneReading.{one_boolean}

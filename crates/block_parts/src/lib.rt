@@ -1,4 +1,4 @@
-//! The parts that blocks of records, of snapshots and of what is saved share: read from the front of bytes, and appended.
+//! The parts that blocks of records, views, snapshots and what is saved share: read from the front of bytes, and appended.
 //!
 //! Layer: over `xdr_codec`, whose readers and writers carry the bytes, and `log_model`, which says what a key, a moment
 //! and the number of a kind are; below the crates that read and write blocks of one form.
@@ -9,7 +9,8 @@
 //! Inside, `reading` and `writing` have one function for each part.
 //! Definitions: `specs/Parts.antt` has the spellings, bounds and sizes that are not `log_model`'s. For readers of whole
 //! blocks `proofs/OneParts.antt` and `proofs/Constants.antt` have that a part can be read in one way only,
-//! `proofs/Optional.antt` where a part that may be left out can't be read, `proofs/Bytes.antt` when bytes are so many, and
+//! `proofs/Optional.antt` where a part that may be left out can't be read, `proofs/Blocks.antt` what the arrays of
+//! [`read_blocks`] say of values that are such arrays, `proofs/Bytes.antt` when bytes are so many, and
 //! `proofs/Tested.antt` what tests of bytes tell.
 #![tactic(auto)]
 

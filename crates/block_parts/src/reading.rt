@@ -1,6 +1,6 @@
 //! Reading parts.
 
-ghost use Rattle.std.specs.Prelude.{◌≡◌, ◌<◌, ◌≤◌, ◌^◌, ◌%◌, length, IfOk, OnErr};
+ghost use Rattle.std.specs.Prelude.{◌≡◌, ◌<◌, ◌^◌, ◌%◌, length, IfOk, OnErr};
 ghost use Rattle.std.specs.List.{flat_map};
 ghost use Rattle.ivy_base.specs.Naming.{IsFileName};
 ghost use Rattle.wire_model.specs.Xdr.{word, double_word, opaque, moment, AreSoMany, IsAny};

@@ -1,6 +1,6 @@
 //! Writing parts.
 
-ghost use Rattle.std.specs.Prelude.{◌≡◌, ◌+◌, ◌^◌, ◌<◌, ◌≤◌, ◌++◌, length, IfSome};
+ghost use Rattle.std.specs.Prelude.{◌≡◌, ◌+◌, ◌^◌, ◌<◌, ◌≤◌, ◌++◌, IfSome};
 ghost use Rattle.wire_model.specs.Xdr.{moment};
 ghost use Rattle.log_model.specs.Spelling.{kind_number as number_of_kind};
 ghost use Rattle.block_parts.specs.Parts.{key_bytes, opaque_size, IsShort};

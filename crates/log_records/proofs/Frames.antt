@@ -1,5 +1,5 @@
 -- Frames: each has one spelling, and where none can be read.
-use Rattle.std.proofs.Common.{ℕ, List, [], ◌∷◌, ◌++◌, refl, ap, arith}
+use Rattle.std.proofs.Common.{ℕ, List, ◌++◌, refl, ap, arith}
 use Rattle.std.specs.Prelude.{◌≢◌, None}
 use Rattle.ivy_base.specs.declared.key.Key.{Key}
 use Rattle.ivy_base.specs.declared.operation.Moment.{Moment}

@@ -1,6 +1,5 @@
 -- Each operation of one kind has one spelling.
-use Rattle.std.proofs.Common.{◌≡◌, ℕ, ◌^◌, ◌<◌, ◌≤◌, List, ◌++◌, length, Option, refl, sym, ap, ◌∙◌, arith, append_assoc}
-use Rattle.std.specs.Prelude.{IfSome}
+use Rattle.std.proofs.Common.{◌≡◌, ℕ, ◌≤◌, List, ◌++◌, length, Option, refl, sym, ap, ◌∙◌, arith, append_assoc}
 use Rattle.ivy_base.specs.declared.key.Key.{Key}
 use Rattle.ivy_base.specs.declared.operation.Kind.{Kind}
 use Rattle.ivy_base.specs.declared.operation.Kind.TheVariants.{Reg, Dir, Lnk}
@@ -8,14 +7,11 @@ use Rattle.ivy_base.specs.declared.operation.Moment.{Moment}
 use Rattle.ivy_base.specs.declared.operation.Change.{Change}
 use Rattle.ivy_base.specs.declared.operation.Op.{Op}
 use Rattle.ivy_base.specs.declared.operation.Op.TheVariants as op
-use Rattle.ivy_base.specs.Naming.{IsFileName}
-use Rattle.wire_model.specs.Xdr.{word, double_word, opaque, moment, IsAny}
 use Rattle.wire_model.specs.OneReading.{ReadsOne}
 use Rattle.wire_model.proofs.OneReading.{◌▷◌, of_parts, one_word, one_double_word, one_short_opaque, one_optional}
 use Rattle.block_parts.proofs.OneParts.{one_block, one_key, one_at_most, one_time, one_kind, one_name, one_size}
-use Rattle.log_model.specs.Spelling.{record_kind, body, IsKey, IsBlock, IsMoment, IsTarget, IsChange, OperationFits}
-use Rattle.block_parts.specs.Parts.{key_bytes, kind_word, IsAtMost}
-use Rattle.log_records.specs.Parts.{place_block, IsPlace, piece_block, IsPiece, change_block, IsOfKind}
+use Rattle.log_model.specs.Spelling.{record_kind, body, IsTarget, IsChange, OperationFits}
+use Rattle.log_records.specs.Parts.{place_block, IsPlace, change_block, IsOfKind}
 
 pub one_place : ReadsOne IsPlace place_block
 one_place = one_key ▷ one_name

@@ -1,13 +1,12 @@
 -- Where a part of a record can't be read.
-use Rattle.std.proofs.Common.{◌≡◌, ℕ, ◌<◌, Bool, true, false, List, ◌++◌, Option, Some, None, refl, sym, subst, ◌∙◌, arith}
-use Rattle.std.specs.Prelude.{IsTrue}
+use Rattle.std.proofs.Common.{◌≡◌, ℕ, List, ◌++◌, Option, refl, sym, subst, arith}
 use Rattle.ivy_base.specs.declared.key.Key.{Key}
 use Rattle.ivy_base.specs.declared.operation.Moment.{Moment}
 use Rattle.ivy_base.specs.declared.operation.Change.{Change}
 use Rattle.ivy_base.specs.Naming.{IsFileName}
-use Rattle.wire_model.specs.Xdr.{word, double_word, boolean, opaque, optional, moment, IsAny, IsWord, IsDoubleWord, IsUpTo}
+use Rattle.wire_model.specs.Xdr.{word, double_word, opaque, optional, moment, IsWord, IsDoubleWord, IsUpTo}
 use Rattle.wire_model.specs.OneReading.{ReadsOne, IsFront, HasNoFront}
-use Rattle.wire_model.proofs.OneReading.{◌▷◌, one_boolean, one_word, one_double_word, one_short_opaque, one_optional}
+use Rattle.wire_model.proofs.OneReading.{◌▷◌, one_word, one_double_word, one_short_opaque, one_optional}
 use Rattle.wire_model.proofs.Fronts.{both, no_first, no_second, only_misfit, front_of_parts}
 use Rattle.log_model.specs.Spelling.{IsKey, IsMode, IsMoment, IsChange}
 use Rattle.block_parts.specs.Parts.{key_bytes, IsAtMost, IsOptional}

@@ -1,11 +1,10 @@
 -- What the tests of readers and judges tell.
-use Rattle.std.proofs.Common.{◌≡◌, ℕ, List, [], Bool, true, false, not, refl, sym, ap, ◌∙◌, ◌∷◌, arith}
+use Rattle.std.proofs.Common.{◌≡◌, ℕ, List, [], Bool, true, false, refl, sym, ap, ◌∙◌, ◌∷◌, arith}
 use Rattle.std.specs.Prelude.{◌≢◌, ◌↔◌, IsTrue, nat_eq, length, Option, Some, None, option_map}
 use Rattle.std.specs.Option.{is_some}
 use Rattle.std.specs.Str.{bytes_eq}
 use Rattle.std.proofs.lemmas.Slice.Eq.{bytes_eq-Decides}
 use Rattle.std.proofs.lemmas.Bool.{eqb-true}
-use Rattle.ivy_base.specs.declared.key.Key.{Key}
 use Rattle.log_model.specs.Spelling.{no_name}
 use Rattle.log_records.specs.declared.frame.Frame.{Frame}
 use Rattle.log_records.specs.Frames.{CitesNothing}

@@ -1,8 +1,9 @@
 //! Records and heads of logs as blocks, and batches of chains of records that were fetched (Ivy).
 //!
-//! Layer: over `log_model`, which says what a record is and how it is spelled, `xdr_codec` and `version_vectors`, whose
-//! readers and writers carry the bytes, `view_blocks`, under whose views chains are tested, and `dht_ids`, whose trait
-//! of judges [`PlainJudge`] implements; below the crates that fetch records, apply them and sign heads.
+//! Layer: over `log_model`, which says what a record is and how it is spelled, `xdr_codec`, `block_parts` and
+//! `version_vectors`, whose readers and writers carry the bytes, `view_blocks`, under whose views chains are tested,
+//! and `dht_ids`, whose trait of judges [`PlainJudge`] implements; below the crates that fetch records, apply them and
+//! sign heads.
 //! For the layers above: [`Record::read`] takes exactly the blocks that are a record of the owner's, and says exactly
 //! why it takes no other; [`Record::write`], [`Record::name`] and [`Record::rank`] are what the definitions of these
 //! names say, whatever the record is. [`Head::read`] takes exactly the blocks that are a head, and [`Head::write`] and
@@ -17,10 +18,10 @@
 //!
 //! [`merge_place`] is how many of some records that ascend by rank are of a smaller rank than another.
 //!
-//! Inside, a block is read from left to right by one small function for each part: `parts` for what records and heads
-//! share, `change` and `body` for the nine operations, `frame` for what stands in front of each operation; `writing`,
-//! `change_writing` and `body_writing` are their counterparts. What depends on several parts, as that a log begins with
-//! End, is tested at the end, in `record`. Of a batch, `spelled` tells which records have a block, and `chain` has the
+//! Inside, a block is read from left to right by one small function for each part: `parts` for what operations share,
+//! beside those of `block_parts`, `change` and `body` for the nine operations, `frame` for what stands in front of each
+//! operation; `change_writing` and `body_writing` are their counterparts. What depends on several parts, as that a log
+//! begins with End, is tested at the end, in `record`. Of a batch, `spelled` tells which records have a block, and `chain` has the
 //! tests of a chain.
 //!
 //! Definitions: the spellings are those of `log_model`; `specs/Records.antt` has what a read record is and when each

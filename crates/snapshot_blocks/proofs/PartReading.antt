@@ -1,16 +1,15 @@
 -- Where the parts of a block can't be read.
-use Rattle.std.proofs.Common.{◌≡◌, ℕ, ◌<◌, Bool, true, false, List, ◌++◌, refl, sym, ap, ◌∙◌, arith}
+use Rattle.std.proofs.Common.{◌≡◌, ℕ, Bool, true, List, ◌++◌, refl, sym, ap, ◌∙◌, arith}
 use Rattle.std.specs.Prelude.{IsTrue, ◌↔◌}
 use Rattle.std.specs.Str.{bytes_eq}
 use Rattle.std.proofs.lemmas.Slice.Eq.{bytes_eq-Decides}
 use Rattle.ivy_base.specs.declared.key.Key.{Key}
 use Rattle.ivy_base.specs.declared.operation.Moment.{Moment}
-use Rattle.ivy_base.specs.Naming.{IsFileName}
 use Rattle.tree_model.specs.Tree.{Attributes}
-use Rattle.wire_model.specs.Xdr.{word, double_word, opaque, moment, IsWord, IsDoubleWord, IsUpTo}
+use Rattle.wire_model.specs.Xdr.{word, moment, IsWord}
 use Rattle.wire_model.specs.OneReading.{ReadsOne, IsFront, HasNoFront}
-use Rattle.wire_model.proofs.OneReading.{◌▷◌, one_word, one_double_word, one_short_opaque}
-use Rattle.wire_model.proofs.Fronts.{both, no_first, no_second, only_misfit, front_of_parts}
+use Rattle.wire_model.proofs.OneReading.{◌▷◌, one_word}
+use Rattle.wire_model.proofs.Fronts.{both, no_first, no_second, front_of_parts}
 use Rattle.wire_model.proofs.Dependent.{PartsOf, none_of_some}
 use Rattle.log_model.specs.Spelling.{IsKey, IsMoment, no_name}
 use Rattle.snapshot_model.specs.Blocks.{Listed, IsListed, listed_bytes, AreAttributes, attributes_bytes}

@@ -1,9 +1,9 @@
 -- Where a root block can't be read.
-use Rattle.std.proofs.Common.{◌≡◌, ℕ, Bool, true, false, List, [], ◌∷◌, ◌++◌, Option, Some, None, refl, sym, ap, ◌∙◌, arith}
+use Rattle.std.proofs.Common.{ℕ, List, [], ◌∷◌, ◌++◌, Option, refl, arith}
 use Rattle.ivy_base.specs.declared.key.Key.{Key}
-use Rattle.wire_model.specs.Xdr.{word, double_word, boolean, optional, array, IsAny, IsWord, IsDoubleWord}
+use Rattle.wire_model.specs.Xdr.{word, double_word, optional, array, IsAny, IsWord, IsDoubleWord}
 use Rattle.wire_model.specs.OneReading.{IsFront, HasNoFront}
-use Rattle.wire_model.proofs.OneReading.{◌▷◌, one_boolean, one_double_word}
+use Rattle.wire_model.proofs.OneReading.{◌▷◌, one_double_word}
 use Rattle.wire_model.proofs.Fronts.{both, no_first, no_second, none_of_fewer, front_of_parts}
 use Rattle.wire_model.proofs.Dependent.{PartsOf, none_of_some}
 use Rattle.log_model.specs.Rank.{Rank}

@@ -1,19 +1,18 @@
 -- Each part of a snapshot's block is of one reading, and so is the block.
-use Rattle.std.proofs.Common.{◌≡◌, ℕ, ◌^◌, ◌<◌, ◌≤◌, List, [], ◌∷◌, ◌++◌, length, Option, refl, ap, arith}
+use Rattle.std.proofs.Common.{ℕ, ◌^◌, ◌<◌, ◌≤◌, List, [], ◌∷◌, length, Option, refl, ap, arith}
 use Rattle.std.specs.Prelude.{IfSome}
 use Rattle.std.specs.List.{AllByRecursion}
 use Rattle.ivy_base.specs.declared.key.Key.{Key}
 use Rattle.ivy_base.specs.declared.operation.Kind.{Kind}
 use Rattle.ivy_base.specs.declared.operation.Kind.TheVariants.{Reg, Dir, Lnk}
 use Rattle.ivy_base.specs.declared.operation.Moment.{Moment}
-use Rattle.ivy_base.specs.Naming.{IsFileName}
 use Rattle.tree_model.specs.Tree.{Attributes}
-use Rattle.wire_model.specs.Xdr.{word, double_word, opaque, optional, array, moment, IsAny}
+use Rattle.wire_model.specs.Xdr.{optional, array}
 use Rattle.wire_model.specs.OneReading.{ReadsOne}
 use Rattle.wire_model.proofs.OneReading.{◌▷◌, always, of_fewer, of_parts, one_word, one_double_word, one_short_opaque, one_optional, one_array}
 use Rattle.log_model.specs.Rank.{Rank}
 use Rattle.log_model.specs.Vector.{Entry, Vector}
-use Rattle.log_model.specs.Spelling.{IsBlock, IsKey, IsMoment, IsTarget, vector_entry}
+use Rattle.log_model.specs.Spelling.{IsKey, IsTarget, vector_entry}
 use Rattle.snapshot_model.specs.Blocks.{Listed, InodeBlock, RootBlock, listed_bytes, attributes_bytes, rank_bytes, entry_bytes, list_block, entries_block, inode_block, root_block, IsListed, AreAttributes, IsEntry, IsStamped, IsVectorSpelled, IsRankSpelled, AreNamed, AreEntries, IsInodeBlock, IsRootBlock, most_bytes, most_levels}
 use Rattle.block_parts.specs.Parts.{key_bytes}
 use Rattle.block_parts.proofs.OneParts.{one_block, one_key, one_at_most, one_time, one_kind, one_name, one_size}

@@ -1,5 +1,5 @@
 -- A vector can be read in one way only, whatever follows it.
-use Rattle.std.proofs.Common.{ℕ, ◌<◌, ◌^◌, List, refl, ap, arith}
+use Rattle.std.proofs.Common.{ℕ, ◌<◌, ◌^◌, refl, ap, arith}
 use Rattle.ivy_base.specs.declared.key.Key.{Key}
 use Rattle.wire_model.specs.Xdr.{array}
 use Rattle.wire_model.specs.OneReading.{ReadsOne}

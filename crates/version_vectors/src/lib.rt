@@ -1,8 +1,8 @@
 //! Version vectors (Ivy) and the rank of records: what a record knows of the other logs, and the order in which
 //! records are applied.
 //!
-//! Layer: over `xdr_codec`, whose readers and writers carry the bytes, and `log_model`, which says what a vector is;
-//! below the crates that read records and find out which of them are applied.
+//! Layer: over `xdr_codec` and `block_parts`, whose readers and writers carry the bytes, and `log_model`, which says what
+//! a vector is; below the crates that read records and find out which of them are applied.
 //! For the layers above: contracts see a [`Vector`] as the list of `log_model`, ascending by log, with at most one
 //! entry of each log. [`Vector::get`], [`Vector::with`], [`Vector::without`], [`Vector::join`],
 //! [`Vector::dominates`] and [`Vector::weight`] are exactly what the definitions of these names say.

@@ -1,6 +1,6 @@
-use Rattle.std.proofs.Common.{ℕ, List, true, refl, sym, ◌∙◌, subst, arith}
+use Rattle.std.proofs.Common.{ℕ, List, true, sym, ◌∙◌, subst, arith}
 use Rattle.hss_keys.specs.Saved.{IsSigner}
-use Rattle.hss_keys.proofs.Saving.{are_octets}
+use Rattle.block_parts.proofs.Bytes.{block}
 use Rattle.log_heads.specs.Signed.{hss_judged}
 use Rattle.script_driver.specs.Run.{Goes}
 use Rattle.world_model.specs.Logs.{LogLine, Played, fresh_signer}
@@ -14,8 +14,8 @@ use Rattle.script_machine.proofs.world.World.begin_log.Goals as goal
 pub publish-requires : goal.publish-requires
 publish-requires c =
     let whole : IsSigner (fresh_signer c.args.id.now c.args.seed.now c.args.sets.now) = record {
-      id = are_octets 16 c.args.id.now c.args.id.now c.told-id refl c.fits-id;
-      seed = are_octets 32 c.args.seed.now c.args.seed.now c.told-seed refl c.fits-seed;
+      id = block 16 c.args.id.now c.told-id c.fits-id;
+      seed = block 32 c.args.seed.now c.told-seed c.fits-seed;
       sets = c.requires.levels;
       made = omega arith;
     } in
@@ -26,8 +26,8 @@ publish-requires c =
 pub returns : goal.returns
 returns c = λ w shows keeps.
     let whole : IsSigner (fresh_signer c.args.id.now c.args.seed.now c.args.sets.now) = record {
-      id = are_octets 16 c.args.id.now c.args.id.now c.told-id refl c.fits-id;
-      seed = are_octets 32 c.args.seed.now c.args.seed.now c.told-seed refl c.fits-seed;
+      id = block 16 c.args.id.now c.told-id c.fits-id;
+      seed = block 32 c.args.seed.now c.told-seed c.fits-seed;
       sets = c.requires.levels;
       made = omega arith;
     } in
