@@ -1,17 +1,18 @@
 -- What a driver of a get or a put keeps: behind the trail that it was told so far the machine may be in its state. So
 -- it is at the start; `next` and `heard` keep it; and with the result the trail is a whole get or put.
-use Rattle.std.proofs.Common.{◌≡◌, ℕ, List, [], Option, Some, None, refl, ap, subst}
+use Rattle.std.proofs.Common.{◌≡◌, ◌⊎◌, inl, inr, ℕ, List, [], Option, Some, None, refl, sym, ap, subst}
 use Rattle.std.specs.Option.{option_map}
 use Rattle.ivy_base.specs.declared.key.Key.{Key}
 use Rattle.dht_ids.specs.Asked.{IsForData}
 use Rattle.dht_ids.specs.declared.ask.Ask.{Ask}
 use Rattle.dht_ids.specs.declared.ask.Ask.TheVariants as ask
 use Rattle.dht_ids.specs.declared.peer.Peer.{Peer}
+use Rattle.dht_ids.specs.declared.post.PostKind.{PostKind}
 use Rattle.ring_model.proofs.Lists.{some_same, none_some}
 use Rattle.dhash_client.specs.Course.{Asking, CourseState, next_owner, awaited, awaited_at}
 use Rattle.dhash_client.specs.GetBlock.{is_of_get, IsEnoughBlock, SumsBlock, BlockIsAfter, block_begun, block_awaited_at}
 use Rattle.dhash_client.specs.GetHead.{Judges, IsEnoughHead, SumsHead, HeadIsAfter, head_begun}
-use Rattle.dhash_client.specs.Puts.{is_of_put, question_of, IsEnoughPut, SumsPut, PutIsAfter, put_begun}
+use Rattle.dhash_client.specs.Puts.{is_of_put, put_kind, question_of, IsEnoughPut, SumsPut, PutState, PutIsAfter, put_begun, put_awaited}
 use Rattle.dhash_client.specs.declared.put.PutKind.{PutKind}
 use Rattle.dhash_client.specs.declared.put.PutKind.TheVariants as kind
 use Rattle.dhash_client.proofs.Courses.{begins}
@@ -25,18 +26,33 @@ head_begins judges judge key r entries = begins (λ key. ask.Get key) is_of_get 
 pub put_begins : (what : PutKind) (bytes : List ℕ) (key : Key) (r : ℕ) (entries : List Peer) → PutIsAfter entries [] (put_begun what bytes key r entries)
 put_begins what bytes key r entries = begins (question_of what bytes) is_of_put IsEnoughPut (λ key. SumsPut 0) entries key r refl
 
+-- the node to be heard is asked for the route, or what owners are asked
+asked_at : (own : Ask) (c : CourseState) (asking : Option Asking) (node : Peer) (question : Ask) → awaited_at own c asking ≡ Some (node, question) → (question ≡ ask.Route c.look.key) ⊎ (question ≡ own)
+asked_at own c None node question e = by c.look.waiting e
+  where
+    by : (waiting : Option Peer) → option_map {U = Peer × Ask} (λ p. (p, ask.Route c.look.key)) waiting ≡ Some (node, question) → (question ≡ ask.Route c.look.key) ⊎ (question ≡ own)
+    by None e = absurd (none_some (node, question) e)
+    by (Some p) e = inl (sym (ap (λ (s : Peer × Ask). s.1) (some_same (p, ask.Route c.look.key) (node, question) e)))
+asked_at own c (Some a) node question e = by (next_owner c.replicas a) e
+  where
+    by : (owner : Option Peer) → option_map {U = Peer × Ask} (λ p. (p, own)) owner ≡ Some (node, question) → (question ≡ ask.Route c.look.key) ⊎ (question ≡ own)
+    by None e = absurd (none_some (node, question) e)
+    by (Some p) e = inr (sym (ap (λ (s : Peer × Ask). s.1) (some_same (p, own) (node, question) e)))
+
+-- a put of such a post asks for the route to its key, or puts the bytes
+pub post_asks : (of : PostKind) (s : PutState) (node : Peer) (question : Ask) → s.what ≡ put_kind of → put_awaited s ≡ Some (node, question)
+    → (question ≡ ask.Route s.course.look.key) ⊎ (question ≡ question_of (put_kind of) s.bytes s.course.look.key)
+post_asks of s node question what awaited =
+    subst (λ (k : PutKind). (question ≡ ask.Route s.course.look.key) ⊎ (question ≡ question_of k s.bytes s.course.look.key)) what
+    (asked_at (question_of s.what s.bytes s.course.look.key) s.course s.course.asking node question awaited)
+
 -- what is asked next may be asked of a mesh
-for_data_at : (question : Ask) → IsForData question → (c : CourseState) (asking : Option Asking) (node : Peer) (q : Ask) → awaited_at question c asking ≡ Some (node, q) → IsForData q
-for_data_at question f c None node q e = by_waiting c.look.waiting e
+for_data_at : (own : Ask) → IsForData own → (c : CourseState) (asking : Option Asking) (node : Peer) (question : Ask) → awaited_at own c asking ≡ Some (node, question) → IsForData question
+for_data_at own f c asking node question awaited = by (asked_at own c asking node question awaited)
   where
-    by_waiting : (waiting : Option Peer) → option_map {U = Peer × Ask} (λ p. (p, ask.Route c.look.key)) waiting ≡ Some (node, q) → IsForData q
-    by_waiting None e = absurd (none_some (node, q) e)
-    by_waiting (Some p) e = subst IsForData (ap (λ s. s.1) (some_same (p, ask.Route c.look.key) (node, q) e)) tt
-for_data_at question f c (Some a) node q e = by_owner (next_owner c.replicas a) e
-  where
-    by_owner : (owner : Option Peer) → option_map {U = Peer × Ask} (λ p. (p, question)) owner ≡ Some (node, q) → IsForData q
-    by_owner None e = absurd (none_some (node, q) e)
-    by_owner (Some p) e = subst IsForData (ap (λ s. s.1) (some_same (p, question) (node, q) e)) f
+    by : (question ≡ ask.Route c.look.key) ⊎ (question ≡ own) → IsForData question
+    by (inl is) = subst (λ (q : Ask). IsForData q) (sym is) tt
+    by (inr is) = subst (λ (q : Ask). IsForData q) (sym is) f
 
 pub block_for_data : (found : Option (List ℕ)) (c : CourseState) (node : Peer) (q : Ask) → block_awaited_at found c ≡ Some (node, q) → IsForData q
 block_for_data None c node q e = for_data_at (ask.Get c.look.key) tt c c.asking node q e

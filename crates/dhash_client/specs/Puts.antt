@@ -1,4 +1,4 @@
--- The machines of puts, of content blocks and of heads.
+-- The machines of puts: of content blocks, of heads, and of posts, which are either.
 use Rattle.std.specs.Prelude.{◌≡◌, ℕ, ◌+◌, ◌-◌, ◌^◌, ◌≤◌, min, Bool, true, false, if◌then◌else◌, List, ◌++◌, Option, Some, Result, Ok}
 use Rattle.ivy_base.specs.declared.key.Key.{Key}
 use Rattle.dht_ids.specs.Asked.{told}
@@ -12,6 +12,8 @@ use Rattle.dht_ids.specs.declared.ask.StoreFault.TheVariants as fault
 use Rattle.dht_ids.specs.declared.ask.Want.{Want}
 use Rattle.dht_ids.specs.declared.ask.Want.TheVariants as want
 use Rattle.dht_ids.specs.declared.peer.Peer.{Peer}
+use Rattle.dht_ids.specs.declared.post.PostKind.{PostKind}
+use Rattle.dht_ids.specs.declared.post.PostKind.TheVariants as post
 use Rattle.ring_model.specs.Gets.{answered_in, IsPut}
 use Rattle.dhash_client.specs.Course.{Told, CourseState, IsCourse, IsOnCourse, IsSameCourse, begun, awaited}
 use Rattle.dhash_client.specs.declared.miss.Miss.{Miss}
@@ -46,6 +48,12 @@ holds answer.Stored = true
 holds (answer.Refused why) = is_older why
 holds answer.Noted = false
 holds answer.Silent = false
+
+-- how a post is put: a head as a head, any other block by its name
+abbrev pub put_kind : PostKind → PutKind
+put_kind post.Block = kind.Block
+put_kind post.Log = kind.Block
+put_kind post.Head = kind.Head
 
 -- what owners are asked
 abbrev pub question_of : PutKind → List ℕ → Key → Ask

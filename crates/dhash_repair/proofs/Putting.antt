@@ -1,13 +1,12 @@
 -- The put of one block by a node that holds it.
-use Rattle.std.proofs.Common.{◌≡◌, ◌⊎◌, inl, inr, ℕ, ◌≤◌, Bool, true, false, cond, not, ◌&&◌, ◌||◌, List, [], ◌∷◌, ◌++◌, Option, Some, None, Result, Ok, Err, IfOk, refl, sym, ap, ◌∙◌, subst, arith}
+use Rattle.std.proofs.Common.{◌≡◌, ◌⊎◌, ℕ, ◌≤◌, Bool, true, false, cond, not, ◌&&◌, ◌||◌, List, [], ◌∷◌, ◌++◌, Option, Some, None, Result, Ok, Err, IfOk, refl, sym, ap, ◌∙◌, subst, arith}
 use Rattle.std.specs.List.{AllByRecursion, list_any}
-use Rattle.std.specs.Option.{option_map}
 use Rattle.std.proofs.lemmas.List.{append-nil}
 use Rattle.std.proofs.lemmas.List.Elements.{filter-append}
 use Rattle.std.proofs.lemmas.List.Folds.{list_any-append}
 use Rattle.ivy_base.specs.declared.key.Key.{Key}
 use Rattle.ivy_base.specs.declared.memory.Memory.{Memory}
-use Rattle.ring_model.proofs.Lists.{all-both, all-right, none_some, some_same}
+use Rattle.ring_model.proofs.Lists.{all-both, all-right}
 use Rattle.dht_ids.specs.declared.ask.Answer.{Answer}
 use Rattle.dht_ids.specs.declared.ask.Answer.TheVariants as answer
 use Rattle.dht_ids.specs.declared.ask.Ask.{Ask}
@@ -17,14 +16,14 @@ use Rattle.dht_ids.specs.declared.ask.Want.{Want}
 use Rattle.dht_ids.specs.declared.ask.Want.TheVariants as want
 use Rattle.dht_ids.specs.declared.peer.Peer.{Peer}
 use Rattle.dht_ids.specs.declared.post.Post.{Post}
-use Rattle.dhash_client.specs.Course.{Asking, CourseState, IsCourse, awaited_at, next_owner, told_all}
+use Rattle.dhash_client.specs.Course.{IsCourse, told_all}
 use Rattle.dhash_client.specs.Course.IsCourse.{no_route as nobody_found, of_owners as owners_found}
-use Rattle.dhash_client.specs.Puts.{EndsPut, IsPutOf, PutHasHeard, PutIsAfter, PutIsWanted, put_awaited, question_of}
+use Rattle.dhash_client.specs.Puts.{EndsPut, IsPutOf, PutHasHeard, PutIsAfter, PutIsWanted, put_awaited, put_kind}
 use Rattle.dhash_client.specs.declared.miss.Miss.{Miss}
 use Rattle.dhash_client.specs.declared.put.PutKind.{PutKind}
-use Rattle.dhash_client.proofs.DrivenGets.{put_begins}
+use Rattle.dhash_client.proofs.DrivenGets.{post_asks, put_begins}
 use Rattle.dhash_repair.specs.Putting.{Putting, IsSamePutting, PuttingAsks, PuttingCounts, PuttingGoesOn, PuttingHasHeard, PuttingIsAfter, PuttingIsWanted, PuttingSteps, acknowledged, is_own, is_own_of, left_of, made_of, post_of, putting, told_of}
-use Rattle.dhash_repair.specs.Repairs.{Asked, IsPutFrom, ack_of, asking, put_kind, put_question}
+use Rattle.dhash_repair.specs.Repairs.{Asked, IsPutFrom, ack_of, asking, put_question}
 use Rattle.dhash_repair.specs.Repairs.IsPutFrom.{no_route, of_owners}
 use Rattle.dhash_repair.proofs.Asks.{IsOurs, any_puts, any_routes, made_puts, made_routes, own_puts, told_apart, told_more}
 
@@ -69,25 +68,9 @@ stays_behind : (r : ℕ) (trail : List Asked) (old new : Putting) → IsSamePutt
 stays_behind r trail old new same counts keeps behind =
     renewed r trail trail old new same behind behind.asks behind.made behind.own behind.ours (counts ∙ behind.counts) (keeps (old.node ∷ []) (told_of behind.asks) behind.after)
 
-asked_at : (own : Ask) (c : CourseState) (asking : Option Asking) (node : Peer) (question : Ask) → awaited_at own c asking ≡ Some (node, question) → (question ≡ ask.Route c.look.key) ⊎ (question ≡ own)
-asked_at own c None node question e = by c.look.waiting e
-  where
-    by : (waiting : Option Peer) → option_map {U = Peer × Ask} (λ p. (p, ask.Route c.look.key)) waiting ≡ Some (node, question) → (question ≡ ask.Route c.look.key) ⊎ (question ≡ own)
-    by None e = absurd (none_some (node, question) e)
-    by (Some p) e = inl (sym (ap (λ (s : Peer × Ask). s.1) (some_same (p, ask.Route c.look.key) (node, question) e)))
-asked_at own c (Some a) node question e = by (next_owner c.replicas a) e
-  where
-    by : (owner : Option Peer) → option_map {U = Peer × Ask} (λ p. (p, own)) owner ≡ Some (node, question) → (question ≡ ask.Route c.look.key) ⊎ (question ≡ own)
-    by None e = absurd (none_some (node, question) e)
-    by (Some p) e = inr (sym (ap (λ (s : Peer × Ask). s.1) (some_same (p, own) (node, question) e)))
-
 -- who is asked next is asked for the route, or as an owner
 pub asked_for_post : (s : Putting) (node : Peer) (question : Ask) → s.put.what ≡ put_kind s.kind → put_awaited s.put ≡ Some (node, question) → (question ≡ ask.Route (post_of s).key) ⊎ (question ≡ put_question (post_of s))
-asked_for_post s node question what awaited = by (asked_at (question_of s.put.what s.put.bytes s.put.course.look.key) s.put.course s.put.course.asking node question awaited)
-  where
-    by : (question ≡ ask.Route s.put.course.look.key) ⊎ (question ≡ question_of s.put.what s.put.bytes s.put.course.look.key) → (question ≡ ask.Route (post_of s).key) ⊎ (question ≡ put_question (post_of s))
-    by (inl e) = inl e
-    by (inr e) = inr (e ∙ ap (λ (k : PutKind). question_of k s.put.bytes s.put.course.look.key) what)
+asked_for_post s = post_asks s.kind s.put
 
 -- a step with one, by the node that was asked
 asks_on : (r : ℕ) (trail longer : List Asked) (old new : Putting) → IsSamePutting old new → (node : Peer) (question : Ask) (given : Answer) → put_awaited old.put ≡ Some (node, question) → PutHasHeard old.put new.put given

@@ -1,4 +1,3 @@
 pub mod Repairs
 pub mod Putting
-pub mod Machines
 pub mod Repairing

@@ -15,8 +15,8 @@ use Rattle.dht_ids.specs.declared.post.Post.{Post}
 use Rattle.dht_ids.specs.declared.post.PostKind.{PostKind}
 use Rattle.dhash_client.specs.declared.miss.Miss.{Miss}
 use Rattle.dhash_client.specs.Course.{asks_left}
-use Rattle.dhash_client.specs.Puts.{PutState, PutHasHeard, PutIsAfter, IsSamePut, put_begun, put_awaited}
-use Rattle.dhash_repair.specs.Repairs.{Asked, IsPutFrom, ack_of, is_node, put_kind, put_question}
+use Rattle.dhash_client.specs.Puts.{PutState, PutHasHeard, PutIsAfter, IsSamePut, put_begun, put_awaited, put_kind}
+use Rattle.dhash_repair.specs.Repairs.{Asked, IsPutFrom, ack_of, is_node, put_question}
 
 -- a put on its way: the node that makes it, what its block is and what is said of the block, the put so far, and whether the node counted among the owners
 pub record Putting : Type 0 where

@@ -14,14 +14,10 @@ use Rattle.dht_ids.specs.declared.ask.Ask.TheVariants as ask
 use Rattle.dht_ids.specs.declared.peer.Peer.{Peer}
 use Rattle.dht_ids.specs.declared.post.Ack.{Ack}
 use Rattle.dht_ids.specs.declared.post.Post.{Post}
-use Rattle.dht_ids.specs.declared.post.PostKind.{PostKind}
-use Rattle.dht_ids.specs.declared.post.PostKind.TheVariants as kind
 use Rattle.dhash_client.specs.Course.{Told}
 use Rattle.dhash_client.specs.Machine.{outcome}
-use Rattle.dhash_client.specs.Puts.{is_of_put, holds, question_of}
+use Rattle.dhash_client.specs.Puts.{is_of_put, holds, put_kind, question_of}
 use Rattle.dhash_client.specs.declared.miss.Miss.TheVariants as miss
-use Rattle.dhash_client.specs.declared.put.PutKind.{PutKind}
-use Rattle.dhash_client.specs.declared.put.PutKind.TheVariants as put
 
 -- ---- asks
 
@@ -32,12 +28,6 @@ Asked = Peer × (Ask × Answer)
 -- all asked the same
 abbrev pub asking : Ask → Told → List Asked
 asking question asks = map (λ s. (s.0, (question, s.1))) asks
-
--- a head is put as a head, any other block by its name
-abbrev pub put_kind : PostKind → PutKind
-put_kind kind.Block = put.Block
-put_kind kind.Log = put.Block
-put_kind kind.Head = put.Head
 
 -- what owners are asked for a block
 abbrev pub put_question : Post → Ask

@@ -10,14 +10,12 @@
 //! blocks may go, and then the asks are a whole repair (`IsRepair` in `specs/Repairs.antt`); each `heard` makes the ask and
 //! its answer the next. A block may go exactly where its put was acknowledged and the node is none of the owners that were
 //! asked or counted. Each answer leaves less (`repair_left`), so that a driver ends.
-//! Definitions: `specs/Repairs.antt`, `specs/Repairing.antt`, `specs/Putting.antt` (the put of one block) and
-//! `specs/Machines.antt`.
+//! Definitions: `specs/Repairs.antt`, `specs/Repairing.antt` and `specs/Putting.antt` (the put of one block).
 //!
 //! Costs: the blocks are moved in, and a put takes its block over and hashes it once for what is said of it. A block is
 //! copied once for each ask of an owner, the node itself among them.
 #![tactic(auto)]
 
-mod machine;
 mod put;
 mod repair;
 

@@ -5,8 +5,7 @@ ghost use Rattle.dhash_client.specs.Puts.{put_awaited};
 ghost use Rattle.dhash_repair.specs.Putting.{PuttingAsks, PuttingCounts, PuttingHasHeard, PuttingIsWanted, PuttingSteps, acknowledged, is_put, left_of, putting};
 ghost use Rattle.dhash_repair.specs.Repairs.{ack_of, is_node};
 
-use crate::machine::Machine;
-use dhash_client::Miss;
+use dhash_client::{Miss, PutPost};
 use dht_ids::{Ack, Answer, Ask, Peer, Peers, Post, PostKind, Want};
 use ivy_base::{Memory, name_of};
 use std::alloc::Global;
@@ -17,7 +16,7 @@ pub(crate) struct Put {
     node: Peer,
     kind: PostKind,
     ack: Ack,
-    machine: Machine,
+    machine: PutPost,
     counts: bool,
 }
 
@@ -36,11 +35,10 @@ impl Drop for Put {
 
 impl Model for Put {
     ghost use Rattle.dhash_repair.specs.Putting.{Putting};
-    ghost use Rattle.dhash_repair.specs.Machines.{state_of};
 
     ghost Value = { Putting };
 
-    ghost view = { λ p. record { node = p.node; kind = p.kind; ack = p.ack; put = state_of p.machine; counts = p.counts } };
+    ghost view = { λ p. record { node = p.node; kind = p.kind; ack = p.ack; put = p.machine; counts = p.counts } };
 }
 
 /// What is said of the block, should it go.
@@ -91,7 +89,7 @@ impl Put {
             node,
             kind: post.kind,
             ack: ack_of(&post),
-            machine: Machine::start(alloc, post, replicas, &entries)?,
+            machine: PutPost::start(alloc, post, replicas, &entries)?,
             counts: false,
         })
     }

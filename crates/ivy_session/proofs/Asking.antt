@@ -13,7 +13,7 @@ use Rattle.dht_ids.specs.declared.post.Post.{Post}
 use Rattle.dht_ids.specs.declared.post.PostKind.{PostKind}
 use Rattle.dht_ids.specs.declared.post.PostKind.TheVariants as kind
 use Rattle.dhash_client.specs.GetHead.{Judges}
-use Rattle.dhash_client.specs.Puts.{put_awaited}
+use Rattle.dhash_client.specs.Puts.{put_awaited, put_kind}
 use Rattle.dhash_client.specs.declared.put.PutKind.TheVariants as put
 use Rattle.agent_model.specs.Agent.{is_head}
 use Rattle.agent_model.specs.Standing.{Standing}
@@ -27,7 +27,6 @@ use Rattle.log_fetch.specs.declared.get.Get.{Get}
 use Rattle.log_fetch.specs.declared.get.Get.TheVariants as get
 use Rattle.log_fetch.specs.Fetching.{Fetching, FetchIsAfter, IsAsking, IsFor, IsSound, aim, aim_in, awaited_in, fetch_aim, fetch_awaited}
 use Rattle.log_fetch.specs.Gets.{GetIsAfter, get_awaited}
-use Rattle.post_publishing.specs.Kinds.{put_kind}
 use Rattle.post_publishing.specs.Putting.{Putting, PuttingIsAfter, post_of}
 use Rattle.post_publishing.specs.Publishing.{PublishingState, PublishingIsAfter, PutIsBehind, awaited_in as put_awaited_in, posts_in, posts_of, publishing_awaited}
 use Rattle.ask_laws.specs.Laws.{IsWholePutOfPost}

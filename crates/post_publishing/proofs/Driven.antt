@@ -1,17 +1,14 @@
 -- What a driver of posts cites: how they begin, and whom a put may ask.
-use Rattle.std.proofs.Common.{◌≡◌, ◌⊎◌, ℕ, List, [], ◌∷◌, Option, Some, None, refl, sym, ap, ◌∙◌, inl, inr}
-use Rattle.std.specs.Option.{option_map}
+use Rattle.std.proofs.Common.{◌≡◌, ◌⊎◌, ℕ, List, [], ◌∷◌, Option, Some, None, refl, subst}
 use Rattle.dht_ids.specs.Asked.{IsForData}
 use Rattle.dht_ids.specs.declared.ask.Ask.{Ask}
 use Rattle.dht_ids.specs.declared.ask.Ask.TheVariants as ask
 use Rattle.dht_ids.specs.declared.ask.Heard.{Heard}
 use Rattle.dht_ids.specs.declared.peer.Peer.{Peer}
 use Rattle.dht_ids.specs.declared.post.Post.{Post}
-use Rattle.dhash_client.specs.Course.{Asking, CourseState, awaited_at, next_owner}
-use Rattle.dhash_client.specs.Puts.{question_of, put_awaited}
-use Rattle.dhash_client.specs.declared.put.PutKind.{PutKind}
-use Rattle.dhash_client.proofs.DrivenGets.{put_for_data}
-use Rattle.ring_model.proofs.Lists.{some_same, none_some}
+use Rattle.dhash_client.specs.Puts.{put_awaited}
+use Rattle.dhash_client.proofs.DrivenGets.{post_asks, put_for_data}
+use Rattle.ring_model.proofs.Lists.{none_some}
 use Rattle.session_model.specs.Sessions.{Said, publishing, put_question}
 use Rattle.post_publishing.specs.Putting.{Putting, PuttingIsAfter, post_of}
 use Rattle.post_publishing.specs.Publishing.{PublishingState, PublishingIsAfter, PutIsBehind, publishing_begun, publishing_awaited, awaited_in, posts_of, posts_in, stage_of}
@@ -24,26 +21,12 @@ publishing_begins r entries posts = refl
 pub publishing_stage : (said : Option Said) (r : ℕ) (entries : List Peer) (posts : List Post) → stage_of said (publishing_begun r entries posts) ≡ publishing said posts
 publishing_stage said r entries posts = refl
 
-asked_at : (own : Ask) (c : CourseState) (asking : Option Asking) (node : Peer) (question : Ask) → awaited_at own c asking ≡ Some (node, question) → (question ≡ ask.Route c.look.key) ⊎ (question ≡ own)
-asked_at own c None node question e = by c.look.waiting e
-  where
-    by : (waiting : Option Peer) → option_map {U = Peer × Ask} (λ p. (p, ask.Route c.look.key)) waiting ≡ Some (node, question) → (question ≡ ask.Route c.look.key) ⊎ (question ≡ own)
-    by None e = absurd (none_some (node, question) e)
-    by (Some p) e = inl (sym (ap (λ (s : Peer × Ask). s.1) (some_same (p, ask.Route c.look.key) (node, question) e)))
-asked_at own c (Some a) node question e = by (next_owner c.replicas a) e
-  where
-    by : (owner : Option Peer) → option_map {U = Peer × Ask} (λ p. (p, own)) owner ≡ Some (node, question) → (question ≡ ask.Route c.look.key) ⊎ (question ≡ own)
-    by None e = absurd (none_some (node, question) e)
-    by (Some p) e = inr (sym (ap (λ (s : Peer × Ask). s.1) (some_same (p, own) (node, question) e)))
-
 -- a put asks for the route to its post's key, or what its owners are asked
 pub asked_for_post : (r : ℕ) (entries : List Peer) (trail : List Heard) (s : Putting) (node : Peer) (question : Ask) → PuttingIsAfter r entries trail s → put_awaited s.put ≡ Some (node, question)
     → (question ≡ ask.Route (post_of s).key) ⊎ (question ≡ put_question (post_of s))
-asked_for_post r entries trail s node question behind awaited = by (asked_at (question_of s.put.what s.put.bytes s.put.course.look.key) s.put.course s.put.course.asking node question awaited)
-  where
-    by : (question ≡ ask.Route s.put.course.look.key) ⊎ (question ≡ question_of s.put.what s.put.bytes s.put.course.look.key) → (question ≡ ask.Route (post_of s).key) ⊎ (question ≡ put_question (post_of s))
-    by (inl e) = inl e
-    by (inr e) = inr (e ∙ ap (λ (k : PutKind). question_of k s.put.bytes s.put.course.look.key) behind.what ∙ asks_owners s.kind s.put.bytes s.put.course.look.key)
+asked_for_post r entries trail s node question behind awaited =
+    subst (λ (q : Ask). (question ≡ ask.Route (post_of s).key) ⊎ (question ≡ q)) (asks_owners s.kind s.put.bytes s.put.course.look.key)
+    (post_asks s.kind s.put node question behind.what awaited)
 
 -- the node to be heard is asked for the first post that is left
 pub asked_for_first : (trail : List Heard) (s : PublishingState) (node : Peer) (question : Ask) → PublishingIsAfter trail s → publishing_awaited s ≡ Some (node, question)

@@ -16,10 +16,9 @@ use Rattle.dht_ids.specs.declared.post.PostKind.TheVariants as kind
 use Rattle.dhash_client.specs.declared.miss.Miss.{Miss}
 use Rattle.dhash_client.specs.declared.put.PutKind.{PutKind}
 use Rattle.dhash_client.specs.Course.{IsCourse}
-use Rattle.dhash_client.specs.Puts.{PutIsAfter, PutIsWanted, PutHasHeard, IsPutOf, EndsPut, question_of}
+use Rattle.dhash_client.specs.Puts.{PutIsAfter, PutIsWanted, PutHasHeard, IsPutOf, EndsPut, put_kind, question_of}
 use Rattle.dhash_client.proofs.DrivenGets.{put_begins}
 use Rattle.session_model.specs.Sessions.{IsPutOfPost, ack_of, put_question}
-use Rattle.post_publishing.specs.Kinds.{put_kind}
 use Rattle.post_publishing.specs.Putting.{Putting, PuttingIsAfter, PuttingIsWanted, PuttingHasHeard, IsSamePutting, putting, post_of}
 
 -- behind no ask it begins

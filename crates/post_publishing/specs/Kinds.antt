@@ -2,8 +2,6 @@
 use Rattle.std.specs.Prelude.{Bool}
 use Rattle.dht_ids.specs.declared.post.PostKind.{PostKind}
 use Rattle.dht_ids.specs.declared.post.PostKind.TheVariants as kind
-use Rattle.dhash_client.specs.declared.put.PutKind.{PutKind}
-use Rattle.dhash_client.specs.declared.put.PutKind.TheVariants as put
 use Rattle.agent_model.specs.Agent.{is_head}
 use Rattle.agent_model.specs.Others.{is_block}
 use Rattle.session_model.specs.Sessions.{is_log}
@@ -13,9 +11,3 @@ abbrev pub is_kind : PostKind → PostKind → Bool
 is_kind kind.Block other = is_block other
 is_kind kind.Log other = is_log other
 is_kind kind.Head other = is_head other
-
--- how such a post is put
-abbrev pub put_kind : PostKind → PutKind
-put_kind kind.Block = put.Block
-put_kind kind.Log = put.Block
-put_kind kind.Head = put.Head

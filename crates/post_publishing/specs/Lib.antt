@@ -1,4 +1,3 @@
 pub mod Kinds
 pub mod Putting
-pub mod Machines
 pub mod Publishing

@@ -11,9 +11,8 @@ use Rattle.dht_ids.specs.declared.post.Ack.{Ack}
 use Rattle.dht_ids.specs.declared.post.Post.{Post}
 use Rattle.dht_ids.specs.declared.post.PostKind.{PostKind}
 use Rattle.dhash_client.specs.declared.miss.Miss.{Miss}
-use Rattle.dhash_client.specs.Puts.{PutState, PutIsAfter, IsSamePut, put_begun, put_awaited}
+use Rattle.dhash_client.specs.Puts.{PutState, PutIsAfter, IsSamePut, put_begun, put_awaited, put_kind}
 use Rattle.session_model.specs.Sessions.{IsPutOfPost, ack_of}
-use Rattle.post_publishing.specs.Kinds.{put_kind}
 
 -- a put on its way: what its post is, the post's acknowledgement, and the put so far
 pub record Putting : Type 0 where

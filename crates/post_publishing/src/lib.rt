@@ -9,7 +9,7 @@
 //! where no post is left. Each `heard` makes the ask and its answer the next of the trail: then the put goes on, or that trail
 //! is a whole put, and the session is in the stage after it (`PutHears`), as `puts_on` and `puts` of a session's `Hears` have
 //! it. Only where no node is known are puts over with no ask, in `next` (`Passes`). Each answer leaves fewer asks (`puts_left`).
-//! Definitions: `specs/Publishing.antt`, `specs/Putting.antt` (the put of one post), `specs/Kinds.antt`, `specs/Machines.antt`.
+//! Definitions: `specs/Publishing.antt`, `specs/Putting.antt` (the put of one post), `specs/Kinds.antt`.
 //!
 //! Costs: the posts are copied once, at the start, since the agent keeps its own until they are settled; a put takes its
 //! post's block over and hashes it once for the acknowledgement. The block is copied twice for each ask of an owner, since an
@@ -18,7 +18,6 @@
 #![tactic(auto)]
 
 mod asking;
-mod machine;
 mod order;
 mod publishing;
 mod put;

@@ -6,8 +6,7 @@ ghost use Rattle.dhash_client.specs.Puts.{put_awaited};
 ghost use Rattle.session_model.specs.Sessions.{ack_of};
 ghost use Rattle.post_publishing.specs.Putting.{putting, PuttingIsWanted, PuttingHasHeard};
 
-use crate::machine::Machine;
-use dhash_client::Miss;
+use dhash_client::{Miss, PutPost};
 use dht_ids::{Ack, Answer, Peers, Post, PostKind, Want};
 use ivy_base::{Memory, name_of};
 use std::alloc::Global;
@@ -18,16 +17,15 @@ use std::marker::Model;
 pub(crate) struct Put {
     kind: PostKind,
     ack: Ack,
-    machine: Machine,
+    machine: PutPost,
 }
 
 impl Model for Put {
     ghost use Rattle.post_publishing.specs.Putting.{Putting};
-    ghost use Rattle.post_publishing.specs.Machines.{state_of};
 
     ghost Value = { Putting };
 
-    ghost view = { λ p. record { kind = p.kind; ack = p.ack; put = state_of p.machine } };
+    ghost view = { λ p. record { kind = p.kind; ack = p.ack; put = p.machine } };
 }
 
 /// The acknowledgement of the post.
@@ -54,7 +52,7 @@ impl Put {
         Ok(Put {
             kind: post.kind,
             ack: ack_of(&post),
-            machine: Machine::start(alloc, post, replicas, entries)?,
+            machine: PutPost::start(alloc, post, replicas, entries)?,
         })
     }
 

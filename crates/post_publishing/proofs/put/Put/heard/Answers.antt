@@ -1,11 +1,10 @@
 use Rattle.std.proofs.Common.{IfOk, refl, subst}
-use Rattle.post_publishing.specs.Machines.{state_of}
 use Rattle.post_publishing.specs.Putting.{Putting, PuttingHasHeard}
 use Rattle.post_publishing.proofs.Putting.{putting_hears}
 use Rattle.post_publishing.proofs.put.Put.heard.Goals as goal
 
 pub returns-clause-heard : goal.returns-clause-heard
 returns-clause-heard c =
-    let old : Putting = record { kind = c.self.inside.kind; ack = c.self.inside.ack; put = state_of c.self.inside.machine } in
-    let new : Putting = record { kind = c.self.inside.kind; ack = c.self.inside.ack; put = state_of c.heard.new.self } in
+    let old : Putting = record { kind = c.self.inside.kind; ack = c.self.inside.ack; put = c.self.inside.machine } in
+    let new : Putting = record { kind = c.self.inside.kind; ack = c.self.inside.ack; put = c.heard.new.self } in
     subst (λ s. IfOk c.heard.result (λ _. PuttingHasHeard s new c.args.answer)) c.self.view_is (putting_hears old new refl refl c.args.answer c.heard.result c.heard.ensures.heard)
