@@ -1,5 +1,5 @@
 -- What an operation leaves of the names and of the contents is what it leaves of the tree.
-use Rattle.std.proofs.Common.{◌≡◌, ℕ, List, Option, Some, None, Bool, true, false, cond, ◌&&◌, Result, Ok, Err, OnOk, OnErr, Bor, is_some, count_by, refl, sym, ap, ◌∙◌, subst}
+use Rattle.std.proofs.Common.{◌≡◌, ℕ, List, Option, Some, None, Bool, true, false, cond, ◌&&◌, Result, Ok, Err, OnOk, OnErr, Bor, is_some, option_map, count_by, refl, sym, ap, ◌∙◌, subst}
 use Rattle.std.specs.Option.{option_copied}
 use Rattle.std.specs.FinMap.Entries.{find as value_at, put, is_sorted}
 use Rattle.ivy_base.specs.declared.key.Key.{Key}
@@ -19,7 +19,8 @@ use Rattle.dir_replay.specs.Effect.{touched_by, names_after, with_names_changed,
 use Rattle.dir_replay.proofs.Bare.{sound-bare, sound_if_bare, bare-at_inode, is_directory-bare, touched_by-bare}
 use Rattle.dir_replay.proofs.Effects.{apply_names_is, bare-apply}
 use Rattle.inode_replay.specs.Contents.{made, changed, touched_inode}
-use Rattle.inode_replay.proofs.Applied.{inode-free, inode-used, write-at, attributes-at}
+use Rattle.inode_replay.specs.Kept.{Kept, made_kept}
+use Rattle.inode_replay.proofs.Applied.{inode-free, inode-used, made-inode, write-at, attributes-at}
 use Rattle.fs_tree.specs.Contents.{at_content, changed_content, touched_content}
 use Rattle.fs_tree.specs.View.{tree_of}
 use Rattle.fs_tree.specs.Tied.{IsTied}
@@ -99,28 +100,28 @@ module _ (names : Tree) (contents : List (Key × Inode)) (tied : IsTied names co
 
   -- a new inode, on a copy of the contents
   module _ (now : Moment) (number : Key) (kind : Kind) (mode uid gid : ℕ) (target : List ℕ) (o : Op) (same : o ≡ op.Inode number kind mode uid gid target) where
-    pub inode_added : (i : Inode) → made now o ≡ Some i → value_at key_cmp number contents ≡ None → (new : Tree) → new ≡ bare (apply names now o) → (copied : List (Key × Inode)) → copied ≡ contents → (left : List (Key × Inode)) → left ≡ put key_cmp number i copied → (tree_of new left ≡ apply whole now o) × IsTied new left
-    inode_added i makes free new names_are copied same_contents left contents_are =
+    pub inode_added : (k : Kept) → made_kept now o ≡ Some k → value_at key_cmp number contents ≡ None → (new : Tree) → new ≡ bare (apply names now o) → (copied : List (Key × Inode)) → copied ≡ contents → (left : List (Key × Inode)) → left ≡ put key_cmp number k.inode copied → (tree_of new left ≡ apply whole now o) × IsTied new left
+    inode_added k makes free new names_are copied same_contents left contents_are =
         joined now o new left (names_are ∙ names_whole now o) (
-        contents_are ∙ ap (λ es. put key_cmp number i es) same_contents
-        ∙ ap (λ (u : Tree). u.inodes) (sym (inode-free whole now number kind mode uid gid target i free (ap (made now) (sym same) ∙ makes)))
+        contents_are ∙ ap (λ es. put key_cmp number k.inode es) same_contents
+        ∙ ap (λ (u : Tree). u.inodes) (sym (inode-free whole now number kind mode uid gid target k.inode free (ap (made now) (sym same) ∙ made-inode now o k makes)))
         ∙ ap (λ (p : Op). (apply whole now p).inodes) (sym same)
         )
 
-    pub inode_there : (r : Option (Bor Inode)) → option_copied r ≡ value_at key_cmp number contents → true ≡ is_some r → whole ≡ apply whole now o
+    pub inode_there : (r : Option (Bor Kept)) → option_map (λ k. k.inode) (option_copied r) ≡ value_at key_cmp number contents → true ≡ is_some r → whole ≡ apply whole now o
     inode_there r found there = by r found there
       where
-        by : (r : Option (Bor Inode)) → option_copied r ≡ value_at key_cmp number contents → true ≡ is_some r → whole ≡ apply whole now o
+        by : (r : Option (Bor Kept)) → option_map (λ k. k.inode) (option_copied r) ≡ value_at key_cmp number contents → true ≡ is_some r → whole ≡ apply whole now o
         by None found there = cc
-        by (Some i) found there = sym (inode-used whole now number kind mode uid gid target i.now (sym found)) ∙ ap (λ (p : Op). apply whole now p) (sym same)
+        by (Some k) found there = sym (inode-used whole now number kind mode uid gid target k.now.inode (sym found)) ∙ ap (λ (p : Op). apply whole now p) (sym same)
 
   pub subdirectories : (dir : Key) → subdirectory_count names dir ≡ subdirectory_count whole dir
   subdirectories dir = ap (λ (u : Tree). subdirectory_count u dir) (sym tied.same) ∙ λ i. count_by (λ e. same_key dir e.0.0 && is_directory-bare whole e.1 i) names.names
 
 -- no inode of that number
-pub is_free : {A : Type 0} (r : Option (Bor A)) (o : Option A) → option_copied r ≡ o → false ≡ is_some r → o ≡ None
+pub is_free : (r : Option (Bor Kept)) (o : Option Inode) → option_map (λ k. k.inode) (option_copied r) ≡ o → false ≡ is_some r → o ≡ None
 is_free None o found none = sym found
-is_free (Some i) o found none = cc
+is_free (Some k) o found none = cc
 
 -- ---- operations on one inode
 

@@ -1,11 +1,16 @@
 -- The contents of all inodes, in the order of their numbers.
-use Rattle.std.specs.Prelude.{List, Option, Some, None}
+use Rattle.std.specs.Prelude.{List, map, Option, Some, None}
 use Rattle.std.specs.FinMap.Entries.{find as value_at, put}
 use Rattle.ivy_base.specs.declared.key.Key.{Key}
 use Rattle.ivy_base.specs.declared.operation.Moment.{Moment}
 use Rattle.ivy_base.specs.Naming.{key_cmp}
 use Rattle.tree_model.specs.Tree.{Inode}
 use Rattle.inode_replay.specs.Contents.{touched_inode}
+use Rattle.inode_replay.specs.Kept.{Kept}
+
+-- the inodes as the definitions have them, without which places are written
+abbrev pub inodes_of : List (Key × Kept) → List (Key × Inode)
+inodes_of kept = map (λ e. (e.0, e.1.inode)) kept
 
 -- the contents with that one changed, where it was found
 abbrev pub changed_content : List (Key × Inode) → Key → Option Inode → (Inode → Inode) → List (Key × Inode)

@@ -1,6 +1,6 @@
 //! What all inodes contain, by their numbers. It knows of no names.
 
-ghost use Rattle.std.specs.Prelude.{◌≡◌, OnOk, OnErr, IfOk, [], map};
+ghost use Rattle.std.specs.Prelude.{◌≡◌, OnOk, OnErr, IfOk, [], map, option_map};
 ghost use Rattle.std.specs.Option.{option_copied};
 ghost use Rattle.std.specs.FinMap.Entries.{find as value_at, put};
 ghost use Rattle.ivy_base.specs.Naming.{key_cmp};
@@ -13,6 +13,8 @@ use std::alloc::Global;
 use std::marker::Model;
 
 /// The contents of all inodes by their numbers.
+///
+/// Contracts see the inodes in the order of their numbers, without which of their places are written.
 pub struct Contents {
     map: SharedMap<Key, Content>,
 }
@@ -31,7 +33,9 @@ impl Model for Contents {
 
     ghost Value = { List (Key × Inode) };
 
-    ghost view = { λ c. c.map };
+    ghost use Rattle.fs_tree.specs.Contents.{inodes_of};
+
+    ghost view = { λ c. inodes_of c.map };
 }
 
 impl Contents {
@@ -48,14 +52,14 @@ impl Contents {
 
     /// The inode of that number.
     pub fn get(&self, ino: &Key) -> Option<&Content>
-        ensures { option_copied result ≡ value_at key_cmp ino.now self.now }
+        ensures { option_map (λ k. k.inode) (option_copied result) ≡ value_at key_cmp ino.now self.now }
     {
         self.map.get(ino)
     }
 
     /// Lets the number stand for that inode. The error is want of memory, and then nothing has changed.
     pub fn insert(&mut self, alloc: Global, ino: Key, content: Content) -> Result<(), Memory>
-        ensures ok { OnOk result (self.new ≡ put key_cmp ino content self.old) }
+        ensures ok { OnOk result (self.new ≡ put key_cmp ino content.inode self.old) }
         ensures err { OnErr result (self.new ≡ self.old) }
     {
         self.map.insert(alloc, ino, content)?;
@@ -97,7 +101,7 @@ impl Contents {
         ensures ok { OnOk result (self.new ≡ at_content self.old ino.now (changed moment op.now)) }
         ensures err { OnErr result (self.new ≡ self.old) }
     {
-        let Some(content) = self.map.get(ino) else {
+        let Some(content) = self.get(ino) else {
             return Ok(());
         };
         let mut content = content.copy(alloc)?;
@@ -127,7 +131,7 @@ impl Contents {
         ensures ok { OnOk result (self.new ≡ at_content self.old dir.now (touched_inode moment)) }
         ensures err { OnErr result (self.new ≡ self.old) }
     {
-        let Some(content) = self.map.get(dir) else {
+        let Some(content) = self.get(dir) else {
             return Ok(());
         };
         let mut content = content.copy(alloc)?;

@@ -4,12 +4,15 @@
 //! For the layers above: contracts see a [`Tree`] as the tree of `tree_model` (`specs/Tree.antt` there).
 //! [`Tree::empty`] is the root alone, [`Tree::apply`] makes of a tree exactly what `apply` there makes of it, and
 //! each question is answered as the definition of its name says. Where memory is short the tree stays as it was.
-//! [`Tree::names`] and [`Tree::content`] show the two halves, with all that these answer.
+//! [`Tree::names`] and [`Tree::content`] show the two halves, with all that these answer. Which places of a file a Write
+//! wrote is kept with its content and is no part of the tree of the definitions: no operation and no other answer hangs
+//! on it.
 //!
 //! Inside, `contents` is what the inodes contain by their numbers, in a map whose copies share what they have in common,
 //! and `tree` what an operation does to both halves: it works on copies and puts them in place at the end.
 //! Definitions: `specs/View.antt` is the tree that the halves stand for, `specs/Tied.antt` what holds of them,
-//! `specs/Applicable.antt` what an operation must meet, which each record's does.
+//! `specs/Contents.antt` which inodes contents are, `specs/Applicable.antt` what an operation must meet, which each
+//! record's does.
 //!
 //! Costs, counted in comparisons: a question or an operation takes the logarithm of the number of inodes and of the
 //! names in its directories. A Link or a Rename of a directory that has entries also climbs from its place to the top, and

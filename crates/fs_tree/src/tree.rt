@@ -166,9 +166,9 @@ impl Tree {
         self.contents.numbers(alloc)
     }
 
-    /// The inode of that number, and all that can be asked of it.
+    /// The inode of that number, and all that can be asked of it, which of its places are written included.
     pub fn content(&self, ino: &Key) -> Option<&Content>
-        ensures { option_copied result ≡ inode_at self.now ino.now }
+        ensures { option_map (λ k. k.inode) (option_copied result) ≡ inode_at self.now ino.now }
     {
         self.contents.get(ino)
     }

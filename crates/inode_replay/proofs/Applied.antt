@@ -1,5 +1,5 @@
 -- What an operation makes of an inode is what `apply` makes of it in a tree.
-use Rattle.std.proofs.Common.{◌≡◌, ℕ, List, [], ◌∷◌, Option, Some, None, Bool, true, false, cond, not, ◌&&◌, is_some, refl, sym, ap, ◌∙◌}
+use Rattle.std.proofs.Common.{◌≡◌, ℕ, List, [], ◌∷◌, Option, Some, None, Bool, true, false, cond, not, ◌&&◌, is_some, length, replicate, option_map, refl, sym, ap, ◌∙◌}
 use Rattle.std.specs.declared.cmp.Ordering.{Ordering}
 use Rattle.std.specs.declared.cmp.Ordering.TheVariants.{Less, Equal, Greater}
 use Rattle.std.specs.Ordering.{is_eq, is_lt}
@@ -16,6 +16,7 @@ use Rattle.tree_model.specs.Apply.{with_inode, changed_inode, at_inode, set_attr
 use Rattle.tree_model.proofs.Keys.{keys_total}
 use Rattle.tree_model.proofs.Sound.{both_true}
 use Rattle.inode_replay.specs.Contents.{new_inode, made, changed, written, touched_inode}
+use Rattle.inode_replay.specs.Kept.{Kept, made_kept}
 
 -- ---- the inode that is there changes nothing
 
@@ -131,3 +132,13 @@ kind-changed now (op.Prepare dir name verifier) i = refl
 kind-changed now (op.Cancel seq) i = refl
 kind-changed now (op.SetAttrs number change) i = kind-unless (is_some change.size && not (file_kind i.kind)) i (set_attributes now change i) refl
 kind-changed now op.End i = refl
+
+-- ---- without its places
+
+-- what is made with its places is what is made
+pub made-inode : (now : Moment) (o : Op) (k : Kept) → made_kept now o ≡ Some k → made now o ≡ Some k.inode
+made-inode now o k is = by (made now o) is
+  where
+    by : (m : Option Inode) → option_map (λ i. record { inode = i; written = replicate (length i.body) false }) m ≡ Some k → m ≡ Some k.inode
+    by None is = cc
+    by (Some i) is = cc

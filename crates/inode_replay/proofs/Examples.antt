@@ -1,5 +1,5 @@
 -- What operations make of small inodes, computed.
-use Rattle.std.proofs.Common.{◌≡◌, ℕ, List, [], ◌∷◌, Some, None, refl}
+use Rattle.std.proofs.Common.{◌≡◌, ℕ, Bool, true, false, List, [], ◌∷◌, Some, None, refl}
 use Rattle.ivy_base.specs.declared.key.Key.{Key}
 use Rattle.ivy_base.specs.declared.operation.Kind.{Kind}
 use Rattle.ivy_base.specs.declared.operation.Kind.TheVariants.{Reg, Dir, Lnk}
@@ -8,6 +8,7 @@ use Rattle.ivy_base.specs.declared.operation.Change.{Change}
 use Rattle.ivy_base.specs.declared.operation.Op.TheVariants as op
 use Rattle.tree_model.specs.Tree.{Inode}
 use Rattle.inode_replay.specs.Contents.{new_inode, made, changed}
+use Rattle.inode_replay.specs.Kept.{Kept, made_kept, changed_kept}
 
 abbrev at : ℕ → Moment
 at n = record { sec = n; nsec = 0 }
@@ -46,3 +47,25 @@ filled = refl
 
 no_size : changed (at 2) (op.SetAttrs key (size_change 1)) (inode Dir []) ≡ inode Dir []
 no_size = refl
+
+-- which places are written: a byte behind the end leaves a gap, a cut takes places away, and a Write after it fills
+abbrev file : List Bool → Kept
+file written = record { inode = inode Reg (5 ∷ 6 ∷ []); written = written }
+
+gap : (changed_kept (at 2) (op.Write key 3 (8 ∷ [])) (file (true ∷ false ∷ []))).written ≡ true ∷ false ∷ false ∷ true ∷ []
+gap = refl
+
+again : (changed_kept (at 2) (op.Write key 1 (8 ∷ 9 ∷ [])) (file (false ∷ false ∷ []))).written ≡ false ∷ true ∷ true ∷ []
+again = refl
+
+places_cut : (changed_kept (at 2) (op.SetAttrs key (size_change 1)) (file (false ∷ true ∷ []))).written ≡ false ∷ []
+places_cut = refl
+
+places_filled : (changed_kept (at 2) (op.SetAttrs key (size_change 4)) (file (false ∷ true ∷ []))).written ≡ false ∷ true ∷ false ∷ false ∷ []
+places_filled = refl
+
+fresh_link : made_kept (at 1) (op.Inode key Lnk 420 10 20 (47 ∷ [])) ≡ Some (record { inode = inode Lnk (47 ∷ []); written = false ∷ [] })
+fresh_link = refl
+
+link_not_written : changed_kept (at 2) (op.Write key 0 (8 ∷ [])) (record { inode = inode Lnk (47 ∷ []); written = false ∷ [] }) ≡ record { inode = inode Lnk (47 ∷ []); written = false ∷ [] }
+link_not_written = refl

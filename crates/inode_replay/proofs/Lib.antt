@@ -1,2 +1,3 @@
 pub mod Applied
 mod Examples
+pub mod Places

@@ -1,10 +1,10 @@
 //! One inode: its kind, its attributes and its bytes.
 
-ghost use Rattle.std.specs.Prelude.{◌≡◌, ◌+◌, ◌^◌, ◌<◌, length, take, drop, Some, IfOk, OnOk, OnErr, if◌then◌else◌};
+ghost use Rattle.std.specs.Prelude.{◌≡◌, ◌+◌, ◌^◌, ◌<◌, length, filter, take, drop, Some, IfOk, OnOk, OnErr, if◌then◌else◌};
 ghost use Rattle.tree_model.specs.Tree.{file_kind};
-ghost use Rattle.tree_model.specs.Apply.{overwritten};
 ghost use Rattle.inode_replay.specs.Attributes.{attributes_of};
-ghost use Rattle.inode_replay.specs.Contents.{MakesInode, ChangesContent, made, changed, touched_inode, written, set_where_possible};
+ghost use Rattle.inode_replay.specs.Contents.{MakesInode, ChangesContent, written, set_where_possible};
+ghost use Rattle.inode_replay.specs.Kept.{made_kept, changed_kept, touched_kept, places_written, places_below};
 
 use crate::attr::Attr;
 use crate::body::Body;
@@ -14,7 +14,7 @@ use std::marker::Model;
 
 /// An inode: its kind, its attributes, and its bytes, which are a regular file's content or a symbolic link's text.
 ///
-/// Contracts see it as the inode of `tree_model`.
+/// Contracts see it as the inode of `tree_model`, with the places of its bytes that a Write wrote (`specs/Kept.antt`).
 pub struct Content {
     kind: Kind,
     attr: Attr,
@@ -34,22 +34,23 @@ impl Drop for Content {
 
 impl Model for Content {
     ghost use Rattle.std.specs.Prelude.{◌≡◌};
-    ghost use Rattle.tree_model.specs.Tree.{Inode, file_kind};
+    ghost use Rattle.tree_model.specs.Tree.{file_kind};
     ghost use Rattle.inode_replay.specs.Attributes.{attributes_of};
-    ghost use Rattle.inode_replay.specs.Bodies.{bytes_of, is_file_body};
+    ghost use Rattle.inode_replay.specs.Bodies.{bytes_of, is_file_body, places_of};
+    ghost use Rattle.inode_replay.specs.Kept.{Kept};
 
-    ghost Value = { Inode };
+    ghost Value = { Kept };
 
-    ghost view = { λ c. record { kind = c.kind; attributes = attributes_of c.attr; body = bytes_of c.body } };
+    ghost view = { λ c. record { inode = record { kind = c.kind; attributes = attributes_of c.attr; body = bytes_of c.body }; written = places_of c.body } };
 
     ghost invariant = { λ c. is_file_body c.body ≡ file_kind c.kind };
 }
 
 impl Content {
-    /// The inode that an Inode operation adds at that moment. The error is want of memory.
+    /// The inode that an Inode operation adds at that moment, no byte of which is written. The error is want of memory.
     pub fn fresh(alloc: Global, op: &Op, moment: Moment) -> Result<Content, Memory>
         requires { MakesInode op.now }
-        ensures { IfOk result (λ content. made moment op.now ≡ Some content) }
+        ensures { IfOk result (λ content. made_kept moment op.now ≡ Some content) }
     {
         let Op::Inode {
             kind,
@@ -74,7 +75,7 @@ impl Content {
     /// as it was.
     pub fn apply_content(&mut self, alloc: Global, moment: Moment, op: &Op) -> Result<(), Memory>
         requires { ChangesContent op.now }
-        ensures ok { OnOk result (self.new ≡ changed moment op.now self.old) }
+        ensures ok { OnOk result (self.new ≡ changed_kept moment op.now self.old) }
         ensures err { OnErr result (self.new ≡ self.old) }
     {
         match op {
@@ -93,7 +94,7 @@ impl Content {
         bytes: &[u8],
     ) -> Result<(), Memory>
         requires { offset + length bytes.now < 2 ^ 64 }
-        ensures ok { OnOk result (self.new ≡ (if file_kind self.old.kind then written moment offset bytes.now self.old else self.old)) }
+        ensures ok { OnOk result (self.new ≡ record { inode = (if file_kind self.old.inode.kind then written moment offset bytes.now self.old.inode else self.old.inode); written = (if file_kind self.old.inode.kind then places_written offset (length bytes.now) self.old.written else self.old.written) }) }
         ensures err { OnErr result (self.new ≡ self.old) }
     {
         if !self.is_file() {
@@ -111,7 +112,7 @@ impl Content {
         moment: Moment,
         change: &Change,
     ) -> Result<(), Memory>
-        ensures ok { OnOk result (self.new ≡ set_where_possible moment change.now self.old) }
+        ensures ok { OnOk result (self.new ≡ record { inode = set_where_possible moment change.now self.old.inode; written = (if file_kind self.old.inode.kind then places_below change.now.size self.old.written else self.old.written) }) }
         ensures err { OnErr result (self.new ≡ self.old) }
     {
         if change.size.is_some() && !self.is_file() {
@@ -135,7 +136,7 @@ impl Content {
 
     /// Sets the times that a change of the bytes or of the entries sets: mtime and ctime.
     pub fn touch(&mut self, moment: Moment)
-        ensures { self.new ≡ touched_inode moment self.old }
+        ensures { self.new ≡ touched_kept moment self.old }
     {
         self.attr.mtime = moment;
         self.attr.ctime = moment;
@@ -143,29 +144,38 @@ impl Content {
 
     /// The inode's kind.
     pub fn kind(&self) -> Kind
-        ensures { result ≡ self.now.kind }
+        ensures { result ≡ self.now.inode.kind }
     {
         self.kind
     }
 
     /// How many bytes it has: a file's size or the length of a link's text, and 0 for a directory.
     pub fn size(&self) -> u64
-        ensures { result ≡ length self.now.body }
+        ensures { result ≡ length self.now.inode.body }
     {
         self.body.len()
     }
 
+    /// How many of its bytes are stored: the places below the size that a Write wrote and that no later cut took away.
+    /// It is 0 for a directory and for a link, and at most [`Content::size`].
+    pub fn stored(&self) -> u64
+        ensures count { result ≡ length (filter (λ m. m) self.now.written) }
+        ensures as_many { length self.now.written ≡ length self.now.inode.body }
+    {
+        self.body.stored()
+    }
+
     /// The inode's attributes.
     pub fn attr(&self) -> Attr
-        ensures { attributes_of result ≡ self.now.attributes }
+        ensures { attributes_of result ≡ self.now.inode.attributes }
     {
         self.attr
     }
 
     /// A symbolic link's text: the path that it leads to.
     pub fn target(&self) -> &[u8]
-        requires { self.now.kind ≡ Kind.Lnk }
-        ensures { result.now ≡ self.now.body }
+        requires { self.now.inode.kind ≡ Kind.Lnk }
+        ensures { result.now ≡ self.now.inode.body }
     {
         self.body.text()
     }
@@ -173,13 +183,13 @@ impl Content {
     /// The bytes from the offset on, at most so many: fewer where the end comes first, and none at or past the end.
     /// The error is want of memory.
     pub fn read_range(&self, alloc: Global, offset: u64, count: u32) -> Result<Bytes, Memory>
-        ensures { IfOk result (λ bytes. bytes ≡ take count (drop offset self.now.body)) }
+        ensures { IfOk result (λ bytes. bytes ≡ take count (drop offset self.now.inode.body)) }
     {
         self.body.read(alloc, offset, count)
     }
 
-    /// An inode of its own with the same kind, attributes and bytes. It takes no memory: the only error is that a part of
-    /// the bytes already has as many owners as can be counted.
+    /// An inode of its own with the same kind, attributes and bytes, of which the same are stored. It takes no memory: the
+    /// only error is that a part of the bytes already has as many owners as can be counted.
     pub fn copy(&self, _alloc: Global) -> Result<Content, Memory>
         ensures { IfOk result (λ copy. copy ≡ self.now) }
     {
@@ -192,7 +202,7 @@ impl Content {
 
     // Whether it is a regular file.
     fn is_file(&self) -> bool
-        ensures { result ≡ file_kind self.now.kind }
+        ensures { result ≡ file_kind self.now.inode.kind }
     {
         self.kind == Kind::Reg
     }

@@ -37,7 +37,7 @@ fn links(tree: &Tree, number: &Key) -> u32
 
 /// The size that is told of an inode: of a directory 4,096, of a link its text's length, of a file its length.
 fn told_size(content: &Content) -> u64
-    ensures { result ≡ size_of content.now }
+    ensures { result ≡ size_of content.now.inode }
 {
     match content.kind() {
         Kind::Dir => DIRECTORY_SIZE,
@@ -47,7 +47,7 @@ fn told_size(content: &Content) -> u64
 
 /// The attributes of the inode of that number, which is this one.
 fn attributes_with(tree: &Tree, view: &View, number: &Key, content: &Content) -> Fattr
-    ensures { result ≡ attributes tree.now view.now (record { number = number.now; inode = content.now }) }
+    ensures { result ≡ attributes tree.now view.now (record { number = number.now; inode = content.now.inode }) }
 {
     let attr = content.attr();
     let size = told_size(content);

@@ -39,7 +39,7 @@ pub fn object_of<'t>(
     handle: &[u8],
 ) -> Result<LiveObject<'t>, NfsStatus>
     ensures ok { IfOk result (λ o. object_of tree.now view.now handle.now ≡ Ok (seen o)) }
-    ensures there { IfOk result (λ o. inode_at tree.now o.number ≡ Some o.content.now) }
+    ensures there { IfOk result (λ o. inode_at tree.now o.number ≡ Some o.content.now.inode) }
     ensures err { IfErr result (λ fault. object_of tree.now view.now handle.now ≡ Err fault) }
 {
     if !is_handle(handle) {
@@ -79,7 +79,7 @@ fn number_of(handle: &[u8]) -> Key
 /// The object of that number; the fault is `Stale`, where there is none or it isn't live.
 pub fn live_object(tree: &Tree, number: Key) -> Result<LiveObject<'_>, NfsStatus>
     ensures ok { IfOk result (λ o. live_object tree.now number ≡ Ok (seen o)) }
-    ensures there { IfOk result (λ o. inode_at tree.now o.number ≡ Some o.content.now) }
+    ensures there { IfOk result (λ o. inode_at tree.now o.number ≡ Some o.content.now.inode) }
     ensures err { IfErr result (λ fault. live_object tree.now number ≡ Err fault) }
 {
     if !tree.live(&number) {

@@ -17,7 +17,7 @@ const SEARCH: u32 = 1;
 
 /// Whether the caller owns the inode.
 pub fn is_owner(caller: &Caller, content: &Content) -> bool
-    ensures { result ≡ is_owner (identity_of caller.now) content.now }
+    ensures { result ≡ is_owner (identity_of caller.now) content.now.inode }
 {
     caller.uid == content.attr().uid
 }
@@ -40,7 +40,7 @@ fn is_among(groups: &[u32], gid: u32) -> bool
 /// The place value of the bits of the caller's class in the inode's mode: those of the owner, else of the group, else
 /// of the others.
 fn class_unit(caller: &Caller, content: &Content) -> u32
-    ensures unit { result ≡ class_unit (identity_of caller.now) content.now }
+    ensures unit { result ≡ class_unit (identity_of caller.now) content.now.inode }
     ensures some { 0 < result }
     ensures most { result ≤ 64 }
 {
@@ -58,7 +58,7 @@ fn class_unit(caller: &Caller, content: &Content) -> u32
 fn is_granted(right: u32, caller: &Caller, content: &Content) -> bool
     requires some { 0 < right }
     requires most { right ≤ 4 }
-    ensures { result ≡ is_granted right (identity_of caller.now) content.now }
+    ensures { result ≡ is_granted right (identity_of caller.now) content.now.inode }
 {
     if caller.uid == 0 {
         return true;
@@ -69,21 +69,21 @@ fn is_granted(right: u32, caller: &Caller, content: &Content) -> bool
 
 /// Whether the caller may read the inode by its mode.
 pub fn may_read(caller: &Caller, content: &Content) -> bool
-    ensures { result ≡ may_read (identity_of caller.now) content.now }
+    ensures { result ≡ may_read (identity_of caller.now) content.now.inode }
 {
     is_granted(READ, caller, content)
 }
 
 /// Whether the caller may write the inode by its mode.
 pub fn may_write(caller: &Caller, content: &Content) -> bool
-    ensures { result ≡ may_write (identity_of caller.now) content.now }
+    ensures { result ≡ may_write (identity_of caller.now) content.now.inode }
 {
     is_granted(WRITE, caller, content)
 }
 
 /// Whether the caller may search the inode, a directory, or execute it, by its mode.
 pub fn may_search(caller: &Caller, content: &Content) -> bool
-    ensures { result ≡ may_search (identity_of caller.now) content.now }
+    ensures { result ≡ may_search (identity_of caller.now) content.now.inode }
 {
     is_granted(SEARCH, caller, content)
 }

@@ -124,7 +124,7 @@ fn refused(status: NfsStatus, dir: Option<Fattr>) -> Reply
 
 /// Why the caller may not read the inode as a directory: `NotDir` or `Acces`.
 fn reading_fault(caller: &Caller, content: &Content) -> Option<NfsStatus>
-    ensures { result ≡ first_failure ((not (directory_kind content.now.kind), status.NotDir) ∷ (not (may_read (identity_of caller.now) content.now), status.Acces) ∷ []) }
+    ensures { result ≡ first_failure ((not (directory_kind content.now.inode.kind), status.NotDir) ∷ (not (may_read (identity_of caller.now) content.now.inode), status.Acces) ∷ []) }
 {
     if content.kind() != Kind::Dir {
         return Some(NfsStatus::NotDir);

@@ -81,7 +81,7 @@ pub(crate) fn read(
 
 /// The first check of a READ that fails, where one does.
 fn read_fault(caller: &Caller, file: &Content) -> Option<NfsStatus>
-    ensures { result ≡ first_failure (read_checks (identity_of caller.now) file.now) }
+    ensures { result ≡ first_failure (read_checks (identity_of caller.now) file.now.inode) }
 {
     if file.kind() != Kind::Reg {
         return Some(NfsStatus::Inval);
@@ -95,7 +95,7 @@ fn read_fault(caller: &Caller, file: &Content) -> Option<NfsStatus>
 
 /// The bytes from the offset on, at most so many and at most 8,192. The error is want of memory.
 fn part_of(alloc: Global, file: &Content, offset: u64, count: u32) -> Result<Bytes, Memory>
-    ensures part { IfOk result (λ bytes. bytes ≡ part file.now.body offset count) }
+    ensures part { IfOk result (λ bytes. bytes ≡ part file.now.inode.body offset count) }
     ensures short { IfOk result (λ bytes. length bytes ≤ 8192) }
 {
     file.read_range(alloc, offset, count.min(MOST_READ))
@@ -103,7 +103,7 @@ fn part_of(alloc: Global, file: &Content, offset: u64, count: u32) -> Result<Byt
 
 /// Whether so many bytes from the offset on reach the file's end.
 fn is_end(file: &Content, offset: u64, count: u32) -> bool
-    ensures { result ≡ nat_le (length file.now.body) (offset + count) }
+    ensures { result ≡ nat_le (length file.now.inode.body) (offset + count) }
 {
     file.size() <= offset.saturating_add(count as u64)
 }

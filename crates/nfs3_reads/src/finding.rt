@@ -46,7 +46,7 @@ pub(crate) fn lookup(
 
 /// The number that the name in the object leads to, where no check fails; the fault is that of the first that does.
 fn target(tree: &Tree, caller: &Caller, dir: &LiveObject<'_>, name: &[u8]) -> Result<Key, NfsStatus>
-    requires { inode_at tree.now dir.now.number ≡ Some dir.now.content.now }
+    requires { inode_at tree.now dir.now.number ≡ Some dir.now.content.now.inode }
     ensures passes { IfOk result (λ _. first_failure (lookup_checks tree.now (identity_of caller.now) (seen dir.now) name.now) ≡ None) }
     ensures ok { IfOk result (λ number. target_of tree.now dir.now.number name.now ≡ Some number) }
     ensures err { IfErr result (λ fault. first_failure (lookup_checks tree.now (identity_of caller.now) (seen dir.now) name.now) ≡ Some fault) }

@@ -42,7 +42,7 @@ pub(crate) fn access(tree: &Tree, view: &View, caller: &Caller, handle: &[u8], b
 
 /// The bits that the caller is granted.
 fn granted_bits(caller: &Caller, content: &Content) -> u32
-    ensures { result ≡ granted_bits (identity_of caller.now) content.now }
+    ensures { result ≡ granted_bits (identity_of caller.now) content.now.inode }
 {
     let is_dir = content.kind() == Kind::Dir;
     let may_search = may_search(caller, content);

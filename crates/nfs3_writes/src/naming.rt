@@ -190,7 +190,7 @@ fn rename_between(
     to_dir: &LiveObject<'_>,
     to_name: &[u8],
 ) -> Result<Plan, Memory>
-    requires { inode_at tree.now to_dir.now.number ≡ Some to_dir.now.content.now }
+    requires { inode_at tree.now to_dir.now.number ≡ Some to_dir.now.content.now.inode }
     ensures { IfOk result (λ given. seen given ≡ plan_rename_between tree.now view.now (identity_of caller.now) (seen_object dir.now) name.now (seen_object to_dir.now) to_name.now) }
 {
     let moved = tree.entry(&dir.number, name);

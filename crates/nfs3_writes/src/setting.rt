@@ -92,14 +92,14 @@ fn attribute_fault(
 
 /// Whether the caller may write the inode by its mode, or owns it.
 fn may_change_bytes(caller: &Caller, content: &Content) -> bool
-    ensures { result ≡ (may_write (identity_of caller.now) content.now || is_owner (identity_of caller.now) content.now) }
+    ensures { result ≡ (may_write (identity_of caller.now) content.now.inode || is_owner (identity_of caller.now) content.now.inode) }
 {
     may_write(caller, content) || is_owner(caller, content)
 }
 
 /// Whether a guard is given that isn't the inode's ctime.
 fn is_out_of_step(content: &Content, guard: Option<Moment>) -> bool
-    ensures { result ≡ option_map_or (λ m. not (m.sec == content.now.attributes.ctime.sec && m.nsec == content.now.attributes.ctime.nsec)) guard false }
+    ensures { result ≡ option_map_or (λ m. not (m.sec == content.now.inode.attributes.ctime.sec && m.nsec == content.now.inode.attributes.ctime.nsec)) guard false }
 {
     match guard {
         Some(moment) => moment != content.attr().ctime,
@@ -120,7 +120,7 @@ fn asks_of_owner(what: &SetWhat) -> bool
 
 /// Whether the caller owns the inode and isn't the superuser.
 fn is_plain_owner(caller: &Caller, content: &Content) -> bool
-    ensures { result ≡ is_plain_owner (identity_of caller.now) content.now }
+    ensures { result ≡ is_plain_owner (identity_of caller.now) content.now.inode }
 {
     is_owner(caller, content) && caller.uid != 0
 }

@@ -1,6 +1,6 @@
 //! The tree as two lists, and what an operation does to them.
 
-ghost use Rattle.std.specs.Prelude.{◌≡◌, ◌&&◌, IfOk, OnOk, OnErr, not, if◌then◌else◌};
+ghost use Rattle.std.specs.Prelude.{◌≡◌, ◌&&◌, IfOk, OnOk, OnErr, not, option_map, if◌then◌else◌};
 ghost use Rattle.std.specs.Option.{option_copied};
 ghost use Rattle.tree_model.specs.Tree.{inode_at, entry, is_directory, is_file, has_name, is_empty_directory, is_inside, subdirectory_count};
 ghost use Rattle.tree_model.specs.Apply.{empty_tree, apply, at_inode, with_inode, with_name, without_name, touched, link, unlink, move, may_link, may_lose_name, may_replace, may_rename};
@@ -27,9 +27,10 @@ impl Model for Plain {
 
     ghost Value = { Tree };
 
+    ghost use Rattle.fs_tree.specs.Contents.{inodes_of};
     ghost use Rattle.plain_tree.specs.View.{tree_of};
 
-    ghost view = { λ t. tree_of t.names.items t.inodes.items };
+    ghost view = { λ t. tree_of t.names.items (inodes_of t.inodes.items) };
 }
 
 impl Plain {
@@ -299,7 +300,7 @@ impl Plain {
 
     // Lets the number stand for that inode.
     fn set_inode(&mut self, ino: &Key, content: Content) -> Result<(), Memory>
-        ensures ok { OnOk result (self.new ≡ with_inode self.old ino.now content) }
+        ensures ok { OnOk result (self.new ≡ with_inode self.old ino.now content.inode) }
     {
         inodes::put(&mut self.inodes, ino, content)
     }
@@ -320,7 +321,7 @@ impl Plain {
 
     /// The inode of that number, and all that can be asked of it.
     pub fn inode(&self, ino: &Key) -> Option<&Content>
-        ensures { option_copied result ≡ inode_at self.now ino.now }
+        ensures { option_map (λ k. k.inode) (option_copied result) ≡ inode_at self.now ino.now }
     {
         inodes::find(&self.inodes, ino)
     }

@@ -7,7 +7,8 @@
 //! inodes, a directory with one name at most and none inside itself.
 //!
 //! Within: `order` tests the order of numbers and names, `adding` adds all inodes without names, `linking` gives them their
-//! names, which fails exactly where one may not be given, and `settling` gives them their bytes and attributes.
+//! names, which fails exactly where one may not be given, and `settling` gives them their bytes and attributes: a file's
+//! bytes in one Write of them all, so that each place of it counts as written (`inode_replay`).
 //! Definitions: `specs/Parts.antt` is the tree of the parts, `specs/Steps.antt` how far it is built.
 //!
 //! Costs: each inode and each name is one operation of the tree, and each file's bytes are copied once more on the way.

@@ -64,7 +64,7 @@ fn settle_other(alloc: Global, tree: &mut Tree, part: &InodeParts) -> Result<(),
     Ok(())
 }
 
-/// Gives a file its bytes. The error is want of memory.
+/// Gives a file its bytes, all of which are written then. The error is want of memory.
 fn write(alloc: Global, tree: &mut Tree, number: &Key, body: &Bytes) -> Result<(), Memory>
     requires { length body.now ≤ 16777216 }
     ensures { OnOk result (tree.new ≡ write_file tree.old beginning number.now 0 body.now) }

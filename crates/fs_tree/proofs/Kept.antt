@@ -1,0 +1,36 @@
+-- The inodes of contents that say which places are written: what is found and what is put.
+use Rattle.std.proofs.Common.{◌≡◌, List, [], ◌∷◌, Option, Some, None, Bool, true, false, Bor, cond, map, option_map, refl, sym, ap, ◌∙◌}
+use Rattle.std.specs.declared.cmp.Ordering.{Ordering}
+use Rattle.std.specs.declared.cmp.Ordering.TheVariants.{Less, Equal, Greater}
+use Rattle.std.specs.Ordering.{eq_by_cmp}
+use Rattle.std.specs.FinMap.Entries.{find as value_at, put, by_order}
+use Rattle.ivy_base.specs.declared.key.Key.{Key}
+use Rattle.ivy_base.specs.Naming.{key_cmp}
+use Rattle.tree_model.specs.Tree.{Inode}
+use Rattle.inode_replay.specs.Kept.{Kept}
+use Rattle.fs_tree.specs.Contents.{inodes_of}
+
+find_inode : (ino : Key) (es : List (Key × Kept)) → value_at key_cmp ino (inodes_of es) ≡ option_map (λ k. k.inode) (value_at key_cmp ino es)
+find_inode ino [] = refl
+find_inode ino (e ∷ es) = by (eq_by_cmp key_cmp ino e.0) (find_inode ino es)
+  where
+    by : (b : Bool) → value_at key_cmp ino (inodes_of es) ≡ option_map (λ k. k.inode) (value_at key_cmp ino es) → cond b (Some e.1.inode) (value_at key_cmp ino (inodes_of es)) ≡ option_map (λ k. k.inode) (cond b (Some e.1) (value_at key_cmp ino es))
+    by true rest = refl
+    by false rest = rest
+
+-- what was found is the inode of that number
+pub found_inode : (ino : Key) (es : List (Key × Kept)) (found : Option Kept) (seen : List (Key × Inode)) → found ≡ value_at key_cmp ino es → inodes_of es ≡ seen → option_map (λ k. k.inode) found ≡ value_at key_cmp ino seen
+found_inode ino es found seen is same = ap (option_map (λ k. k.inode)) is ∙ sym (find_inode ino es) ∙ ap (value_at key_cmp ino) same
+
+put_inode : (ino : Key) (k : Kept) (es : List (Key × Kept)) → inodes_of (put key_cmp ino k es) ≡ put key_cmp ino k.inode (inodes_of es)
+put_inode ino k [] = refl
+put_inode ino k (e ∷ es) = by (key_cmp ino e.0) (put_inode ino k es)
+  where
+    by : (r : Ordering) → inodes_of (put key_cmp ino k es) ≡ put key_cmp ino k.inode (inodes_of es) → inodes_of (by_order r ((ino, k) ∷ e ∷ es) ((e.0, k) ∷ es) (e ∷ put key_cmp ino k es)) ≡ by_order r ((ino, k.inode) ∷ inodes_of (e ∷ es)) ((e.0, k.inode) ∷ inodes_of es) ((e.0, e.1.inode) ∷ put key_cmp ino k.inode (inodes_of es))
+    by Less rest = refl
+    by Equal rest = refl
+    by Greater rest = ap (λ l. (e.0, e.1.inode) ∷ l) rest
+
+-- what was put is the inode under that number
+pub put_inodes : (ino : Key) (k : Kept) (es new : List (Key × Kept)) (seen : List (Key × Inode)) → new ≡ put key_cmp ino k es → inodes_of es ≡ seen → inodes_of new ≡ put key_cmp ino k.inode seen
+put_inodes ino k es new seen is same = ap inodes_of is ∙ put_inode ino k es ∙ ap (put key_cmp ino k.inode) same
