@@ -1,5 +1,6 @@
 pub mod Counts
 pub mod Forks
+pub mod Grown
 pub mod Heights
 pub mod Moved
 pub mod Rows

@@ -26,6 +26,8 @@ mod joining;
 mod key;
 mod listing;
 mod map;
+mod placing;
+mod settling;
 mod testing;
 mod tree;
 

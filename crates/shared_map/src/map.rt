@@ -93,9 +93,8 @@ impl<K: MapKey + Drop, V: Drop> SharedMap<K, V> {
         if self.count == usize::MAX {
             return Err(Memory);
         }
-        let old = self.shared(&key)?;
         let value = Arc::new(alloc, value)?;
-        self.tree = self.tree.with(alloc, key, value)?;
+        let old = self.tree.insert(alloc, key, value)?;
         if old.is_none() {
             self.count += 1;
         }
@@ -109,7 +108,7 @@ impl<K: MapKey + Drop, V: Drop> SharedMap<K, V> {
         ensures ok { OnOk result (self.new ≡ where_key K.order (λ k. not (eq_by_cmp K.order (Q.key key.now) k)) self.old) }
         ensures err { OnErr result (self.new ≡ self.old) }
     {
-        let Some(old) = self.shared(key)? else {
+        let Some(old) = self.tree.shared(key)? else {
             return Ok(None);
         };
         self.tree = self.tree.without(alloc, key)?;
@@ -146,15 +145,5 @@ impl<K: MapKey + Drop, V: Drop> SharedMap<K, V> {
         let mut list = Vec::new(alloc);
         self.tree.list_from(key, most, &mut list)?;
         Ok(list)
-    }
-
-    // The value under the key, with one owner more.
-    fn shared<Q: Sought<K>>(&self, key: &Q) -> Result<Option<Arc<V>>, Memory>
-        ensures { IfOk result (λ value. option_map (λ v. v.value) value ≡ value_at K.order (Q.key key.now) self.now) }
-    {
-        match self.tree.get(key) {
-            None => Ok(None),
-            Some(value) => Ok(Some(value.clone()?)),
-        }
     }
 }
