@@ -30,7 +30,9 @@ mod placing;
 mod settling;
 mod testing;
 mod tree;
+mod updating;
 
 pub use key::{MapKey, Sought};
 pub use map::SharedMap;
 pub use testing::EntryTest;
+pub use updating::Edit;

@@ -2,13 +2,15 @@
 
 ghost use Rattle.std.specs.Prelude.{◌≡◌, ◌↔◌, [], T, IsTrue, length, map, take, not, IfOk, OnOk, OnErr};
 ghost use Rattle.std.specs.List.{list_any};
-ghost use Rattle.std.specs.Option.{option_copied, option_map};
+ghost use Rattle.std.specs.Option.{is_some, option_copied, option_map};
 ghost use Rattle.std.specs.Ordering.{eq_by_cmp, is_le};
 ghost use Rattle.std.specs.FinMap.Entries.{find as value_at, put, where_key, is_sorted};
+ghost use Rattle.shared_map.specs.Edits.{IsEdited};
 
 use crate::key::{MapKey, Sought};
 use crate::testing::EntryTest;
 use crate::tree::Tree;
+use crate::updating::{Edit, update};
 use ivy_base::Memory;
 use std::alloc::Global;
 use std::marker::Model;
@@ -145,5 +147,23 @@ impl<K: MapKey + Drop, V: Drop> SharedMap<K, V> {
         let mut list = Vec::new(alloc);
         self.tree.list_from(key, most, &mut list)?;
         Ok(list)
+    }
+}
+
+impl<K: MapKey + Drop, V: Clone> SharedMap<K, V> {
+    /// Changes the value that the key stands for where it stands, and answers whether there is one; a value that has
+    /// other owners is cloned first. The error is want of memory, and then nothing has changed.
+    pub fn update<Q: Sought<K>, E: Edit<V>>(
+        &mut self,
+        alloc: Global,
+        key: &Q,
+        edit: &mut E,
+    ) -> Result<bool, Memory>
+        requires clones { (x y : V) → V.is_clone x y → y ≡ x }
+        ensures found { IfOk result (λ found. found ≡ is_some (value_at K.order (Q.key key.now) self.old)) }
+        ensures ok { OnOk result (IsEdited K.order E.makes (Q.key key.now) edit.old edit.new self.old self.new) }
+        ensures err { OnErr result ((edit.new ≡ edit.old) × (self.new ≡ self.old)) }
+    {
+        update(alloc, &mut self.tree, key, edit)
     }
 }
