@@ -1,4 +1,5 @@
 pub mod Counts
+pub mod Edited
 pub mod Forks
 pub mod Grown
 pub mod Heights
