@@ -1,10 +1,10 @@
 -- A node of which one value was changed, at it or on one of its sides.
-use Rattle.std.proofs.Common.{◌≡◌, ℕ, T, List, ◌∷◌, ◌++◌, length, Option, Some, None, Result, Ok, Err, refl, sym, ap, ◌∙◌, subst}
+use Rattle.std.proofs.Common.{◌≡◌, T, List, ◌∷◌, ◌++◌, Option, Some, None, Result, Ok, Err, refl, sym, ap, ◌∙◌, subst}
 use Rattle.std.specs.Prelude.{OnOk, OnErr}
 use Rattle.std.specs.Cmp.{IsTotalOrder}
 use Rattle.std.specs.declared.cmp.Ordering.{Ordering}
 use Rattle.std.specs.declared.cmp.Ordering.TheVariants.{Less, Equal, Greater}
-use Rattle.std.specs.FinMap.Entries.{find as value_at, put, is_sorted, is_sorted-put}
+use Rattle.std.specs.FinMap.Entries.{find as value_at, is_sorted, is_sorted-put}
 use Rattle.shared_map.specs.declared.tree.Fork.{Fork}
 use Rattle.shared_map.specs.Edits.{IsEditedAt, IsEdited}
 use Rattle.shared_map.specs.Trees.{seen}

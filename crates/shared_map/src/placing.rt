@@ -33,12 +33,7 @@ impl From<AllocError> for NotInPlace {
 
 impl<K: MapKey + Drop, V: Drop> Tree<K, V> {
     /// Puts the value under the key, and answers the one before. The error is want of memory; no entry has changed then.
-    pub fn insert(
-        &mut self,
-        alloc: Global,
-        key: K,
-        value: Arc<V>,
-    ) -> Result<Option<Arc<V>>, Memory>
+    pub fn insert(&mut self, alloc: Global, key: K, value: Arc<V>) -> Result<Option<Arc<V>>, Memory>
         requires ordered { T (is_sorted K.order self.old.0) }
         requires few { length self.old.0 + 1 < 2 ^ 64 }
         ensures before { IfOk result (λ before. option_map (λ v. v.value) before ≡ value_at K.order key self.old.0) }
