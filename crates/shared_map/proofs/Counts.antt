@@ -28,6 +28,10 @@ module _ {K V A : Type 0} (R : K → K → Ordering) (o : IsTotalOrder R) (k : K
       let less : 1 + length (where_key R (λ x. not (eq_by_cmp R k x)) es) ≡ length es = ap (λ (x : Option V). cond (is_some x) 1 0 + length (where_key R (λ x. not (eq_by_cmp R k x)) es)) there ∙ length_without R o k es sorted in
       (subst (λ l. T (is_sorted R l)) (sym is) (is_sorted-where_key R (λ x. not (eq_by_cmp R k x)) es sorted), omega (arith, count, less, ap length is))
 
+-- after an error
+pub unchanged : {K V : Type 0} (R : K → K → Ordering) (es t : List (K × V)) (n : ℕ) → T (is_sorted R es) → n ≡ length es → t ≡ es → T (is_sorted R t) × (n ≡ length t)
+unchanged R es t n sorted count is = (subst (λ l. T (is_sorted R l)) (sym is) sorted, omega (arith, count, ap length is))
+
 twice_not : (b : Bool) → not (not b) ≡ b
 twice_not true = refl
 twice_not false = refl

@@ -114,3 +114,7 @@ module _ {K V : Type 0} (f : Fork K V) (now : List (K × V) × ℕ) (is : seen (
 -- a tree with a node at its top has entries
 pub some_entries : {K V : Type 0} (f : Fork K V) (now : List (K × V) × ℕ) → seen (Some f) ≡ now → 0 < length now.0
 some_entries f now is = omega (arith, lengths f now is)
+
+-- as many entries as before have as much room
+pub few_again : {K V : Type 0} (f g : Fork K V) → (seen (Some g)).0 ≡ (seen (Some f)).0 → length f.left.0 + length f.right.0 + 1 < 2 ^ 64 → length g.left.0 + length g.right.0 + 1 < 2 ^ 64
+few_again f g is few = omega (arith, lengths f _ refl, lengths g _ refl, ap length is, few)

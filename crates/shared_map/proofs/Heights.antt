@@ -1,36 +1,66 @@
 -- The heights of trees that are joined, and how few entries a tree of a height can have.
-use Rattle.std.proofs.Common.{◌≡◌, ℕ, zero, suc, ◌+◌, ◌/◌, ◌^◌, ◌<◌, ◌≤◌, inl, inr, arith, refl}
+use Rattle.std.proofs.Common.{◌≡◌, ℕ, zero, suc, ◌+◌, ◌*◌, ◌^◌, ◌<◌, ◌≤◌, inl, inr, arith}
 use Rattle.std.specs.Prelude.{max}
 use Rattle.std.proofs.Math.Pow.{pow_mono}
-use Rattle.std.proofs.Math.Nat.{pow-suc}
+use Rattle.std.proofs.Math.Nat.{pow-suc, mul-le-mul_left}
+use Rattle.std.proofs.Math.Numerals.{add-one}
 use Rattle.std.proofs.lemmas.Bool.{cases_lt}
 use Rattle.shared_map.specs.Trees.{DifferByAtMost, IsLow, IsSettled}
 
-two_sides : (a b j : ℕ) → 2 ^ j ≤ a + 1 → 2 ^ j ≤ b + 1 → 2 ^ suc j ≤ a + suc b + 1
-two_sides a b j x y = omega (arith, x, y, pow-suc j 2)
+-- what joins a tree and one that may be two lower
+squares : (x y p : ℕ) → 4 * p ≤ x * x → p ≤ y * y → 8 * p ≤ (x + y) * (x + y)
+squares x y p high low = elim (cases_lt x (2 * y)) [
+  | inl lt ↦ let more : x * x ≤ x * (2 * y) = mul-le-mul_left x (omega (arith, lt)) in omega (arith, high, low, more)
+  | inr le ↦ let more : y * (2 * y) ≤ y * x = mul-le-mul_left y le in omega (arith, high, low, more)
+]
 
-power_below : (a l j : ℕ) → IsLow a l → j ≤ l / 2 → 2 ^ j ≤ a + 1
-power_below a l j low le = omega (arith, low, pow_mono le)
+two_at_least : (a b : ℕ) → 4 ≤ (a + 1 + (b + 1)) * (a + 1 + (b + 1))
+two_at_least a b = omega arith
 
-by_half : (a b l r k : ℕ) → IsLow a l → IsLow b r → DifferByAtMost 1 l r → k ≡ (max l r + 1) / 2 → 2 ^ k ≤ a + suc b + 1
-by_half a b l r zero x y d e = omega arith
-by_half a b l r (suc j) x y d e = two_sides a b j (power_below a l j x (omega (arith, d.0, d.1, e))) (power_below b r j y (omega (arith, d.0, d.1, e)))
+higher_first : (a b l r : ℕ) → IsLow a l → IsLow b r → r ≤ l → l ≤ r + 2 → 2 ^ suc l ≤ (a + 1 + (b + 1)) * (a + 1 + (b + 1))
+higher_first a b zero r x y le ge = omega (arith, two_at_least a b)
+higher_first a b (suc zero) r x y le ge = omega (arith, two_at_least a b)
+higher_first a b (suc (suc j)) r x y le ge =
+    let below : 2 ^ j ≤ 2 ^ r = pow_mono (omega (arith, ge)) in
+    let once : 2 ^ suc j ≡ 2 * 2 ^ j = omega (arith, pow-suc j 2) in
+    let twice : 2 ^ suc (suc j) ≡ 4 * 2 ^ j = omega (arith, once, pow-suc (suc j) 2) in
+    let thrice : 2 ^ suc (suc (suc j)) ≡ 8 * 2 ^ j = omega (arith, twice, pow-suc (suc (suc j)) 2) in
+    omega (arith, thrice, squares (a + 1) (b + 1) (2 ^ j) (omega (arith, x, twice)) (omega (arith, y, below)))
 
-pub low_joined : (a b l r : ℕ) → IsLow a l → IsLow b r → DifferByAtMost 1 l r → IsLow (a + suc b) (max l r + 1)
-low_joined a b l r x y d = by_half a b l r ((max l r + 1) / 2) x y d refl
+pub low_joined : (a b l r : ℕ) → IsLow a l → IsLow b r → DifferByAtMost 2 l r → IsLow (a + suc b) (max l r + 1)
+low_joined a b l r x y d = elim (cases_lt l r) [
+  | inl lt ↦ let m : max l r ≡ r = omega (arith, lt) in rw (m, add-one r) (omega (arith, higher_first b a r l y x (omega (arith, lt)) d.1))
+  | inr le ↦ let m : max l r ≡ l = omega (arith, le) in rw (m, add-one l) (omega (arith, higher_first a b l r x y le d.0))
+]
 
 pub low_fits : (n h : ℕ) → IsLow n h → n < 2 ^ 64 → h < 130
 low_fits n h low few = elim (cases_lt h 130) [
   | inl lt ↦ lt
-  | inr le ↦ let more : 2 ^ 65 ≤ 2 ^ (h / 2) = pow_mono {i = 65} {j = h / 2} (omega (arith, le)) in omega (arith, low, few, more)
+  | inr le ↦
+      let more : 2 ^ 130 ≤ 2 ^ h = pow_mono {i = 130} {j = h} le in
+      let once : (n + 1) * (n + 1) ≤ (n + 1) * 2 ^ 64 = mul-le-mul_left (n + 1) (omega (arith, few)) in
+      omega (arith, low, few, more, once)
 ]
 
 -- a side that is one off moves what the node settles to by one at most
-pub settled_near : (l r side h : ℕ) → DifferByAtMost 1 l r → DifferByAtMost 1 side l → IsSettled side r h → DifferByAtMost 1 h (max l r + 1)
+pub settled_near : (l r side h : ℕ) → DifferByAtMost 2 l r → DifferByAtMost 1 side l → IsSettled side r h → DifferByAtMost 1 h (max l r + 1)
 settled_near l r side h d e s = elim (cases_lt (r + 1) side) [
   | inl far ↦ (omega (arith, d.0, d.1, e.0, e.1, s.0, s.1, far), omega (arith, d.0, d.1, e.0, e.1, s.0, s.1, far))
   | inr near ↦ elim (cases_lt (side + 1) r) [
     | inl far ↦ (omega (arith, d.0, d.1, e.0, e.1, s.0, s.1, far), omega (arith, d.0, d.1, e.0, e.1, s.0, s.1, far))
     | inr level ↦ let is = s.2 (near, level) in (omega (arith, d.0, d.1, e.0, e.1, is), omega (arith, d.0, d.1, e.0, e.1, is))
   ]
+]
+
+-- a side that has grown makes the node grow by one at most
+pub settled_grown : (l r side h : ℕ) → DifferByAtMost 1 l r → l ≤ side → side ≤ l + 1 → IsSettled side r h → (max l r + 1 ≤ h) × (h ≤ max l r + 2)
+settled_grown l r side h d low high s = elim (cases_lt (r + 1) side) [
+  | inl far ↦ (omega (arith, d.0, d.1, low, high, s.0, s.1, far), omega (arith, d.0, d.1, low, high, s.0, s.1, far))
+  | inr near ↦ let is = s.2 (near, omega (arith, d.1, low)) in (omega (arith, low, is), omega (arith, high, is))
+]
+
+pub settled_grown_right : (l r side h : ℕ) → DifferByAtMost 1 l r → r ≤ side → side ≤ r + 1 → IsSettled l side h → (max l r + 1 ≤ h) × (h ≤ max l r + 2)
+settled_grown_right l r side h d low high s = elim (cases_lt (l + 1) side) [
+  | inl far ↦ (omega (arith, d.0, d.1, low, high, s.0, s.1, far), omega (arith, d.0, d.1, low, high, s.0, s.1, far))
+  | inr near ↦ let is = s.2 (omega (arith, d.0, low), near) in (omega (arith, low, is), omega (arith, high, is))
 ]

@@ -1,5 +1,7 @@
 pub mod Counts
+pub mod Edited
 pub mod Forks
+pub mod Grown
 pub mod Heights
 pub mod Moved
 pub mod Rows

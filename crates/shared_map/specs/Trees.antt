@@ -1,5 +1,5 @@
--- What a node of the tree is seen as, and what holds of it: the tree is an AVL tree.
-use Rattle.std.specs.Prelude.{◌≡◌, ℕ, ◌+◌, ◌/◌, ◌^◌, ◌≤◌, max, List, [], ◌∷◌, ◌++◌, Option, Some, None}
+-- What a node of the tree is seen as, and what holds of it: the tree is an AVL tree with some play.
+use Rattle.std.specs.Prelude.{◌≡◌, ℕ, ◌+◌, ◌*◌, ◌^◌, ◌≤◌, max, List, [], ◌∷◌, ◌++◌, length, Option, Some, None}
 use Rattle.std.specs.declared.alloc.Global.{Global}
 use Rattle.std.specs.declared.sync.Arc.{Arc}
 use Rattle.shared_map.specs.declared.tree.Fork.{Fork}
@@ -8,9 +8,9 @@ use Rattle.shared_map.specs.declared.tree.Fork.{Fork}
 abbrev pub DifferByAtMost : ℕ → ℕ → ℕ → Type 0
 DifferByAtMost by a b = (a ≤ b + by) × (b ≤ a + by)
 
--- the height is at most one above twice the binary logarithm of the number of entries and one
+-- the height is at most twice the binary logarithm of the number of entries and one
 abbrev pub IsLow : ℕ → ℕ → Type 0
-IsLow entries height = 2 ^ (height / 2) ≤ entries + 1
+IsLow entries height = 2 ^ height ≤ (entries + 1) * (entries + 1)
 
 -- the height h of what a node with sides of these heights settles to
 abbrev pub IsSettled : ℕ → ℕ → ℕ → Type 0
@@ -22,10 +22,18 @@ module _ {K V : Type 0} where
   seen None = ([], 0)
   seen (Some f) = (f.left.0 ++ (f.key, f.value.value) ∷ f.right.0, f.height)
 
-  -- the height is one above the higher side's, and those differ by at most one
+  -- the height is one above the higher side's, and those differ by at most two
   abbrev pub IsBalanced : Option (Fork K V) → Type 0
   IsBalanced None = Unit {0}
-  IsBalanced (Some f) = (f.height ≡ max f.left.1 f.right.1 + 1) × DifferByAtMost 1 f.left.1 f.right.1
+  IsBalanced (Some f) = (f.height ≡ max f.left.1 f.right.1 + 1) × DifferByAtMost 2 f.left.1 f.right.1
+
+  -- what the node of a tree keeps
+  abbrev pub IsTree : Fork K V → Type 0
+  IsTree f = IsBalanced (Some f) × IsLow (length (seen (Some f)).0) f.height
+
+  -- the two nodes are equal, but that their values may have other owners
+  abbrev pub IsCopy : Fork K V → Fork K V → Type 0
+  IsCopy f g = (g.left ≡ f.left) × (g.key ≡ f.key) × (g.value.value ≡ f.value.value) × (g.height ≡ f.height) × (g.right ≡ f.right)
 
   -- the node at the top
   abbrev pub top : Option (Arc (Fork K V) Global) → Option (Fork K V)
@@ -35,3 +43,7 @@ module _ {K V : Type 0} where
   -- the tree has these entries, and a height that is at most one off this one
   abbrev pub IsNear : List (K × V) → ℕ → List (K × V) × ℕ → Type 0
   IsNear es height tree = (tree.0 ≡ es) × DifferByAtMost 1 tree.1 height
+
+  -- the tree has these entries, and this height or one more
+  abbrev pub IsGrown : List (K × V) → ℕ → List (K × V) × ℕ → Type 0
+  IsGrown es height tree = (tree.0 ≡ es) × (height ≤ tree.1) × (tree.1 ≤ height + 1)

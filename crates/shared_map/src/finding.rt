@@ -30,6 +30,17 @@ impl<K: MapKey + Drop, V: Drop> Tree<K, V> {
         }
     }
 
+    /// The value under the key, with one owner more. The error is a count of owners that is full.
+    pub fn shared<Q: Sought<K>>(&self, key: &Q) -> Result<Option<Arc<V>>, Memory>
+        requires { T (is_sorted K.order self.now.0) }
+        ensures { IfOk result (λ value. option_map (λ v. v.value) value ≡ value_at K.order (Q.key key.now) self.now.0) }
+    {
+        match self.get(key) {
+            None => Ok(None),
+            Some(value) => Ok(Some(value.clone()?)),
+        }
+    }
+
     /// The entries with the value under the key. The error is want of memory.
     pub fn with(&self, alloc: Global, key: K, value: Arc<V>) -> Result<Tree<K, V>, Memory>
         requires ordered { T (is_sorted K.order self.now.0) }
@@ -106,8 +117,8 @@ impl<K: MapKey + Drop, V: Drop> Tree<K, V> {
     }
 }
 
-// One entry. The error is want of memory.
-fn alone<K: Drop, V: Drop>(alloc: Global, key: K, value: Arc<V>) -> Result<Tree<K, V>, Memory>
+/// One entry. The error is want of memory.
+pub fn alone<K: Drop, V: Drop>(alloc: Global, key: K, value: Arc<V>) -> Result<Tree<K, V>, Memory>
     ensures { IfOk result (λ t. t ≡ ((key, value.value) ∷ [], 1)) }
 {
     joined(alloc, Tree::new(), key, value, Tree::new())

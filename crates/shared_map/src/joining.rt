@@ -68,8 +68,8 @@ pub fn with_value<K: MapKey + Drop, V: Drop>(
     )
 }
 
-// One above the higher of two sides that one node can have.
-fn height_above<K: Drop, V: Drop>(left: &Tree<K, V>, right: &Tree<K, V>) -> u8
+/// One above the higher of two sides that one node can have.
+pub fn height_above<K: Drop, V: Drop>(left: &Tree<K, V>, right: &Tree<K, V>) -> u8
     requires few { length left.now.0 + length right.now.0 + 1 < 2 ^ 64 }
     ensures height { result ≡ max left.now.1 right.now.1 + 1 }
     ensures low { IsLow (length left.now.0) left.now.1 × IsLow (length right.now.0) right.now.1 }
@@ -85,7 +85,7 @@ pub fn joined<K: Drop, V: Drop>(
     value: Arc<V>,
     right: Tree<K, V>,
 ) -> Result<Tree<K, V>, Memory>
-    requires level { DifferByAtMost 1 left.1 right.1 }
+    requires level { DifferByAtMost 2 left.1 right.1 }
     requires few { length left.0 + length right.0 + 1 < 2 ^ 64 }
     ensures { IfOk result (λ t. t ≡ (left.0 ++ (key, value.value) ∷ right.0, max left.1 right.1 + 1)) }
 {
@@ -103,7 +103,7 @@ pub fn joined<K: Drop, V: Drop>(
     Ok(Tree::over(fork))
 }
 
-/// The entries of two sides whose heights differ by two at most, with one between them. The error is want of memory.
+/// The entries of two sides whose heights differ by three at most, with one between them. The error is want of memory.
 pub fn balanced<K: MapKey + Drop, V: Drop>(
     alloc: Global,
     left: Tree<K, V>,
@@ -111,7 +111,7 @@ pub fn balanced<K: MapKey + Drop, V: Drop>(
     value: Arc<V>,
     right: Tree<K, V>,
 ) -> Result<Tree<K, V>, Memory>
-    requires level { DifferByAtMost 2 left.1 right.1 }
+    requires level { DifferByAtMost 3 left.1 right.1 }
     requires few { length left.0 + length right.0 + 1 < 2 ^ 64 }
     ensures { IfOk result (λ t. (t.0 ≡ left.0 ++ (key, value.value) ∷ right.0) × IsSettled left.1 right.1 t.1) }
 {
@@ -125,7 +125,7 @@ pub fn balanced<K: MapKey + Drop, V: Drop>(
     }
 }
 
-// The same, of a left side that is two higher. The error is want of memory.
+// The same, of a left side that is two or three higher. The error is want of memory.
 fn from_left<K: MapKey + Drop, V: Drop>(
     alloc: Global,
     left: Tree<K, V>,
@@ -133,7 +133,7 @@ fn from_left<K: MapKey + Drop, V: Drop>(
     value: Arc<V>,
     right: Tree<K, V>,
 ) -> Result<Tree<K, V>, Memory>
-    requires higher { left.1 ≡ right.1 + 2 }
+    requires higher { (right.1 + 2 ≤ left.1) × (left.1 ≤ right.1 + 3) }
     requires few { length left.0 + length right.0 + 1 < 2 ^ 64 }
     ensures { IfOk result (λ t. (t.0 ≡ left.0 ++ (key, value.value) ∷ right.0) × (left.1 ≤ t.1) × (t.1 ≤ left.1 + 1)) }
 {
@@ -162,7 +162,7 @@ fn from_left<K: MapKey + Drop, V: Drop>(
     joined(alloc, left, inner.key.share()?, inner.value.clone()?, right)
 }
 
-// The same, of a right side that is two higher. The error is want of memory.
+// The same, of a right side that is two or three higher. The error is want of memory.
 fn from_right<K: MapKey + Drop, V: Drop>(
     alloc: Global,
     left: Tree<K, V>,
@@ -170,7 +170,7 @@ fn from_right<K: MapKey + Drop, V: Drop>(
     value: Arc<V>,
     right: Tree<K, V>,
 ) -> Result<Tree<K, V>, Memory>
-    requires higher { right.1 ≡ left.1 + 2 }
+    requires higher { (left.1 + 2 ≤ right.1) × (right.1 ≤ left.1 + 3) }
     requires few { length left.0 + length right.0 + 1 < 2 ^ 64 }
     ensures { IfOk result (λ t. (t.0 ≡ left.0 ++ (key, value.value) ∷ right.0) × (right.1 ≤ t.1) × (t.1 ≤ right.1 + 1)) }
 {

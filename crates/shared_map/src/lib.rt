@@ -5,20 +5,24 @@
 //! says by the words of the kit's finite maps (`find`, `put`, `where_key` of `FinMap.Entries`) what it makes of that list;
 //! [`SharedMap::len`] and [`SharedMap::get`] say that its keys ascend. Where memory is short a map stays as it was. A
 //! [`MapKey`] has a total order and gives an equal key, since a node that is made anew keeps its key; what is [`Sought`] is
-//! a key or a borrowed form of one; an [`EntryTest`] is a test of entries. Lemmas to cite: `proofs/Sides`, what a search, a
+//! a key or a borrowed form of one; an [`EntryTest`] is a test of entries; an [`Edit`] changes a value where it stands, and
+//! says by a relation of its own what it makes. Lemmas to cite: `proofs/Sides`, what a search, a
 //! change and a removal make of entries on both sides of one, over any total order.
 //!
-//! Inside, `tree` is a tree whose parts have many owners and are never changed, `joining` puts trees together so that they
-//! stay balanced, `finding` goes down to a key, `listing` borrows entries in a row, `testing` looks at each entry, `key` says
-//! what a key is, and `map` keeps the keys in order.
-//! Definitions: `specs/Trees.antt`. Heights are part of the invariant: the two sides of each node differ by one at most, and
-//! the height is at most one above twice the binary logarithm of the number of entries and one, whatever the order of
-//! insertions and removals, so at most 129.
+//! Inside, `tree` is a tree whose parts may have many owners, `joining` makes nodes anew over two sides so that they stay
+//! balanced, `finding` goes down to a key and makes the nodes on its way anew, `placing` puts an entry in place, `settling`
+//! turns nodes in place, `updating` changes a value in place, `listing` borrows entries in a row, `testing` looks at each
+//! entry, `key` says what a key is, and `map` keeps the keys in order.
+//! Definitions: `specs/Trees.antt`, and `specs/Edits.antt` for the change of a value. Heights are part of the invariant: the
+//! two sides of each node differ by two at most, and the height is at most twice the binary logarithm of the number of
+//! entries and one, whatever the order of insertions and removals, so at most 128. The code aims at sides that differ by one:
+//! that they differ by two is left to an insertion in place which can't turn a node since that has other owners.
 //!
 //! Costs: a copy takes constant time and no memory. A search takes a comparison for each level of the tree. An insertion
-//! or a removal makes each node on its way anew, and at most two more beside each; all else stays shared with the copies,
-//! so a copy that is kept costs the memory of the nodes that were made since. A list takes the time of what it gives, and
-//! that of a search where it begins at a key.
+//! or an update changes a node on its way in place where it has one owner, and makes it anew where copies share it. A removal
+//! makes each node on its way anew, and at most two more beside each; so does an insertion that meets a node of which the
+//! sides differ by two. All else stays shared with the copies, so a copy that is kept costs the memory of the nodes that were
+//! made since. A list takes the time of what it gives, and that of a search where it begins at a key.
 #![tactic(auto)]
 
 mod finding;
@@ -26,9 +30,13 @@ mod joining;
 mod key;
 mod listing;
 mod map;
+mod placing;
+mod settling;
 mod testing;
 mod tree;
+mod updating;
 
 pub use key::{MapKey, Sought};
 pub use map::SharedMap;
 pub use testing::EntryTest;
+pub use updating::Edit;

@@ -2,13 +2,15 @@
 
 ghost use Rattle.std.specs.Prelude.{◌≡◌, ◌↔◌, [], T, IsTrue, length, map, take, not, IfOk, OnOk, OnErr};
 ghost use Rattle.std.specs.List.{list_any};
-ghost use Rattle.std.specs.Option.{option_copied, option_map};
+ghost use Rattle.std.specs.Option.{is_some, option_copied, option_map};
 ghost use Rattle.std.specs.Ordering.{eq_by_cmp, is_le};
 ghost use Rattle.std.specs.FinMap.Entries.{find as value_at, put, where_key, is_sorted};
+ghost use Rattle.shared_map.specs.Edits.{IsEdited};
 
 use crate::key::{MapKey, Sought};
 use crate::testing::EntryTest;
 use crate::tree::Tree;
+use crate::updating::{Edit, update};
 use ivy_base::Memory;
 use std::alloc::Global;
 use std::marker::Model;
@@ -93,9 +95,8 @@ impl<K: MapKey + Drop, V: Drop> SharedMap<K, V> {
         if self.count == usize::MAX {
             return Err(Memory);
         }
-        let old = self.shared(&key)?;
         let value = Arc::new(alloc, value)?;
-        self.tree = self.tree.with(alloc, key, value)?;
+        let old = self.tree.insert(alloc, key, value)?;
         if old.is_none() {
             self.count += 1;
         }
@@ -109,7 +110,7 @@ impl<K: MapKey + Drop, V: Drop> SharedMap<K, V> {
         ensures ok { OnOk result (self.new ≡ where_key K.order (λ k. not (eq_by_cmp K.order (Q.key key.now) k)) self.old) }
         ensures err { OnErr result (self.new ≡ self.old) }
     {
-        let Some(old) = self.shared(key)? else {
+        let Some(old) = self.tree.shared(key)? else {
             return Ok(None);
         };
         self.tree = self.tree.without(alloc, key)?;
@@ -147,14 +148,22 @@ impl<K: MapKey + Drop, V: Drop> SharedMap<K, V> {
         self.tree.list_from(key, most, &mut list)?;
         Ok(list)
     }
+}
 
-    // The value under the key, with one owner more.
-    fn shared<Q: Sought<K>>(&self, key: &Q) -> Result<Option<Arc<V>>, Memory>
-        ensures { IfOk result (λ value. option_map (λ v. v.value) value ≡ value_at K.order (Q.key key.now) self.now) }
+impl<K: MapKey + Drop, V: Clone> SharedMap<K, V> {
+    /// Changes the value that the key stands for where it stands, and answers whether there is one; a value that has
+    /// other owners is cloned first. The error is want of memory, and then nothing has changed.
+    pub fn update<Q: Sought<K>, E: Edit<V>>(
+        &mut self,
+        alloc: Global,
+        key: &Q,
+        edit: &mut E,
+    ) -> Result<bool, Memory>
+        requires clones { (x y : V) → V.is_clone x y → y ≡ x }
+        ensures found { IfOk result (λ found. found ≡ is_some (value_at K.order (Q.key key.now) self.old)) }
+        ensures ok { OnOk result (IsEdited K.order E.makes (Q.key key.now) edit.old edit.new self.old self.new) }
+        ensures err { OnErr result ((edit.new ≡ edit.old) × (self.new ≡ self.old)) }
     {
-        match self.tree.get(key) {
-            None => Ok(None),
-            Some(value) => Ok(Some(value.clone()?)),
-        }
+        update(alloc, &mut self.tree, key, edit)
     }
 }

@@ -1,11 +1,12 @@
-//! Trees of entries in order, which share their parts: a node is never changed, only made anew along one path.
+//! Trees of entries in order, which share their parts: a node is changed where it has one owner, and else made anew.
 
 ghost use Rattle.std.specs.Prelude.{◌≡◌, [], length, IfOk, Some};
 ghost use Rattle.std.specs.Option.{option_copied};
-ghost use Rattle.shared_map.specs.Trees.{seen, IsBalanced, IsLow};
+ghost use Rattle.shared_map.specs.Trees.{seen, top as top_of, IsBalanced, IsLow};
 
+use crate::key::MapKey;
 use ivy_base::Memory;
-use std::alloc::Global;
+use std::alloc::{AllocError, Global};
 use std::marker::Model;
 use std::sync::Arc;
 
@@ -76,6 +77,16 @@ impl<K: Drop, V: Drop> Tree<K, V> {
         }
     }
 
+    /// Takes the node at the top out, so that nothing is left.
+    pub fn take(&mut self) -> Option<Arc<Fork<K, V>>>
+        ensures top { seen (top_of result) ≡ self.old }
+        ensures balanced { IsBalanced (top_of result) }
+        ensures low { IsLow (length self.old.0) self.old.1 }
+        ensures rest { self.new ≡ ([], 0) }
+    {
+        self.root.take()
+    }
+
     /// How high the tree is.
     pub fn height(&self) -> u8
         ensures height { result ≡ self.now.1 }
@@ -94,5 +105,32 @@ impl<K: Drop, V: Drop> Tree<K, V> {
         ensures { result ≡ seen (Some fork.value) }
     {
         Tree { root: Some(fork) }
+    }
+}
+
+impl<K: MapKey + Drop, V: Drop> Clone for Fork<K, V> {
+    ghost use Rattle.shared_map.specs.Trees.{IsCopy};
+
+    ghost is_clone = { IsCopy };
+
+    fn clone(&self) -> Result<Fork<K, V>, AllocError> {
+        self.shared().map_err(|_| AllocError)
+    }
+}
+
+impl<K: MapKey + Drop, V: Drop> Fork<K, V> {
+    ghost use Rattle.shared_map.specs.Trees.{IsCopy};
+
+    // The same node, which shares its sides and its value.
+    fn shared(&self) -> Result<Fork<K, V>, Memory>
+        ensures { IfOk result (IsCopy self.now) }
+    {
+        Ok(Fork {
+            left: self.left.copy()?,
+            key: self.key.share()?,
+            value: self.value.clone()?,
+            height: self.height,
+            right: self.right.copy()?,
+        })
     }
 }

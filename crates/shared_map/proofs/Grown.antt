@@ -1,0 +1,48 @@
+-- A node of which a side has grown, and how many entries there are where a node is turned twice.
+use Rattle.std.proofs.Common.{◌≡◌, ℕ, ◌+◌, ◌^◌, ◌<◌, ◌≤◌, T, List, ◌∷◌, ◌++◌, length, Some, ap, ◌∙◌, refl, arith}
+use Rattle.std.specs.Int.{abs_diff}
+use Rattle.std.specs.Cmp.{IsTotalOrder}
+use Rattle.std.specs.declared.cmp.Ordering.{Ordering}
+use Rattle.std.specs.declared.cmp.Ordering.TheVariants.{Less, Greater}
+use Rattle.std.specs.FinMap.Entries.{put, is_sorted}
+use Rattle.shared_map.specs.declared.tree.Fork.{Fork}
+use Rattle.shared_map.specs.Trees.{seen, IsBalanced, IsGrown, IsSettled, DifferByAtMost}
+use Rattle.shared_map.proofs.Forks.{lengths, put_left, put_right}
+use Rattle.shared_map.proofs.Heights.{settled_grown, settled_grown_right}
+use Rattle.shared_map.proofs.Sides.{length_put}
+
+pub level_is : (a b l r d : ℕ) → d ≡ abs_diff a b → a ≡ l → b ≡ r → d ≤ 1 → DifferByAtMost 1 l r
+level_is a b l r d e x y le = (omega (arith, e, x, y, le), omega (arith, e, x, y, le))
+
+module _ {K V : Type 0} (f : Fork K V) where
+  pub few_twice_left : (side middle inner : Fork K V) (n : ℕ) → side ≡ f → seen (Some middle) ≡ side.right → inner ≡ middle → length (seen (Some f)).0 + n + 1 < 2 ^ 64
+      → (length side.left.0 + length inner.left.0 + 1 < 2 ^ 64) × (length inner.right.0 + n + 1 < 2 ^ 64)
+  few_twice_left side middle inner n is top same few =
+      let sides : (length side.left.0 ≡ length f.left.0) × (length side.right.0 ≡ length f.right.0) = (ap (λ (x : Fork K V). length x.left.0) is, ap (λ (x : Fork K V). length x.right.0) is) in
+      let inners : (length inner.left.0 ≡ length middle.left.0) × (length inner.right.0 ≡ length middle.right.0) = (ap (λ (x : Fork K V). length x.left.0) same, ap (λ (x : Fork K V). length x.right.0) same) in
+      (omega (arith, lengths f _ refl, lengths middle _ top, sides, inners, few), omega (arith, lengths f _ refl, lengths middle _ top, sides, inners, few))
+
+  pub few_twice_right : (side middle inner : Fork K V) (n : ℕ) → side ≡ f → seen (Some middle) ≡ side.left → inner ≡ middle → n + length (seen (Some f)).0 + 1 < 2 ^ 64
+      → (n + length inner.left.0 + 1 < 2 ^ 64) × (length inner.right.0 + length side.right.0 + 1 < 2 ^ 64)
+  few_twice_right side middle inner n is top same few =
+      let sides : (length side.left.0 ≡ length f.left.0) × (length side.right.0 ≡ length f.right.0) = (ap (λ (x : Fork K V). length x.left.0) is, ap (λ (x : Fork K V). length x.right.0) is) in
+      let inners : (length inner.left.0 ≡ length middle.left.0) × (length inner.right.0 ≡ length middle.right.0) = (ap (λ (x : Fork K V). length x.left.0) same, ap (λ (x : Fork K V). length x.right.0) same) in
+      (omega (arith, lengths f _ refl, lengths middle _ top, sides, inners, few), omega (arith, lengths f _ refl, lengths middle _ top, sides, inners, few))
+
+  module _ (R : K → K → Ordering) (k : K) (v : V) (t : List (K × V) × ℕ) where
+    pub few_left : IsGrown (put R k v f.left.0) f.left.1 t → length (seen (Some f)).0 + 1 < 2 ^ 64 → length t.0 + length f.right.0 + 1 < 2 ^ 64
+    few_left grown few = omega (arith, lengths f _ refl, ap length grown.0, length_put R k v f.left.0, few)
+
+    pub few_right : IsGrown (put R k v f.right.0) f.right.1 t → length (seen (Some f)).0 + 1 < 2 ^ 64 → length f.left.0 + length t.0 + 1 < 2 ^ 64
+    few_right grown few = omega (arith, lengths f _ refl, ap length grown.0, length_put R k v f.right.0, few)
+
+    module _ (o : IsTotalOrder R) (sorted : T (is_sorted R (seen (Some f)).0)) (b : IsBalanced (Some f)) (level : DifferByAtMost 1 f.left.1 f.right.1) (es : List (K × V)) (h : ℕ) where
+      pub grown_left : R k f.key ≡ Less → IsGrown (put R k v f.left.0) f.left.1 t → es ≡ t.0 ++ (f.key, f.value.value) ∷ f.right.0 → IsSettled t.1 f.right.1 h → IsGrown (put R k v (seen (Some f)).0) f.height (es, h)
+      grown_left lt grown is settled =
+          let high = settled_grown f.left.1 f.right.1 t.1 h level grown.1 grown.2 settled in
+          (is ∙ ap (λ l. l ++ (f.key, f.value.value) ∷ f.right.0) grown.0 ∙ put_left f _ refl R o sorted k v lt, omega (arith, b.0, high.0), omega (arith, b.0, high.1))
+
+      pub grown_right : R k f.key ≡ Greater → IsGrown (put R k v f.right.0) f.right.1 t → es ≡ f.left.0 ++ (f.key, f.value.value) ∷ t.0 → IsSettled f.left.1 t.1 h → IsGrown (put R k v (seen (Some f)).0) f.height (es, h)
+      grown_right gt grown is settled =
+          let high = settled_grown_right f.left.1 f.right.1 t.1 h level grown.1 grown.2 settled in
+          (is ∙ ap (λ l. f.left.0 ++ (f.key, f.value.value) ∷ l) grown.0 ∙ put_right f _ refl R o sorted k v gt, omega (arith, b.0, high.0), omega (arith, b.0, high.1))
