@@ -10,6 +10,7 @@ ghost use Rattle.agent_model.specs.SavedBytes.{kept_bytes, kind_number, post_byt
 ghost use Rattle.ivy_agent.specs.Holders.{signing};
 ghost use Rattle.ivy_agent.specs.Saves.{saved_of, AreShort, HasSaved, IsWholeAfter};
 
+use block_parts::opaque_len;
 use dht_ids::{Post, PostKind, Posts};
 use hss_keys::Signs;
 use ivy_base::{Bytes, Key, Memory};
@@ -125,19 +126,6 @@ fn write(
     put_posts(&mut out, posts);
     put_name(&mut out, snapshot);
     Ok(out.into_bytes())
-}
-
-/// How many bytes opaque data takes. There is no number where it has 2^32 bytes or more.
-fn opaque_len(bytes: &[u8]) -> Option<usize>
-    ensures size { IfSome result (λ n. n ≡ 4 + padded (length bytes.now)) }
-    ensures short { OnSome result (length bytes.now < 2 ^ 32) }
-    ensures bound { IfSome result (λ n. n ≤ 2 ^ 33) }
-{
-    let len = bytes.len();
-    if len > u32::MAX as usize {
-        return None;
-    }
-    Some(4 + len + (4 - len % 4) % 4)
 }
 
 /// How many bytes [`put_front`] appends. There is no number where a word can't count a part.
