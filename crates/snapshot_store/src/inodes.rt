@@ -44,10 +44,10 @@ fn put_inode(
     number: &Key,
     content: &Content,
 ) -> Result<Key, Memory>
-    requires bounds { HasBounds content.now }
+    requires bounds { HasBounds content.now.inode }
     requires few { length (listing names.now number.now) ≤ 4294967296 }
-    ensures blocks { OnOk result (blocks.new ≡ put_all blocks.old (inode_made names.now (number.now, content.now) ∷ [])) }
-    ensures named { IfOk result (λ key. key ≡ made_name (inode_made names.now (number.now, content.now))) }
+    ensures blocks { OnOk result (blocks.new ≡ put_all blocks.old (inode_made names.now (number.now, content.now.inode) ∷ [])) }
+    ensures named { IfOk result (λ key. key ≡ made_name (inode_made names.now (number.now, content.now.inode))) }
 {
     let items = put_items(alloc, blocks, names, number, content)?;
     let inode = InodeBlock {
@@ -64,7 +64,7 @@ fn put_inode(
 
 /// A file's size, and 0 of anything else.
 fn size_of(content: &Content) -> u64
-    ensures { result ≡ size_of content.now.body content.now.kind }
+    ensures { result ≡ size_of content.now.inode.body content.now.inode.kind }
 {
     match content.kind() {
         Kind::Reg => content.size(),
@@ -74,7 +74,7 @@ fn size_of(content: &Content) -> u64
 
 /// A link's text, and nothing of anything else.
 fn target_of(content: &Content) -> &[u8]
-    ensures { result.now ≡ target_of content.now.body content.now.kind }
+    ensures { result.now ≡ target_of content.now.inode.body content.now.inode.kind }
 {
     match content.kind() {
         Kind::Lnk => content.target(),

@@ -29,9 +29,9 @@ pub fn put_items(
     number: &Key,
     content: &Content,
 ) -> Result<Listed, Memory>
-    requires bounds { HasBounds content.now }
+    requires bounds { HasBounds content.now.inode }
     requires few { length (listing names.now number.now) ≤ 4294967296 }
-    ensures { IfOk result (PutsList blocks.old (items_of (listing names.now number.now) content.now.body content.now.kind) blocks.new) }
+    ensures { IfOk result (PutsList blocks.old (items_of (listing names.now number.now) content.now.inode.body content.now.inode.kind) blocks.new) }
 {
     match content.kind() {
         Kind::Reg => put_pieces(alloc, blocks, content),
@@ -45,8 +45,8 @@ pub fn put_items(
 
 /// Puts the pieces of a file, and the list over them. The error is want of memory.
 fn put_pieces(alloc: Global, blocks: &mut Blocks, file: &Content) -> Result<Listed, Memory>
-    requires { length file.now.body ≤ 16777216 }
-    ensures { IfOk result (PutsList blocks.old (map piece_made (in_pieces 8192 file.now.body)) blocks.new) }
+    requires { length file.now.inode.body ≤ 16777216 }
+    ensures { IfOk result (PutsList blocks.old (map piece_made (in_pieces 8192 file.now.inode.body)) blocks.new) }
 {
     let mut levels = Levels::new(alloc);
     let mut start = 0;

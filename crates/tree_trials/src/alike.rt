@@ -60,7 +60,7 @@ fn same_bytes(alloc: Global, a: &Content, b: &Content, offset: u64) -> Result<bo
     Ok(bytes.as_slice() == others.as_slice())
 }
 
-/// Whether both have the same kind, attributes, size and bytes at both ends, or are missing.
+/// Whether both have the same kind, attributes, size, count of stored bytes and bytes at both ends, or are missing.
 fn same_contents(alloc: Global, a: Option<&Content>, b: Option<&Content>) -> Result<bool, Memory> {
     let (Some(a), Some(b)) = (a, b) else {
         return Ok(a.is_none() && b.is_none());
@@ -69,6 +69,7 @@ fn same_contents(alloc: Global, a: Option<&Content>, b: Option<&Content>) -> Res
         a.kind() == b.kind()
             && a.attr() == b.attr()
             && a.size() == b.size()
+            && a.stored() == b.stored()
             && same_bytes(alloc, a, b, 0)?
             && same_bytes(alloc, a, b, a.size().saturating_sub(u64::from(ENDS)))?,
     )

@@ -54,6 +54,7 @@ pub enum Answer {
     Naming(Naming),
     Entries(Entries),
     Bytes(Bytes),
+    Stored(u64),
     Many(Many),
 }
 
@@ -194,6 +195,7 @@ impl fmt::Display for Answer {
             Answer::Naming(naming) => write!(f, "{naming}"),
             Answer::Entries(entries) => write!(f, "{entries}"),
             Answer::Bytes(bytes) => write!(f, "{}", Quoted(bytes.as_slice())),
+            Answer::Stored(stored) => write!(f, "{stored}"),
             Answer::Many(many) => write!(f, "{many}"),
         }
     }

@@ -11,7 +11,8 @@
 //!   directory of a directory's name, and whether it is live
 //! - `list DIR`: a directory's entries in their order. `entry DIR NAME`: the inode of one
 //! - `inside NUMBER DIR`: whether an inode is the directory or lies inside it
-//! - `read NUMBER OFFSET COUNT`: a file's bytes, `\0` being a zero byte. `target NUMBER`: the text of a link
+//! - `read NUMBER OFFSET COUNT`: a file's bytes, `\0` being a zero byte. `target NUMBER`: the text of a link.
+//!   `stored NUMBER`: how many of a file's bytes were written and not cut away
 //! - `many COUNT`: in a tree of its own, so many directories in the root, beside as many names of one file
 //! - `generated SEED COUNT`: so many operations that a generator of that seed chooses, on trees of their own; how many had an
 //!   effect

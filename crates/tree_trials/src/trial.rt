@@ -95,6 +95,7 @@ impl Trial {
             "inside" => inside(tree, &ino, rest),
             "read" => read(alloc, tree, &ino, rest),
             "target" => target(alloc, tree, &ino),
+            "stored" => Some(stored(tree, &ino)),
             _ => None,
         }
     }
@@ -160,4 +161,12 @@ fn target(alloc: Global, tree: &Tree, ino: &Key) -> Option<Answer> {
     }
     let bytes = Bytes::copy_of(alloc, content.target()).ok()?;
     Some(Answer::Bytes(bytes))
+}
+
+/// How many of the inode's bytes are stored.
+fn stored(tree: &Tree, ino: &Key) -> Answer {
+    match tree.content(ino) {
+        Some(content) => Answer::Stored(content.stored()),
+        None => Answer::Missing,
+    }
 }

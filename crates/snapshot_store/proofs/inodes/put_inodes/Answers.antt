@@ -1,4 +1,4 @@
-use Rattle.std.proofs.Common.{◌∷◌, [], List, get_or, length, map, take, sym, ap, ◌∙◌, subst, arith}
+use Rattle.std.proofs.Common.{◌∷◌, [], List, get_or, length, map, option_map, take, sym, ap, ◌∙◌, subst, arith}
 use Rattle.std.specs.Option.{option_copied}
 use Rattle.std.proofs.lemmas.List.{length-map, length-take, take_all}
 use Rattle.ivy_base.specs.declared.key.Key.{Key}
@@ -13,25 +13,25 @@ use Rattle.snapshot_store.proofs.inodes.put_inodes.Goals as goal
 pub unreachable-requires : goal.unreachable-requires
 unreachable-requires c =
     not_missing c.args.tree.now c.in_ok-numbers.ensures.order c.deref-number-items.result.now (c.deref-number-items.ensures.value ∙ c.in_ok-numbers.ensures.numbers) c.inodes.number-index c.inodes-test.true _
-    (sym (ap option_copied c.in_default.is) ∙ c.content.ensures)
+    (sym (ap (λ found. option_map (λ k. k.inode) (option_copied found)) c.in_default.is) ∙ c.content.ensures)
 
 pub put_inode-requires-clause-bounds : goal.put_inode-requires-clause-bounds
 put_inode-requires-clause-bounds c =
     (holds_here c.args.tree.now c.in_ok-numbers.ensures.order c.deref-number-items.result.now (c.deref-number-items.ensures.value ∙ c.in_ok-numbers.ensures.numbers) c.inodes.number-index c.inodes-test.true _
-    c.in-Some.content.now c.in-Some.ensures (IsInodeBounded c.args.tree.now) c.requires.bounds).0
+    c.in-Some.content.now.inode c.in-Some.ensures (IsInodeBounded c.args.tree.now) c.requires.bounds).0
 
 pub put_inode-requires-clause-few : goal.put_inode-requires-clause-few
 put_inode-requires-clause-few c =
     rw (c.names.ensures)
     ((holds_here c.args.tree.now c.in_ok-numbers.ensures.order c.deref-number-items.result.now (c.deref-number-items.ensures.value ∙ c.in_ok-numbers.ensures.numbers) c.inodes.number-index c.inodes-test.true _
-    c.in-Some.content.now c.in-Some.ensures (IsInodeBounded c.args.tree.now) c.requires.bounds).1)
+    c.in-Some.content.now.inode c.in-Some.ensures (IsInodeBounded c.args.tree.now) c.requires.bounds).1)
 
 pub inodes-preserved : goal.inodes-preserved
 inodes-preserved c =
     let t = c.args.tree.now in
-    let entry : Key × Inode = (get_or c.deref-number-items.result.now c.inodes.number-index (record { 0 = [] }), c.in-Some.content.now) in
+    let entry : Key × Inode = (get_or c.deref-number-items.result.now c.inodes.number-index (record { 0 = [] }), c.in-Some.content.now.inode) in
     subst (λ (items : List Made). IsOver c.args.blocks.now items c.push.new.blocks c.push.new.self)
-    (sym (made_next t c.in_ok-numbers.ensures.order c.deref-number-items.result.now (c.deref-number-items.ensures.value ∙ c.in_ok-numbers.ensures.numbers) c.inodes.number-index c.inodes-test.true _ c.in-Some.content.now c.in-Some.ensures))
+    (sym (made_next t c.in_ok-numbers.ensures.order c.deref-number-items.result.now (c.deref-number-items.ensures.value ∙ c.in_ok-numbers.ensures.numbers) c.inodes.number-index c.inodes-test.true _ c.in-Some.content.now.inode c.in-Some.ensures))
     (c.in_ok-push.ensures c.args.blocks.now c.inodes.blocks (map (inode_made t) (take c.inodes.number-index t.inodes)) (inode_made t entry) c.inodes.invariant
     (c.in_ok-name.ensures.blocks ∙ ap (λ (u : Tree). put_all c.inodes.blocks (inode_made u entry ∷ [])) c.names.ensures)
     (c.in_ok-name.ensures.named ∙ ap (λ (u : Tree). made_name (inode_made u entry)) c.names.ensures))

@@ -5,11 +5,11 @@ use Rattle.snapshot_store.proofs.Listings.{none_done, one_done, all_done, few_do
 use Rattle.snapshot_store.proofs.items.put_pieces.Goals as goal
 
 pub pieces-init : goal.pieces-init
-pieces-init c = none_done 8192 piece_made c.args.blocks.now c.args.file.now.body c.new-levels.result (c.new-levels.ensures c.args.blocks.now)
+pieces-init c = none_done 8192 piece_made c.args.blocks.now c.args.file.now.inode.body c.new-levels.result (c.new-levels.ensures c.args.blocks.now)
 
 pub pieces-preserved : goal.pieces-preserved
 pieces-preserved c =
-    let body = c.args.file.now.body in
+    let body = c.args.file.now.inode.body in
     let listing = c.pieces.invariant in
     one_done 8192 piece_made c.args.blocks.now body (drop c.pieces.start body) _ c.in_ok-piece.piece c.pieces.blocks c.push.new.blocks c.pieces.levels c.push.new.self listing
     (piece_read body c.in_ok-piece.piece c.pieces.start c.from-start.result 8192 (omega arith) (omega (arith, c.pieces-test.true, c.size.ensures)) c.in_ok-piece.ensures c.from-start.ensures)
@@ -17,11 +17,11 @@ pieces-preserved c =
 
 pub finish-requires-clause-few : goal.finish-requires-clause-few
 finish-requires-clause-few c =
-    let body = c.args.file.now.body in
+    let body = c.args.file.now.inode.body in
     few_done 8192 piece_made c.args.blocks.now body (drop c.pieces.start body) c.pieces.blocks c.pieces.levels c.pieces.invariant (drop_all c.pieces.start body (omega (arith, c.pieces-test.false, c.size.ensures))) (omega (arith, c.requires))
 
 pub returns : goal.returns
 returns c =
-    let body = c.args.file.now.body in
+    let body = c.args.file.now.inode.body in
     c.in_ok-list.ensures c.args.blocks.now (map piece_made (in_pieces 8192 body))
     (all_done 8192 piece_made c.args.blocks.now body (drop c.pieces.start body) c.pieces.blocks c.pieces.levels c.pieces.invariant (drop_all c.pieces.start body (omega (arith, c.pieces-test.false, c.size.ensures))))
