@@ -5,6 +5,8 @@ use Rattle.std.specs.FinMap.Entries.{find as value_at, put, where_key}
 use Rattle.ivy_base.specs.declared.key.Key.{Key}
 use Rattle.ivy_base.specs.Naming.{key_cmp}
 use Rattle.dir_replay.specs.declared.nodes.Node.{Node}
+use Rattle.dir_replay.specs.declared.nodes.Change.{Change}
+use Rattle.dir_replay.specs.declared.nodes.Change.TheVariants as change
 use Rattle.dir_replay.specs.Counts.{less_one_if}
 use Rattle.dir_replay.specs.Entries.{name_cmp}
 
@@ -44,3 +46,11 @@ any_unnamed nodes (Some ino) = at_node nodes ino unnamed
 -- the inode with its name in another directory
 abbrev pub moved_to : Option Key → Node → Node
 moved_to parent n = record n { parent = parent }
+
+-- the inode after a change
+abbrev pub changed : Change → Node → Node
+changed (change.Enter name ino subdirs) = entered name.now ino subdirs
+changed (change.Leave name directory) = left name.now directory
+changed (change.Name parent names) = named parent names
+changed change.Unname = unnamed
+changed (change.Move parent) = moved_to parent

@@ -10,8 +10,8 @@ ghost use Rattle.dir_replay.specs.Counts.{less_one_if};
 use crate::entries::Entries;
 use crate::keys::both_same;
 use ivy_base::{Key, Kind, Memory};
-use shared_map::{EntryTest, SharedMap};
-use std::alloc::Global;
+use shared_map::{Edit, EntryTest, SharedMap};
+use std::alloc::{AllocError, Global};
 use std::marker::Model;
 
 /// An inode's kind, with what the rules of names ask of it.
@@ -27,6 +27,17 @@ pub struct Node {
     pub subdirs: u64,
     /// The names in it.
     pub entries: Entries,
+}
+
+impl Clone for Node {
+    ghost use Rattle.std.specs.Prelude.{◌≡◌};
+
+    ghost is_clone = { λ n m. m ≡ n };
+
+    // It shares the names.
+    fn clone(&self) -> Result<Node, AllocError> {
+        self.copy().map_err(|_| AllocError)
+    }
 }
 
 impl Node {
@@ -61,7 +72,7 @@ impl Model for Nodes {
 }
 
 impl Nodes {
-    ghost use Rattle.dir_replay.specs.Nodes.{at_node, entered, left, named, unnamed, any_unnamed, moved_to};
+    ghost use Rattle.dir_replay.specs.Nodes.{at_node, changed, entered, left, named, unnamed, any_unnamed, moved_to};
 
     /// No inodes.
     pub fn new() -> Nodes
@@ -104,15 +115,13 @@ impl Nodes {
         Ok(())
     }
 
-    // A copy of the inode of that number, which shares its names. The error is a count of owners that is full.
-    fn copy_of(&self, ino: &Key) -> Result<Option<Node>, Memory>
-        ensures value { IfOk result (λ node. node ≡ value_at key_cmp ino.now self.now) }
-        ensures ordered { T (is_sorted key_cmp self.now) }
+    // Changes the inode of that number, where there is one. The error is want of memory, and then nothing has changed.
+    fn change(&mut self, alloc: Global, ino: &Key, mut change: Change<'_>) -> Result<(), Memory>
+        ensures ok { OnOk result (self.new ≡ at_node self.old ino.now (changed change.entry)) }
+        ensures err { OnErr result (self.new ≡ self.old) }
     {
-        match self.map.get(ino) {
-            None => Ok(None),
-            Some(node) => Ok(Some(node.copy()?)),
-        }
+        self.map.update(alloc, ino, &mut change)?;
+        Ok(())
     }
 
     /// Puts a name for the inode into the directory, which then has so many subdirectories; without such a
@@ -128,12 +137,7 @@ impl Nodes {
         ensures ok { OnOk result (self.new ≡ at_node self.old dir.now (entered name.now ino subdirs)) }
         ensures err { OnErr result (self.new ≡ self.old) }
     {
-        let Some(mut node) = self.copy_of(dir)? else {
-            return Ok(());
-        };
-        node.entries.insert(alloc, name, ino)?;
-        node.subdirs = subdirs;
-        self.insert(alloc, dir, node)
+        self.change(alloc, dir, Change::Enter(name, ino, subdirs))
     }
 
     /// Takes a name out of the directory, and a subdirectory where the name led to one. The error is want of memory,
@@ -148,12 +152,7 @@ impl Nodes {
         ensures ok { OnOk result (self.new ≡ at_node self.old dir.now (left name.now directory)) }
         ensures err { OnErr result (self.new ≡ self.old) }
     {
-        let Some(mut node) = self.copy_of(dir)? else {
-            return Ok(());
-        };
-        node.entries.remove(alloc, name)?;
-        node.subdirs = less_one_if(node.subdirs, directory);
-        self.insert(alloc, dir, node)
+        self.change(alloc, dir, Change::Leave(name, directory))
     }
 
     /// Notes that so many names lead to the inode, and which directory has the name of a directory. The error is want
@@ -168,12 +167,7 @@ impl Nodes {
         ensures ok { OnOk result (self.new ≡ at_node self.old ino.now (named parent names)) }
         ensures err { OnErr result (self.new ≡ self.old) }
     {
-        let Some(mut node) = self.copy_of(ino)? else {
-            return Ok(());
-        };
-        node.parent = parent;
-        node.names = names;
-        self.insert(alloc, ino, node)
+        self.change(alloc, ino, Change::Name(parent, names))
     }
 
     /// Notes that a name less leads to the inode: to a directory none. The error is want of memory, and then nothing
@@ -182,12 +176,7 @@ impl Nodes {
         ensures ok { OnOk result (self.new ≡ at_node self.old ino.now unnamed) }
         ensures err { OnErr result (self.new ≡ self.old) }
     {
-        let Some(mut node) = self.copy_of(ino)? else {
-            return Ok(());
-        };
-        node.parent = None;
-        node.names = less_one_if(node.names, true);
-        self.insert(alloc, ino, node)
+        self.change(alloc, ino, Change::Unname)
     }
 
     /// Notes that a name less leads to the inode, where one is given. The error is want of memory, and then nothing
@@ -213,14 +202,58 @@ impl Nodes {
         ensures ok { OnOk result (self.new ≡ at_node self.old ino.now (moved_to parent)) }
         ensures err { OnErr result (self.new ≡ self.old) }
     {
-        let Some(mut node) = self.copy_of(ino)? else {
+        let Some(node) = self.map.get(ino) else {
             return Ok(());
         };
         if both_same(node.parent, parent) {
             return Ok(());
         }
-        node.parent = parent;
-        self.insert(alloc, ino, node)
+        self.change(alloc, ino, Change::Move(parent))
+    }
+}
+
+// A change of one inode.
+#[derive(Drop)]
+enum Change<'a> {
+    // A name in it leads to that inode, and so many of them to directories.
+    Enter(&'a [u8], Key, u64),
+    // A name goes from it, which led to a directory or not.
+    Leave(&'a [u8], bool),
+    // So many names lead to it, the one of a directory from that directory.
+    Name(Option<Key>, u64),
+    // A name less leads to it.
+    Unname,
+    // Its name is in that directory.
+    Move(Option<Key>),
+}
+
+impl Edit<Node> for Change<'_> {
+    ghost use Rattle.std.specs.Prelude.{◌≡◌};
+    ghost use Rattle.dir_replay.specs.Nodes.{changed};
+
+    ghost makes = { λ change n _ m. m ≡ changed change n };
+
+    fn edit(&mut self, alloc: Global, node: &mut Node) -> Result<(), Memory> {
+        match self {
+            Change::Enter(name, ino, subdirs) => {
+                node.entries.insert(alloc, name, *ino)?;
+                node.subdirs = *subdirs;
+            }
+            Change::Leave(name, directory) => {
+                node.entries.remove(alloc, name)?;
+                node.subdirs = less_one_if(node.subdirs, *directory);
+            }
+            Change::Name(parent, names) => {
+                node.parent = *parent;
+                node.names = *names;
+            }
+            Change::Unname => {
+                node.parent = None;
+                node.names = less_one_if(node.names, true);
+            }
+            Change::Move(parent) => node.parent = *parent,
+        }
+        Ok(())
     }
 }
 
