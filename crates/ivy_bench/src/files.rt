@@ -42,18 +42,24 @@ fn write_piece(tree: &mut Tree, alloc: Global, piece: u64, bytes: &[u8]) -> Resu
     tree.apply(alloc, NOW, &op)
 }
 
-/// Writes so many pieces: one behind the other, or in an order that seems to have no pattern and comes to each of
-/// 2,048 once (a linear congruence of full period).
+/// The piece that is written behind this one: the next one, or one in an order that seems to have no pattern and comes to
+/// each of 2,048 once (a linear congruence of full period).
+fn next_piece(piece: u64, shuffled: bool) -> u64 {
+    let piece = piece % MOST_PIECES;
+    if shuffled {
+        (piece * 1029 + 371) % MOST_PIECES
+    } else {
+        (piece + 1) % MOST_PIECES
+    }
+}
+
+/// Writes so many pieces, one behind the other or shuffled.
 fn write_all(tree: &mut Tree, alloc: Global, count: u32, shuffled: bool) -> Result<(), Memory> {
     let bytes = [7; 8192];
     let mut piece: u64 = 0;
     for _n in 0..count {
         write_piece(tree, alloc, piece, &bytes)?;
-        piece = if shuffled {
-            (piece * 1029 + 371) % MOST_PIECES
-        } else {
-            (piece + 1) % MOST_PIECES
-        };
+        piece = next_piece(piece, shuffled);
     }
     Ok(())
 }
