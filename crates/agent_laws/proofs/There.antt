@@ -19,7 +19,7 @@ use Rattle.log_model.specs.Replay.{in_order}
 use Rattle.log_model.proofs.Later.{good_of}
 use Rattle.log_model.proofs.Lists.{here, there, in_cons, in_nothing, each, each_append, each_from, from_filter, in_filter, some_passes, who_passes}
 use Rattle.log_model.proofs.Owners.{records_total}
-use Rattle.log_model.proofs.Sets.{in_order_ascends, in_order_has, in_order_in, same_list}
+use Rattle.log_model.proofs.Sets.{in_order_ascends, in_order_has, in_order_in, same_list, filter_ascends}
 use Rattle.turn_model.specs.Basis.{Holding}
 use Rattle.causal_order.specs.AtHand.{Extends, IsNewPart, above, held_to, news}
 use Rattle.causal_order.specs.Over as causal
@@ -34,7 +34,7 @@ use Rattle.agent_laws.specs.Laws.{ThereIsATaking}
 use Rattle.agent_laws.proofs.Fronts.{in_log, from_log}
 use Rattle.agent_laws.proofs.Going.{IsGoing, below, full, full_chain, in_part}
 use Rattle.agent_laws.proofs.Hand.{Hand, IsOfBrought, chain_hand, hand_above, hand_cases}
-use Rattle.agent_laws.proofs.Largest.{IsLog, filter_ascends, largest_part, one_each}
+use Rattle.agent_laws.proofs.Largest.{IsLog, largest_part, one_each}
 use Rattle.agent_laws.proofs.Over.{IsOverPart, over_part}
 use Rattle.agent_laws.proofs.Rows.{is_above, row_good}
 use Rattle.agent_laws.proofs.Taken.{going}

@@ -1,11 +1,9 @@
 -- Of what is known and of candidates there is a largest closed part.
-use Rattle.std.proofs.Common.{◌≡◌, ◌⊎◌, inl, inr, ℕ, ◌+◌, ◌≤◌, Bool, true, false, cond, filter, List, [], ◌∷◌, ◌++◌, map, refl, sym, ap, ◌∙◌, subst, arith, Contains}
+use Rattle.std.proofs.Common.{◌≡◌, ◌⊎◌, inl, inr, ℕ, true, List, [], ◌∷◌, ◌++◌, map, refl, sym, ap, ◌∙◌, subst, Contains}
 use Rattle.std.specs.Prelude.{IsTrue}
-use Rattle.std.specs.Cmp.{ranked, tied_itself}
+use Rattle.std.specs.Cmp.{tied_itself}
 use Rattle.std.specs.List.{AllByRecursion, list_all}
-use Rattle.std.specs.Ordering.{eq_by_cmp, is_lt, is_eq, nat_cmp, ordering_then}
-use Rattle.std.specs.declared.cmp.Ordering.{Ordering}
-use Rattle.std.specs.declared.cmp.Ordering.TheVariants.{Less, Equal, Greater}
+use Rattle.std.specs.Ordering.{eq_by_cmp, is_lt}
 use Rattle.std.proofs.lemmas.List.Elements.{Contains-append_left, Contains-append_right, Contains-append_cases}
 use Rattle.ivy_base.specs.declared.key.Key.{Key}
 use Rattle.ivy_base.specs.declared.key.PubKey.{PubKey}
@@ -15,17 +13,16 @@ use Rattle.wire_model.proofs.OneReading.{whole}
 use Rattle.log_model.specs.View.{View, ascend}
 use Rattle.log_model.specs.Vector.{Stamp, Vector}
 use Rattle.log_model.specs.Record.{Record}
-use Rattle.log_model.specs.Rank.{weight, record_cmp}
 use Rattle.log_model.specs.Spelling.{record_block}
 use Rattle.log_model.specs.Chain.{IsGood, IsChain}
-use Rattle.log_model.specs.Closed.{log_of, IsAscending, IsClosed, IsClosedPart}
+use Rattle.log_model.specs.Closed.{log_of, IsClosed, IsClosedPart}
 use Rattle.log_model.specs.Part.{closed_part}
 use Rattle.log_model.specs.Replay.{in_order}
 use Rattle.log_model.proofs.Lists.{here, there, in_cons, in_nothing, each, each_from, in_filter, from_filter, passes}
 use Rattle.log_model.proofs.Opening.{same_owner}
 use Rattle.log_model.proofs.Owners.{owners_total, owner_itself}
-use Rattle.log_model.proofs.Part.{chain_good, numbered, Numbered, numbers_from, closed_part_is}
-use Rattle.log_model.proofs.Sets.{in_order_ascends, in_order_in, in_order_has, same_list, chain_ascends, IsBefore}
+use Rattle.log_model.proofs.Part.{chain_good, numbered, closed_part_is}
+use Rattle.log_model.proofs.Sets.{in_order_ascends, in_order_in, in_order_has, same_list, chain_ascends, filter_ascends, numbered_one, same_rank_is}
 use Rattle.log_records.proofs.OneRecord.{one_record}
 use Rattle.turn_model.specs.Turn.{Candidate, IsPrefixOf, IsAtHand}
 use Rattle.turn_model.specs.Candidates.{IsCandidate, own_log, newest, as_known}
@@ -56,42 +53,6 @@ prefix_known view owner (x ∷ xs) (y ∷ ys) good_x good_y = goes_before x y xs
 
 in_prefix : (xs ys : List Record) → IsPrefixOf xs ys → (q : Record) → Contains xs q → Contains ys q
 in_prefix xs ys p q c = subst (λ (l : List Record). Contains l q) p.1 (Contains-append_left xs p.0 q c)
-
--- ---- one record of each number
-
-numbered_one : (n : ℕ) (xs : List Record) → Numbered n xs → (q r : Record) → Contains xs q → Contains xs r → q.seq ≡ r.seq → q ≡ r
-numbered_one n [] h q r c d e = absurd (in_nothing q c)
-numbered_one n (x ∷ xs) h q r c d e = by (in_cons x xs q c) (in_cons x xs r d) (λ f g. numbered_one (n + 1) xs h.1 q r f g e)
-  where
-    late : (z : Record) → Contains xs z → n + 1 ≤ z.seq
-    late z within = each (λ (y : Record). n + 1 ≤ y.seq) xs z (numbers_from (n + 1) xs h.1 (n + 1) (omega arith)) within
-
-    by : (x ≡ q) ⊎ Contains xs q → (x ≡ r) ⊎ Contains xs r → (Contains xs q → Contains xs r → q ≡ r) → q ≡ r
-    by (inl f) (inl g) again = sym f ∙ g
-    by (inl f) (inr g) again = let l = late r g in let s : x.seq ≡ q.seq = ap (λ (y : Record). y.seq) f in absurd (omega (arith, l, s, e, h.0))
-    by (inr f) (inl g) again = let l = late q f in let s : x.seq ≡ r.seq = ap (λ (y : Record). y.seq) g in absurd (omega (arith, l, s, e, h.0))
-    by (inr f) (inr g) again = again f g
-
--- records of one rank are of one owner and number
-both_equal : (a b : Ordering) → ordering_then a b ≡ Equal → (a ≡ Equal) × (b ≡ Equal)
-both_equal Less b h = cc
-both_equal Equal b h = (refl, h)
-both_equal Greater b h = cc
-
-same_rank_is : (r q : Record) → record_cmp r q ≡ Equal → (r.owner ≡ q.owner) × (r.seq ≡ q.seq)
-same_rank_is r q e =
-    let first = both_equal (nat_cmp (weight r) (weight q)) _ e in
-    let next = both_equal (owner_cmp r.owner q.owner) (nat_cmp r.seq q.seq) first.1 in
-    (sym (same_owner r.owner q.owner (ap is_eq next.0)), ranked r.seq q.seq Equal (sym next.1))
-
--- what a filter keeps ascends
-filter_ascends : (test : Record → Bool) (s : List Record) → IsAscending s → IsAscending (filter test s)
-filter_ascends test [] h = tt
-filter_ascends test (x ∷ s) h = by (test x) (filter_ascends test s h.1)
-  where
-    by : (b : Bool) → IsAscending (filter test s) → IsAscending (cond b (x ∷ filter test s) (filter test s))
-    by true again = (each_from (IsBefore x) (filter test s) (λ q c. each (IsBefore x) s q h.0 (from_filter test s q c).0), again)
-    by false again = again
 
 -- ---- owners stand once
 

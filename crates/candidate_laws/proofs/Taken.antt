@@ -1,5 +1,5 @@
 -- What a turn takes is verified, and of the own log it has just what was known.
-use Rattle.std.proofs.Common.{◌≡◌, ◌⊎◌, inl, inr, ⊎_elim, ℕ, ◌+◌, Bool, true, false, cond, List, [], ◌∷◌, sym, ap, ◌∙◌, subst, filter, Contains}
+use Rattle.std.proofs.Common.{◌≡◌, ◌⊎◌, inl, inr, ⊎_elim, ℕ, ◌+◌, Bool, List, [], ◌∷◌, sym, ap, ◌∙◌, subst, Contains}
 use Rattle.std.specs.Ordering.{eq_by_cmp}
 use Rattle.ivy_base.specs.declared.key.Key.{Key}
 use Rattle.ivy_base.specs.declared.key.PubKey.{PubKey}
@@ -14,7 +14,7 @@ use Rattle.log_model.specs.Closed.{log_of, IsAscending}
 use Rattle.log_model.proofs.Lists.{each, each_from, in_filter, from_filter}
 use Rattle.log_model.proofs.Opening.{same_owner}
 use Rattle.log_model.proofs.Part.{chain_good}
-use Rattle.log_model.proofs.Sets.{IsBefore, same_list}
+use Rattle.log_model.proofs.Sets.{same_list, filter_ascends}
 use Rattle.turn_model.specs.Known.{IsBacked}
 use Rattle.turn_model.specs.Turn.{Candidate, IsAtHand}
 use Rattle.turn_model.specs.Candidates.{IsCandidate, AreCandidates}
@@ -80,14 +80,6 @@ taken_is_verified heads blocks view own known candidates received taken are were
 }
 
 -- ---- of the own log
-
-filter_ascends : (test : Record → Bool) (s : List Record) → IsAscending s → IsAscending (filter test s)
-filter_ascends test [] h = tt
-filter_ascends test (x ∷ s) h = by (test x) (filter_ascends test s h.1)
-  where
-    by : (b : Bool) → IsAscending (filter test s) → IsAscending (cond b (x ∷ filter test s) (filter test s))
-    by true again = (each_from (IsBefore x) (filter test s) (λ r c. each (IsBefore x) s r h.0 (from_filter test s r c).0), again)
-    by false again = again
 
 module _ (own : PubKey) (known taken : List Record) where
   abbrev is_owned : Record → Bool

@@ -1,36 +1,29 @@
 -- Where no record is left, what was taken is the largest closed part.
-use Rattle.std.proofs.Common.{◌≡◌, ⊎_elim, Bool, true, false, cond, List, [], ◌∷◌, ◌++◌, refl, sym, ap, ◌∙◌, subst, Contains, filter}
+use Rattle.std.proofs.Common.{◌≡◌, ⊎_elim, List, [], ◌∷◌, ◌++◌, refl, sym, ap, ◌∙◌, subst, Contains}
 use Rattle.std.specs.List.{AllByRecursion}
 use Rattle.std.specs.Cmp.{tied_itself}
-use Rattle.std.specs.Ordering.{eq_by_cmp, is_lt, is_eq, nat_cmp, ordering_then, ordering_reverse}
-use Rattle.std.specs.declared.cmp.Ordering.{Ordering}
-use Rattle.std.specs.declared.cmp.Ordering.TheVariants.{Less, Equal, Greater}
+use Rattle.std.specs.Ordering.{eq_by_cmp, is_lt, ordering_reverse}
+use Rattle.std.specs.declared.cmp.Ordering.TheVariants.{Equal}
 use Rattle.std.proofs.lemmas.List.Elements.{Contains-append_right, filter-append}
 use Rattle.ivy_base.specs.declared.key.PubKey.{PubKey}
 use Rattle.ivy_base.specs.Naming.{owner_cmp}
 use Rattle.log_model.specs.View.{View}
 use Rattle.log_model.specs.Vector.{Vector}
 use Rattle.log_model.specs.Record.{Record}
-use Rattle.log_model.specs.Rank.{weight, record_cmp}
+use Rattle.log_model.specs.Rank.{record_cmp}
 use Rattle.log_model.specs.Closed.{log_of, IsAscending}
 use Rattle.log_model.specs.Replay.{in_order}
-use Rattle.log_model.proofs.Lists.{in_cons, in_nothing, each_from, each, from_filter}
-use Rattle.log_model.proofs.Opening.{same_owner}
+use Rattle.log_model.proofs.Lists.{in_cons, in_nothing, each_from, each}
 use Rattle.log_model.proofs.Owners.{records_total}
-use Rattle.log_model.proofs.Sets.{same_list, in_order_ascends, in_order_in, in_order_has}
+use Rattle.log_model.proofs.Sets.{same_list, in_order_ascends, in_order_in, in_order_has, filter_ascends, same_rank_is}
 use Rattle.causal_order.specs.Over.{HasCauses, GoesOnFrom, IsClosed, IsClosedPart}
 use Rattle.causal_order.specs.AtHand.{IsAtHand, IsNewPart}
 use Rattle.causal_order.proofs.Logs.{ascends_over}
 use Rattle.causal_order.specs.Passing.{Queue, IsLeft, IsTaken, IsBefore}
 use Rattle.causal_order.proofs.Passes.{start, in_log, of_log, causes_weaken}
 
-both_equal : (a b : Ordering) → ordering_then a b ≡ Equal → (a ≡ Equal) × (b ≡ Equal)
-both_equal Less b h = cc
-both_equal Equal b h = (refl, h)
-both_equal Greater b h = cc
-
 pub same_rank_owner : (r q : Record) → record_cmp r q ≡ Equal → q.owner ≡ r.owner
-same_rank_owner r q e = same_owner r.owner q.owner (ap is_eq (both_equal (owner_cmp r.owner q.owner) (nat_cmp r.seq q.seq) (both_equal (nat_cmp (weight r) (weight q)) _ e).1).0)
+same_rank_owner r q e = sym (same_rank_is r q e).0
 
 not_before : (r q : Record) → record_cmp r q ≡ Equal → IsBefore r q → ⊥
 not_before r q e b = let h = ap is_lt e in cc
@@ -44,14 +37,6 @@ one_of_rank (x ∷ xs) h r q cr cq e d = ⊎_elim
     (λ c. ⊎_elim (λ is_q. absurd (not_before q r d (subst (λ (y : Record). IsBefore y r) is_q (each (IsBefore x) xs r h.0 c))))
     (λ b. one_of_rank xs h.1 r q c b e d) (in_cons x xs q cq))
     (in_cons x xs r cr)
-
-filter_ascends : (test : Record → Bool) (s : List Record) → IsAscending s → IsAscending (filter test s)
-filter_ascends test [] h = tt
-filter_ascends test (x ∷ s) h = by (test x) (filter_ascends test s h.1)
-  where
-    by : (b : Bool) → IsAscending (filter test s) → IsAscending (cond b (x ∷ filter test s) (filter test s))
-    by true again = (each_from (IsBefore x) (filter test s) (λ q c. each (IsBefore x) s q h.0 (from_filter test s q c).0), again)
-    by false again = again
 
 pub tied_back : (r q : Record) → record_cmp r q ≡ Equal → record_cmp q r ≡ Equal
 tied_back r q e = records_total.antisymm q r ∙ ap ordering_reverse e

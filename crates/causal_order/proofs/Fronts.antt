@@ -9,24 +9,18 @@ use Rattle.std.specs.FinMap.Entries.{by_order, is_sorted, below_all, same_entrie
 use Rattle.std.proofs.lemmas.Cmp.{on_total, then_total, back_total, nat_cmp_total}
 use Rattle.std.proofs.lemmas.List.Elements.{Contains-append_left, Contains-append_right, Contains-append_cases}
 use Rattle.ivy_base.specs.declared.key.Key.{Key}
-use Rattle.ivy_base.specs.Naming.{key_cmp, owner_cmp}
+use Rattle.ivy_base.specs.Naming.{key_cmp}
 use Rattle.tree_model.proofs.Keys.{keys_total, exact_keys, same_key_is, same_key_itself}
 use Rattle.tree_model.proofs.Sound.{both_true, from_test}
 use Rattle.log_model.specs.Vector.{Stamp, Entry, Vector, stamp_at, later, later_or, with_entry, join}
 use Rattle.log_model.specs.Record.{Record}
-use Rattle.log_model.specs.Rank.{full_vector, weight, record_cmp, front}
+use Rattle.log_model.specs.Rank.{full_vector, front}
 use Rattle.log_model.specs.Replay.{in_order}
 use Rattle.log_model.proofs.Lists.{here, there, in_cons, in_nothing}
-use Rattle.log_model.proofs.Opening.{same_owner}
-use Rattle.log_model.proofs.Sets.{OneEach, in_order_in, in_order_has}
+use Rattle.log_model.proofs.Sets.{OneEach, both_equal, in_order_in, in_order_has, same_rank_is}
 use Rattle.log_model.proofs.Vectors.{stamp_at-with_entry}
 use Rattle.log_model.proofs.Weights.{Sorted, sorted_with_entry, sorted_front}
 use Rattle.causal_order.specs.Laws.{FrontsJoin}
-
-both_equal : (a b : Ordering) → ordering_then a b ≡ Equal → (a ≡ Equal) × (b ≡ Equal)
-both_equal Less b h = cc
-both_equal Equal b h = (refl, h)
-both_equal Greater b h = cc
 
 -- ---- the order of the stamps of one log: the later one is the greater
 
@@ -235,12 +229,6 @@ module _ (k : Key) where
   latest_of_union : (s t : List Record) → ((r : Record) → Contains (s ++ t) r → Contains (in_order (s ++ t)) r) → IsLatest (Cited (s ++ t)) (stamp_at (front (in_order (s ++ t))) k)
   latest_of_union s t has = same_latest (Cited (in_order (s ++ t))) (Cited (s ++ t)) (stamp_at (front (in_order (s ++ t))) k)
       (λ x c. (c.0, in_order_in (s ++ t) c.0 c.1, c.2)) (λ x c. (c.0, has c.0 c.1, c.2)) (latest-front (in_order (s ++ t)))
-
-same_rank_is : (r q : Record) → record_cmp r q ≡ Equal → (r.owner ≡ q.owner) × (r.seq ≡ q.seq)
-same_rank_is r q e =
-    let first = both_equal (nat_cmp (weight r) (weight q)) _ e in
-    let next = both_equal (owner_cmp r.owner q.owner) (nat_cmp r.seq q.seq) first.1 in
-    (sym (same_owner r.owner q.owner (ap is_eq next.0)), ranked r.seq q.seq Equal (sym next.1))
 
 sorted_join : (v w : Vector) → Sorted v → Sorted (join v w)
 sorted_join v [] h = h

@@ -1,7 +1,6 @@
 -- A log behind the front: its numbers, its beginnings, and what precedes each of its records.
-use Rattle.std.proofs.Common.{◌≡◌, ◌⊎◌, inl, inr, ⊎_elim, ℕ, ◌+◌, ◌<◌, ◌≤◌, List, [], ◌∷◌, ◌++◌, length, sym, ap, ◌∙◌, subst, arith, Option, Some, None, Contains}
+use Rattle.std.proofs.Common.{◌≡◌, ◌⊎◌, inl, inr, ⊎_elim, ℕ, ◌+◌, ◌<◌, List, [], ◌∷◌, ◌++◌, sym, ap, ◌∙◌, subst, arith, Option, Some, None, Contains}
 use Rattle.std.specs.List.{AllByRecursion}
-use Rattle.std.proofs.lemmas.Bool.{cases_lt}
 use Rattle.ivy_base.specs.declared.key.PubKey.{PubKey}
 use Rattle.log_model.specs.View.{View}
 use Rattle.log_model.specs.Vector.{Stamp, reach}
@@ -11,7 +10,7 @@ use Rattle.log_model.specs.Chain.{IsGood, Follows, GoesOn}
 use Rattle.log_model.specs.Closed.{IsAscending}
 use Rattle.log_model.proofs.Lists.{here, there, in_cons, in_nothing, each_from, each}
 use Rattle.log_model.proofs.Weights.{follows_heavier}
-use Rattle.log_model.proofs.Part.{Numbered, numbered, numbers_from, chain_front, chain_good, PrecededIn, preceded}
+use Rattle.log_model.proofs.Part.{Numbered, numbered, chain_front, chain_good, PrecededIn, preceded}
 use Rattle.log_model.proofs.Sets.{IsBefore, lighter_is_before, chain_ascends}
 use Rattle.causal_order.specs.Over.{GoesOnFrom}
 
@@ -76,26 +75,3 @@ module _ (view : View) (owner : PubKey) where
   ascends_over None rs c = chain_ascends view owner rs c
   ascends_over (Some s) [] c = tt
   ascends_over (Some s) (r ∷ rs) c = ascends_after view owner r rs c.0.good c.1
-
--- ---- numbers
-
--- of a numbered list each number has one record
-pub numbered_one : (n : ℕ) (xs : List Record) → Numbered n xs → (a b : Record) → Contains xs a → Contains xs b → a.seq ≡ b.seq → a ≡ b
-numbered_one n [] h a b ca cb e = absurd (in_nothing a ca)
-numbered_one n (x ∷ xs) h a b ca cb e =
-    let later : (q : Record) → Contains xs q → n + 1 ≤ q.seq = λ q c. each (λ q. n + 1 ≤ q.seq) xs q (numbers_from (n + 1) xs h.1 (n + 1) (omega arith)) c in
-    let first : x.seq ≡ n = h.0 in
-    ⊎_elim
-    (λ is_a. ⊎_elim (λ is_b. sym is_a ∙ is_b)
-    (λ c. let m = later b c in let ea : x.seq ≡ a.seq = ap (λ (r : Record). r.seq) is_a in absurd (omega arith)) (in_cons x xs b cb))
-    (λ ina. ⊎_elim (λ is_b. let m = later a ina in let eb : x.seq ≡ b.seq = ap (λ (r : Record). r.seq) is_b in absurd (omega arith))
-    (λ inb. numbered_one (n + 1) xs h.1 a b ina inb e) (in_cons x xs b cb))
-    (in_cons x xs a ca)
-
--- a numbered list has each number between
-pub numbered_has : (n : ℕ) (xs : List Record) → Numbered n xs → (k : ℕ) → n ≤ k → k < n + length xs → (q : Record) × Contains xs q × (q.seq ≡ k)
-numbered_has n [] h k low high = absurd (omega (arith, low, high))
-numbered_has n (x ∷ xs) h k low high = ⊎_elim
-    (λ more. let w = numbered_has (n + 1) xs h.1 k (omega (arith, more)) (omega (arith, high)) in (w.0, there x xs w.0 w.1, w.2))
-    (λ less. let e = h.0 in (x, here x xs, omega (arith, less, low)))
-    (cases_lt n k)

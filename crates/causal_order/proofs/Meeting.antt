@@ -17,12 +17,13 @@ use Rattle.log_model.specs.Chain.{IsGood}
 use Rattle.log_model.specs.Closed.{log_of}
 use Rattle.log_model.proofs.Lists.{here, there, in_cons, in_nothing, each, some_passes, who_passes, passes}
 use Rattle.log_model.proofs.Part.{numbers_from}
+use Rattle.log_model.proofs.Sets.{numbered_one}
 use Rattle.version_vectors.specs.declared.entry.Entry as kept
 use Rattle.version_vectors.specs.Entries.{stamped, vector_of}
 use Rattle.causal_order.specs.Over.{IsUnder, IsMet}
 use Rattle.causal_order.specs.declared.log.Log.{Log}
 use Rattle.causal_order.specs.Kept.{IsKept, AreKept}
-use Rattle.causal_order.proofs.Logs.{numbers_over, good_over, numbered_one}
+use Rattle.causal_order.proofs.Logs.{numbers_over, good_over}
 use Rattle.causal_order.proofs.Passes.{start, in_log, of_log}
 use Rattle.causal_order.proofs.Places.{base_is}
 

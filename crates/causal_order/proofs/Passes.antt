@@ -16,9 +16,10 @@ use Rattle.log_model.proofs.Lists.{here, there, in_cons, in_nothing, each_from, 
 use Rattle.log_model.proofs.Opening.{same_owner}
 use Rattle.log_model.proofs.Owners.{owner_itself}
 use Rattle.log_model.proofs.Part.{Numbered, numbers_from, numbers_below, later_not_lighter}
+use Rattle.log_model.proofs.Sets.{numbered_has, numbered_one}
 use Rattle.causal_order.specs.Passing.{Queue, AreApart, IsLeft, IsLeast, IsSeen, IsPassed}
 use Rattle.causal_order.specs.Over.{IsMet, HasCauses, GoesOnFrom, IsClosed}
-use Rattle.causal_order.proofs.Logs.{numbers_over, good_over, numbered_one, numbered_has}
+use Rattle.causal_order.proofs.Logs.{numbers_over, good_over}
 
 pub one_owner : (queues : List Queue) → AreApart queues → (k l : Queue) → Contains queues k → Contains queues l → k.owner ≡ l.owner → k ≡ l
 one_owner [] h k l ck cl e = absurd (in_nothing k ck)

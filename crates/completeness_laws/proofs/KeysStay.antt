@@ -56,7 +56,7 @@ use Rattle.world_laws.proofs.Lines.{ToSuch}
 use Rattle.world_laws.proofs.Placed.{found_some, same_name}
 use Rattle.world_laws.proofs.SignedHeads.{from_map, so_of}
 use Rattle.world_laws.proofs.Still.{still_lines}
-use Rattle.completeness_laws.proofs.LogLines.{found_before}
+use Rattle.durability_laws.proofs.Lines.{found_before}
 use Rattle.completeness_laws.proofs.Steps.{fate_same}
 use Rattle.completeness_laws.proofs.ViewLines.{fates_same}
 

@@ -36,6 +36,7 @@ use Rattle.world_laws.proofs.Newcomer.{found_after}
 use Rattle.world_laws.proofs.Placed.{found_some}
 use Rattle.world_laws.proofs.PublicKeys.{owner_is_key}
 use Rattle.world_laws.proofs.SignedAmong.{met_stays}
+use Rattle.durability_laws.proofs.Lines.{found_before, found_last}
 use Rattle.completeness_laws.specs.Put.{IsPutOr}
 use Rattle.completeness_laws.proofs.UpTo.{head_tells}
 use Rattle.completeness_laws.proofs.HeldHeads.{more_hold}
@@ -46,22 +47,6 @@ use Rattle.completeness_laws.proofs.Turns.{all_posts_met, kept_now}
 use Rattle.completeness_laws.proofs.Worlds.{AgentsBacked, AllReceived, IsBackedWorld, sessions_later}
 
 -- ---- lists
-
-pub found_before : {A : Type 0} (test : A → Bool) (xs ys : List A) (x : A) → find test xs ≡ Some x → find test (xs ++ ys) ≡ Some x
-found_before test [] ys x is = cc is
-found_before test (y ∷ xs) ys x is = by (test y) is (found_before test xs ys x)
-  where
-    by : (b : Bool) → cond b (Some y) (find test xs) ≡ Some x → (find test xs ≡ Some x → find test (xs ++ ys) ≡ Some x) → cond b (Some y) (find test (xs ++ ys)) ≡ Some x
-    by true h later = h
-    by false h later = later h
-
-found_last : {A : Type 0} (test : A → Bool) (xs : List A) (x : A) → is_some (find test xs) ≡ false → test x ≡ true → find test (xs ++ x ∷ []) ≡ Some x
-found_last test [] x none t = ap (λ b. cond b (Some x) None) t
-found_last test (y ∷ xs) x none t = by (test y) none (λ h. found_last test xs x h t)
-  where
-    by : (b : Bool) → is_some (cond b (Some y) (find test xs)) ≡ false → (is_some (find test xs) ≡ false → find test (xs ++ x ∷ []) ≡ Some x) → cond b (Some y) (find test (xs ++ x ∷ [])) ≡ Some x
-    by true h later = absurd cc
-    by false h later = later h
 
 old_or_last : {A : Type 0} (test : A → Bool) (xs : List A) (x y : A) → find test (xs ++ x ∷ []) ≡ Some y → (find test xs ≡ Some y) ⊎ ((x ≡ y) × (test x ≡ true))
 old_or_last test [] x y is = by (test x) refl is

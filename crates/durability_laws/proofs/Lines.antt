@@ -36,7 +36,7 @@ found_before test (y ∷ xs) ys x is = by (test y) is (found_before test xs ys x
     by true h later = h
     by false h later = later h
 
-found_last : {A : Type 0} (test : A → Bool) (xs : List A) (x : A) → is_some (find test xs) ≡ false → test x ≡ true → find test (xs ++ x ∷ []) ≡ Some x
+pub found_last : {A : Type 0} (test : A → Bool) (xs : List A) (x : A) → is_some (find test xs) ≡ false → test x ≡ true → find test (xs ++ x ∷ []) ≡ Some x
 found_last test [] x none t = ap (λ b. cond b (Some x) None) t
 found_last test (y ∷ xs) x none t = by (test y) none (λ h. found_last test xs x h t)
   where

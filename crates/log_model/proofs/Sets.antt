@@ -183,7 +183,8 @@ pub chain_ascends : (view : View) (owner : PubKey) (rs : List Record) → IsChai
 chain_ascends view owner [] c = tt
 chain_ascends view owner (r ∷ rs) c = ascends_after view owner r rs c.0 c.2
 
-filter_ascends : (test : Record → Bool) (s : List Record) → IsAscending s → IsAscending (filter test s)
+-- what a filter keeps ascends
+pub filter_ascends : (test : Record → Bool) (s : List Record) → IsAscending s → IsAscending (filter test s)
 filter_ascends test [] h = tt
 filter_ascends test (x ∷ s) h = by (test x) (filter_ascends test s h.1)
   where
@@ -197,7 +198,22 @@ filter_ascends test (x ∷ s) h = by (test x) (filter_ascends test s h.1)
 abbrev pub OneEach : List Record → Type 0
 OneEach s = (r q : Record) → Contains s r → Contains s q → r.owner ≡ q.owner → r.seq ≡ q.seq → r ≡ q
 
-numbered_has : (n : ℕ) (xs : List Record) → Numbered n xs → (k : ℕ) → n ≤ k → k < n + length xs → (q : Record) × Contains xs q × (q.seq ≡ k)
+-- of a numbered list each number has one record
+pub numbered_one : (n : ℕ) (xs : List Record) → Numbered n xs → (q r : Record) → Contains xs q → Contains xs r → q.seq ≡ r.seq → q ≡ r
+numbered_one n [] h q r c d e = absurd (in_nothing q c)
+numbered_one n (x ∷ xs) h q r c d e = by (in_cons x xs q c) (in_cons x xs r d) (λ f g. numbered_one (n + 1) xs h.1 q r f g e)
+  where
+    late : (z : Record) → Contains xs z → n + 1 ≤ z.seq
+    late z within = each (λ (y : Record). n + 1 ≤ y.seq) xs z (numbers_from (n + 1) xs h.1 (n + 1) (omega arith)) within
+
+    by : (x ≡ q) ⊎ Contains xs q → (x ≡ r) ⊎ Contains xs r → (Contains xs q → Contains xs r → q ≡ r) → q ≡ r
+    by (inl f) (inl g) again = sym f ∙ g
+    by (inl f) (inr g) again = let l = late r g in let s : x.seq ≡ q.seq = ap (λ (y : Record). y.seq) f in absurd (omega (arith, l, s, e, h.0))
+    by (inr f) (inl g) again = let l = late q f in let s : x.seq ≡ r.seq = ap (λ (y : Record). y.seq) g in absurd (omega (arith, l, s, e, h.0))
+    by (inr f) (inr g) again = again f g
+
+-- and it has each number between
+pub numbered_has : (n : ℕ) (xs : List Record) → Numbered n xs → (k : ℕ) → n ≤ k → k < n + length xs → (q : Record) × Contains xs q × (q.seq ≡ k)
 numbered_has n [] h k low high = absurd (omega arith)
 numbered_has n (x ∷ xs) h k low high = ⊎_elim
     (λ more. let w = numbered_has (n + 1) xs h.1 k more (omega arith) in (w.0, there x xs w.0 w.1, w.2))
@@ -207,12 +223,13 @@ numbered_has n (x ∷ xs) h k low high = ⊎_elim
     at_or_after : (n k : ℕ) → n ≤ k → (n + 1 ≤ k) ⊎ (k ≡ n)
     at_or_after n k low = ⊎_elim (λ l. inl (omega arith)) (λ g. inr (omega arith)) (cases_lt n k)
 
-both_equal : (a b : Ordering) → ordering_then a b ≡ Equal → (a ≡ Equal) × (b ≡ Equal)
+-- records of one rank are of one owner and number
+pub both_equal : (a b : Ordering) → ordering_then a b ≡ Equal → (a ≡ Equal) × (b ≡ Equal)
 both_equal Less b h = cc
 both_equal Equal b h = (refl, h)
 both_equal Greater b h = cc
 
-same_rank_is : (r q : Record) → record_cmp r q ≡ Equal → (r.owner ≡ q.owner) × (r.seq ≡ q.seq)
+pub same_rank_is : (r q : Record) → record_cmp r q ≡ Equal → (r.owner ≡ q.owner) × (r.seq ≡ q.seq)
 same_rank_is r q e =
     let first = both_equal (nat_cmp (weight r) (weight q)) _ e in
     let next = both_equal (owner_cmp r.owner q.owner) (nat_cmp r.seq q.seq) first.1 in

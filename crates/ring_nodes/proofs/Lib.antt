@@ -11,6 +11,7 @@ pub mod Losing
 pub mod Knowing
 pub mod Sound
 pub mod Looking
+pub mod Courses
 pub mod Joins
 pub mod WholePuts
 pub mod Changing

@@ -42,16 +42,6 @@ low_fits n h low few = elim (cases_lt h 130) [
       omega (arith, low, few, more, once)
 ]
 
--- a side that is one off moves what the node settles to by one at most
-pub settled_near : (l r side h : ℕ) → DifferByAtMost 2 l r → DifferByAtMost 1 side l → IsSettled side r h → DifferByAtMost 1 h (max l r + 1)
-settled_near l r side h d e s = elim (cases_lt (r + 1) side) [
-  | inl far ↦ (omega (arith, d.0, d.1, e.0, e.1, s.0, s.1, far), omega (arith, d.0, d.1, e.0, e.1, s.0, s.1, far))
-  | inr near ↦ elim (cases_lt (side + 1) r) [
-    | inl far ↦ (omega (arith, d.0, d.1, e.0, e.1, s.0, s.1, far), omega (arith, d.0, d.1, e.0, e.1, s.0, s.1, far))
-    | inr level ↦ let is = s.2 (near, level) in (omega (arith, d.0, d.1, e.0, e.1, is), omega (arith, d.0, d.1, e.0, e.1, is))
-  ]
-]
-
 -- a side that has grown makes the node grow by one at most
 pub settled_grown : (l r side h : ℕ) → DifferByAtMost 1 l r → l ≤ side → side ≤ l + 1 → IsSettled side r h → (max l r + 1 ≤ h) × (h ≤ max l r + 2)
 settled_grown l r side h d low high s = elim (cases_lt (r + 1) side) [

@@ -14,6 +14,9 @@ impl<K: Drop, V: Drop> Tree<K, V> {
         requires { length list.old.items ≤ most }
         ensures { OnOk result (map {B = K × V} (λ e. (e.0.now, e.1.now)) list.new.items ≡ take most (map {B = K × V} (λ e. (e.0.now, e.1.now)) list.old.items ++ self.now.0)) }
     {
+        if list.len() == most {
+            return Ok(());
+        }
         let Some(at) = self.top() else {
             return Ok(());
         };

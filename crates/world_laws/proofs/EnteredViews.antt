@@ -20,7 +20,7 @@ use Rattle.log_model.proofs.Lists.{each, each_from, from_filter, here, in_filter
 use Rattle.log_model.proofs.Opening.{same_owner}
 use Rattle.log_model.proofs.Owners.{owner_itself}
 use Rattle.log_model.proofs.Part.{found_stamp}
-use Rattle.log_model.proofs.Sets.{IsBefore}
+use Rattle.log_model.proofs.Sets.{filter_ascends}
 use Rattle.log_model.proofs.Vectors.{Dominates-with_entry}
 use Rattle.log_model.proofs.Weights.{Dominates-trans}
 use Rattle.turn_laws.proofs.Heads.{member_is}
@@ -59,14 +59,6 @@ filter_within one other both (r ∷ rs) = by (other r) refl (one r) refl (filter
 none_left : (rs : List Record) → ((r : Record) → Contains rs r → ⊥) → rs ≡ []
 none_left [] h = refl
 none_left (r ∷ rs) h = absurd (h r (here r rs))
-
-filter_ascends : (test : Record → Bool) (s : List Record) → IsAscending s → IsAscending (filter test s)
-filter_ascends test [] h = tt
-filter_ascends test (x ∷ s) h = by (test x) (filter_ascends test s h.1)
-  where
-    by : (b : Bool) → IsAscending (filter test s) → IsAscending (cond b (x ∷ filter test s) (filter test s))
-    by true again = (each_from (IsBefore x) (filter test s) (λ r c. each (IsBefore x) s r h.0 (from_filter test s r c).0), again)
-    by false again = again
 
 -- ---- chains under another view
 
