@@ -25,18 +25,22 @@
 //! made since. A list takes the time of what it gives, and that of a search where it begins at a key.
 #![tactic(auto)]
 
+mod attempting;
 mod finding;
 mod joining;
 mod key;
 mod listing;
 mod map;
+mod pairing;
 mod placing;
 mod settling;
 mod testing;
 mod tree;
 mod updating;
 
+pub use attempting::Attempt;
 pub use key::{MapKey, Sought};
 pub use map::SharedMap;
+pub use pairing::Amend;
 pub use testing::EntryTest;
-pub use updating::Edit;
+pub use updating::{Edit, MapValue};

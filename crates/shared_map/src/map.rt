@@ -5,12 +5,14 @@ ghost use Rattle.std.specs.List.{list_any};
 ghost use Rattle.std.specs.Option.{is_some, option_copied, option_map};
 ghost use Rattle.std.specs.Ordering.{eq_by_cmp, is_le};
 ghost use Rattle.std.specs.FinMap.Entries.{find as value_at, put, where_key, is_sorted};
-ghost use Rattle.shared_map.specs.Edits.{IsEdited};
+ghost use Rattle.shared_map.specs.Edits.{IsEdited, AreEdited};
 
+use crate::attempting::{Attempt, Nothing};
 use crate::key::{MapKey, Sought};
+use crate::pairing::{Amend, update_two};
 use crate::testing::EntryTest;
 use crate::tree::Tree;
-use crate::updating::{Edit, update};
+use crate::updating::{Edit, MapValue, update};
 use ivy_base::Memory;
 use std::alloc::Global;
 use std::marker::Model;
@@ -92,11 +94,26 @@ impl<K: MapKey + Drop, V: Drop> SharedMap<K, V> {
         ensures ok { OnOk result (self.new ≡ put K.order key value self.old) }
         ensures err { OnErr result (self.new ≡ self.old) }
     {
+        self.insert_with(alloc, key, value, &mut Nothing)
+    }
+
+    /// The same together with something else, which is done too, or not where memory is short.
+    pub fn insert_with<P: Attempt>(
+        &mut self,
+        alloc: Global,
+        key: K,
+        value: V,
+        rest: &mut P,
+    ) -> Result<Option<Arc<V>>, Memory>
+        ensures old { IfOk result (λ old. option_map (λ v. v.value) old ≡ value_at K.order key self.old) }
+        ensures ok { OnOk result ((self.new ≡ put K.order key value self.old) × P.makes rest.old rest.new) }
+        ensures err { OnErr result ((self.new ≡ self.old) × (rest.new ≡ rest.old)) }
+    {
         if self.count == usize::MAX {
             return Err(Memory);
         }
         let value = Arc::new(alloc, value)?;
-        let old = self.tree.insert(alloc, key, value)?;
+        let old = self.tree.insert(alloc, key, value, rest)?;
         if old.is_none() {
             self.count += 1;
         }
@@ -150,7 +167,7 @@ impl<K: MapKey + Drop, V: Drop> SharedMap<K, V> {
     }
 }
 
-impl<K: MapKey + Drop, V: Clone> SharedMap<K, V> {
+impl<K: MapKey + Drop, V: MapValue> SharedMap<K, V> {
     /// Changes the value that the key stands for where it stands, and answers whether there is one; a value that has
     /// other owners is cloned first. The error is want of memory, and then nothing has changed.
     pub fn update<Q: Sought<K>, E: Edit<V>>(
@@ -159,11 +176,26 @@ impl<K: MapKey + Drop, V: Clone> SharedMap<K, V> {
         key: &Q,
         edit: &mut E,
     ) -> Result<bool, Memory>
-        requires clones { (x y : V) → V.is_clone x y → y ≡ x }
         ensures found { IfOk result (λ found. found ≡ is_some (value_at K.order (Q.key key.now) self.old)) }
         ensures ok { OnOk result (IsEdited K.order E.makes (Q.key key.now) edit.old edit.new self.old self.new) }
         ensures err { OnErr result ((edit.new ≡ edit.old) × (self.new ≡ self.old)) }
     {
         update(alloc, &mut self.tree, key, edit)
+    }
+
+    /// Changes the value that the first key stands for, and amends the one that the second stands for, each where it
+    /// stands and if there is one. The error is want of memory, and then nothing has changed.
+    pub fn update_two<Q: Sought<K>, E: Edit<V>, A: Amend<V>>(
+        &mut self,
+        alloc: Global,
+        first: &Q,
+        edit: &mut E,
+        second: &Q,
+        amend: &A,
+    ) -> Result<(), Memory>
+        ensures ok { OnOk result (AreEdited K.order E.makes (A.makes amend.now) (Q.key first.now) (Q.key second.now) edit.old edit.new self.old self.new) }
+        ensures err { OnErr result ((edit.new ≡ edit.old) × (self.new ≡ self.old)) }
+    {
+        update_two(alloc, &mut self.tree, first, edit, second, amend)
     }
 }

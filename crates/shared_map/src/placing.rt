@@ -5,6 +5,7 @@ ghost use Rattle.std.specs.Option.{option_map};
 ghost use Rattle.std.specs.FinMap.Entries.{find as value_at, put, is_sorted};
 ghost use Rattle.shared_map.specs.Trees.{seen, IsTree, IsGrown};
 
+use crate::attempting::Attempt;
 use crate::finding::alone;
 use crate::key::MapKey;
 use crate::settling::settle;
@@ -32,57 +33,71 @@ impl From<AllocError> for NotInPlace {
 }
 
 impl<K: MapKey + Drop, V: Drop> Tree<K, V> {
-    /// Puts the value under the key, and answers the one before. The error is want of memory; no entry has changed then.
-    pub fn insert(&mut self, alloc: Global, key: K, value: Arc<V>) -> Result<Option<Arc<V>>, Memory>
-        requires ordered { T (is_sorted K.order self.old.0) }
-        requires few { length self.old.0 + 1 < 2 ^ 64 }
-        ensures before { IfOk result (λ before. option_map (λ v. v.value) before ≡ value_at K.order key self.old.0) }
-        ensures ok { OnOk result (self.new.0 ≡ put K.order key value.value self.old.0) }
-        ensures err { OnErr result (self.new.0 ≡ self.old.0) }
-    {
-        match self.put(alloc, &key, &value) {
-            Ok(before) => Ok(before),
-            Err(_) => self.insert_anew(alloc, key, value),
-        }
-    }
-
-    // The same, where each node on the way is made anew.
-    fn insert_anew(
+    /// Puts the value under the key once the rest is done, and answers the value before. The error is want of memory; no
+    /// entry has changed then, and the rest isn't done.
+    pub fn insert<P: Attempt>(
         &mut self,
         alloc: Global,
         key: K,
         value: Arc<V>,
+        rest: &mut P,
     ) -> Result<Option<Arc<V>>, Memory>
         requires ordered { T (is_sorted K.order self.old.0) }
         requires few { length self.old.0 + 1 < 2 ^ 64 }
         ensures before { IfOk result (λ before. option_map (λ v. v.value) before ≡ value_at K.order key self.old.0) }
-        ensures ok { OnOk result (self.new.0 ≡ put K.order key value.value self.old.0) }
-        ensures err { OnErr result (self.new.0 ≡ self.old.0) }
+        ensures ok { OnOk result ((self.new.0 ≡ put K.order key value.value self.old.0) × P.makes rest.old rest.new) }
+        ensures err { OnErr result ((self.new.0 ≡ self.old.0) × (rest.new ≡ rest.old)) }
+    {
+        match self.put(alloc, &key, &value, rest) {
+            Ok(before) => Ok(before),
+            Err(_) => self.insert_anew(alloc, key, value, rest),
+        }
+    }
+
+    // The same, where each node on the way is made anew.
+    fn insert_anew<P: Attempt>(
+        &mut self,
+        alloc: Global,
+        key: K,
+        value: Arc<V>,
+        rest: &mut P,
+    ) -> Result<Option<Arc<V>>, Memory>
+        requires ordered { T (is_sorted K.order self.old.0) }
+        requires few { length self.old.0 + 1 < 2 ^ 64 }
+        ensures before { IfOk result (λ before. option_map (λ v. v.value) before ≡ value_at K.order key self.old.0) }
+        ensures ok { OnOk result ((self.new.0 ≡ put K.order key value.value self.old.0) × P.makes rest.old rest.new) }
+        ensures err { OnErr result ((self.new.0 ≡ self.old.0) × (rest.new ≡ rest.old)) }
     {
         let before = self.shared(&key)?;
-        *self = self.with(alloc, key, value)?;
+        let tree = self.with(alloc, key, value)?;
+        rest.attempt(alloc)?;
+        *self = tree;
         Ok(before)
     }
 
-    /// Puts the value under the key in place, and answers the one before. After the error nothing has changed.
+    /// Puts the value under the key in place once the rest is done, and answers the value before. After the error nothing
+    /// has changed.
     #[cycle(placing)]
-    pub fn put(
+    pub fn put<P: Attempt>(
         &mut self,
         alloc: Global,
         key: &K,
         value: &Arc<V>,
+        rest: &mut P,
     ) -> Result<Option<Arc<V>>, NotInPlace>
         requires ordered { T (is_sorted K.order self.old.0) }
         requires few { length self.old.0 + 1 < 2 ^ 64 }
         ensures before { IfOk result (λ before. option_map (λ v. v.value) before ≡ value_at K.order key.now self.old.0) }
-        ensures ok { OnOk result (IsGrown (put K.order key.now value.now.value self.old.0) self.old.1 self.new) }
-        ensures err { OnErr result (self.new ≡ self.old) }
+        ensures ok { OnOk result (IsGrown (put K.order key.now value.now.value self.old.0) self.old.1 self.new × P.makes rest.old rest.new) }
+        ensures err { OnErr result ((self.new ≡ self.old) × (rest.new ≡ rest.old)) }
     {
         let Some(mut top) = self.take() else {
-            *self = alone(alloc, key.share()?, value.clone()?)?;
+            let leaf = alone(alloc, key.share()?, value.clone()?)?;
+            rest.attempt(alloc)?;
+            *self = leaf;
             return Ok(None);
         };
-        let before = put_over(alloc, &mut top, key, value);
+        let before = put_over(alloc, &mut top, key, value, rest);
         *self = Tree::over(top);
         before
     }
@@ -90,52 +105,58 @@ impl<K: MapKey + Drop, V: Drop> Tree<K, V> {
 
 // Puts the value under the key, where the node is made anew if it has other owners.
 #[cycle(placing)]
-fn put_over<K: MapKey + Drop, V: Drop>(
+fn put_over<K: MapKey + Drop, V: Drop, P: Attempt>(
     alloc: Global,
     top: &mut Arc<Fork<K, V>>,
     key: &K,
     value: &Arc<V>,
+    rest: &mut P,
 ) -> Result<Option<Arc<V>>, NotInPlace>
     requires tree { IsTree top.old.value }
     requires ordered { T (is_sorted K.order (seen (Some top.old.value)).0) }
     requires few { length (seen (Some top.old.value)).0 + 1 < 2 ^ 64 }
     ensures before { IfOk result (λ before. option_map (λ v. v.value) before ≡ value_at K.order key.now (seen (Some top.old.value)).0) }
     ensures tree { IsTree top.new.value }
-    ensures ok { OnOk result (IsGrown (put K.order key.now value.now.value (seen (Some top.old.value)).0) top.old.value.height (seen (Some top.new.value))) }
-    ensures err { OnErr result (seen (Some top.new.value) ≡ seen (Some top.old.value)) }
+    ensures ok { OnOk result (IsGrown (put K.order key.now value.now.value (seen (Some top.old.value)).0) top.old.value.height (seen (Some top.new.value)) × P.makes rest.old rest.new) }
+    ensures err { OnErr result ((seen (Some top.new.value) ≡ seen (Some top.old.value)) × (rest.new ≡ rest.old)) }
 {
     let at = Arc::make_mut(top)?;
-    put_at(alloc, at, key, value)
+    put_at(alloc, at, key, value, rest)
 }
 
 // Puts the value under the key, at that node or below it.
 #[cycle(placing)]
-fn put_at<K: MapKey + Drop, V: Drop>(
+fn put_at<K: MapKey + Drop, V: Drop, P: Attempt>(
     alloc: Global,
     at: &mut Fork<K, V>,
     key: &K,
     value: &Arc<V>,
+    rest: &mut P,
 ) -> Result<Option<Arc<V>>, NotInPlace>
     requires tree { IsTree at.old }
     requires ordered { T (is_sorted K.order (seen (Some at.old)).0) }
     requires few { length (seen (Some at.old)).0 + 1 < 2 ^ 64 }
     ensures before { IfOk result (λ before. option_map (λ v. v.value) before ≡ value_at K.order key.now (seen (Some at.old)).0) }
     ensures tree { IsTree at.new }
-    ensures ok { OnOk result (IsGrown (put K.order key.now value.now.value (seen (Some at.old)).0) at.old.height (seen (Some at.new))) }
-    ensures err { OnErr result (seen (Some at.new) ≡ seen (Some at.old)) }
+    ensures ok { OnOk result (IsGrown (put K.order key.now value.now.value (seen (Some at.old)).0) at.old.height (seen (Some at.new)) × P.makes rest.old rest.new) }
+    ensures err { OnErr result ((seen (Some at.new) ≡ seen (Some at.old)) × (rest.new ≡ rest.old)) }
 {
     if at.left.height().abs_diff(at.right.height()) > 1 {
         return Err(NotInPlace);
     }
     match key.compare(&at.key) {
         Ordering::Less => {
-            let before = at.left.put(alloc, key, value)?;
+            let before = at.left.put(alloc, key, value, rest)?;
             settle(at);
             Ok(before)
         }
-        Ordering::Equal => Ok(Some(mem::replace(&mut at.value, value.clone()?))),
+        Ordering::Equal => {
+            let value = value.clone()?;
+            rest.attempt(alloc)?;
+            Ok(Some(mem::replace(&mut at.value, value)))
+        }
         Ordering::Greater => {
-            let before = at.right.put(alloc, key, value)?;
+            let before = at.right.put(alloc, key, value, rest)?;
             settle(at);
             Ok(before)
         }

@@ -13,6 +13,13 @@ use std::alloc::Global;
 use std::cmp::Ordering;
 use std::sync::Arc;
 
+/// A value that is changed where it stands, or, where it has other owners, a clone of it.
+pub trait MapValue: Clone {
+    ghost use Rattle.std.specs.Prelude.{◌≡◌};
+
+    ghost equal: { (x y : Self) → Self.is_clone x y → y ≡ x };
+}
+
 /// A change of a value, which may take memory.
 pub trait Edit<V> {
     ghost makes: { Self → V → Self → V → Type 0 };
@@ -24,18 +31,16 @@ pub trait Edit<V> {
 }
 
 /// Changes the value under the key, if there is one, and answers whether there is. The error is want of memory, and then
-/// no entry has changed.
+/// no entry has changed. What a search finds in a tree whose keys don't ascend isn't said.
 #[cycle(updating)]
-pub fn update<K: MapKey + Drop, V: Clone, Q: Sought<K>, E: Edit<V>>(
+pub fn update<K: MapKey + Drop, V: MapValue, Q: Sought<K>, E: Edit<V>>(
     alloc: Global,
     tree: &mut Tree<K, V>,
     key: &Q,
     edit: &mut E,
 ) -> Result<bool, Memory>
-    requires clones { (x y : V) → V.is_clone x y → y ≡ x }
-    requires ordered { T (is_sorted K.order tree.old.0) }
-    ensures found { IfOk result (λ found. found ≡ is_some (value_at K.order (Q.key key.now) tree.old.0)) }
-    ensures ok { OnOk result (IsEdited K.order E.makes (Q.key key.now) edit.old edit.new tree.old.0 tree.new.0) }
+    ensures found { T (is_sorted K.order tree.old.0) → IfOk result (λ found. found ≡ is_some (value_at K.order (Q.key key.now) tree.old.0)) }
+    ensures ok { T (is_sorted K.order tree.old.0) → OnOk result (IsEdited K.order E.makes (Q.key key.now) edit.old edit.new tree.old.0 tree.new.0) }
     ensures err { OnErr result ((edit.new ≡ edit.old) × (tree.new.0 ≡ tree.old.0)) }
     ensures shape { (length tree.new.0 ≡ length tree.old.0) × (tree.new.1 ≡ tree.old.1) }
 {
@@ -49,17 +54,15 @@ pub fn update<K: MapKey + Drop, V: Clone, Q: Sought<K>, E: Edit<V>>(
 
 // Changes the value under the key, where the node is made anew if it has other owners.
 #[cycle(updating)]
-fn update_over<K: MapKey + Drop, V: Clone, Q: Sought<K>, E: Edit<V>>(
+fn update_over<K: MapKey + Drop, V: MapValue, Q: Sought<K>, E: Edit<V>>(
     alloc: Global,
     top: &mut Arc<Fork<K, V>>,
     key: &Q,
     edit: &mut E,
 ) -> Result<bool, Memory>
-    requires clones { (x y : V) → V.is_clone x y → y ≡ x }
     requires tree { IsTree top.old.value }
-    requires ordered { T (is_sorted K.order (seen (Some top.old.value)).0) }
-    ensures found { IfOk result (λ found. found ≡ is_some (value_at K.order (Q.key key.now) (seen (Some top.old.value)).0)) }
-    ensures ok { OnOk result (IsEdited K.order E.makes (Q.key key.now) edit.old edit.new (seen (Some top.old.value)).0 (seen (Some top.new.value)).0) }
+    ensures found { T (is_sorted K.order (seen (Some top.old.value)).0) → IfOk result (λ found. found ≡ is_some (value_at K.order (Q.key key.now) (seen (Some top.old.value)).0)) }
+    ensures ok { T (is_sorted K.order (seen (Some top.old.value)).0) → OnOk result (IsEdited K.order E.makes (Q.key key.now) edit.old edit.new (seen (Some top.old.value)).0 (seen (Some top.new.value)).0) }
     ensures err { OnErr result ((edit.new ≡ edit.old) × ((seen (Some top.new.value)).0 ≡ (seen (Some top.old.value)).0)) }
     ensures tree { IsTree top.new.value }
     ensures shape { (length (seen (Some top.new.value)).0 ≡ length (seen (Some top.old.value)).0) × (top.new.value.height ≡ top.old.value.height) }
@@ -70,17 +73,15 @@ fn update_over<K: MapKey + Drop, V: Clone, Q: Sought<K>, E: Edit<V>>(
 
 // Changes the value under the key, at that node or below it.
 #[cycle(updating)]
-fn update_at<K: MapKey + Drop, V: Clone, Q: Sought<K>, E: Edit<V>>(
+fn update_at<K: MapKey + Drop, V: MapValue, Q: Sought<K>, E: Edit<V>>(
     alloc: Global,
     at: &mut Fork<K, V>,
     key: &Q,
     edit: &mut E,
 ) -> Result<bool, Memory>
-    requires clones { (x y : V) → V.is_clone x y → y ≡ x }
     requires tree { IsTree at.old }
-    requires ordered { T (is_sorted K.order (seen (Some at.old)).0) }
-    ensures found { IfOk result (λ found. found ≡ is_some (value_at K.order (Q.key key.now) (seen (Some at.old)).0)) }
-    ensures ok { OnOk result (IsEdited K.order E.makes (Q.key key.now) edit.old edit.new (seen (Some at.old)).0 (seen (Some at.new)).0) }
+    ensures found { T (is_sorted K.order (seen (Some at.old)).0) → IfOk result (λ found. found ≡ is_some (value_at K.order (Q.key key.now) (seen (Some at.old)).0)) }
+    ensures ok { T (is_sorted K.order (seen (Some at.old)).0) → OnOk result (IsEdited K.order E.makes (Q.key key.now) edit.old edit.new (seen (Some at.old)).0 (seen (Some at.new)).0) }
     ensures err { OnErr result ((edit.new ≡ edit.old) × ((seen (Some at.new)).0 ≡ (seen (Some at.old)).0)) }
     ensures tree { IsTree at.new }
     ensures shape { (length (seen (Some at.new)).0 ≡ length (seen (Some at.old)).0) × (at.new.height ≡ at.old.height) }
@@ -96,12 +97,11 @@ fn update_at<K: MapKey + Drop, V: Clone, Q: Sought<K>, E: Edit<V>>(
 }
 
 // Changes the value, which is made anew first if it has other owners.
-fn update_value<V: Clone, E: Edit<V>>(
+fn update_value<V: MapValue, E: Edit<V>>(
     alloc: Global,
     value: &mut Arc<V>,
     edit: &mut E,
 ) -> Result<(), Memory>
-    requires clones { (x y : V) → V.is_clone x y → y ≡ x }
     ensures ok { OnOk result (E.makes edit.old value.old.value edit.new value.new.value) }
     ensures err { OnErr result ((edit.new ≡ edit.old) × (value.new.value ≡ value.old.value)) }
 {
