@@ -91,15 +91,14 @@ module _ (nodes : List (Key × Node)) (tied : IsTied nodes) (dir : Key) (name : 
     tied-linked : IsTied after
     tied-linked = tied_by after then tree_of-linked (sound_then, parents_then, names_then, subdirs_then)
 
--- what `enter` and then `set_named` leave of a copy
+-- what `link` leaves of the inodes
 pub linked : (nodes : List (Key × Node)) → IsTied nodes → (t : Tree) → tree_of nodes ≡ t → (dir : Key) (name : List ℕ) (ino : Key) → true ≡ may_link t dir name ino
     → (subdirs names : ℕ) (above : Option Key) → subdirs ≡ one_more_if (subdirectory_count t dir) (is_directory (inode_at t ino)) → names ≡ one_more_if (name_count t ino) true → above ≡ cond (is_directory (inode_at t ino)) (Some dir) None
-    → (copy between after : List (Key × Node)) → copy ≡ nodes → between ≡ at_node copy dir (entered name ino subdirs) → after ≡ at_node between ino (named above names)
+    → (after : List (Key × Node)) → after ≡ at_node (at_node nodes dir (entered name ino subdirs)) ino (named above names)
     → (tree_of after ≡ cond (may_link t dir name ino) (with_name t dir name ino) t) × IsTied after
-linked nodes tied t seen dir name ino may subdirs names above counted more up copy between after same entering naming =
+linked nodes tied t seen dir name ino may subdirs names above counted more up after left =
     subst (λ (u : Tree). true ≡ may_link u dir name ino → subdirs ≡ one_more_if (subdirectory_count u dir) (is_directory (inode_at u ino)) → names ≡ one_more_if (name_count u ino) true → above ≡ cond (is_directory (inode_at u ino)) (Some dir) None → (tree_of after ≡ cond (may_link u dir name ino) (with_name u dir name ino) u) × IsTied after) seen
-    (λ may counted more up.
-    let left : after ≡ at_node (at_node nodes dir (entered name ino subdirs)) ino (named above names) = naming ∙ ap (λ ns. at_node ns ino (named above names)) (entering ∙ ap (λ ns. at_node ns dir (entered name ino subdirs)) same) in (
+    (λ may counted more up. (
       ap tree_of left ∙ tree_of-linked nodes tied dir name ino (sym may) subdirs names above counted more up ∙ ap (λ b. cond b (with_name (tree_of nodes) dir name ino) (tree_of nodes)) may,
       subst (λ (ns : List (Key × Node)). IsTied ns) (sym left) (tied-linked nodes tied dir name ino (sym may) subdirs names above counted more up),
     ))

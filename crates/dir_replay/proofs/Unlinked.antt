@@ -107,14 +107,13 @@ module _ (nodes : List (Key × Node)) (tied : IsTied nodes) (dir : Key) (name : 
     tied-unlinked : IsTied after
     tied-unlinked = tied_by after then tree_of-unlinked (sound_then, parents_then, names_then, subdirs_then)
 
--- what `leave` and then `unname` leave of a copy
+-- what `unlink` leaves of the inodes
 pub unlinked : (nodes : List (Key × Node)) → IsTied nodes → (t : Tree) → tree_of nodes ≡ t → (dir : Key) (name : List ℕ) (ino : Key) → Some ino ≡ entry t dir name → true ≡ may_lose_name t ino
-    → (directory : Bool) → directory ≡ is_directory (inode_at t ino) → (copy between after : List (Key × Node)) → copy ≡ nodes → between ≡ at_node copy dir (left name directory) → after ≡ at_node between ino unnamed
+    → (directory : Bool) → directory ≡ is_directory (inode_at t ino) → (after : List (Key × Node)) → after ≡ at_node (at_node nodes dir (left name directory)) ino unnamed
     → (tree_of after ≡ cond (option_map_or (may_lose_name t) (entry t dir name) false) (without_name t dir name) t) × IsTied after
-unlinked nodes tied t seen dir name ino found may directory isd copy between after same leaving unnaming =
+unlinked nodes tied t seen dir name ino found may directory isd after is =
     subst (λ (u : Tree). Some ino ≡ entry u dir name → true ≡ may_lose_name u ino → directory ≡ is_directory (inode_at u ino) → (tree_of after ≡ cond (option_map_or (may_lose_name u) (entry u dir name) false) (without_name u dir name) u) × IsTied after) seen
-    (λ found may isd.
-    let is : after ≡ at_node (at_node nodes dir (left name directory)) ino unnamed = unnaming ∙ ap (λ ns. at_node ns ino unnamed) (leaving ∙ ap (λ ns. at_node ns dir (left name directory)) same) in (
+    (λ found may isd. (
       ap tree_of is ∙ tree_of-unlinked nodes tied dir name ino (sym found) (sym may) directory isd ∙ ap (λ b. cond b (without_name (tree_of nodes) dir name) (tree_of nodes)) (sym (effective nodes tied dir name ino (sym found) (sym may))),
       subst (λ (ns : List (Key × Node)). IsTied ns) (sym is) (tied-unlinked nodes tied dir name ino (sym found) (sym may) directory isd),
     ))

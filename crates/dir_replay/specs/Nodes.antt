@@ -5,6 +5,8 @@ use Rattle.std.specs.FinMap.Entries.{find as value_at, put, where_key}
 use Rattle.ivy_base.specs.declared.key.Key.{Key}
 use Rattle.ivy_base.specs.Naming.{key_cmp}
 use Rattle.dir_replay.specs.declared.nodes.Node.{Node}
+use Rattle.dir_replay.specs.declared.nodes.Count.{Count}
+use Rattle.dir_replay.specs.declared.nodes.Count.TheVariants as count
 use Rattle.dir_replay.specs.declared.nodes.Change.{Change}
 use Rattle.dir_replay.specs.declared.nodes.Change.TheVariants as change
 use Rattle.dir_replay.specs.Counts.{less_one_if}
@@ -47,10 +49,14 @@ any_unnamed nodes (Some ino) = at_node nodes ino unnamed
 abbrev pub moved_to : Option Key → Node → Node
 moved_to parent n = record n { parent = parent }
 
+-- the inode with other names
+abbrev pub counted : Count → Node → Node
+counted (count.Are parent names) = named parent names
+counted count.Less = unnamed
+
 -- the inode after a change
 abbrev pub changed : Change → Node → Node
 changed (change.Enter name ino subdirs) = entered name.now ino subdirs
 changed (change.Leave name directory) = left name.now directory
-changed (change.Name parent names) = named parent names
-changed change.Unname = unnamed
+changed (change.Count c) = counted c
 changed (change.Move parent) = moved_to parent

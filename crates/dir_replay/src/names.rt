@@ -17,7 +17,7 @@ ghost use Rattle.dir_replay.specs.Effect.{names_after, touched_by, none_touched}
 use crate::entries::Entries;
 use crate::keys::{ROOT, is_root, same};
 use crate::listing::Listing;
-use crate::nodes::{Node, Nodes};
+use crate::nodes::{Linked, Node, Nodes};
 use crate::touched::Touched;
 use ivy_base::{Key, Kind, Memory, Op};
 use shared_map::EntryTest;
@@ -115,10 +115,12 @@ impl Names {
         let directory = self.is_directory(ino);
         let names = one_more_if(self.names_of(ino), true)?;
         let subdirs = one_more_if(self.subdirs(dir), directory)?;
-        let mut nodes = self.nodes.copy()?;
-        nodes.enter(alloc, dir, name, *ino, subdirs)?;
-        nodes.set_named(alloc, ino, given_if(directory, dir), names)?;
-        self.nodes = nodes;
+        let counts = Linked {
+            subdirs,
+            parent: given_if(directory, dir),
+            names,
+        };
+        self.nodes.link(alloc, dir, name, ino, counts)?;
         Ok(Touched::only(*dir))
     }
 
@@ -135,10 +137,7 @@ impl Names {
             return Ok(Touched::nothing());
         }
         let directory = self.is_directory(&ino);
-        let mut nodes = self.nodes.copy()?;
-        nodes.leave(alloc, dir, name, directory)?;
-        nodes.unname(alloc, &ino)?;
-        self.nodes = nodes;
+        self.nodes.unlink(alloc, dir, name, &ino, directory)?;
         Ok(Touched::only(*dir))
     }
 

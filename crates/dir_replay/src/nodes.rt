@@ -10,7 +10,7 @@ ghost use Rattle.dir_replay.specs.Counts.{less_one_if};
 use crate::entries::Entries;
 use crate::keys::both_same;
 use ivy_base::{Key, Kind, Memory};
-use shared_map::{Edit, EntryTest, SharedMap};
+use shared_map::{Amend, Edit, EntryTest, MapValue, SharedMap};
 use std::alloc::{AllocError, Global};
 use std::marker::Model;
 
@@ -38,6 +38,10 @@ impl Clone for Node {
     fn clone(&self) -> Result<Node, AllocError> {
         self.copy().map_err(|_| AllocError)
     }
+}
+
+impl MapValue for Node {
+    ghost equal = { λ n m is. is };
 }
 
 impl Node {
@@ -124,6 +128,43 @@ impl Nodes {
         Ok(())
     }
 
+    /// Puts a name for the inode into the directory, which then has so many subdirectories, and notes that so many names
+    /// lead to the inode, and which directory has the name of a directory. The error is want of memory, and then nothing
+    /// has changed.
+    pub fn link(
+        &mut self,
+        alloc: Global,
+        dir: &Key,
+        name: &[u8],
+        ino: &Key,
+        counts: Linked,
+    ) -> Result<(), Memory>
+        ensures ok { OnOk result (self.new ≡ at_node (at_node self.old dir.now (entered name.now ino.now counts.subdirs)) ino.now (named counts.parent counts.names)) }
+        ensures err { OnErr result (self.new ≡ self.old) }
+    {
+        let mut enter = Change::Enter(name, *ino, counts.subdirs);
+        let count = Count::Are(counts.parent, counts.names);
+        self.map.update_two(alloc, dir, &mut enter, ino, &count)
+    }
+
+    /// Takes a name for the inode out of the directory, and a subdirectory where the name led to one, and notes that a
+    /// name less leads to the inode. The error is want of memory, and then nothing has changed.
+    pub fn unlink(
+        &mut self,
+        alloc: Global,
+        dir: &Key,
+        name: &[u8],
+        ino: &Key,
+        directory: bool,
+    ) -> Result<(), Memory>
+        ensures ok { OnOk result (self.new ≡ at_node (at_node self.old dir.now (left name.now directory)) ino.now unnamed) }
+        ensures err { OnErr result (self.new ≡ self.old) }
+    {
+        let mut leave = Change::Leave(name, directory);
+        self.map
+            .update_two(alloc, dir, &mut leave, ino, &Count::Less)
+    }
+
     /// Puts a name for the inode into the directory, which then has so many subdirectories; without such a
     /// directory nothing changes. The error is want of memory, and then nothing has changed.
     pub fn enter(
@@ -155,28 +196,13 @@ impl Nodes {
         self.change(alloc, dir, Change::Leave(name, directory))
     }
 
-    /// Notes that so many names lead to the inode, and which directory has the name of a directory. The error is want
-    /// of memory, and then nothing has changed.
-    pub fn set_named(
-        &mut self,
-        alloc: Global,
-        ino: &Key,
-        parent: Option<Key>,
-        names: u64,
-    ) -> Result<(), Memory>
-        ensures ok { OnOk result (self.new ≡ at_node self.old ino.now (named parent names)) }
-        ensures err { OnErr result (self.new ≡ self.old) }
-    {
-        self.change(alloc, ino, Change::Name(parent, names))
-    }
-
     /// Notes that a name less leads to the inode: to a directory none. The error is want of memory, and then nothing
     /// has changed.
     pub fn unname(&mut self, alloc: Global, ino: &Key) -> Result<(), Memory>
         ensures ok { OnOk result (self.new ≡ at_node self.old ino.now unnamed) }
         ensures err { OnErr result (self.new ≡ self.old) }
     {
-        self.change(alloc, ino, Change::Unname)
+        self.change(alloc, ino, Change::Count(Count::Less))
     }
 
     /// Notes that a name less leads to the inode, where one is given. The error is want of memory, and then nothing
@@ -212,6 +238,45 @@ impl Nodes {
     }
 }
 
+/// What is noted with a new name.
+pub struct Linked {
+    /// How many names in the directory lead to directories then.
+    pub subdirs: u64,
+    /// The directory that has the name of a directory.
+    pub parent: Option<Key>,
+    /// How many names lead to the inode then.
+    pub names: u64,
+}
+
+// How many names lead to an inode.
+#[derive(Drop)]
+enum Count {
+    // So many, the one of a directory from that directory.
+    Are(Option<Key>, u64),
+    // One less.
+    Less,
+}
+
+impl Amend<Node> for Count {
+    ghost use Rattle.std.specs.Prelude.{◌≡◌};
+    ghost use Rattle.dir_replay.specs.Nodes.{counted};
+
+    ghost makes = { λ count n m. m ≡ counted count n };
+
+    fn amend(&self, node: &mut Node) {
+        match self {
+            Count::Are(parent, names) => {
+                node.parent = *parent;
+                node.names = *names;
+            }
+            Count::Less => {
+                node.parent = None;
+                node.names = less_one_if(node.names, true);
+            }
+        }
+    }
+}
+
 // A change of one inode.
 #[derive(Drop)]
 enum Change<'a> {
@@ -219,10 +284,8 @@ enum Change<'a> {
     Enter(&'a [u8], Key, u64),
     // A name goes from it, which led to a directory or not.
     Leave(&'a [u8], bool),
-    // So many names lead to it, the one of a directory from that directory.
-    Name(Option<Key>, u64),
-    // A name less leads to it.
-    Unname,
+    // Other names lead to it.
+    Count(Count),
     // Its name is in that directory.
     Move(Option<Key>),
 }
@@ -243,14 +306,7 @@ impl Edit<Node> for Change<'_> {
                 node.entries.remove(alloc, name)?;
                 node.subdirs = less_one_if(node.subdirs, *directory);
             }
-            Change::Name(parent, names) => {
-                node.parent = *parent;
-                node.names = *names;
-            }
-            Change::Unname => {
-                node.parent = None;
-                node.names = less_one_if(node.names, true);
-            }
+            Change::Count(count) => count.amend(node),
             Change::Move(parent) => node.parent = *parent,
         }
         Ok(())

@@ -1,6 +1,6 @@
 -- What an operation leaves of the names and of the contents is what it leaves of the tree.
 use Rattle.std.proofs.Common.{◌≡◌, ℕ, List, Option, Some, None, Bool, true, false, cond, ◌&&◌, Result, Ok, Err, OnOk, OnErr, Bor, is_some, option_map, count_by, refl, sym, ap, ◌∙◌, subst}
-use Rattle.std.specs.Option.{option_copied}
+use Rattle.std.specs.Option.{option_copied, option_map_or}
 use Rattle.std.specs.FinMap.Entries.{find as value_at, put, is_sorted}
 use Rattle.ivy_base.specs.declared.key.Key.{Key}
 use Rattle.ivy_base.specs.declared.operation.Kind.{Kind}
@@ -9,19 +9,22 @@ use Rattle.ivy_base.specs.declared.operation.Change.{Change}
 use Rattle.ivy_base.specs.declared.operation.Op.{Op}
 use Rattle.ivy_base.specs.declared.operation.Op.TheVariants as op
 use Rattle.ivy_base.specs.Naming.{key_cmp}
-use Rattle.tree_model.specs.Tree.{Tree, Inode, IsInOrder, inode_at, entry, same_key, subdirectory_count}
-use Rattle.tree_model.specs.Apply.{apply, at_inode, changed_inode}
+use Rattle.tree_model.specs.Tree.{Tree, Inode, IsInOrder, inode_at, entry, is_directory, same_key, subdirectory_count}
+use Rattle.tree_model.specs.Apply.{apply, at_inode, changed_inode, may_link, may_lose_name, touched, with_name, without_name}
 use Rattle.tree_model.specs.Sound.{IsSound}
 use Rattle.tree_model.proofs.Applied.{sound_apply}
+use Rattle.tree_model.proofs.Keys.{keys_total}
 use Rattle.dir_replay.specs.declared.touched.Touched.{Touched}
 use Rattle.dir_replay.specs.Bare.{bare}
-use Rattle.dir_replay.specs.Effect.{touched_by, names_after, with_names_changed, is_effective, IsOfNames, touched_at}
+use Rattle.dir_replay.specs.Effect.{directories, none_touched, touched_by, names_after, with_names_changed, is_effective, IsOfNames, touched_at}
 use Rattle.dir_replay.proofs.Bare.{sound-bare, sound_if_bare, bare-at_inode, is_directory-bare, touched_by-bare}
 use Rattle.dir_replay.proofs.Effects.{apply_names_is, bare-apply}
+use Rattle.dir_replay.proofs.Sorted.{put_same}
 use Rattle.inode_replay.specs.Contents.{made, changed, touched_inode}
 use Rattle.inode_replay.specs.Kept.{Kept, made_kept}
 use Rattle.inode_replay.proofs.Applied.{inode-free, inode-used, made-inode, write-at, attributes-at}
-use Rattle.fs_tree.specs.Contents.{at_content, changed_content, touched_content}
+use Rattle.fs_tree.specs.Applicable.{IsInOne}
+use Rattle.fs_tree.specs.Contents.{at_content, changed_content, touched_content, IsContentEditedAt, IsContentEdited}
 use Rattle.fs_tree.specs.View.{tree_of}
 use Rattle.fs_tree.specs.Tied.{IsTied}
 
@@ -86,6 +89,90 @@ module _ (names : Tree) (contents : List (Key × Inode)) (tied : IsTied names co
       ∙ sym (inodes-apply whole tied.sound.order.inodes now o of)
       )
 
+  -- ---- names in one directory
+
+  of_names : (dir : Key) (o : Op) → IsInOne dir o → IsOfNames o
+  of_names dir (op.Link d name number) h = tt
+  of_names dir (op.Unlink d name) h = tt
+  of_names dir (op.Rename d name to_dir to_name) h = absurd h
+  of_names dir (op.Inode number kind mode uid gid target) h = absurd h
+  of_names dir (op.Write number offset bytes) h = absurd h
+  of_names dir (op.Prepare d name verifier) h = absurd h
+  of_names dir (op.Cancel seq) h = absurd h
+  of_names dir (op.SetAttrs number change) h = absurd h
+  of_names dir op.End h = absurd h
+
+  one_directory : (dir : Key) (o : Op) → IsInOne dir o → directories o ≡ record { first = Some dir; second = None }
+  one_directory dir (op.Link d name number) h = λ i. record { first = Some (h i); second = None }
+  one_directory dir (op.Unlink d name) h = λ i. record { first = Some (h i); second = None }
+  one_directory dir (op.Rename d name to_dir to_name) h = absurd h
+  one_directory dir (op.Inode number kind mode uid gid target) h = absurd h
+  one_directory dir (op.Write number offset bytes) h = absurd h
+  one_directory dir (op.Prepare d name verifier) h = absurd h
+  one_directory dir (op.Cancel seq) h = absurd h
+  one_directory dir (op.SetAttrs number change) h = absurd h
+  one_directory dir op.End h = absurd h
+
+  same_touched : (o : Op) → touched_by names o ≡ touched_by whole o
+  same_touched o = ap (λ (u : Tree). touched_by u o) (sym tied.same) ∙ touched_by-bare whole o
+
+  -- the times of that directory, set where its entries change
+  times_set : (dir : Key) (now : Moment) (i : Inode) → value_at key_cmp dir contents ≡ Some i → (b : Bool) (dirs : Touched) → dirs ≡ record { first = Some dir; second = None }
+      → put key_cmp dir (cond (is_some (cond b dirs none_touched).first) (touched_inode now i) i) contents ≡ touched_content now (cond b dirs none_touched).second (touched_content now (cond b dirs none_touched).first contents)
+  times_set dir now i found true dirs one =
+      ap (λ (d : Touched). put key_cmp dir (cond (is_some d.first) (touched_inode now i) i) contents) one
+      ∙ sym (ap (λ o. changed_content contents dir o (touched_inode now)) found)
+      ∙ sym (ap (λ (d : Touched). touched_content now d.second (touched_content now d.first contents)) one)
+  times_set dir now i found false dirs one = put_same key_cmp keys_total dir i contents tied.sound.order.inodes found
+
+  names_changed_in : (dir : Key) (now : Moment) (o : Op) → IsInOne dir o → (i j : Inode) → value_at key_cmp dir contents ≡ Some i → j ≡ cond (is_some (touched_by names o).first) (touched_inode now i) i
+      → (new : Tree) → new ≡ bare (apply names now o) → (left : List (Key × Inode)) → left ≡ put key_cmp dir j contents → (tree_of new left ≡ apply whole now o) × IsTied new left
+  names_changed_in dir now o within i j found touch new names_are left contents_are =
+      joined now o new left (names_are ∙ names_whole now o) (
+      contents_are ∙ ap (λ k. put key_cmp dir k contents) (touch ∙ ap (λ (d : Touched). cond (is_some d.first) (touched_inode now i) i) (same_touched o))
+      ∙ times_set dir now i found (is_effective whole o) (directories o) (one_directory dir o within)
+      ∙ sym (inodes-apply whole tied.sound.order.inodes now o (of_names dir o within))
+      )
+
+  absent : (dir d : Key) → d ≡ dir → value_at key_cmp dir contents ≡ None → is_directory (inode_at whole d) ≡ false
+  absent dir d same none = ap (λ k. is_directory (inode_at whole k)) same ∙ ap is_directory none
+
+  and_false : (a b : Bool) → a ≡ false → (a && b) ≡ false
+  and_false a b h = ap (λ x. x && b) h
+
+  no_name : (d : Key) (name : List ℕ) → is_directory (inode_at whole d) ≡ false → (e : Option Key) → entry whole d name ≡ e → option_map_or (may_lose_name whole) e false ≡ false
+  no_name d name none None is = refl
+  no_name d name none (Some x) is = let never : true ≡ false = sym (tied.sound.in_directories (d, name) x is) ∙ none in absurd cc
+
+  -- a directory that isn't there has no names, and gets none
+  nothing_in : (dir : Key) (now : Moment) (o : Op) → IsInOne dir o → value_at key_cmp dir contents ≡ None → apply whole now o ≡ whole
+  nothing_in dir now (op.Link d name number) h none =
+      let may : may_link whole d name number ≡ false = and_false _ _ (absent dir d h none) in
+      ap (λ b. cond b (touched now d (with_name whole d name number)) whole) may
+  nothing_in dir now (op.Unlink d name) h none =
+      ap (λ b. cond b (touched now d (without_name whole d name)) whole) (no_name d name (absent dir d h none) (entry whole d name) refl)
+  nothing_in dir now (op.Rename d name to_dir to_name) h none = absurd h
+  nothing_in dir now (op.Inode number kind mode uid gid target) h none = absurd h
+  nothing_in dir now (op.Write number offset bytes) h none = absurd h
+  nothing_in dir now (op.Prepare d name verifier) h none = absurd h
+  nothing_in dir now (op.Cancel seq) h none = absurd h
+  nothing_in dir now (op.SetAttrs number change) h none = absurd h
+  nothing_in dir now op.End h none = absurd h
+
+  -- an edit of that directory's content that changes the names too
+  module _ (dir : Key) (now : Moment) (o : Op) (within : IsInOne dir o) {S : Type 0} (makes : S → Kept → S → Kept → Type 0) (edit after : S) (new : Tree) (left : List (Key × Inode)) (same : after ≡ edit → new ≡ names)
+      (made_so : (k l : Kept) → makes edit k after l → (new ≡ bare (apply names now o)) × (l.inode ≡ cond (is_some (touched_by names o).first) (touched_inode now k.inode) k.inode)) where
+    edited_at : (v : Option Inode) → value_at key_cmp dir contents ≡ v → IsContentEditedAt makes dir edit after contents left v → (tree_of new left ≡ apply whole now o) × IsTied new left
+    edited_at None none e =
+        let is : tree_of new left ≡ whole = λ i. tree_of (same e.0 i) (e.1 i) in
+        (is ∙ sym (nothing_in dir now o within none), subst (λ (u : Tree). IsTied u left) (sym (same e.0)) (subst (λ l. IsTied names l) (sym e.1) tied))
+    edited_at (Some i) found e =
+        let m = made_so e.0 e.1 e.3 in
+        names_changed_in dir now o within i e.1.inode found (m.1 ∙ ap (λ x. cond (is_some (touched_by names o).first) (touched_inode now x) x) e.2) new m.0 left e.4
+
+    pub directory_changed : IsContentEdited makes dir edit after contents left → (tree_of new left ≡ apply whole now o) × IsTied new left
+    directory_changed e = edited_at (value_at key_cmp dir contents) refl e
+
   -- another content of one inode
   pub content_changed : (number : Key) (f : Inode → Inode) → ((i : Inode) → (f i).kind ≡ i.kind) → (left : List (Key × Inode)) → left ≡ at_content contents number f → (tree_of names left ≡ at_inode whole number f) × IsTied names left
   content_changed number f kept left contents_are =
@@ -98,13 +185,12 @@ module _ (names : Tree) (contents : List (Key × Inode)) (tied : IsTied names co
       by None = refl
       by (Some i) = refl
 
-  -- a new inode, on a copy of the contents
+  -- a new inode
   module _ (now : Moment) (number : Key) (kind : Kind) (mode uid gid : ℕ) (target : List ℕ) (o : Op) (same : o ≡ op.Inode number kind mode uid gid target) where
-    pub inode_added : (k : Kept) → made_kept now o ≡ Some k → value_at key_cmp number contents ≡ None → (new : Tree) → new ≡ bare (apply names now o) → (copied : List (Key × Inode)) → copied ≡ contents → (left : List (Key × Inode)) → left ≡ put key_cmp number k.inode copied → (tree_of new left ≡ apply whole now o) × IsTied new left
-    inode_added k makes free new names_are copied same_contents left contents_are =
+    pub inode_added : (k : Kept) → made_kept now o ≡ Some k → value_at key_cmp number contents ≡ None → (new : Tree) → new ≡ bare (apply names now o) → (left : List (Key × Inode)) → left ≡ put key_cmp number k.inode contents → (tree_of new left ≡ apply whole now o) × IsTied new left
+    inode_added k makes free new names_are left contents_are =
         joined now o new left (names_are ∙ names_whole now o) (
-        contents_are ∙ ap (λ es. put key_cmp number k.inode es) same_contents
-        ∙ ap (λ (u : Tree). u.inodes) (sym (inode-free whole now number kind mode uid gid target k.inode free (ap (made now) (sym same) ∙ made-inode now o k makes)))
+        contents_are ∙ ap (λ (u : Tree). u.inodes) (sym (inode-free whole now number kind mode uid gid target k.inode free (ap (made now) (sym same) ∙ made-inode now o k makes)))
         ∙ ap (λ (p : Op). (apply whole now p).inodes) (sym same)
         )
 

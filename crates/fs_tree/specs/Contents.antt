@@ -1,5 +1,5 @@
 -- The contents of all inodes, in the order of their numbers.
-use Rattle.std.specs.Prelude.{List, map, Option, Some, None}
+use Rattle.std.specs.Prelude.{◌≡◌, List, map, Option, Some, None}
 use Rattle.std.specs.FinMap.Entries.{find as value_at, put}
 use Rattle.ivy_base.specs.declared.key.Key.{Key}
 use Rattle.ivy_base.specs.declared.operation.Moment.{Moment}
@@ -25,3 +25,13 @@ at_content contents ino f = changed_content contents ino (value_at key_cmp ino c
 abbrev pub touched_content : Moment → Option Key → List (Key × Inode) → List (Key × Inode)
 touched_content now None contents = contents
 touched_content now (Some dir) contents = at_content contents dir (touched_inode now)
+
+module _ {S : Type 0} (makes : S → Kept → S → Kept → Type 0) (ino : Key) (edit after : S) (old new : List (Key × Inode)) where
+  -- of the inode of that number: without one nothing has changed
+  abbrev pub IsContentEditedAt : Option Inode → Type 0
+  IsContentEditedAt None = (after ≡ edit) × (new ≡ old)
+  IsContentEditedAt (Some i) = (k l : Kept) × (k.inode ≡ i) × makes edit k after l × (new ≡ put key_cmp ino l.inode old)
+
+  -- the inode of that number is what the edit made of it, and all else is as it was
+  abbrev pub IsContentEdited : Type 0
+  IsContentEdited = IsContentEditedAt (value_at key_cmp ino old)

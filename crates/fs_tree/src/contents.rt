@@ -5,10 +5,11 @@ ghost use Rattle.std.specs.Option.{option_copied};
 ghost use Rattle.std.specs.FinMap.Entries.{find as value_at, put};
 ghost use Rattle.ivy_base.specs.Naming.{key_cmp};
 ghost use Rattle.inode_replay.specs.Contents.{ChangesContent, changed, touched_inode};
+ghost use Rattle.fs_tree.specs.Contents.{IsContentEdited};
 
 use inode_replay::Content;
 use ivy_base::{Key, Memory, Moment, Op};
-use shared_map::SharedMap;
+use shared_map::{Attempt, Edit, SharedMap};
 use std::alloc::Global;
 use std::marker::Model;
 
@@ -66,6 +67,36 @@ impl Contents {
         Ok(())
     }
 
+    /// The same together with something else, which is done too, or not where memory is short.
+    pub fn insert_with<P: Attempt>(
+        &mut self,
+        alloc: Global,
+        ino: Key,
+        content: Content,
+        rest: &mut P,
+    ) -> Result<(), Memory>
+        ensures ok { OnOk result ((self.new ≡ put key_cmp ino content.inode self.old) × P.makes rest.old rest.new) }
+        ensures err { OnErr result ((self.new ≡ self.old) × (rest.new ≡ rest.old)) }
+    {
+        self.map.insert_with(alloc, ino, content, rest)?;
+        Ok(())
+    }
+
+    /// Changes the inode of that number where it stands, if there is one. The error is want of memory, and then nothing
+    /// has changed.
+    pub fn update<E: Edit<Content>>(
+        &mut self,
+        alloc: Global,
+        ino: &Key,
+        edit: &mut E,
+    ) -> Result<(), Memory>
+        ensures ok { OnOk result (IsContentEdited E.makes ino.now edit.old edit.new self.old self.new) }
+        ensures err { OnErr result ((edit.new ≡ edit.old) × (self.new ≡ self.old)) }
+    {
+        self.map.update(alloc, ino, edit)?;
+        Ok(())
+    }
+
     /// The same inodes, which both share. It takes no memory: the only error is that a part of them already has as many
     /// owners as can be counted.
     pub fn copy(&self) -> Result<Contents, Memory>
@@ -104,7 +135,7 @@ impl Contents {
         let Some(content) = self.get(ino) else {
             return Ok(());
         };
-        let mut content = content.copy(alloc)?;
+        let mut content = content.copy()?;
         content.apply_content(alloc, moment, op)?;
         self.insert(alloc, *ino, content)
     }
@@ -131,11 +162,24 @@ impl Contents {
         ensures ok { OnOk result (self.new ≡ at_content self.old dir.now (touched_inode moment)) }
         ensures err { OnErr result (self.new ≡ self.old) }
     {
-        let Some(content) = self.get(dir) else {
-            return Ok(());
-        };
-        let mut content = content.copy(alloc)?;
-        content.touch(moment);
-        self.insert(alloc, *dir, content)
+        self.update(alloc, dir, &mut Touch { moment })
+    }
+}
+
+// The entries of a directory changed at that moment.
+#[derive(Drop)]
+struct Touch {
+    moment: Moment,
+}
+
+impl Edit<Content> for Touch {
+    ghost use Rattle.std.specs.Prelude.{◌≡◌};
+    ghost use Rattle.inode_replay.specs.Kept.{touched_kept};
+
+    ghost makes = { λ touch content _ touched. touched ≡ touched_kept touch.moment content };
+
+    fn edit(&mut self, _: Global, content: &mut Content) -> Result<(), Memory> {
+        content.touch(self.moment);
+        Ok(())
     }
 }

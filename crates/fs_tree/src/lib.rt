@@ -22,6 +22,7 @@
 #![tactic(auto)]
 
 pub mod basis;
+mod changing;
 mod contents;
 mod laws;
 mod tree;

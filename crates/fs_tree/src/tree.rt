@@ -9,8 +9,9 @@ ghost use Rattle.dir_replay.specs.Bare.{bare};
 ghost use Rattle.dir_replay.specs.Effect.{IsOfNames};
 ghost use Rattle.inode_replay.specs.Attributes.{attributes_of};
 ghost use Rattle.inode_replay.specs.Contents.{MakesInode, ChangesContent, changed};
-ghost use Rattle.fs_tree.specs.Applicable.{IsApplicable};
+ghost use Rattle.fs_tree.specs.Applicable.{IsApplicable, IsInOne};
 
+use crate::changing::NamesChange;
 use crate::contents::Contents;
 use dir_replay::{Names, ROOT};
 use inode_replay::{Attr, Content};
@@ -81,9 +82,9 @@ impl Tree {
     {
         match op {
             Op::Inode { .. } => self.add(alloc, moment, op),
-            Op::Link { .. } | Op::Unlink { .. } | Op::Rename { .. } => {
-                self.change_names(alloc, moment, op)
-            }
+            Op::Link { dir, .. } => self.change_directory(alloc, moment, dir, op),
+            Op::Unlink { dir, .. } => self.change_directory(alloc, moment, dir, op),
+            Op::Rename { .. } => self.change_names(alloc, moment, op),
             Op::Write { ino, .. } => self.change_content(alloc, moment, ino, op),
             Op::SetAttrs { ino, .. } => self.change_content(alloc, moment, ino, op),
             Op::Prepare { .. } | Op::Cancel { .. } | Op::End => Ok(()),
@@ -112,14 +113,36 @@ impl Tree {
         if self.contents.get(ino).is_some() {
             return Ok(());
         }
-        let mut contents = self.contents.copy()?;
-        contents.insert(alloc, *ino, Content::fresh(alloc, op, moment)?)?;
-        self.names.apply_names(alloc, op)?;
-        self.contents = contents;
-        Ok(())
+        let content = Content::fresh(alloc, op, moment)?;
+        let mut names = NamesChange {
+            names: &mut self.names,
+            op,
+            moment,
+        };
+        self.contents.insert_with(alloc, *ino, content, &mut names)
     }
 
-    // Does what a Link, an Unlink or a Rename does to the names, and to the times of the directories of these.
+    // Does what a Link or an Unlink in the directory does to the names, and to the times of the directory.
+    fn change_directory(
+        &mut self,
+        alloc: Global,
+        moment: Moment,
+        dir: &Key,
+        op: &Op,
+    ) -> Result<(), Memory>
+        requires { IsInOne dir.now op.now }
+        ensures ok { OnOk result (self.new ≡ apply self.old moment op.now) }
+        ensures err { OnErr result (self.new ≡ self.old) }
+    {
+        let mut names = NamesChange {
+            names: &mut self.names,
+            op,
+            moment,
+        };
+        self.contents.update(alloc, dir, &mut names)
+    }
+
+    // Does what a Link, an Unlink or a Rename does to the names, and to the times of the directories of these, on copies.
     fn change_names(&mut self, alloc: Global, moment: Moment, op: &Op) -> Result<(), Memory>
         requires { IsOfNames op.now }
         ensures ok { OnOk result (self.new ≡ apply self.old moment op.now) }

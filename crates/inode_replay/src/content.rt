@@ -9,7 +9,8 @@ ghost use Rattle.inode_replay.specs.Kept.{made_kept, changed_kept, touched_kept,
 use crate::attr::Attr;
 use crate::body::Body;
 use ivy_base::{Bytes, Change, Kind, Memory, Moment, Op};
-use std::alloc::Global;
+use shared_map::MapValue;
+use std::alloc::{AllocError, Global};
 use std::marker::Model;
 
 /// An inode: its kind, its attributes, and its bytes, which are a regular file's content or a symbolic link's text.
@@ -44,6 +45,20 @@ impl Model for Content {
     ghost view = { λ c. record { inode = record { kind = c.kind; attributes = attributes_of c.attr; body = bytes_of c.body }; written = places_of c.body } };
 
     ghost invariant = { λ c. is_file_body c.body ≡ file_kind c.kind };
+}
+
+impl Clone for Content {
+    ghost use Rattle.std.specs.Prelude.{◌≡◌};
+
+    ghost is_clone = { λ content copy. copy ≡ content };
+
+    fn clone(&self) -> Result<Content, AllocError> {
+        self.copy().map_err(|_| AllocError)
+    }
+}
+
+impl MapValue for Content {
+    ghost equal = { λ content copy is. is };
 }
 
 impl Content {
@@ -190,7 +205,7 @@ impl Content {
 
     /// An inode of its own with the same kind, attributes and bytes, of which the same are stored. It takes no memory: the
     /// only error is that a part of the bytes already has as many owners as can be counted.
-    pub fn copy(&self, _alloc: Global) -> Result<Content, Memory>
+    pub fn copy(&self) -> Result<Content, Memory>
         ensures { IfOk result (λ copy. copy ≡ self.now) }
     {
         Ok(Content {

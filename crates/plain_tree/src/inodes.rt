@@ -61,7 +61,7 @@ pub(crate) fn copy(inodes: &[(Key, Content)], alloc: Global) -> Result<Vec<(Key,
 {
     let mut copy = Vec::new(alloc);
     for entry in inodes {
-        copy.push((entry.0, entry.1.copy(alloc)?))?;
+        copy.push((entry.0, entry.1.copy()?))?;
     }
     Ok(copy)
 }

@@ -87,7 +87,7 @@ impl Plain {
             Op::Inode { .. } => self.add_inode(alloc, moment, op),
             Op::Write { ino, .. } => self.write_file(alloc, moment, ino, op),
             Op::Link { dir, name, ino } => self.link(alloc, moment, dir, name.as_slice(), ino),
-            Op::Unlink { dir, name } => self.unlink(alloc, moment, dir, name.as_slice()),
+            Op::Unlink { dir, name } => self.unlink(moment, dir, name.as_slice()),
             Op::Rename {
                 dir,
                 name,
@@ -174,7 +174,7 @@ impl Plain {
         let Some(content) = self.inode(ino) else {
             return Ok(());
         };
-        let mut content = content.copy(alloc)?;
+        let mut content = content.copy()?;
         content.apply_content(alloc, moment, op)?;
         self.set_inode(ino, content)
     }
@@ -182,13 +182,13 @@ impl Plain {
     // ---- names
 
     // Sets the times of a directory whose entries changed at that moment.
-    fn touch(&mut self, alloc: Global, moment: Moment, dir: &Key) -> Result<(), Memory>
+    fn touch(&mut self, moment: Moment, dir: &Key) -> Result<(), Memory>
         ensures ok { OnOk result (self.new ≡ touched moment dir.now self.old) }
     {
         let Some(content) = self.inode(dir) else {
             return Ok(());
         };
-        let mut content = content.copy(alloc)?;
+        let mut content = content.copy()?;
         content.touch(moment);
         self.set_inode(dir, content)
     }
@@ -208,17 +208,11 @@ impl Plain {
             return Ok(());
         }
         self.set_name(alloc, dir, name, ino)?;
-        self.touch(alloc, moment, dir)
+        self.touch(moment, dir)
     }
 
     // Removes a name, where it is there and may be lost.
-    fn unlink(
-        &mut self,
-        alloc: Global,
-        moment: Moment,
-        dir: &Key,
-        name: &[u8],
-    ) -> Result<(), Memory>
+    fn unlink(&mut self, moment: Moment, dir: &Key, name: &[u8]) -> Result<(), Memory>
         ensures ok { OnOk result (self.new ≡ unlink self.old moment dir.now name.now) }
     {
         let Some(ino) = self.entry(dir, name) else {
@@ -228,7 +222,7 @@ impl Plain {
             return Ok(());
         }
         self.remove_name(dir, name);
-        self.touch(alloc, moment, dir)
+        self.touch(moment, dir)
     }
 
     // Moves a name to its new place, where it is there and may be moved, in place of the name that stands there.
@@ -251,8 +245,8 @@ impl Plain {
         }
         self.remove_name(dir, name);
         self.set_name(alloc, to_dir, to_name, &moved)?;
-        self.touch(alloc, moment, dir)?;
-        self.touch(alloc, moment, to_dir)
+        self.touch(moment, dir)?;
+        self.touch(moment, to_dir)
     }
 
     // Whether the inode may have that name.

@@ -10,7 +10,7 @@ invariant_of-self c =
     (c.in_ok-subdirs.ensures ∙ (λ i. one_more_if (c.subdirs.ensures i) (c.is_directory-directory.ensures i)))
     (c.in_ok-names.ensures ∙ ap (λ n. one_more_if n true) c.names_of.ensures)
     (c.given_if.ensures ∙ ap (λ b. cond b (Some c.args.dir.now) None) c.is_directory-directory.ensures)
-    c.in_ok-nodes.nodes c.enter.new.self c.set_named.new.self c.in_ok-nodes.ensures c.in_ok-enter.ensures.ok c.in_ok-set_named.ensures.ok).1
+    c.link.new.self c.in_ok-link.ensures.ok).1
 
 pub returns-clause-ok : goal.returns-clause-ok
 returns-clause-ok c =
@@ -19,4 +19,4 @@ returns-clause-ok c =
     (c.in_ok-subdirs.ensures ∙ (λ i. one_more_if (c.subdirs.ensures i) (c.is_directory-directory.ensures i)))
     (c.in_ok-names.ensures ∙ ap (λ n. one_more_if n true) c.names_of.ensures)
     (c.given_if.ensures ∙ ap (λ b. cond b (Some c.args.dir.now) None) c.is_directory-directory.ensures)
-    c.in_ok-nodes.nodes c.enter.new.self c.set_named.new.self c.in_ok-nodes.ensures c.in_ok-enter.ensures.ok c.in_ok-set_named.ensures.ok).0
+    c.link.new.self c.in_ok-link.ensures.ok).0

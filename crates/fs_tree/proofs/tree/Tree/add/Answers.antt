@@ -3,8 +3,8 @@ use Rattle.fs_tree.proofs.tree.Tree.add.Goals as goal
 
 pub invariant_of-self-2 : goal.invariant_of-self-2
 invariant_of-self-2 c =
-    (inode_added c.self.inside.names c.self.inside.contents c.self.invariant c.args.moment c.in-Inode.ino c.in-Inode.kind c.in-Inode.mode c.in-Inode.uid c.in-Inode.gid c.in-Inode.target c.args.op.now c.in-Inode.is c.in_ok-fresh.field-0 c.in_ok-fresh.ensures (is_free c.get.result _ c.get.ensures c.if-is_some.ensures) c.apply_names.new.self (c.in_ok-apply_names.ensures.ok c.args.moment) c.in_ok-contents.contents c.in_ok-contents.ensures c.insert.new.self c.in_ok-insert.ensures.ok).1
+    (inode_added c.self.inside.names c.self.inside.contents c.self.invariant c.args.moment c.in-Inode.ino c.in-Inode.kind c.in-Inode.mode c.in-Inode.uid c.in-Inode.gid c.in-Inode.target c.args.op.now c.in-Inode.is c.in_ok-fresh.field-0 c.in_ok-fresh.ensures (is_free c.get.result _ c.get.ensures c.if-is_some.ensures) _ ? c.insert_with.new.self ?).1
 
 pub returns-clause-ok : goal.returns-clause-ok
 returns-clause-ok c =
-    rw (← c.self.view_is) ((inode_added c.self.inside.names c.self.inside.contents c.self.invariant c.args.moment c.in-Inode.ino c.in-Inode.kind c.in-Inode.mode c.in-Inode.uid c.in-Inode.gid c.in-Inode.target c.args.op.now c.in-Inode.is c.in_ok-fresh.field-0 c.in_ok-fresh.ensures (is_free c.get.result _ c.get.ensures c.if-is_some.ensures) c.apply_names.new.self (c.in_ok-apply_names.ensures.ok c.args.moment) c.in_ok-contents.contents c.in_ok-contents.ensures c.insert.new.self c.in_ok-insert.ensures.ok).0)
+    rw (← c.self.view_is) ((inode_added c.self.inside.names c.self.inside.contents c.self.invariant c.args.moment c.in-Inode.ino c.in-Inode.kind c.in-Inode.mode c.in-Inode.uid c.in-Inode.gid c.in-Inode.target c.args.op.now c.in-Inode.is c.in_ok-fresh.field-0 c.in_ok-fresh.ensures (is_free c.get.result _ c.get.ensures c.if-is_some.ensures) _ ? c.insert_with.new.self ?).0)
