@@ -10,8 +10,8 @@
 //! names depends on neither contents nor moments), `proofs/Effects` (what it does to a whole tree).
 //!
 //! Inside, `name` is what entries are kept under, `entries` what stands in one directory, `nodes` all inodes by their
-//! numbers, and `names` the rules. Entries and inodes are maps of `shared_map`: an operation changes a copy of the inodes,
-//! which takes their place once all has succeeded.
+//! numbers, and `names` the rules. Entries and inodes are maps of `shared_map`: a new inode, a Link and an Unlink are one
+//! change of the inodes each, and a Rename changes a copy of them, which takes their place once all has succeeded.
 //! Definitions: `specs/View.antt` is the tree that the kept maps stand for, `specs/Tied.antt` what holds of them.
 //!
 //! Costs: a copy of the names takes constant time and no memory. All else is counted in comparisons: a question or an
@@ -20,8 +20,8 @@
 //! operation changes the nodes on the way to each inode and name in place where they have one owner, and makes them anew
 //! where copies share them: a new inode is one such way among the inodes; a Link and an Unlink are two there, and one among
 //! the directory's names; a Rename is two and two, one more where it takes the place of another name, and one more where a
-//! directory gets another parent. All but a new inode changes a copy of the inodes, so that its ways are made anew, but for
-//! what they have in common; a name is taken out by a way that is made anew.
+//! directory gets another parent. A Rename changes a copy of the inodes, so that its ways are made anew, but for what they
+//! have in common; a name is taken out by a way that is made anew.
 #![tactic(auto)]
 
 mod entries;

@@ -239,6 +239,7 @@ impl Nodes {
 }
 
 /// What is noted with a new name.
+#[derive(Drop)]
 pub struct Linked {
     /// How many names in the directory lead to directories then.
     pub subdirs: u64,

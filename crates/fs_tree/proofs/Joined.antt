@@ -12,7 +12,7 @@ use Rattle.ivy_base.specs.Naming.{key_cmp}
 use Rattle.tree_model.specs.Tree.{Tree, Inode, IsInOrder, inode_at, entry, is_directory, same_key, subdirectory_count}
 use Rattle.tree_model.specs.Apply.{apply, at_inode, changed_inode, may_link, may_lose_name, touched, with_name, without_name}
 use Rattle.tree_model.specs.Sound.{IsSound}
-use Rattle.tree_model.proofs.Applied.{sound_apply}
+use Rattle.tree_model.proofs.Applied.{link_tests, sound_apply}
 use Rattle.tree_model.proofs.Keys.{keys_total}
 use Rattle.dir_replay.specs.declared.touched.Touched.{Touched}
 use Rattle.dir_replay.specs.Bare.{bare}
@@ -137,8 +137,9 @@ module _ (names : Tree) (contents : List (Key × Inode)) (tied : IsTied names co
   absent : (dir d : Key) → d ≡ dir → value_at key_cmp dir contents ≡ None → is_directory (inode_at whole d) ≡ false
   absent dir d same none = ap (λ k. is_directory (inode_at whole k)) same ∙ ap is_directory none
 
-  and_false : (a b : Bool) → a ≡ false → (a && b) ≡ false
-  and_false a b h = ap (λ x. x && b) h
+  no_link : (d : Key) (name : List ℕ) (number : Key) → is_directory (inode_at whole d) ≡ false → (b : Bool) → may_link whole d name number ≡ b → b ≡ false
+  no_link d name number none true may = let never : true ≡ false = sym (link_tests whole d name number may).directory ∙ none in absurd cc
+  no_link d name number none false may = refl
 
   no_name : (d : Key) (name : List ℕ) → is_directory (inode_at whole d) ≡ false → (e : Option Key) → entry whole d name ≡ e → option_map_or (may_lose_name whole) e false ≡ false
   no_name d name none None is = refl
@@ -147,8 +148,7 @@ module _ (names : Tree) (contents : List (Key × Inode)) (tied : IsTied names co
   -- a directory that isn't there has no names, and gets none
   nothing_in : (dir : Key) (now : Moment) (o : Op) → IsInOne dir o → value_at key_cmp dir contents ≡ None → apply whole now o ≡ whole
   nothing_in dir now (op.Link d name number) h none =
-      let may : may_link whole d name number ≡ false = and_false _ _ (absent dir d h none) in
-      ap (λ b. cond b (touched now d (with_name whole d name number)) whole) may
+      ap (λ b. cond b (touched now d (with_name whole d name number)) whole) (no_link d name number (absent dir d h none) (may_link whole d name number) refl)
   nothing_in dir now (op.Unlink d name) h none =
       ap (λ b. cond b (touched now d (without_name whole d name)) whole) (no_name d name (absent dir d h none) (entry whole d name) refl)
   nothing_in dir now (op.Rename d name to_dir to_name) h none = absurd h

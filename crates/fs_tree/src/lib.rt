@@ -9,15 +9,17 @@
 //! on it.
 //!
 //! Inside, `contents` is what the inodes contain by their numbers, in a map whose copies share what they have in common,
-//! and `tree` what an operation does to both halves: it works on copies and puts them in place at the end.
+//! `changing` is a change of the names that is made together with one of the contents, and `tree` what an operation does
+//! to both halves: a new inode, a Link and an Unlink are one change of both, and a Rename works on copies, which take
+//! their place at the end.
 //! Definitions: `specs/View.antt` is the tree that the halves stand for, `specs/Tied.antt` what holds of them,
 //! `specs/Contents.antt` which inodes contents are, `specs/Applicable.antt` what an operation must meet, which each
 //! record's does.
 //!
 //! Costs, counted in comparisons: a question or an operation takes the logarithm of the number of inodes and of the
 //! names in its directories. A Link or a Rename of a directory that has entries also climbs from its place to the top, and
-//! a Write takes the time of the bytes that it changes. Besides, an operation makes anew the inodes that it changes
-//! and the nodes of the maps above them, on copies of names and contents. A copy of the tree takes constant time and no
+//! a Write takes the time of the bytes that it changes. Inodes and the nodes of the maps above them are changed in place
+//! where they have one owner, and made anew where copies share them, as they do in a Rename. A copy of the tree takes constant time and no
 //! memory: it shares all of that until one of the two is changed.
 #![tactic(auto)]
 

@@ -5,15 +5,18 @@
 //! says by the words of the kit's finite maps (`find`, `put`, `where_key` of `FinMap.Entries`) what it makes of that list;
 //! [`SharedMap::len`] and [`SharedMap::get`] say that its keys ascend. Where memory is short a map stays as it was. A
 //! [`MapKey`] has a total order and gives an equal key, since a node that is made anew keeps its key; what is [`Sought`] is
-//! a key or a borrowed form of one; an [`EntryTest`] is a test of entries; an [`Edit`] changes a value where it stands, and
-//! says by a relation of its own what it makes. Lemmas to cite: `proofs/Sides`, what a search, a
-//! change and a removal make of entries on both sides of one, over any total order.
+//! a key or a borrowed form of one; an [`EntryTest`] is a test of entries; an [`Edit`] changes a [`MapValue`] where it stands, and
+//! says by a relation of its own what it makes; an [`Amend`] does so without memory, so that two values can be changed
+//! together; an [`Attempt`] is what is done together with an insertion. So whoever keeps several maps changes all or none,
+//! and no copy is wanted for that. Lemmas to cite: `proofs/Sides`, what a search, a change and a removal make of entries on
+//! both sides of one, over any total order.
 //!
 //! Inside, `tree` is a tree whose parts may have many owners, `joining` makes nodes anew over two sides so that they stay
 //! balanced, `finding` goes down to a key and makes the nodes on its way anew, `placing` puts an entry in place, `settling`
-//! turns nodes in place, `updating` changes a value in place, `listing` borrows entries in a row, `testing` looks at each
-//! entry, `key` says what a key is, and `map` keeps the keys in order.
-//! Definitions: `specs/Trees.antt`, and `specs/Edits.antt` for the change of a value. Heights are part of the invariant: the
+//! turns nodes in place, `updating` changes a value in place and `pairing` two, `attempting` is what is done together with
+//! a change, `listing` borrows entries in a row, `testing` looks at each entry, `key` says what a key is, and `map` keeps
+//! the keys in order.
+//! Definitions: `specs/Trees.antt`, and `specs/Edits.antt` for changes of values. Heights are part of the invariant: the
 //! two sides of each node differ by two at most, and the height is at most twice the binary logarithm of the number of
 //! entries and one, whatever the order of insertions and removals, so at most 128. The code aims at sides that differ by one:
 //! that they differ by two is left to an insertion in place which can't turn a node since that has other owners.
