@@ -48,7 +48,7 @@ impl<K: MapKey + Drop, V: Drop> Tree<K, V> {
         ensures ok { OnOk result ((self.new.0 ≡ put K.order key value.value self.old.0) × P.makes rest.old rest.new) }
         ensures err { OnErr result ((self.new.0 ≡ self.old.0) × (rest.new ≡ rest.old)) }
     {
-        match self.put(alloc, &key, &value, rest) {
+        match put(alloc, self, &key, &value, rest) {
             Ok(before) => Ok(before),
             Err(_) => self.insert_anew(alloc, key, value, rest),
         }
@@ -74,33 +74,33 @@ impl<K: MapKey + Drop, V: Drop> Tree<K, V> {
         *self = tree;
         Ok(before)
     }
+}
 
-    /// Puts the value under the key in place once the rest is done, and answers the value before. After the error nothing
-    /// has changed.
-    #[cycle(placing)]
-    pub fn put<P: Attempt>(
-        &mut self,
-        alloc: Global,
-        key: &K,
-        value: &Arc<V>,
-        rest: &mut P,
-    ) -> Result<Option<Arc<V>>, NotInPlace>
-        requires ordered { T (is_sorted K.order self.old.0) }
-        requires few { length self.old.0 + 1 < 2 ^ 64 }
-        ensures before { IfOk result (λ before. option_map (λ v. v.value) before ≡ value_at K.order key.now self.old.0) }
-        ensures ok { OnOk result (IsGrown (put K.order key.now value.now.value self.old.0) self.old.1 self.new × P.makes rest.old rest.new) }
-        ensures err { OnErr result ((self.new ≡ self.old) × (rest.new ≡ rest.old)) }
-    {
-        let Some(mut top) = self.take() else {
-            let leaf = alone(alloc, key.share()?, value.clone()?)?;
-            rest.attempt(alloc)?;
-            *self = leaf;
-            return Ok(None);
-        };
-        let before = put_over(alloc, &mut top, key, value, rest);
-        *self = Tree::over(top);
-        before
-    }
+// Puts the value under the key in place once the rest is done, and answers the value before. After the error nothing has
+// changed.
+#[cycle(placing)]
+fn put<K: MapKey + Drop, V: Drop, P: Attempt>(
+    alloc: Global,
+    tree: &mut Tree<K, V>,
+    key: &K,
+    value: &Arc<V>,
+    rest: &mut P,
+) -> Result<Option<Arc<V>>, NotInPlace>
+    requires ordered { T (is_sorted K.order tree.old.0) }
+    requires few { length tree.old.0 + 1 < 2 ^ 64 }
+    ensures before { IfOk result (λ before. option_map (λ v. v.value) before ≡ value_at K.order key.now tree.old.0) }
+    ensures ok { OnOk result (IsGrown (put K.order key.now value.now.value tree.old.0) tree.old.1 tree.new × P.makes rest.old rest.new) }
+    ensures err { OnErr result ((tree.new ≡ tree.old) × (rest.new ≡ rest.old)) }
+{
+    let Some(mut top) = tree.take() else {
+        let leaf = alone(alloc, key.share()?, value.clone()?)?;
+        rest.attempt(alloc)?;
+        *tree = leaf;
+        return Ok(None);
+    };
+    let before = put_over(alloc, &mut top, key, value, rest);
+    *tree = Tree::over(top);
+    before
 }
 
 // Puts the value under the key, where the node is made anew if it has other owners.
@@ -146,7 +146,7 @@ fn put_at<K: MapKey + Drop, V: Drop, P: Attempt>(
     }
     match key.compare(&at.key) {
         Ordering::Less => {
-            let before = at.left.put(alloc, key, value, rest)?;
+            let before = put(alloc, &mut at.left, key, value, rest)?;
             settle(at);
             Ok(before)
         }
@@ -156,7 +156,7 @@ fn put_at<K: MapKey + Drop, V: Drop, P: Attempt>(
             Ok(Some(mem::replace(&mut at.value, value)))
         }
         Ordering::Greater => {
-            let before = at.right.put(alloc, key, value, rest)?;
+            let before = put(alloc, &mut at.right, key, value, rest)?;
             settle(at);
             Ok(before)
         }
