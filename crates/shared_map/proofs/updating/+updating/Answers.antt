@@ -19,7 +19,7 @@ update_at-returns-in-Less-clause-ok g t c =
     λ ordered.
     let way : g.K.MapKey.order (g.Q.Sought.key c.args.key.now) c.args.at.now.key ≡ Less = sym c.in-Less.ensures in
     let sorted = sorted_sides c.args.at.now _ refl g.K.MapKey.order g.met.K.MapKey.total ordered in
-    onto_on c.update.result (edited_left g.K.MapKey.order g.met.K.MapKey.total g.E.Edit.makes (g.Q.Sought.key c.args.key.now) c.args.edit.now c.update.new.edit c.args.at.now ordered way c.update.new.tree.0) (c.update.ensures.ok sorted.0)
+    onto_on c.update.result (edited_left g.K.MapKey.order g.met.K.MapKey.total g.E.Edit.makes (g.Q.Sought.key c.args.key.now) c.args.edit.now c.update.new.edit c.args.at.now.left.0 c.args.at.now.right.0 (c.args.at.now.key, c.args.at.now.value.value) ordered way c.update.new.tree.0) (c.update.ensures.ok sorted.0)
 
 pub update_at-returns-in-Greater-clause-found : goal.update_at-returns-in-Greater-clause-found
 update_at-returns-in-Greater-clause-found g t c =
@@ -33,7 +33,7 @@ update_at-returns-in-Greater-clause-ok g t c =
     λ ordered.
     let way : g.K.MapKey.order (g.Q.Sought.key c.args.key.now) c.args.at.now.key ≡ Greater = sym c.in-Greater.ensures in
     let sorted = sorted_sides c.args.at.now _ refl g.K.MapKey.order g.met.K.MapKey.total ordered in
-    onto_on c.update-in-Greater.result (edited_right g.K.MapKey.order g.met.K.MapKey.total g.E.Edit.makes (g.Q.Sought.key c.args.key.now) c.args.edit.now c.update-in-Greater.new.edit c.args.at.now ordered way c.update-in-Greater.new.tree.0) (c.update-in-Greater.ensures.ok sorted.1)
+    onto_on c.update-in-Greater.result (edited_right g.K.MapKey.order g.met.K.MapKey.total g.E.Edit.makes (g.Q.Sought.key c.args.key.now) c.args.edit.now c.update-in-Greater.new.edit c.args.at.now.left.0 c.args.at.now.right.0 (c.args.at.now.key, c.args.at.now.value.value) ordered way c.update-in-Greater.new.tree.0) (c.update-in-Greater.ensures.ok sorted.1)
 
 pub update_at-returns-in_ok-update_value-in-Equal-clause-found : goal.update_at-returns-in_ok-update_value-in-Equal-clause-found
 update_at-returns-in_ok-update_value-in-Equal-clause-found g t c =
@@ -45,4 +45,4 @@ pub update_at-returns-in_ok-update_value-in-Equal-clause-ok : goal.update_at-ret
 update_at-returns-in_ok-update_value-in-Equal-clause-ok g t c =
     λ ordered.
     let way : g.K.MapKey.order (g.Q.Sought.key c.args.key.now) c.args.at.now.key ≡ Equal = sym c.in-Equal.ensures in
-    edited_here g.K.MapKey.order g.met.K.MapKey.total g.E.Edit.makes (g.Q.Sought.key c.args.key.now) c.args.edit.now c.update_value.new.edit c.args.at.now ordered way c.update_value.new.value.value c.in_ok-update_value-in-Equal.ensures.ok
+    edited_here g.K.MapKey.order g.met.K.MapKey.total g.E.Edit.makes (g.Q.Sought.key c.args.key.now) c.args.edit.now c.update_value.new.edit c.args.at.now.left.0 c.args.at.now.right.0 (c.args.at.now.key, c.args.at.now.value.value) ordered way c.update_value.new.value.value c.in_ok-update_value-in-Equal.ensures.ok
