@@ -70,7 +70,8 @@ struct Within<'a, 'b, 'c, K, V, Q, E> {
     edit: &'c mut E,
 }
 
-impl<K: MapKey + Drop, V: MapValue, Q: Sought<K>, E: Edit<V>> Attempt for Within<'_, '_, '_, K, V, Q, E> {
+impl<K: MapKey + Drop, V: MapValue, Q: Sought<K>, E: Edit<V>> Attempt
+    for Within<'_, '_, '_, K, V, Q, E> {
     ghost use Rattle.std.specs.Prelude.{◌≡◌, T, length};
     ghost use Rattle.std.specs.FinMap.Entries.{is_sorted};
     ghost use Rattle.shared_map.specs.Edits.{IsEdited};
@@ -146,15 +147,73 @@ fn update_two_at<K: MapKey + Drop, V: MapValue, Q: Sought<K>, E: Edit<V>, A: Ame
     ensures shape { (length (seen (Some at.new)).0 ≡ length (seen (Some at.old)).0) × (at.new.height ≡ at.old.height) }
 {
     match (first.compare_with(&at.key), second.compare_with(&at.key)) {
-        (Ordering::Less, Ordering::Less) => update_two(alloc, &mut at.left, first, edit, second, amend),
-        (Ordering::Less, Ordering::Equal) => update_and_amend(alloc, &mut at.left, first, edit, &mut at.value, amend),
-        (Ordering::Less, Ordering::Greater) => update_beside(alloc, &mut at.left, first, edit, &mut at.right, second, amend),
-        (Ordering::Equal, Ordering::Less) => edit_beside(alloc, &mut at.value, edit, &mut at.left, second, amend),
+        (Ordering::Less, Ordering::Less) => update_two(
+            alloc,
+            &mut at.left,
+            first,
+            edit,
+            second,
+            amend,
+        ),
+        (Ordering::Less, Ordering::Equal) => update_and_amend(
+            alloc,
+            &mut at.left,
+            first,
+            edit,
+            &mut at.value,
+            amend,
+        ),
+        (Ordering::Less, Ordering::Greater) => update_beside(
+            alloc,
+            &mut at.left,
+            first,
+            edit,
+            &mut at.right,
+            second,
+            amend,
+        ),
+        (Ordering::Equal, Ordering::Less) => edit_beside(
+            alloc,
+            &mut at.value,
+            edit,
+            &mut at.left,
+            second,
+            amend,
+        ),
         (Ordering::Equal, Ordering::Equal) => edit_and_amend(alloc, &mut at.value, edit, amend),
-        (Ordering::Equal, Ordering::Greater) => edit_beside(alloc, &mut at.value, edit, &mut at.right, second, amend),
-        (Ordering::Greater, Ordering::Less) => update_beside(alloc, &mut at.right, first, edit, &mut at.left, second, amend),
-        (Ordering::Greater, Ordering::Equal) => update_and_amend(alloc, &mut at.right, first, edit, &mut at.value, amend),
-        (Ordering::Greater, Ordering::Greater) => update_two(alloc, &mut at.right, first, edit, second, amend),
+        (Ordering::Equal, Ordering::Greater) => edit_beside(
+            alloc,
+            &mut at.value,
+            edit,
+            &mut at.right,
+            second,
+            amend,
+        ),
+        (Ordering::Greater, Ordering::Less) => update_beside(
+            alloc,
+            &mut at.right,
+            first,
+            edit,
+            &mut at.left,
+            second,
+            amend,
+        ),
+        (Ordering::Greater, Ordering::Equal) => update_and_amend(
+            alloc,
+            &mut at.right,
+            first,
+            edit,
+            &mut at.value,
+            amend,
+        ),
+        (Ordering::Greater, Ordering::Greater) => update_two(
+            alloc,
+            &mut at.right,
+            first,
+            edit,
+            second,
+            amend,
+        ),
     }
 }
 
@@ -231,7 +290,11 @@ fn update_beside<K: MapKey + Drop, V: MapValue, Q: Sought<K>, E: Edit<V>, A: Ame
     ensures shape { (length tree.new.0 ≡ length tree.old.0) × (tree.new.1 ≡ tree.old.1) }
     ensures other { (length other.new.0 ≡ length other.old.0) × (other.new.1 ≡ other.old.1) }
 {
-    let mut within = Within { tree, key: first, edit };
+    let mut within = Within {
+        tree,
+        key: first,
+        edit,
+    };
     amend_after(alloc, &mut within, other, second, amend)
 }
 
@@ -249,7 +312,10 @@ fn amend_after<K: MapKey + Drop, V: MapValue, Q: Sought<K>, P: Attempt, A: Amend
     ensures err { OnErr result ((first.new ≡ first.old) × (tree.new.0 ≡ tree.old.0)) }
     ensures shape { (length tree.new.0 ≡ length tree.old.0) × (tree.new.1 ≡ tree.old.1) }
 {
-    let mut after = After { first: &mut *first, amend };
+    let mut after = After {
+        first: &mut *first,
+        amend,
+    };
     if update(alloc, tree, key, &mut after)? {
         return Ok(());
     }
