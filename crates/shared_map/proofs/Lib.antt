@@ -4,5 +4,6 @@ pub mod Forks
 pub mod Grown
 pub mod Heights
 pub mod Moved
+pub mod Paired
 pub mod Rows
 pub mod Sides

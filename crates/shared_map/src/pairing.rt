@@ -47,12 +47,12 @@ impl<V, P: Attempt, A: Amend<V>> Edit<V> for After<'_, P, A> {
 
 // A value at hand is changed.
 #[derive(Drop)]
-struct Here<'a, V, E> {
+struct Here<'a, 'b, V, E> {
     value: &'a mut V,
-    edit: &'a mut E,
+    edit: &'b mut E,
 }
 
-impl<V, E: Edit<V>> Attempt for Here<'_, V, E> {
+impl<V, E: Edit<V>> Attempt for Here<'_, '_, V, E> {
     ghost use Rattle.std.specs.Prelude.{◌≡◌};
 
     ghost makes = { λ s t. (t.value.ghost_name ≡ s.value.ghost_name) × (t.edit.ghost_name ≡ s.edit.ghost_name) × E.makes s.edit.now s.value.now t.edit.now t.value.now };
@@ -64,13 +64,14 @@ impl<V, E: Edit<V>> Attempt for Here<'_, V, E> {
 
 // The value under a key of a tree is changed.
 #[derive(Drop)]
-struct Within<'a, K, V, Q, E> {
+struct Within<'a, 'b, 'c, K, V, Q, E> {
     tree: &'a mut Tree<K, V>,
-    key: &'a Q,
-    edit: &'a mut E,
+    key: &'b Q,
+    edit: &'c mut E,
 }
 
-impl<K: MapKey + Drop, V: MapValue, Q: Sought<K>, E: Edit<V>> Attempt for Within<'_, K, V, Q, E> {
+impl<K: MapKey + Drop, V: MapValue, Q: Sought<K>, E: Edit<V>> Attempt
+    for Within<'_, '_, '_, K, V, Q, E> {
     ghost use Rattle.std.specs.Prelude.{◌≡◌, T, length};
     ghost use Rattle.std.specs.FinMap.Entries.{is_sorted};
     ghost use Rattle.shared_map.specs.Edits.{IsEdited};
@@ -146,57 +147,155 @@ fn update_two_at<K: MapKey + Drop, V: MapValue, Q: Sought<K>, E: Edit<V>, A: Ame
     ensures shape { (length (seen (Some at.new)).0 ≡ length (seen (Some at.old)).0) × (at.new.height ≡ at.old.height) }
 {
     match (first.compare_with(&at.key), second.compare_with(&at.key)) {
-        (Ordering::Less, Ordering::Less) => update_two(alloc, &mut at.left, first, edit, second, amend),
-        (Ordering::Greater, Ordering::Greater) => update_two(alloc, &mut at.right, first, edit, second, amend),
-        (Ordering::Less, Ordering::Greater) => {
-            let mut within = Within { tree: &mut at.left, key: first, edit };
-            amend_after(alloc, &mut within, &mut at.right, second, amend)
-        }
-        (Ordering::Greater, Ordering::Less) => {
-            let mut within = Within { tree: &mut at.right, key: first, edit };
-            amend_after(alloc, &mut within, &mut at.left, second, amend)
-        }
-        (_, Ordering::Equal) => update_and_amend(alloc, at, first, edit, amend),
-        (Ordering::Equal, Ordering::Less) => {
-            let value = Arc::make_mut(&mut at.value)?;
-            let mut here = Here { value, edit };
-            amend_after(alloc, &mut here, &mut at.left, second, amend)
-        }
-        (Ordering::Equal, Ordering::Greater) => {
-            let value = Arc::make_mut(&mut at.value)?;
-            let mut here = Here { value, edit };
-            amend_after(alloc, &mut here, &mut at.right, second, amend)
-        }
+        (Ordering::Less, Ordering::Less) => update_two(
+            alloc,
+            &mut at.left,
+            first,
+            edit,
+            second,
+            amend,
+        ),
+        (Ordering::Less, Ordering::Equal) => update_and_amend(
+            alloc,
+            &mut at.left,
+            first,
+            edit,
+            &mut at.value,
+            amend,
+        ),
+        (Ordering::Less, Ordering::Greater) => update_beside(
+            alloc,
+            &mut at.left,
+            first,
+            edit,
+            &mut at.right,
+            second,
+            amend,
+        ),
+        (Ordering::Equal, Ordering::Less) => edit_beside(
+            alloc,
+            &mut at.value,
+            edit,
+            &mut at.left,
+            second,
+            amend,
+        ),
+        (Ordering::Equal, Ordering::Equal) => edit_and_amend(alloc, &mut at.value, edit, amend),
+        (Ordering::Equal, Ordering::Greater) => edit_beside(
+            alloc,
+            &mut at.value,
+            edit,
+            &mut at.right,
+            second,
+            amend,
+        ),
+        (Ordering::Greater, Ordering::Less) => update_beside(
+            alloc,
+            &mut at.right,
+            first,
+            edit,
+            &mut at.left,
+            second,
+            amend,
+        ),
+        (Ordering::Greater, Ordering::Equal) => update_and_amend(
+            alloc,
+            &mut at.right,
+            first,
+            edit,
+            &mut at.value,
+            amend,
+        ),
+        (Ordering::Greater, Ordering::Greater) => update_two(
+            alloc,
+            &mut at.right,
+            first,
+            edit,
+            second,
+            amend,
+        ),
     }
 }
 
-// Changes the value under the key, at that node or below it, and amends the node's value.
+// Changes a value under a key of a tree, if there is one, and amends another value.
 fn update_and_amend<K: MapKey + Drop, V: MapValue, Q: Sought<K>, E: Edit<V>, A: Amend<V>>(
     alloc: Global,
-    at: &mut Fork<K, V>,
+    tree: &mut Tree<K, V>,
     key: &Q,
+    edit: &mut E,
+    value: &mut Arc<V>,
+    amend: &A,
+) -> Result<(), Memory>
+    requires ordered { T (is_sorted K.order tree.old.0) }
+    ensures ok { OnOk result (IsEdited K.order E.makes (Q.key key.now) edit.old edit.new tree.old.0 tree.new.0 × A.makes amend.now value.old.value value.new.value) }
+    ensures err { OnErr result ((edit.new ≡ edit.old) × (tree.new.0 ≡ tree.old.0) × (value.new.value ≡ value.old.value)) }
+    ensures shape { (length tree.new.0 ≡ length tree.old.0) × (tree.new.1 ≡ tree.old.1) }
+{
+    let value = Arc::make_mut(value)?;
+    update(alloc, tree, key, edit)?;
+    amend.amend(value);
+    Ok(())
+}
+
+// Changes a value, and amends what it has become.
+fn edit_and_amend<V: MapValue, E: Edit<V>, A: Amend<V>>(
+    alloc: Global,
+    value: &mut Arc<V>,
     edit: &mut E,
     amend: &A,
 ) -> Result<(), Memory>
-    requires tree { IsTree at.old }
-    requires ordered { T (is_sorted K.order (seen (Some at.old)).0) }
-    ensures ok { OnOk result ((es : List (K × V)) × IsEdited K.order E.makes (Q.key key.now) edit.old edit.new (seen (Some at.old)).0 es × IsAmended K.order (A.makes amend.now) at.old.key es (seen (Some at.new)).0) }
-    ensures err { OnErr result ((edit.new ≡ edit.old) × ((seen (Some at.new)).0 ≡ (seen (Some at.old)).0)) }
-    ensures tree { IsTree at.new }
-    ensures shape { (length (seen (Some at.new)).0 ≡ length (seen (Some at.old)).0) × (at.new.height ≡ at.old.height) }
+    ensures ok { OnOk result ((v : V) × E.makes edit.old value.old.value edit.new v × A.makes amend.now v value.new.value) }
+    ensures err { OnErr result ((edit.new ≡ edit.old) × (value.new.value ≡ value.old.value)) }
 {
-    let value = Arc::make_mut(&mut at.value)?;
-    match key.compare_with(&at.key) {
-        Ordering::Less => {
-            update(alloc, &mut at.left, key, edit)?;
-        }
-        Ordering::Equal => edit.edit(alloc, value)?,
-        Ordering::Greater => {
-            update(alloc, &mut at.right, key, edit)?;
-        }
-    }
+    let value = Arc::make_mut(value)?;
+    edit.edit(alloc, value)?;
     amend.amend(value);
     Ok(())
+}
+
+// Changes a value, and amends one under a key of a tree, if there is one.
+fn edit_beside<K: MapKey + Drop, V: MapValue, Q: Sought<K>, E: Edit<V>, A: Amend<V>>(
+    alloc: Global,
+    value: &mut Arc<V>,
+    edit: &mut E,
+    tree: &mut Tree<K, V>,
+    key: &Q,
+    amend: &A,
+) -> Result<(), Memory>
+    requires ordered { T (is_sorted K.order tree.old.0) }
+    ensures ok { OnOk result (E.makes edit.old value.old.value edit.new value.new.value × IsAmended K.order (A.makes amend.now) (Q.key key.now) tree.old.0 tree.new.0) }
+    ensures err { OnErr result ((edit.new ≡ edit.old) × (value.new.value ≡ value.old.value) × (tree.new.0 ≡ tree.old.0)) }
+    ensures shape { (length tree.new.0 ≡ length tree.old.0) × (tree.new.1 ≡ tree.old.1) }
+{
+    let value = Arc::make_mut(value)?;
+    let mut here = Here { value, edit };
+    amend_after(alloc, &mut here, tree, key, amend)
+}
+
+// Changes the value under the first key of the one tree, and amends the one under the second key of the other, each if
+// there is one.
+fn update_beside<K: MapKey + Drop, V: MapValue, Q: Sought<K>, E: Edit<V>, A: Amend<V>>(
+    alloc: Global,
+    tree: &mut Tree<K, V>,
+    first: &Q,
+    edit: &mut E,
+    other: &mut Tree<K, V>,
+    second: &Q,
+    amend: &A,
+) -> Result<(), Memory>
+    requires ordered { T (is_sorted K.order tree.old.0) }
+    requires other { T (is_sorted K.order other.old.0) }
+    ensures ok { OnOk result (IsEdited K.order E.makes (Q.key first.now) edit.old edit.new tree.old.0 tree.new.0 × IsAmended K.order (A.makes amend.now) (Q.key second.now) other.old.0 other.new.0) }
+    ensures err { OnErr result ((edit.new ≡ edit.old) × (tree.new.0 ≡ tree.old.0) × (other.new.0 ≡ other.old.0)) }
+    ensures shape { (length tree.new.0 ≡ length tree.old.0) × (tree.new.1 ≡ tree.old.1) }
+    ensures other { (length other.new.0 ≡ length other.old.0) × (other.new.1 ≡ other.old.1) }
+{
+    let mut within = Within {
+        tree,
+        key: first,
+        edit,
+    };
+    amend_after(alloc, &mut within, other, second, amend)
 }
 
 // Does what is to be done first, and amends the value under the key, if there is one. The error is want of memory, and
@@ -213,7 +312,10 @@ fn amend_after<K: MapKey + Drop, V: MapValue, Q: Sought<K>, P: Attempt, A: Amend
     ensures err { OnErr result ((first.new ≡ first.old) × (tree.new.0 ≡ tree.old.0)) }
     ensures shape { (length tree.new.0 ≡ length tree.old.0) × (tree.new.1 ≡ tree.old.1) }
 {
-    let mut after = After { first: &mut *first, amend };
+    let mut after = After {
+        first: &mut *first,
+        amend,
+    };
     if update(alloc, tree, key, &mut after)? {
         return Ok(());
     }
