@@ -1,10 +1,14 @@
-use Rattle.std.proofs.Common.{Some, None, true, cond, ap, ◌∙◌}
+use Rattle.std.proofs.Common.{Some, None, true, cond, sym, ap, ◌∙◌, subst}
 use Rattle.dir_replay.specs.Counts.{one_more_if}
+use Rattle.dir_replay.specs.Tied.{IsTied}
 use Rattle.dir_replay.proofs.Linked.{linked}
 use Rattle.dir_replay.proofs.names.Names.link.Goals as goal
 
 pub invariant_of-self : goal.invariant_of-self
-invariant_of-self c =
+invariant_of-self c = subst (λ nodes. IsTied nodes) (sym c.in_err-link.ensures.err) c.self.invariant
+
+pub invariant_of-self-2 : goal.invariant_of-self-2
+invariant_of-self-2 c =
     (linked c.self.inside.nodes c.self.invariant c.args.self.now c.self.view_is c.args.dir.now c.args.name.now c.args.ino.now c.if-not-may_link.ensures
     c.in_ok-subdirs.subdirs c.in_ok-names.names c.given_if.result
     (c.in_ok-subdirs.ensures ∙ (λ i. one_more_if (c.subdirs.ensures i) (c.is_directory-directory.ensures i)))
