@@ -217,7 +217,7 @@ fn update_two_at<K: MapKey + Drop, V: MapValue, Q: Sought<K>, E: Edit<V>, A: Ame
     }
 }
 
-// Changes a value under a key of a tree, if there is one, and amends another value.
+// Changes the value under a key of a tree, if there is one, and amends another value, or does neither.
 fn update_and_amend<K: MapKey + Drop, V: MapValue, Q: Sought<K>, E: Edit<V>, A: Amend<V>>(
     alloc: Global,
     tree: &mut Tree<K, V>,
@@ -237,7 +237,7 @@ fn update_and_amend<K: MapKey + Drop, V: MapValue, Q: Sought<K>, E: Edit<V>, A: 
     Ok(())
 }
 
-// Changes a value, and amends what it has become.
+// Changes a value, and amends what it has become, or does neither.
 fn edit_and_amend<V: MapValue, E: Edit<V>, A: Amend<V>>(
     alloc: Global,
     value: &mut Arc<V>,
@@ -253,7 +253,7 @@ fn edit_and_amend<V: MapValue, E: Edit<V>, A: Amend<V>>(
     Ok(())
 }
 
-// Changes a value, and amends one under a key of a tree, if there is one.
+// Changes a value, and amends the one under a key of a tree, if there is one, or does neither.
 fn edit_beside<K: MapKey + Drop, V: MapValue, Q: Sought<K>, E: Edit<V>, A: Amend<V>>(
     alloc: Global,
     value: &mut Arc<V>,
@@ -273,7 +273,7 @@ fn edit_beside<K: MapKey + Drop, V: MapValue, Q: Sought<K>, E: Edit<V>, A: Amend
 }
 
 // Changes the value under the first key of the one tree, and amends the one under the second key of the other, each if
-// there is one.
+// there is one, or does neither.
 fn update_beside<K: MapKey + Drop, V: MapValue, Q: Sought<K>, E: Edit<V>, A: Amend<V>>(
     alloc: Global,
     tree: &mut Tree<K, V>,
