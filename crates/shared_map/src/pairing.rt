@@ -139,12 +139,12 @@ fn update_two_at<K: MapKey + Drop, V: MapValue, Q: Sought<K>, E: Edit<V>, A: Ame
     second: &Q,
     amend: &A,
 ) -> Result<(), Memory>
-    requires tree { IsTree at.old }
     requires ordered { T (is_sorted K.order (seen (Some at.old)).0) }
     ensures ok { OnOk result (AreEdited K.order E.makes (A.makes amend.now) (Q.key first.now) (Q.key second.now) edit.old edit.new (seen (Some at.old)).0 (seen (Some at.new)).0) }
     ensures err { OnErr result ((edit.new ≡ edit.old) × ((seen (Some at.new)).0 ≡ (seen (Some at.old)).0)) }
-    ensures tree { IsTree at.new }
-    ensures shape { (length (seen (Some at.new)).0 ≡ length (seen (Some at.old)).0) × (at.new.height ≡ at.old.height) }
+    ensures left { (length at.new.left.0 ≡ length at.old.left.0) × (at.new.left.1 ≡ at.old.left.1) }
+    ensures right { (length at.new.right.0 ≡ length at.old.right.0) × (at.new.right.1 ≡ at.old.right.1) }
+    ensures height { at.new.height ≡ at.old.height }
 {
     match (first.compare_with(&at.key), second.compare_with(&at.key)) {
         (Ordering::Less, Ordering::Less) => update_two(
@@ -217,7 +217,7 @@ fn update_two_at<K: MapKey + Drop, V: MapValue, Q: Sought<K>, E: Edit<V>, A: Ame
     }
 }
 
-// Changes a value under a key of a tree, if there is one, and amends another value.
+// Changes the value under a key of a tree, if there is one, and amends another value, or does neither.
 fn update_and_amend<K: MapKey + Drop, V: MapValue, Q: Sought<K>, E: Edit<V>, A: Amend<V>>(
     alloc: Global,
     tree: &mut Tree<K, V>,
@@ -237,7 +237,7 @@ fn update_and_amend<K: MapKey + Drop, V: MapValue, Q: Sought<K>, E: Edit<V>, A: 
     Ok(())
 }
 
-// Changes a value, and amends what it has become.
+// Changes a value, and amends what it has become, or does neither.
 fn edit_and_amend<V: MapValue, E: Edit<V>, A: Amend<V>>(
     alloc: Global,
     value: &mut Arc<V>,
@@ -253,7 +253,7 @@ fn edit_and_amend<V: MapValue, E: Edit<V>, A: Amend<V>>(
     Ok(())
 }
 
-// Changes a value, and amends one under a key of a tree, if there is one.
+// Changes a value, and amends the one under a key of a tree, if there is one, or does neither.
 fn edit_beside<K: MapKey + Drop, V: MapValue, Q: Sought<K>, E: Edit<V>, A: Amend<V>>(
     alloc: Global,
     value: &mut Arc<V>,
@@ -273,7 +273,7 @@ fn edit_beside<K: MapKey + Drop, V: MapValue, Q: Sought<K>, E: Edit<V>, A: Amend
 }
 
 // Changes the value under the first key of the one tree, and amends the one under the second key of the other, each if
-// there is one.
+// there is one, or does neither.
 fn update_beside<K: MapKey + Drop, V: MapValue, Q: Sought<K>, E: Edit<V>, A: Amend<V>>(
     alloc: Global,
     tree: &mut Tree<K, V>,

@@ -79,12 +79,12 @@ fn update_at<K: MapKey + Drop, V: MapValue, Q: Sought<K>, E: Edit<V>>(
     key: &Q,
     edit: &mut E,
 ) -> Result<bool, Memory>
-    requires tree { IsTree at.old }
     ensures found { T (is_sorted K.order (seen (Some at.old)).0) → IfOk result (λ found. found ≡ is_some (value_at K.order (Q.key key.now) (seen (Some at.old)).0)) }
     ensures ok { T (is_sorted K.order (seen (Some at.old)).0) → OnOk result (IsEdited K.order E.makes (Q.key key.now) edit.old edit.new (seen (Some at.old)).0 (seen (Some at.new)).0) }
     ensures err { OnErr result ((edit.new ≡ edit.old) × ((seen (Some at.new)).0 ≡ (seen (Some at.old)).0)) }
-    ensures tree { IsTree at.new }
-    ensures shape { (length (seen (Some at.new)).0 ≡ length (seen (Some at.old)).0) × (at.new.height ≡ at.old.height) }
+    ensures left { (length at.new.left.0 ≡ length at.old.left.0) × (at.new.left.1 ≡ at.old.left.1) }
+    ensures right { (length at.new.right.0 ≡ length at.old.right.0) × (at.new.right.1 ≡ at.old.right.1) }
+    ensures height { at.new.height ≡ at.old.height }
 {
     match key.compare_with(&at.key) {
         Ordering::Less => update(alloc, &mut at.left, key, edit),
