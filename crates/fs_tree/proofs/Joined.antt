@@ -21,7 +21,7 @@ use Rattle.dir_replay.proofs.Bare.{sound-bare, sound_if_bare, bare-at_inode, is_
 use Rattle.dir_replay.proofs.Effects.{apply_names_is, bare-apply}
 use Rattle.dir_replay.proofs.Sorted.{put_same}
 use Rattle.inode_replay.specs.Contents.{made, changed, touched_inode}
-use Rattle.inode_replay.specs.Kept.{Kept, made_kept}
+use Rattle.inode_replay.specs.Kept.{Kept, made_kept, touched_kept}
 use Rattle.inode_replay.proofs.Applied.{inode-free, inode-used, made-inode, write-at, attributes-at}
 use Rattle.fs_tree.specs.Applicable.{IsInOne}
 use Rattle.fs_tree.specs.Contents.{at_content, changed_content, touched_content, IsContentEditedAt, IsContentEdited}
@@ -159,19 +159,26 @@ module _ (names : Tree) (contents : List (Key × Inode)) (tied : IsTied names co
   nothing_in dir now (op.SetAttrs number change) h none = absurd h
   nothing_in dir now op.End h none = absurd h
 
+  inode_touched : (now : Moment) (k : Kept) (b : Bool) → (cond b (touched_kept now k) k).inode ≡ cond b (touched_inode now k.inode) k.inode
+  inode_touched now k true = refl
+  inode_touched now k false = refl
+
   -- an edit of that directory's content that changes the names too
   module _ (dir : Key) (now : Moment) (o : Op) (within : IsInOne dir o) {S : Type 0} (makes : S → Kept → S → Kept → Type 0) (edit after : S) (new : Tree) (left : List (Key × Inode)) (same : after ≡ edit → new ≡ names)
-      (made_so : (k l : Kept) → makes edit k after l → (new ≡ bare (apply names now o)) × (l.inode ≡ cond (is_some (touched_by names o).first) (touched_inode now k.inode) k.inode)) where
+      (made_so : (k l : Kept) → makes edit k after l → (new ≡ bare (apply names now o)) × (l ≡ cond (is_some (touched_by names o).first) (touched_kept now k) k)) where
     edited_at : (v : Option Inode) → value_at key_cmp dir contents ≡ v → IsContentEditedAt makes dir edit after contents left v → (tree_of new left ≡ apply whole now o) × IsTied new left
     edited_at None none e =
         let is : tree_of new left ≡ whole = λ i. tree_of (same e.0 i) (e.1 i) in
         (is ∙ sym (nothing_in dir now o within none), subst (λ (u : Tree). IsTied u left) (sym (same e.0)) (subst (λ l. IsTied names l) (sym e.1) tied))
     edited_at (Some i) found e =
         let m = made_so e.0 e.1 e.3 in
-        names_changed_in dir now o within i e.1.inode found (m.1 ∙ ap (λ x. cond (is_some (touched_by names o).first) (touched_inode now x) x) e.2) new m.0 left e.4
+        let touch : e.1.inode ≡ cond (is_some (touched_by names o).first) (touched_inode now i) i = ap (λ (k : Kept). k.inode) m.1 ∙ inode_touched now e.0 (is_some (touched_by names o).first) ∙ ap (λ x. cond (is_some (touched_by names o).first) (touched_inode now x) x) e.2 in
+        names_changed_in dir now o within i e.1.inode found touch new m.0 left e.4
 
-    pub directory_changed : IsContentEdited makes dir edit after contents left → (tree_of new left ≡ apply whole now o) × IsTied new left
-    directory_changed e = edited_at (value_at key_cmp dir contents) refl e
+    -- both are changed, or neither is for want of memory
+    pub directory_left : {A E : Type 0} (r : Result A E) → OnOk r (IsContentEdited makes dir edit after contents left) → OnErr r ((after ≡ edit) × (left ≡ contents)) → OnOk r (tree_of new left ≡ apply whole now o) × IsTied new left
+    directory_left (Ok x) ok err = edited_at (value_at key_cmp dir contents) refl ok
+    directory_left (Err e) ok err = (tt, subst (λ (u : Tree). IsTied u left) (sym (same err.0)) (subst (λ l. IsTied names l) (sym err.1) tied))
 
   -- another content of one inode
   pub content_changed : (number : Key) (f : Inode → Inode) → ((i : Inode) → (f i).kind ≡ i.kind) → (left : List (Key × Inode)) → left ≡ at_content contents number f → (tree_of names left ≡ at_inode whole number f) × IsTied names left
@@ -187,12 +194,18 @@ module _ (names : Tree) (contents : List (Key × Inode)) (tied : IsTied names co
 
   -- a new inode
   module _ (now : Moment) (number : Key) (kind : Kind) (mode uid gid : ℕ) (target : List ℕ) (o : Op) (same : o ≡ op.Inode number kind mode uid gid target) where
-    pub inode_added : (k : Kept) → made_kept now o ≡ Some k → value_at key_cmp number contents ≡ None → (new : Tree) → new ≡ bare (apply names now o) → (left : List (Key × Inode)) → left ≡ put key_cmp number k.inode contents → (tree_of new left ≡ apply whole now o) × IsTied new left
+    inode_added : (k : Kept) → made_kept now o ≡ Some k → value_at key_cmp number contents ≡ None → (new : Tree) → new ≡ bare (apply names now o) → (left : List (Key × Inode)) → left ≡ put key_cmp number k.inode contents → (tree_of new left ≡ apply whole now o) × IsTied new left
     inode_added k makes free new names_are left contents_are =
         joined now o new left (names_are ∙ names_whole now o) (
         contents_are ∙ ap (λ (u : Tree). u.inodes) (sym (inode-free whole now number kind mode uid gid target k.inode free (ap (made now) (sym same) ∙ made-inode now o k makes)))
         ∙ ap (λ (p : Op). (apply whole now p).inodes) (sym same)
         )
+
+    -- both halves have it, or neither for want of memory
+    pub inode_left : (k : Kept) → made_kept now o ≡ Some k → value_at key_cmp number contents ≡ None → (new : Tree) (left : List (Key × Inode)) {Made Same : Type 0} → (Made → new ≡ bare (apply names now o)) → (Same → new ≡ names)
+        → {A E : Type 0} (r : Result A E) → OnOk r ((left ≡ put key_cmp number k.inode contents) × Made) → OnErr r ((left ≡ contents) × Same) → OnOk r (tree_of new left ≡ apply whole now o) × IsTied new left
+    inode_left k makes free new left made_so same_so (Ok x) ok err = inode_added k makes free new (made_so ok.1) left ok.0
+    inode_left k makes free new left made_so same_so (Err e) ok err = (tt, subst (λ (u : Tree). IsTied u left) (sym (same_so err.1)) (subst (λ l. IsTied names l) (sym err.0) tied))
 
     pub inode_there : (r : Option (Bor Kept)) → option_map (λ k. k.inode) (option_copied r) ≡ value_at key_cmp number contents → true ≡ is_some r → whole ≡ apply whole now o
     inode_there r found there = by r found there

@@ -1,5 +1,5 @@
 -- The inodes of contents that say which places are written: what is found and what is put.
-use Rattle.std.proofs.Common.{◌≡◌, List, [], ◌∷◌, Option, Some, None, Bool, true, false, Bor, cond, map, option_map, refl, sym, ap, ◌∙◌}
+use Rattle.std.proofs.Common.{◌≡◌, List, [], ◌∷◌, Option, Some, None, Bool, true, false, Bor, cond, map, option_map, refl, sym, ap, ◌∙◌, subst}
 use Rattle.std.specs.declared.cmp.Ordering.{Ordering}
 use Rattle.std.specs.declared.cmp.Ordering.TheVariants.{Less, Equal, Greater}
 use Rattle.std.specs.Ordering.{eq_by_cmp}
@@ -8,7 +8,8 @@ use Rattle.ivy_base.specs.declared.key.Key.{Key}
 use Rattle.ivy_base.specs.Naming.{key_cmp}
 use Rattle.tree_model.specs.Tree.{Inode}
 use Rattle.inode_replay.specs.Kept.{Kept}
-use Rattle.fs_tree.specs.Contents.{inodes_of}
+use Rattle.shared_map.specs.Edits.{IsEditedAt, IsEdited}
+use Rattle.fs_tree.specs.Contents.{inodes_of, IsContentEditedAt, IsContentEdited}
 
 find_inode : (ino : Key) (es : List (Key × Kept)) → value_at key_cmp ino (inodes_of es) ≡ option_map (λ k. k.inode) (value_at key_cmp ino es)
 find_inode ino [] = refl
@@ -34,3 +35,12 @@ put_inode ino k (e ∷ es) = by (key_cmp ino e.0) (put_inode ino k es)
 -- what was put is the inode under that number
 pub put_inodes : (ino : Key) (k : Kept) (es new : List (Key × Kept)) (seen : List (Key × Inode)) → new ≡ put key_cmp ino k es → inodes_of es ≡ seen → inodes_of new ≡ put key_cmp ino k.inode seen
 put_inodes ino k es new seen is same = ap inodes_of is ∙ put_inode ino k es ∙ ap (put key_cmp ino k.inode) same
+
+module _ {S : Type 0} (makes : S → Kept → S → Kept → Type 0) (ino : Key) (edit after : S) (es new : List (Key × Kept)) (seen : List (Key × Inode)) (same : inodes_of es ≡ seen) where
+  edited_at : (k : Option Kept) → IsEditedAt key_cmp makes ino edit after es new k → IsContentEditedAt makes ino edit after seen (inodes_of new) (option_map (λ k. k.inode) k)
+  edited_at None e = (e.0, ap inodes_of e.1 ∙ same)
+  edited_at (Some k) e = (k, e.0, refl, e.1, put_inodes ino e.0 es new seen e.2 same)
+
+  -- what was edited is the inode under that number
+  pub edited_inodes : IsEdited key_cmp makes ino edit after es new → IsContentEdited makes ino edit after seen (inodes_of new)
+  edited_inodes e = subst (IsContentEditedAt makes ino edit after seen (inodes_of new)) (found_inode ino es (value_at key_cmp ino es) seen refl same) (edited_at (value_at key_cmp ino es) e)

@@ -1,4 +1,5 @@
 pub mod Contents
+pub mod Changing
 pub mod View
 pub mod Tied
 pub mod Applicable
