@@ -11,6 +11,7 @@ pub mod Changes
 pub mod Above
 pub mod Inside
 pub mod Shown
+pub mod Found
 pub mod Bare
 pub mod Effects
 pub mod Ties

@@ -1,5 +1,6 @@
 -- A name more.
 use Rattle.std.proofs.Common.{◌≡◌, ℕ, ◌+◌, List, Option, Some, None, Bool, true, false, cond, ◌&&◌, is_some, is_none, refl, sym, ap, ◌∙◌, subst}
+use Rattle.std.specs.Prelude.{IfSome}
 use Rattle.std.specs.FinMap.Entries.{find as value_at, is_sorted}
 use Rattle.ivy_base.specs.declared.key.Key.{Key}
 use Rattle.ivy_base.specs.declared.operation.Op.TheVariants as op
@@ -10,7 +11,9 @@ use Rattle.tree_model.specs.Sound.{IsSound}
 use Rattle.tree_model.proofs.Keys.{same_key_itself}
 use Rattle.tree_model.proofs.Sound.{directory_is_some}
 use Rattle.tree_model.proofs.Applied.{link_tests}
+use Rattle.dir_replay.specs.declared.nodes.Linked.{Linked}
 use Rattle.dir_replay.specs.declared.nodes.Node.{Node}
+use Rattle.dir_replay.specs.Found.{IsLinked}
 use Rattle.dir_replay.specs.Counts.{one_more_if}
 use Rattle.dir_replay.specs.Nodes.{at_node, entered, named}
 use Rattle.dir_replay.specs.View.{tree_of}
@@ -92,7 +95,7 @@ module _ (nodes : List (Key × Node)) (tied : IsTied nodes) (dir : Key) (name : 
     tied-linked = tied_by after then tree_of-linked (sound_then, parents_then, names_then, subdirs_then)
 
 -- what `link` leaves of the inodes
-pub linked : (nodes : List (Key × Node)) → IsTied nodes → (t : Tree) → tree_of nodes ≡ t → (dir : Key) (name : List ℕ) (ino : Key) → true ≡ may_link t dir name ino
+linked : (nodes : List (Key × Node)) → IsTied nodes → (t : Tree) → tree_of nodes ≡ t → (dir : Key) (name : List ℕ) (ino : Key) → true ≡ may_link t dir name ino
     → (subdirs names : ℕ) (above : Option Key) → subdirs ≡ one_more_if (subdirectory_count t dir) (is_directory (inode_at t ino)) → names ≡ one_more_if (name_count t ino) true → above ≡ cond (is_directory (inode_at t ino)) (Some dir) None
     → (after : List (Key × Node)) → after ≡ at_node (at_node nodes dir (entered name ino subdirs)) ino (named above names)
     → (tree_of after ≡ cond (may_link t dir name ino) (with_name t dir name ino) t) × IsTied after
@@ -103,3 +106,12 @@ linked nodes tied t seen dir name ino may subdirs names above counted more up af
       subst (λ (ns : List (Key × Node)). IsTied ns) (sym left) (tied-linked nodes tied dir name ino (sym may) subdirs names above counted more up),
     ))
     may counted more up
+
+-- the same, by what is noted
+pub linked_by : (nodes : List (Key × Node)) → IsTied nodes → (t : Tree) → tree_of nodes ≡ t → (dir : Key) (name : List ℕ) (ino : Key)
+    → (o : Option Linked) → is_some o ≡ may_link t dir name ino → IfSome o (IsLinked t dir ino) → (l : Linked) → o ≡ Some l
+    → (after : List (Key × Node)) → after ≡ at_node (at_node nodes dir (entered name ino l.subdirs)) ino (named l.parent l.names)
+    → (tree_of after ≡ cond (may_link t dir name ino) (with_name t dir name ino) t) × IsTied after
+linked_by nodes tied t seen dir name ino o may counts l is after left =
+    let c : IsLinked t dir ino l = subst (λ p. IfSome p (IsLinked t dir ino)) is counts in
+    linked nodes tied t seen dir name ino (sym (ap is_some is) ∙ may) l.subdirs l.names l.parent c.subdirs c.names c.parent after left

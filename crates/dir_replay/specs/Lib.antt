@@ -6,3 +6,4 @@ pub mod Nodes
 pub mod View
 pub mod Tied
 pub mod Inside
+pub mod Found

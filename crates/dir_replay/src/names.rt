@@ -1,6 +1,6 @@
 //! The rules of names: what one operation changes, and what is asked.
 
-ghost use Rattle.std.specs.Prelude.{◌≡◌, ◌↔◌, IsTrue, ℕ, [], Bool, IfOk, OnOk, OnErr, Option, Some, None, option_map, is_some, is_none, true, false, ◌&&◌, length, if◌then◌else◌};
+ghost use Rattle.std.specs.Prelude.{◌≡◌, ◌↔◌, IsTrue, ℕ, [], Bool, IfOk, IfSome, OnOk, OnErr, Option, Some, None, option_map, is_some, is_none, true, false, ◌&&◌, ◌||◌, length, if◌then◌else◌};
 ghost use Rattle.std.specs.List.{list_any};
 ghost use Rattle.std.specs.Option.{option_copied};
 ghost use Rattle.ivy_base.specs.declared.operation.Moment.{Moment};
@@ -11,6 +11,7 @@ ghost use Rattle.tree_model.specs.Apply.{empty_tree, apply, with_inode, may_link
 ghost use Rattle.tree_model.specs.Sound.{IsSound};
 ghost use Rattle.dir_replay.specs.Bare.{bare, bare_inode, IsBare};
 ghost use Rattle.dir_replay.specs.Counts.{one_more_if};
+ghost use Rattle.dir_replay.specs.Found.{IsKept, IsLinked};
 ghost use Rattle.dir_replay.specs.Inside.{stands_inside};
 ghost use Rattle.dir_replay.specs.Effect.{names_after, touched_by, none_touched};
 
@@ -109,16 +110,8 @@ impl Names {
         ensures touched { IfOk result (λ dirs. dirs ≡ touched_by self.old (op.Link dir.now name.now ino.now)) }
         ensures err { OnErr result (self.new ≡ self.old) }
     {
-        if !self.may_link(dir, name, ino) {
+        let Some(counts) = self.link_counts(dir, name, ino)? else {
             return Ok(Touched::nothing());
-        }
-        let directory = self.is_directory(ino);
-        let names = one_more_if(self.names_of(ino), true)?;
-        let subdirs = one_more_if(self.subdirs(dir), directory)?;
-        let counts = Linked {
-            subdirs,
-            parent: given_if(directory, dir),
-            names,
         };
         self.nodes.link(alloc, dir, name, ino, counts)?;
         Ok(Touched::only(*dir))
@@ -173,15 +166,53 @@ impl Names {
         Ok(Touched::both(*dir, *to_dir))
     }
 
-    // Whether the inode may have that name.
-    fn may_link(&self, dir: &Key, name: &[u8], ino: &Key) -> bool
+    // What is noted with a name of the inode in the directory, where it may have that. A count that a word can't hold is
+    // want of memory.
+    fn link_counts(&self, dir: &Key, name: &[u8], ino: &Key) -> Result<Option<Linked>, Memory>
+        ensures may { IfOk result (λ counts. is_some counts ≡ may_link self.now dir.now name.now ino.now) }
+        ensures counts { IfOk result (λ counts. IfSome counts (IsLinked self.now dir.now ino.now)) }
+    {
+        let (Some(directory), Some(node)) = (self.node(dir), self.node(ino)) else {
+            return Ok(None);
+        };
+        if !self.may_link(dir, directory, name, ino, node) {
+            return Ok(None);
+        }
+        Ok(Some(Linked {
+            subdirs: one_more_if(directory.subdirs, node.is_directory())?,
+            parent: given_if(node.is_directory(), dir),
+            names: one_more_if(node.names, true)?,
+        }))
+    }
+
+    // What is kept of an inode, where there is one of that number.
+    fn node(&self, ino: &Key) -> Option<&Node>
+        ensures there { is_some result ≡ is_some (inode_at self.now ino.now) }
+        ensures kept { IfSome result (λ n. IsKept self.now ino.now n.now) }
+    {
+        self.nodes.get(ino)
+    }
+
+    // Whether the inode may have that name, by what is kept of the two.
+    fn may_link(&self, dir: &Key, directory: &Node, name: &[u8], ino: &Key, node: &Node) -> bool
+        requires directory { IsKept self.now dir.now directory.now }
+        requires node { IsKept self.now ino.now node.now }
+        requires there { IsTrue (is_some (inode_at self.now ino.now)) }
         ensures { result ≡ may_link self.now dir.now name.now ino.now }
     {
-        self.is_directory(dir)
-            && self.kind(ino).is_some()
-            && self.entry(dir, name).is_none()
+        directory.is_directory()
+            && directory.entries.get(name).is_none()
             && !is_root(ino)
-            && !(self.is_directory(ino) && (self.has_name(ino) || self.is_inside(dir, ino)))
+            && !self.is_placed(dir, ino, node)
+    }
+
+    // Whether the inode is a directory that has its name, or one that the other directory lies in.
+    fn is_placed(&self, dir: &Key, ino: &Key, node: &Node) -> bool
+        requires directory { is_directory (inode_at self.now dir.now) ≡ true }
+        requires node { IsKept self.now ino.now node.now }
+        ensures { result ≡ (is_directory (inode_at self.now ino.now) && (has_name self.now ino.now || is_inside self.now dir.now ino.now)) }
+    {
+        node.is_directory() && (node.names > 0 || self.is_inside(dir, ino))
     }
 
     // Whether the inode may lose its name: it isn't a directory with entries.
@@ -318,13 +349,6 @@ impl Names {
         ensures { result ≡ is_directory (inode_at self.now ino.now) }
     {
         matches!(self.kind(ino), Some(Kind::Dir))
-    }
-
-    // Whether the inode has a name.
-    fn has_name(&self, ino: &Key) -> bool
-        ensures { result ≡ has_name self.now ino.now }
-    {
-        self.names_of(ino) > 0
     }
 
     // Whether the directory has no entries.

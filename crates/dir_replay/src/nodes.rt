@@ -45,6 +45,15 @@ impl MapValue for Node {
 }
 
 impl Node {
+    ghost use Rattle.tree_model.specs.Tree.{directory_kind};
+
+    /// Whether it is a directory.
+    pub fn is_directory(&self) -> bool
+        ensures { result ≡ directory_kind self.now.kind }
+    {
+        self.kind == Kind::Dir
+    }
+
     // An equal inode, which shares its names. The error is a count of owners that is full.
     fn copy(&self) -> Result<Node, Memory>
         ensures { IfOk result (λ copy. copy ≡ self.now) }
