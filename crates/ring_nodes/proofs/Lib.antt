@@ -11,7 +11,6 @@ pub mod Losing
 pub mod Knowing
 pub mod Sound
 pub mod Looking
-pub mod Courses
 pub mod Joins
 pub mod WholePuts
 pub mod Changing

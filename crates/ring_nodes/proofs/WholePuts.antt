@@ -1,13 +1,16 @@
 -- A put among the nodes, by the asks so far.
-use Rattle.std.proofs.Common.{◌≡◌, ◌⊎◌, inl, inr, ⊎_elim, ℕ, Bool, true, false, cond, List, [], ◌∷◌, ◌++◌, map, fold, refl, sym, ap, ◌∙◌, subst, Option, Some, None, Result, nat_lt}
+use Rattle.std.proofs.Common.{◌≡◌, ◌⊎◌, inl, inr, ⊎_elim, ℕ, ◌<◌, Bool, true, false, cond, List, [], ◌∷◌, ◌++◌, length, map, fold, refl, sym, ap, ◌∙◌, subst, Option, Some, None, Result, Ok, IfSome, IfOk, nat_lt}
 use Rattle.std.specs.List.{AllByRecursion, flat_map}
+use Rattle.std.specs.Option.{option_map}
 use Rattle.std.proofs.lemmas.Grind.{flat_map-append}
-use Rattle.std.proofs.lemmas.List.{append-nil}
+use Rattle.std.proofs.lemmas.List.{append-nil, map-append}
 use Rattle.ivy_base.specs.Naming.{name}
 use Rattle.ivy_base.specs.declared.key.Key.{Key}
-use Rattle.ring_model.specs.Members.{IsAmong}
-use Rattle.ring_model.proofs.Lists.{all-both, cons_head, cons_tail, nil_cons}
-use Rattle.dht_ids.specs.Asked.{told}
+use Rattle.ring_model.specs.Gets.{AreFirsts}
+use Rattle.ring_model.specs.Gets.AreFirsts.{none as no_firsts, again as first_again, new as first_new}
+use Rattle.ring_model.specs.Members.{IsAmong, first}
+use Rattle.ring_model.proofs.Lists.{all-both, all-right, cons_head, cons_tail, nil_cons, none_some, some_same}
+use Rattle.dht_ids.specs.Asked.{route_in, routes, told}
 use Rattle.dht_ids.specs.declared.ask.Answer.{Answer}
 use Rattle.dht_ids.specs.declared.ask.Answer.TheVariants as answer
 use Rattle.dht_ids.specs.declared.ask.Ask.{Ask}
@@ -17,18 +20,19 @@ use Rattle.dht_ids.specs.declared.ask.Heard.{Heard}
 use Rattle.dht_ids.specs.declared.ask.Want.TheVariants as want
 use Rattle.dht_ids.specs.declared.judge.Judged.{Judged}
 use Rattle.dht_ids.specs.declared.peer.Peer.{Peer}
-use Rattle.dhash_client.specs.Course.{IsCourse, Told, told_all}
-use Rattle.dhash_client.specs.Puts.{EndsPut, IsSamePut, PutIsAfter, PutIsWanted, PutState, put_awaited, put_begun, question_of}
+use Rattle.dhash_client.specs.Course.{Asking, CourseState, IsCourse, IsStage, Told, awaited_at, next_owner, told_all}
+use Rattle.dhash_client.specs.Machine.{outcome}
+use Rattle.dhash_client.specs.Puts.{IsEnoughPut, EndsPut, IsSamePut, PutIsAfter, PutIsWanted, PutState, is_of_put, put_awaited, put_begun, question_of}
 use Rattle.dhash_client.specs.declared.miss.Miss.{Miss}
 use Rattle.dhash_client.specs.declared.put.PutKind.TheVariants as what
 use Rattle.dhash_client.proofs.DrivenGets.{put_begins}
+use Rattle.ask_laws.proofs.AskedLookups.{look_goes_on}
 use Rattle.world_model.specs.Fates.{Fates, asking}
 use Rattle.world_model.specs.Fates.Fates.{none as no_asks}
 use Rattle.world_model.specs.World.{World, peer_of, with_numbered}
 use Rattle.ring_nodes.specs.NodesState.{AreAllAmong, IsNodesOf, NamesOnly, NodesState, made_peers, with_nodes}
 use Rattle.ring_nodes.specs.Looking.{PutSteps, PutsSo}
-use Rattle.ring_nodes.proofs.Courses.{next_of_course}
-use Rattle.ring_nodes.proofs.Looking.{AllNamed, one_more_fate}
+use Rattle.ring_nodes.proofs.Looking.{AllNamed, found_made, next_made, one_more_fate}
 use Rattle.ring_nodes.proofs.Reaching.{same_world}
 
 -- ---- the nodes that a put begins with
@@ -120,6 +124,23 @@ module _ (key : Key) (bytes : List ℕ) where
           let later = further [] owners (cons_tail asked (told_of asks) (record { node = o.0; kind = kind.PutBlock; key = key; put = Some (name bytes); got = o.1 }) (told_all (ask.PutBlock key bytes) owners) e) in
           λ i. ((same i).node, (q i, (same i).got)) ∷ later i
 
+-- ---- owners
+
+-- nodes that stand once are of the list
+firsts_all : (P : Peer → Type 0) {seen ps qs : List Peer} → AreFirsts seen ps qs → AllByRecursion P ps → AllByRecursion P qs
+firsts_all P no_firsts all = tt
+firsts_all P (first_again i rest) all = firsts_all P rest all.1
+firsts_all P (first_new d rest) all = (all.0, firsts_all P rest all.1)
+
+owners_made : (made : List Peer) (key : Key) (found : Option (List Peer)) (owners : List Peer) → outcome key found ≡ Ok owners → IfSome found (AreAllAmong made) → AreAllAmong made owners
+owners_made made key None owners e h = absurd cc
+owners_made made key (Some []) owners e h = absurd cc
+owners_made made key (Some (p ∷ ps)) owners e h = subst (λ o. IfOk o (AreAllAmong made)) e h
+
+first_all : (P : Peer → Type 0) (qs : List Peer) (p : Peer) → first qs ≡ Some p → AllByRecursion P qs → P p
+first_all P [] p e all = absurd (none_some p e)
+first_all P (q ∷ qs) p e all = subst P (some_same q p e) all.0
+
 -- ---- the asks so far
 
 module _ (judged : Key → List ℕ → Option Judged) (start : NodesState) (key : Key) (bytes : List ℕ) (r : ℕ) where
@@ -173,19 +194,52 @@ module _ (judged : Key → List ℕ → Option Judged) (start : NodesState) (key
   all_looks [] owners all = tt
   all_looks (s ∷ looks) owners all = (all.0, all_looks looks owners all.1)
 
-  -- what an owner is asked
-  same_question : (now : NodesState) (put : PutState) → IsPutting now put → question_of put.what put.bytes put.course.look.key ≡ ask.PutBlock key bytes
-  same_question now put l = ap (λ k. question_of put.what put.bytes k) l.same.0.0 ∙ ap (λ k. question_of k put.bytes key) l.same.1 ∙ ap (λ b. ask.PutBlock key b) l.same.2
-
   -- who is asked next was made, and is asked for the route or as an owner
+  is_right : (c : CourseState) (looks asks : Told) (o : Option Asking) (node : Peer) (q : Ask) → c.look.key ≡ key → AllNamed (made_peers start) looks
+      → IsStage is_of_put (IsEnoughPut key c.replicas) key (entries_of start) looks asks c.look o → awaited_at (ask.PutBlock key bytes) c o ≡ Some (node, q) → IsRight node q
+  is_right c looks asks None node q same named stage waits = by c.look.waiting refl waits
+    where
+      by : (o : Option Peer) → c.look.waiting ≡ o → option_map {U = Peer × Ask} (λ p. (p, ask.Route c.look.key)) o ≡ Some (node, q) → IsRight node q
+      by None e w = absurd (none_some (node, q) w)
+      by (Some p) e w =
+          let is = some_same (p, ask.Route c.look.key) (node, q) w in
+          let once : (length c.look.asked < 512) × (IsAmong p c.look.asked → ⊥) = subst (λ (o : Option Peer). IfSome o (λ n. (length c.look.asked < 512) × (IsAmong n c.look.asked → ⊥))) e stage.2 in
+          let on = look_goes_on key (entries_of start) looks c.look p stage.1 e once.0 once.1 in
+          let made = next_made (made_peers start) on.1 looks p None (routes on.0) (map-append (λ (x : Peer × Answer). (x.0, route_in x.1)) looks ((p, answer.Silent) ∷ on.0)) (entries_made start) named in
+          record {
+            made = subst (λ n. IsAmong n (made_peers start)) (ap (λ s. s.0) is) made;
+            is = inl (sym (ap (λ s. s.1) is) ∙ ap (λ k. ask.Route k) same);
+          }
+  is_right c looks asks (Some a) node q same named stage waits = by (next_owner c.replicas a) refl waits
+    where
+      found : IfSome stage.found (AreAllAmong (made_peers start))
+      found = found_made (made_peers start) stage.looked looks refl tt named
+
+      all : AreAllAmong (made_peers start) (a.asked ++ a.rest)
+      all = firsts_all (λ n. IsAmong n (made_peers start)) stage.firsts (owners_made (made_peers start) key stage.found stage.owners stage.some found)
+
+      next_is : (t : Bool) (p : Peer) → cond t (first a.rest) None ≡ Some p → first a.rest ≡ Some p
+      next_is true p e = e
+      next_is false p e = absurd (none_some p e)
+
+      by : (o : Option Peer) → next_owner c.replicas a ≡ o → option_map {U = Peer × Ask} (λ p. (p, ask.PutBlock key bytes)) o ≡ Some (node, q) → IsRight node q
+      by None e w = absurd (none_some (node, q) w)
+      by (Some p) e w =
+          let is = some_same (p, ask.PutBlock key bytes) (node, q) w in
+          let made = first_all (λ n. IsAmong n (made_peers start)) a.rest p (next_is (nat_lt a.answered c.replicas) p e) (all-right (λ n. IsAmong n (made_peers start)) a.asked a.rest all) in
+          record {
+            made = subst (λ n. IsAmong n (made_peers start)) (ap (λ s. s.0) is) made;
+            is = inr (sym (ap (λ s. s.1) is));
+          }
+
   right_at : (now : NodesState) (put : PutState) (node : Peer) (q : Ask) → IsPutting now put → put_awaited put ≡ Some (node, q) → IsRight node q
   right_at now put node q l waits =
-      let named = all_looks l.after.looks l.after.asks (subst (λ s. AllByRecursion (λ x. NamesOnly (made_peers start) x.1.1) s) (same_asks now put l) l.named) in
-      let next = next_of_course (made_peers start) (entries_of start) (entries_made start) (question_of put.what put.bytes put.course.look.key) put.course l.after.looks l.after.asks named put.course.asking node q l.after.stage waits in
-      record {
-        made = next.made;
-        is = ⊎_elim (λ e. inl (e ∙ ap (λ k. ask.Route k) l.same.0.0)) (λ e. inr (e ∙ same_question now put l)) next.is;
-      }
+      is_right put.course l.after.looks l.after.asks put.course.asking node q l.same.0.0
+      (all_looks l.after.looks l.after.asks (subst (λ s. AllByRecursion (λ x. NamesOnly (made_peers start) x.1.1) s) (same_asks now put l) l.named))
+      (subst (λ k. IsStage is_of_put (IsEnoughPut k put.course.replicas) k (entries_of start) l.after.looks l.after.asks put.course.look put.course.asking) l.same.0.0 l.after.stage)
+      (subst (λ b. awaited_at (ask.PutBlock key b) put.course put.course.asking ≡ Some (node, q)) l.same.2
+      (subst (λ k. awaited_at (question_of k put.bytes key) put.course put.course.asking ≡ Some (node, q)) l.same.1
+      (subst (λ k. awaited_at (question_of put.what put.bytes k) put.course put.course.asking ≡ Some (node, q)) l.same.0.0 waits)))
 
   pub put_made : (now : NodesState) (put : PutState) (node : Peer) (q : Ask) → IsPutting now put → put_awaited put ≡ Some (node, q) → IsAmong node (made_peers now)
   put_made now put node q l waits = subst (IsAmong node) (sym l.made) (right_at now put node q l waits).made

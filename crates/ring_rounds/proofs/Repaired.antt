@@ -42,10 +42,9 @@ use Rattle.ring_nodes.specs.Looking.{IsHeard}
 use Rattle.ring_nodes.specs.NodesState.{AreAllAmong, AreSound, IsNodesOf, NamesOnly, NodesState, made_peers, with_nodes}
 use Rattle.ring_nodes.specs.Upkeep.{Changes, HasNode, without_blocks}
 use Rattle.ring_nodes.proofs.Joins.{nobody_found}
-use Rattle.ring_nodes.proofs.Courses.{firsts_all, owners_made}
 use Rattle.ring_nodes.proofs.Looking.{AllNamed, found_made, one_more_fate}
 use Rattle.ring_nodes.proofs.Reaching.{same_world}
-use Rattle.ring_rounds.proofs.Asked.{AreNaming, repair_made}
+use Rattle.ring_rounds.proofs.Asked.{AreNaming, firsts_all, owners_made, repair_made}
 
 -- ---- asks in two parts
 
