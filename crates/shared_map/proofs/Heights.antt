@@ -42,15 +42,22 @@ low_fits n h low few = elim (cases_lt h 130) [
       omega (arith, low, few, more, once)
 ]
 
--- a side that has grown makes the node grow by one at most
-pub settled_grown : (l r side h : ℕ) → DifferByAtMost 1 l r → l ≤ side → side ≤ l + 1 → IsSettled side r h → (max l r + 1 ≤ h) × (h ≤ max l r + 2)
-settled_grown l r side h d low high s = elim (cases_lt (r + 1) side) [
-  | inl far ↦ (omega (arith, d.0, d.1, low, high, s.0, s.1, far), omega (arith, d.0, d.1, low, high, s.0, s.1, far))
-  | inr near ↦ let is = s.2 (near, omega (arith, d.1, low)) in (omega (arith, low, is), omega (arith, high, is))
-]
+pub low_with_more : (n m h : ℕ) → IsLow n h → n ≤ m → IsLow m h
+low_with_more n m h low more =
+    let once : (n + 1) * (n + 1) ≤ (n + 1) * (m + 1) = mul-le-mul_left (n + 1) (omega (arith, more)) in
+    let twice : (m + 1) * (n + 1) ≤ (m + 1) * (m + 1) = mul-le-mul_left (m + 1) (omega (arith, more)) in
+    omega (arith, low, once, twice)
 
-pub settled_grown_right : (l r side h : ℕ) → DifferByAtMost 1 l r → r ≤ side → side ≤ r + 1 → IsSettled l side h → (max l r + 1 ≤ h) × (h ≤ max l r + 2)
-settled_grown_right l r side h d low high s = elim (cases_lt (l + 1) side) [
-  | inl far ↦ (omega (arith, d.0, d.1, low, high, s.0, s.1, far), omega (arith, d.0, d.1, low, high, s.0, s.1, far))
-  | inr near ↦ let is = s.2 (omega (arith, d.0, low), near) in (omega (arith, low, is), omega (arith, high, is))
-]
+-- a side that has grown as high as the node was makes the node grow by one at most
+pub settled_grown : (l r side h : ℕ) → max l r + 1 ≤ side → side ≤ l + 1 → IsSettled side r h → (max l r + 1 ≤ h) × (h ≤ max l r + 2)
+settled_grown l r side h high low s = (omega (arith, high, low, s.0, s.1), omega (arith, high, low, s.0, s.1))
+
+pub settled_grown_right : (l r side h : ℕ) → max l r + 1 ≤ side → side ≤ r + 1 → IsSettled l side h → (max l r + 1 ≤ h) × (h ≤ max l r + 2)
+settled_grown_right l r side h high low s = (omega (arith, high, low, s.0, s.1), omega (arith, high, low, s.0, s.1))
+
+-- one that is still lower than the node leaves the node's height as it is
+pub level_grown : (l r side h : ℕ) → h ≡ max l r + 1 → DifferByAtMost 2 l r → l ≤ side → side ≤ l + 1 → side < h → (h ≡ max side r + 1) × DifferByAtMost 2 side r
+level_grown l r side h is d low high below = (omega (arith, is, low, high, below), (omega (arith, is, d.0, low, high, below), omega (arith, is, d.1, low, high, below)))
+
+pub level_grown_right : (l r side h : ℕ) → h ≡ max l r + 1 → DifferByAtMost 2 l r → r ≤ side → side ≤ r + 1 → side < h → (h ≡ max l side + 1) × DifferByAtMost 2 l side
+level_grown_right l r side h is d low high below = (omega (arith, is, low, high, below), (omega (arith, is, d.0, low, high, below), omega (arith, is, d.1, low, high, below)))

@@ -106,6 +106,15 @@ module _ {K V : Type 0} (R : K → K → Ordering) where
       by_case Equal again = omega arith
       by_case Greater again = omega (arith, again)
 
+  pub put_length : (k : K) (v : V) (es : List (K × V)) → length es ≤ length (put R k v es)
+  put_length k v [] = omega arith
+  put_length k v (e ∷ es) = by_case (R k e.0) (put_length k v es)
+    where
+      by_case : (o : Ordering) → length es ≤ length (put R k v es) → suc (length es) ≤ length (by_order o ((k, v) ∷ e ∷ es) ((e.0, v) ∷ es) (e ∷ put R k v es))
+      by_case Less again = omega arith
+      by_case Equal again = omega arith
+      by_case Greater again = omega (arith, again)
+
   -- ---- the entries whose keys pass a test
 
   kept : (p : K → Bool) (es : List (K × V)) → AllByRecursion (λ e. p e.0 ≡ true) es → where_key R p es ≡ es

@@ -23,8 +23,8 @@
 //!
 //! Costs: a copy takes constant time and no memory. A search takes a comparison for each level of the tree. An insertion
 //! or an update changes a node on its way in place where it has one owner, and makes it anew where copies share it. A removal
-//! makes each node on its way anew, and at most two more beside each; so does an insertion that meets a node of which the
-//! sides differ by two. All else stays shared with the copies, so a copy that is kept costs the memory of the nodes that were
+//! makes each node on its way anew, and at most two more beside each; so does an insertion that goes into a side that is two
+//! higher than the other. All else stays shared with the copies, so a copy that is kept costs the memory of the nodes that were
 //! made since. A list takes the time of what it gives, and that of a search where it begins at a key.
 #![tactic(auto)]
 

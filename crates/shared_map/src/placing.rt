@@ -1,6 +1,6 @@
 //! Entries that are put in place: only nodes that have other owners are made anew.
 
-ghost use Rattle.std.specs.Prelude.{◌≡◌, ◌+◌, ◌^◌, ◌<◌, T, length, IfOk, OnOk, OnErr, Some};
+ghost use Rattle.std.specs.Prelude.{◌≡◌, ◌+◌, ◌^◌, ◌<◌, ◌≤◌, max, T, length, MatchBool, IfOk, OnOk, OnErr, Some};
 ghost use Rattle.std.specs.Option.{option_map};
 ghost use Rattle.std.specs.FinMap.Entries.{find as value_at, put, is_sorted};
 ghost use Rattle.shared_map.specs.Trees.{seen, IsTree, IsGrown};
@@ -124,7 +124,8 @@ fn put_over<K: MapKey + Drop, V: Drop, P: Attempt>(
     put_at(alloc, at, key, value, rest)
 }
 
-// Puts the value under the key, at that node or below it.
+// Puts the value under the key, at that node or below it. While the side that it goes into stays lower than the node, the
+// node's height is still right, so that nothing is written and the other side's node isn't read.
 #[cycle(placing)]
 fn put_at<K: MapKey + Drop, V: Drop, P: Attempt>(
     alloc: Global,
@@ -141,13 +142,15 @@ fn put_at<K: MapKey + Drop, V: Drop, P: Attempt>(
     ensures ok { OnOk result (IsGrown (put K.order key.now value.now.value (seen (Some at.old)).0) at.old.height (seen (Some at.new)) × P.makes rest.old rest.new) }
     ensures err { OnErr result ((seen (Some at.new) ≡ seen (Some at.old)) × (rest.new ≡ rest.old)) }
 {
-    if at.left.height().abs_diff(at.right.height()) > 1 {
-        return Err(NotInPlace);
-    }
     match key.compare(&at.key) {
         Ordering::Less => {
+            if is_two_higher(&at.left, &at.right, at.height) {
+                return Err(NotInPlace);
+            }
             let before = put(alloc, &mut at.left, key, value, rest)?;
-            settle(at);
+            if at.left.height() >= at.height {
+                settle(at);
+            }
             Ok(before)
         }
         Ordering::Equal => {
@@ -156,9 +159,24 @@ fn put_at<K: MapKey + Drop, V: Drop, P: Attempt>(
             Ok(Some(mem::replace(&mut at.value, value)))
         }
         Ordering::Greater => {
+            if is_two_higher(&at.right, &at.left, at.height) {
+                return Err(NotInPlace);
+            }
             let before = put(alloc, &mut at.right, key, value, rest)?;
-            settle(at);
+            if at.right.height() >= at.height {
+                settle(at);
+            }
             Ok(before)
         }
     }
+}
+
+// Whether a side of a node of that height is two higher than the other one, of which the node isn't read where the height
+// tells that it is the higher one.
+fn is_two_higher<K: Drop, V: Drop>(side: &Tree<K, V>, other: &Tree<K, V>, height: u8) -> bool
+    requires height { height ≡ max side.now.1 other.now.1 + 1 }
+    ensures { MatchBool result (other.now.1 + 1 < side.now.1) (side.now.1 ≤ other.now.1 + 1) }
+{
+    let on_side = side.height();
+    on_side + 1 == height && on_side > other.height() + 1
 }
