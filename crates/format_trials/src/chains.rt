@@ -7,11 +7,11 @@ ghost use Rattle.log_records.specs.Records.{records_of};
 ghost use Rattle.log_records.specs.Batches.{owner_of, AreOfOneOwner};
 
 use crate::gather::are_of;
-use crate::vectors::vector_of;
+use crate::vectors::vector_of_word;
 use crate::words::{bytes_of, key_of, number_of, owner_of, text};
 use dht_ids::Judged;
 use ivy_base::{Key, PubKey, head_key};
-use log_records::{Batch, ChainFault, Edge, Record};
+use log_records::{Batch, Chain, ChainFault, Edge, Record};
 use std::alloc::Global;
 use version_vectors::Vector;
 use view_blocks::View;
@@ -24,9 +24,26 @@ struct Base {
     floor: Vector,
 }
 
-/// The vector of a word.
-fn word_vector(alloc: Global, word: &str) -> Option<Vector> {
-    vector_of(alloc, &bytes_of(alloc, word)?)
+/// The view of a word.
+fn view_of_word(alloc: Global, word: &str) -> Option<View> {
+    View::read(alloc, &bytes_of(alloc, word)?).ok()
+}
+
+/// The edge of a word, of which `none` has none. There is no answer where it is no vector.
+fn edge_of_word(alloc: Global, word: &str) -> Option<Option<Edge>> {
+    if word == "none" {
+        return Some(None);
+    }
+    let vector = vector_of_word(alloc, word)?;
+    Some(Some(Edge { vector }))
+}
+
+/// The base of these words.
+fn base_of(alloc: Global, view: &str, held: &str, floor: &str) -> Option<Base> {
+    let held = vector_of_word(alloc, held)?;
+    let floor = vector_of_word(alloc, floor)?;
+    let view = view_of_word(alloc, view)?;
+    Some(Base { view, held, floor })
 }
 
 /// The owner's records of these blocks.
@@ -67,17 +84,29 @@ fn told(
     let fault = batch.add_chain(alloc, &base.view, head, chain, edge).err();
     let is_same = batch.started().entries() == base.held.entries();
     let chains = batch.into_chains();
-    text(
-        alloc,
-        match (fault, chains.as_slice()) {
-            (Some(ChainFault::Bad), []) => "bad",
-            (Some(ChainFault::Fork), []) => "fork",
-            (Some(ChainFault::Memory), _) => "out of memory",
-            (None, [chain])
-                if is_same && chain.head == head && chain.records.as_slice().len() == count => "ok",
-            _ => "differs",
-        },
-    )
+    text(alloc, word_of(fault, is_same, &chains, &head, count))
+}
+
+/// The word for what a batch says to a chain of so many records, where `is_same` says whether what it is over is as before.
+fn word_of(
+    fault: Option<ChainFault>,
+    is_same: bool,
+    chains: &[Chain],
+    head: &Judged,
+    count: usize,
+) -> &'static str {
+    match (fault, chains) {
+        (Some(ChainFault::Bad), []) => "bad",
+        (Some(ChainFault::Fork), []) => "fork",
+        (Some(ChainFault::Memory), _) => "out of memory",
+        (None, [chain]) if is_same && is_chain(chain, head, count) => "ok",
+        _ => "differs",
+    }
+}
+
+/// Whether it is the chain of so many records with that head.
+fn is_chain(chain: &Chain, head: &Judged, count: usize) -> bool {
+    chain.head == *head && chain.records.as_slice().len() == count
 }
 
 /// What is told of the chain that the words are.
@@ -85,26 +114,29 @@ pub fn chain(alloc: Global, words: &[&str]) -> Option<String> {
     let [view, held, floor, edge, owner, seq, name, blocks @ ..] = words else {
         return None;
     };
-    let base = Base {
-        view: View::read(alloc, &bytes_of(alloc, view)?).ok()?,
-        held: word_vector(alloc, held)?,
-        floor: word_vector(alloc, floor)?,
-    };
-    let edge = if *edge == "none" {
-        None
-    } else {
-        Some(Edge {
-            vector: word_vector(alloc, edge)?,
-        })
-    };
     let owner = owner_of(alloc, owner)?;
     let head = Judged {
         seq: number_of(seq)?,
         name: key_of(alloc, name)?,
     };
-    let records = records_of_words(alloc, &owner, blocks)?;
-    if !are_of(&records, &owner) || !leaves_out(&edge, &head_key(&owner)) {
-        return None;
+    let base = base_of(alloc, view, held, floor)?;
+    told_blocks(alloc, &base, head, &owner, edge, blocks)
+}
+
+/// What is told of the chain of the owner's records that the blocks are, where there is a chain and the edge leaves it out.
+fn told_blocks(
+    alloc: Global,
+    base: &Base,
+    head: Judged,
+    owner: &PubKey,
+    edge: &str,
+    blocks: &[&str],
+) -> Option<String> {
+    let records = records_of_words(alloc, owner, blocks)?;
+    let edge = edge_of_word(alloc, edge)?;
+    if are_of(&records, owner) && leaves_out(&edge, &head_key(owner)) {
+        told(alloc, base, head, records, *owner, edge)
+    } else {
+        None
     }
-    told(alloc, &base, head, records, owner, edge)
 }

@@ -29,22 +29,33 @@ fn put_message(alloc: Global, told: &mut String, message: &Bytes) -> Option<()> 
     told.push_str(" ").ok()
 }
 
-/// The messages that wait, and how the stream ends.
-fn told(alloc: Global, reader: &mut FrameReader, is_too_long: bool) -> Option<String> {
-    let mut told = String::new(alloc);
+/// Appends the messages that wait.
+fn put_messages(alloc: Global, told: &mut String, reader: &mut FrameReader) -> Option<()> {
     for _n in 0..1000 {
         let Some(message) = reader.take() else {
             break;
         };
-        put_message(alloc, &mut told, &message)?;
+        put_message(alloc, told, &message)?;
     }
-    told.push_str(match (reader.finish().is_ok(), is_too_long) {
+    Some(())
+}
+
+/// How a stream ends.
+fn end_of(is_whole: bool, is_too_long: bool) -> &'static str {
+    match (is_whole, is_too_long) {
         (true, false) => "whole",
         (false, false) => "cut",
         (false, true) => "too long",
         (true, true) => "too long and whole",
-    })
-    .ok()?;
+    }
+}
+
+/// The messages that wait, and how the stream ends.
+fn told(alloc: Global, reader: &mut FrameReader, is_too_long: bool) -> Option<String> {
+    let mut told = String::new(alloc);
+    put_messages(alloc, &mut told, reader)?;
+    told.push_str(end_of(reader.finish().is_ok(), is_too_long))
+        .ok()?;
     Some(told)
 }
 

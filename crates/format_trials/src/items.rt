@@ -30,18 +30,34 @@ fn told_bytes(alloc: Global, bytes: Result<&[u8], XdrFault>) -> Option<String> {
     }
 }
 
-/// Reads an item: `word`, `double`, `boolean`, `fixed:N`, `opaque:MOST`, `rest` or `end`.
+/// Reads an item: `word`, `double`, `boolean`, `rest`, `end`, `fixed:N` or `opaque:MOST`.
 fn read_item(alloc: Global, reader: &mut XdrRead<'_>, item: &str) -> Option<String> {
-    let mut words = item.split(':');
-    match words.next()? {
+    match item {
         "word" => told_number(alloc, reader.u32().map(u64::from)),
         "double" => told_number(alloc, reader.u64()),
         "boolean" => told_number(alloc, reader.boolean().map(u64::from)),
-        "fixed" => told_bytes(alloc, reader.fixed(number_of(words.next()?)? as usize)),
-        "opaque" => told_bytes(alloc, reader.opaque(number_of(words.next()?)?)),
         "rest" => word_of(alloc, reader.rest()),
-        "end" => told_bytes(alloc, reader.finish().map(|_| [].as_slice())),
+        "end" => told_end(alloc, reader),
+        _ => read_bytes(alloc, reader, item),
+    }
+}
+
+/// Reads `fixed:N` or `opaque:MOST`.
+fn read_bytes(alloc: Global, reader: &mut XdrRead<'_>, item: &str) -> Option<String> {
+    let (kind, count) = item.split_once(':')?;
+    let count = number_of(count)?;
+    match kind {
+        "fixed" => told_bytes(alloc, reader.fixed(count as usize)),
+        "opaque" => told_bytes(alloc, reader.opaque(count)),
         _ => None,
+    }
+}
+
+/// Whether the bytes end here.
+fn told_end(alloc: Global, reader: &XdrRead<'_>) -> Option<String> {
+    match reader.finish() {
+        Ok(()) => text(alloc, "-"),
+        Err(fault) => text(alloc, name_of(fault)),
     }
 }
 
@@ -50,36 +66,47 @@ pub fn read(alloc: Global, items: &str, bytes: &[u8]) -> Option<String> {
     let mut reader = XdrRead::new(bytes);
     let mut told = String::new(alloc);
     for item in items.split(',') {
-        let word = read_item(alloc, &mut reader, item)?;
-        if !told.is_empty() {
-            told.push_str(" ").ok()?;
-        }
-        told.push_str(word.as_str()).ok()?;
+        put_item(&mut told, read_item(alloc, &mut reader, item)?.as_str())?;
     }
     Some(told)
 }
 
+/// Appends what is told of an item.
+fn put_item(told: &mut String, word: &str) -> Option<()> {
+    if !told.is_empty() {
+        told.push_str(" ").ok()?;
+    }
+    told.push_str(word).ok()
+}
+
 /// Writes an item: `word:N`, `double:N`, `boolean:N`, `fixed:BYTES` or `opaque:BYTES`.
 fn write_item(alloc: Global, out: &mut XdrWrite, item: &str) -> Option<()> {
-    let mut words = item.split(':');
-    let (kind, value) = (words.next()?, words.next()?);
+    let (kind, value) = item.split_once(':')?;
     match kind {
-        "word" => {
-            out.reserve(4).ok()?;
-            out.put_u32(number_of(value)?);
-        }
-        "double" => {
-            out.reserve(8).ok()?;
-            out.put_u64(value.parse().ok()?);
-        }
-        "boolean" => {
-            out.reserve(4).ok()?;
-            out.put_bool(value == "1");
-        }
-        "fixed" => put_fixed(out, &bytes_of(alloc, value)?)?,
-        "opaque" => put_opaque(out, &bytes_of(alloc, value)?)?,
-        _ => return None,
+        "word" => put_word(out, number_of(value)?),
+        "double" => put_double(out, value.parse().ok()?),
+        "boolean" => put_boolean(out, value == "1"),
+        "fixed" => put_fixed(out, &bytes_of(alloc, value)?),
+        "opaque" => put_opaque(out, &bytes_of(alloc, value)?),
+        _ => None,
     }
+}
+
+fn put_word(out: &mut XdrWrite, value: u32) -> Option<()> {
+    out.reserve(4).ok()?;
+    out.put_u32(value);
+    Some(())
+}
+
+fn put_double(out: &mut XdrWrite, value: u64) -> Option<()> {
+    out.reserve(8).ok()?;
+    out.put_u64(value);
+    Some(())
+}
+
+fn put_boolean(out: &mut XdrWrite, value: bool) -> Option<()> {
+    out.reserve(4).ok()?;
+    out.put_bool(value);
     Some(())
 }
 

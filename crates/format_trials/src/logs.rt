@@ -115,13 +115,24 @@ impl Log {
 pub fn entry(logs: &[Log], key: Key, seq: u32, is_known: bool) -> Entry
     ensures { result.seq ≡ seq }
 {
-    let name = match logs.iter().find(|log| log.key == key) {
-        Some(log) if is_known => log.name_at(seq),
-        _ => UNKNOWN,
+    let name = if is_known {
+        name_in(logs, &key, seq)
+    } else {
+        UNKNOWN
     };
     Entry {
         log: key,
         seq,
         name,
     }
+}
+
+/// The name of the record of that number in the log of that key; there may be none.
+fn name_in(logs: &[Log], key: &Key, seq: u32) -> Key {
+    for log in logs {
+        if log.key == *key {
+            return log.name_at(seq);
+        }
+    }
+    UNKNOWN
 }

@@ -2,22 +2,44 @@
 
 use crate::gather::{batch_of, part_of};
 use crate::logs::{Log, entry, owner, view_of};
-use crate::plain::{agrees, plain_part};
+use crate::plain::{Plain, agrees, plain_part};
 use crate::random::Random;
-use crate::words::text;
-use ivy_base::head_key;
+use crate::words::{number_of, text};
+use ivy_base::{PubKey, head_key};
 use log_records::Record;
 use std::alloc::Global;
-use version_vectors::Vector;
+use version_vectors::{Entry, Vector};
 use view_blocks::View;
 
-/// The part of the logs, and whether the slow program takes the same records.
-fn parts(alloc: Global, view: &View, logs: Vec<Log>) -> Option<(Vec<Record>, bool)> {
+/// What is told of the part of the logs: its records, or only how many they are.
+fn told(alloc: Global, view: &View, logs: Vec<Log>, is_counted: bool) -> Option<String> {
     let plain = plain_part(alloc, view, &logs).ok()?;
     let batch = batch_of(alloc, view, logs)?;
     let part = part_of(alloc, view, batch).ok()?;
-    let is_same = agrees(&plain, &part);
-    Some((part, is_same))
+    told_part(alloc, &plain, &part, is_counted)
+}
+
+/// What is told of the part: whether the slow program takes the same records, and the records or their count.
+fn told_part(alloc: Global, plain: &[Plain], part: &[Record], is_counted: bool) -> Option<String> {
+    let word = if agrees(plain, part) {
+        "agree"
+    } else {
+        "differ"
+    };
+    if is_counted {
+        format!(in alloc; "{word} {}", part.len()).ok()
+    } else {
+        told_records(alloc, word, part)
+    }
+}
+
+/// The word, and the records in order.
+fn told_records(alloc: Global, word: &str, part: &[Record]) -> Option<String> {
+    let mut told = text(alloc, word)?;
+    for record in part {
+        put_record(alloc, &mut told, record)?;
+    }
+    Some(told)
 }
 
 /// The letter that a word begins with, and the rest.
@@ -45,31 +67,49 @@ fn cite(alloc: Global, logs: &[Log], vector: &Vector, word: &str) -> Option<Vect
 /// The place of the letter's log, which is begun where there is none.
 fn place_of(alloc: Global, logs: &mut Vec<Log>, letter: u8) -> Option<usize> {
     let owner = owner(letter);
-    if let Some(place) = logs.iter().position(|log| log.owner == owner) {
-        return Some(place);
+    let place = place_in(logs, &owner);
+    if place == logs.len() {
+        logs.push(Log::empty(alloc, owner)).ok()?;
     }
-    let place = logs.len();
-    logs.push(Log::empty(alloc, owner)).ok()?;
     Some(place)
+}
+
+/// The place of the owner's log, or behind the last where there is none.
+fn place_in(logs: &[Log], owner: &PubKey) -> usize {
+    for place in 0..logs.len() {
+        if logs[place].owner == *owner {
+            return place;
+        }
+    }
+    logs.len()
+}
+
+/// What the words behind a colon cite.
+fn cited(alloc: Global, logs: &[Log], words: &str) -> Option<Vector> {
+    let mut vector = Vector::empty(alloc);
+    if let Some(words) = words.strip_prefix(':') {
+        for word in words.split('.') {
+            vector = cite(alloc, logs, &vector, word)?;
+        }
+    }
+    Some(vector)
+}
+
+/// Writes the next record of the log at that place.
+fn write_at(alloc: Global, logs: &mut [Log], place: usize, vector: Vector) -> Option<()> {
+    logs.get_mut(place)?.write(alloc, vector).ok()
 }
 
 /// Does what the word says: `a` writes a's next record, `a:b2.c1` one that cites those, and `a-` takes the newest back.
 fn step(alloc: Global, logs: &mut Vec<Log>, word: &str) -> Option<()> {
     let (letter, rest) = lettered(word)?;
     let place = place_of(alloc, logs, letter)?;
-    let mut vector = Vector::empty(alloc);
-    if let Some(cited) = rest.strip_prefix(':') {
-        for word in cited.split('.') {
-            vector = cite(alloc, logs, &vector, word)?;
-        }
-    }
-    let log = logs.get_mut(place)?;
     if rest == "-" {
-        log.lose();
-        Some(())
-    } else {
-        log.write(alloc, vector).ok()
+        logs.get_mut(place)?.lose();
+        return Some(());
     }
+    let vector = cited(alloc, logs, rest)?;
+    write_at(alloc, logs, place, vector)
 }
 
 /// Appends the record: its owner's letter and its number.
@@ -79,21 +119,35 @@ fn put_record(alloc: Global, told: &mut String, record: &Record) -> Option<()> {
     told.push_str(word.as_str()).ok()
 }
 
-/// The part of the logs that the words write, in order.
-pub fn order(alloc: Global, members: &str, words: &[&str]) -> Option<String> {
+/// The logs that the words write.
+fn written(alloc: Global, words: &[&str]) -> Option<Vec<Log>> {
     let mut logs = Vec::new(alloc);
     for word in words {
         step(alloc, &mut logs, word)?;
     }
-    let (part, is_same) = parts(alloc, &view_of(alloc, members)?, logs)?;
-    let mut told = text(alloc, if is_same { "agree" } else { "differ" })?;
-    for record in part.iter() {
-        put_record(alloc, &mut told, record)?;
-    }
-    Some(told)
+    Some(logs)
 }
 
-/// What the log's next record cites by chance of the others, never less than the one before it did.
+/// The part of the logs that the words write, in order, under the view that the first word is.
+pub fn order(alloc: Global, words: &[&str]) -> Option<String> {
+    let (members, words) = words.split_first()?;
+    let view = view_of(alloc, members)?;
+    told(alloc, &view, written(alloc, words)?, false)
+}
+
+/// What the one log cites by chance of the other, never less than its newest record does. Its number is 0 for nothing.
+fn cited_of(random: &mut Random, logs: &[Log], own: &Log, log: &Log) -> Entry {
+    let before = own.cited(&log.key);
+    let seq = match random.below(16) {
+        0 => log.newest.seq.saturating_add(1),
+        1..=4 => before,
+        _ => log.newest.seq,
+    };
+    let is_known = random.below(32) > 0;
+    entry(logs, log.key, seq.max(before), is_known)
+}
+
+/// What the log's next record cites by chance of the others.
 fn cited_by_chance(
     alloc: Global,
     random: &mut Random,
@@ -109,44 +163,60 @@ fn cited_by_chance(
         if log.key == own.key {
             continue;
         }
-        let before = own.cited(&log.key);
-        let seq = match random.below(16) {
-            0 => log.newest.seq.saturating_add(1),
-            1..=4 => before,
-            _ => log.newest.seq,
-        };
-        let is_known = random.below(32) > 0;
-        let seq = seq.max(before);
-        if seq > 0 {
-            let cited = entry(logs, log.key, seq, is_known);
+        let cited = cited_of(random, logs, own, log);
+        if cited.seq > 0 {
             vector = vector.with(alloc, cited).ok()?;
         }
     }
     Some(vector)
 }
 
-/// How many records the part has of logs that a seed makes: so many records by chance in so many logs, of each of which up
-/// to two are taken back at the end.
-pub fn random(alloc: Global, seed: u64, letters: &str, count: u32) -> Option<String> {
-    let mut random = Random::new(seed);
-    let mut logs = Vec::new(alloc);
+/// Opens a log for each letter.
+fn open(alloc: Global, logs: &mut Vec<Log>, letters: &str) -> Option<()> {
     for letter in letters.bytes() {
-        let mut log = Log::empty(alloc, owner(letter));
-        log.write(alloc, Vector::empty(alloc)).ok()?;
-        logs.push(log).ok()?;
+        let place = place_of(alloc, logs, letter)?;
+        write_at(alloc, logs, place, Vector::empty(alloc))?;
     }
+    Some(())
+}
+
+/// Writes so many records by chance.
+fn grow(alloc: Global, random: &mut Random, logs: &mut [Log], count: u32) -> Option<()> {
     for _n in 0..count {
         let place = random.below(logs.len() as u64) as usize;
-        let vector = cited_by_chance(alloc, &mut random, &logs, place)?;
-        logs.get_mut(place)?.write(alloc, vector).ok()?;
+        let vector = cited_by_chance(alloc, random, logs, place)?;
+        write_at(alloc, logs, place, vector)?;
     }
-    for log in logs.iter_mut() {
+    Some(())
+}
+
+/// Takes up to two records of each log back.
+fn shrink(random: &mut Random, logs: &mut [Log]) {
+    for log in logs {
         for _n in 0..random.below(3) {
             log.lose();
         }
     }
+}
+
+/// Logs with so many records by chance, of each of which up to two are taken back at the end.
+fn by_chance(alloc: Global, seed: u64, letters: &str, count: u32) -> Option<Vec<Log>> {
+    let mut random = Random::new(seed);
+    let mut logs = Vec::new(alloc);
+    open(alloc, &mut logs, letters)?;
+    grow(alloc, &mut random, &mut logs, count)?;
+    shrink(&mut random, &mut logs);
     logs.retain(|log| !log.records.is_empty());
-    let (part, is_same) = parts(alloc, &view_of(alloc, letters)?, logs)?;
-    let word = if is_same { "agree" } else { "differ" };
-    format!(in alloc; "{word} {}", part.len()).ok()
+    Some(logs)
+}
+
+/// How many records the part has of logs by chance: the words are a seed, the letters of the logs, and how many records
+/// are written.
+pub fn random(alloc: Global, words: &[&str]) -> Option<String> {
+    let [seed, letters, count] = words else {
+        return None;
+    };
+    let (seed, count) = (seed.parse().ok()?, number_of(count)?);
+    let view = view_of(alloc, letters)?;
+    told(alloc, &view, by_chance(alloc, seed, letters, count)?, true)
 }

@@ -37,14 +37,19 @@ impl Plain {
         weight
     }
 
+    /// Whether it knows each log as far as the entries go.
+    fn reaches(&self, entries: &[Entry]) -> bool {
+        for entry in entries {
+            if self.reach(&entry.log) < entry.seq {
+                return false;
+            }
+        }
+        true
+    }
+
     /// Whether it knows all that the other one does.
     fn knows(&self, other: &Plain) -> bool {
-        self.reach(&other.own.log) >= other.own.seq
-            && other
-                .vector
-                .entries()
-                .iter()
-                .all(|entry| self.reach(&entry.log) >= entry.seq)
+        self.reach(&other.own.log) >= other.own.seq && self.reaches(other.vector.entries())
     }
 
     /// Whether the other one is the record that it cites by the entry.
@@ -52,17 +57,52 @@ impl Plain {
         other.taken && other.own == *entry && other.weight() < self.weight() && self.knows(other)
     }
 
-    /// Whether it opens its log, or follows the other one.
+    /// Whether the record that it cites by the entry is among those.
+    fn has_cause(&self, entry: &Entry, all: &[Plain]) -> bool {
+        for other in all {
+            if self.is_caused(entry, other) {
+                return true;
+            }
+        }
+        false
+    }
+
+    /// Whether each record of a member's that it cites is among those.
+    fn has_causes(&self, view: &View, all: &[Plain]) -> bool {
+        for entry in self.vector.entries() {
+            if view.is_member(&entry.log) && !self.has_cause(entry, all) {
+                return false;
+            }
+        }
+        true
+    }
+
+    /// Whether it follows the other one.
     fn follows(&self, other: &Plain) -> bool {
         other.taken && other.owner == self.owner && other.own.name == self.prev
     }
 
+    /// Whether it opens its log, or follows one of those.
+    fn has_former(&self, all: &[Plain]) -> bool {
+        if self.own.seq == 1 {
+            return true;
+        }
+        for other in all {
+            if self.follows(other) {
+                return true;
+            }
+        }
+        false
+    }
+
     /// Whether it may follow what was taken.
     fn may_follow(&self, view: &View, all: &[Plain]) -> bool {
-        (self.own.seq == 1 || all.iter().any(|other| self.follows(other)))
-            && self.vector.entries().iter().all(|entry| {
-                !view.is_member(&entry.log) || all.iter().any(|other| self.is_caused(entry, other))
-            })
+        self.has_former(all) && self.has_causes(view, all)
+    }
+
+    /// Whether it was taken, and is that record.
+    fn is(&self, record: &Record) -> bool {
+        self.taken && self.owner == record.owner && self.own.seq == record.seq
     }
 }
 
@@ -106,12 +146,33 @@ pub fn plain_part(alloc: Global, view: &View, logs: &[Log]) -> Result<Vec<Plain>
     Ok(all)
 }
 
+/// How many were taken.
+fn count_taken(all: &[Plain]) -> u64 {
+    let mut count: u64 = 0;
+    for plain in all {
+        if plain.taken {
+            count = count.saturating_add(1);
+        }
+    }
+    count
+}
+
+/// Whether the record was taken.
+fn is_taken(all: &[Plain], record: &Record) -> bool {
+    for plain in all {
+        if plain.is(record) {
+            return true;
+        }
+    }
+    false
+}
+
 /// Whether the records are those that were taken.
 pub fn agrees(all: &[Plain], part: &[Record]) -> bool {
-    all.iter().filter(|plain| plain.taken).count() == part.len()
-        && part.iter().all(|record| {
-            all.iter().any(|plain| {
-                plain.taken && plain.owner == record.owner && plain.own.seq == record.seq
-            })
-        })
+    for record in part {
+        if !is_taken(all, record) {
+            return false;
+        }
+    }
+    count_taken(all) == part.len() as u64
 }

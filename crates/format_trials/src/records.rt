@@ -23,9 +23,14 @@ fn name_of(fault: RecordFault) -> &'static str {
     }
 }
 
+/// Whether the record is written as these bytes.
+fn is_written(alloc: Global, record: &Record, bytes: &[u8]) -> Option<bool> {
+    Some(record.write(alloc).ok()?.as_slice() == bytes)
+}
+
 /// What is told of a record that was read.
 fn told_record(alloc: Global, record: &Record, bytes: &[u8]) -> Option<String> {
-    if record.write(alloc).ok()?.as_slice() != bytes {
+    if !is_written(alloc, record, bytes)? {
         return text(alloc, "differs");
     }
     if record.vector.len() > 32 {

@@ -1,6 +1,6 @@
 //! Version vectors.
 
-use crate::words::{text, word_of};
+use crate::words::{self, text, word_of};
 use ivy_base::Key;
 use std::alloc::Global;
 use version_vectors::{Entry, Vector, VectorFault};
@@ -15,6 +15,11 @@ pub fn vector_of(alloc: Global, bytes: &[u8]) -> Option<Vector> {
     let vector = Vector::read(alloc, &mut reader, MOST).ok()?;
     reader.finish().ok()?;
     Some(vector)
+}
+
+/// The vector of a word.
+pub fn vector_of_word(alloc: Global, word: &str) -> Option<Vector> {
+    vector_of(alloc, &words::bytes_of(alloc, word)?)
 }
 
 /// The bytes of a vector.
@@ -43,11 +48,16 @@ pub fn vector(alloc: Global, most: u32, bytes: &[u8]) -> Option<String> {
     }
 }
 
-/// What is told of the vector that was read in front of these bytes.
-fn told_front(alloc: Global, vector: &Vector, bytes: &[u8], rest: &[u8]) -> Option<String> {
+/// Whether the vector is what stands before the rest in the bytes.
+fn is_front(alloc: Global, vector: &Vector, bytes: &[u8], rest: &[u8]) -> Option<bool> {
     let mut written = bytes_of(alloc, &vector.copy(alloc).ok()?)?;
     written.extend_from_slice(rest).ok()?;
-    if written.as_slice() != bytes || vector.len() > 1000 {
+    Some(written.as_slice() == bytes)
+}
+
+/// What is told of the vector that was read in front of these bytes.
+fn told_front(alloc: Global, vector: &Vector, bytes: &[u8], rest: &[u8]) -> Option<String> {
+    if vector.len() > 1000 || !is_front(alloc, vector, bytes, rest)? {
         return text(alloc, "differs");
     }
     let rest = word_of(alloc, rest)?;

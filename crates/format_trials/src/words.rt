@@ -8,16 +8,29 @@ pub fn text(alloc: Global, word: &str) -> Option<String> {
     String::from_str(alloc, word).ok()
 }
 
+/// Appends the bytes so many times.
+fn put_times(bytes: &mut Vec<u8>, piece: &[u8], count: u32) -> Option<()> {
+    for _n in 0..count {
+        bytes.extend_from_slice(piece).ok()?;
+    }
+    Some(())
+}
+
 /// Appends a part: bytes, or bytes so many times.
 fn put_part(alloc: Global, bytes: &mut Vec<u8>, part: &str) -> Option<()> {
-    let mut words = part.split('*');
-    let piece = hex::decode(alloc, words.next()?).ok()?;
-    let count: u32 = match words.next() {
-        Some(count) => count.parse().ok()?,
-        None => 1,
+    let (piece, count) = match part.split_once('*') {
+        Some((piece, count)) => (piece, number_of(count)?),
+        None => (part, 1),
     };
-    for _n in 0..count {
-        bytes.extend_from_slice(&piece).ok()?;
+    put_times(bytes, &hex::decode(alloc, piece).ok()?, count)
+}
+
+/// Appends the parts of a word.
+fn put_parts(alloc: Global, bytes: &mut Vec<u8>, word: &str) -> Option<()> {
+    if word != "-" {
+        for part in word.split('.') {
+            put_part(alloc, bytes, part)?;
+        }
     }
     Some(())
 }
@@ -25,11 +38,7 @@ fn put_part(alloc: Global, bytes: &mut Vec<u8>, part: &str) -> Option<()> {
 /// The bytes of a word.
 pub fn bytes_of(alloc: Global, word: &str) -> Option<Vec<u8>> {
     let mut bytes = Vec::new(alloc);
-    if word != "-" {
-        for part in word.split('.') {
-            put_part(alloc, &mut bytes, part)?;
-        }
-    }
+    put_parts(alloc, &mut bytes, word)?;
     Some(bytes)
 }
 
