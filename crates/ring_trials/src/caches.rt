@@ -42,6 +42,43 @@ fn put_found(out: &mut String, cache: &mut BlockCache, key: &Key) -> Result<(), 
     }
 }
 
+/// Keeps the block of that number, and writes so.
+fn put_kept(out: &mut String, cache: &mut BlockCache, alloc: Global, number: u16) -> Option<()> {
+    if keep(cache, alloc, number) != Ok(true) {
+        return None;
+    }
+    out.push_str("kept").ok()
+}
+
+/// Writes what a cache makes of a block.
+fn put_block(
+    out: &mut String,
+    cache: &mut BlockCache,
+    alloc: Global,
+    what: &str,
+    number: u16,
+) -> Option<()> {
+    let key = name_of(&number.to_be_bytes());
+    match what {
+        "keep" => put_kept(out, cache, alloc, number),
+        "has" => write!(out, "{}", holds(cache, &key)).ok(),
+        "find" => put_found(out, cache, &key).ok(),
+        _ => None,
+    }
+}
+
+/// Begins anew, with a full cache.
+fn fill(cache: &mut Option<BlockCache>, alloc: Global) -> Result<(), Memory> {
+    *cache = Some(full(alloc)?);
+    Ok(())
+}
+
+/// Fills the cache anew, and writes so.
+fn put_full(cache: &mut Option<BlockCache>, out: &mut String, alloc: Global) -> Option<()> {
+    fill(cache, alloc).ok()?;
+    out.push_str("kept").ok()
+}
+
 /// Writes the answer to a line, `None` for want of memory and where there is none.
 pub fn answer(
     cache: &mut Option<BlockCache>,
@@ -51,16 +88,8 @@ pub fn answer(
 ) -> Option<()> {
     let what = words.word()?;
     if what == "full" {
-        *cache = Some(full(alloc).ok()?);
-        return out.push_str("kept").ok();
+        return put_full(cache, out, alloc);
     }
-    let cache = cache.as_mut()?;
-    let number: u16 = words.word()?.parse().ok()?;
-    let key = name_of(&number.to_be_bytes());
-    match what {
-        "keep" if keep(cache, alloc, number).ok()? => out.push_str("kept").ok(),
-        "has" => write!(out, "{}", holds(cache, &key)).ok(),
-        "find" => put_found(out, cache, &key).ok(),
-        _ => None,
-    }
+    let number = words.word()?.parse().ok()?;
+    put_block(out, cache.as_mut()?, alloc, what, number)
 }

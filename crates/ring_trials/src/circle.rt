@@ -25,24 +25,52 @@ fn comparison(a: &Key, b: &Key) -> &'static str {
     }
 }
 
+/// Writes the identifier of a node.
+fn put_id(out: &mut String, mut words: Words<'_>) -> Option<()> {
+    let number = words.number()?;
+    put_key(out, &node_id(number)).ok()
+}
+
+/// Writes the distance between two places.
+fn put_distance(out: &mut String, mut words: Words<'_>) -> Option<()> {
+    let a = words.key()?;
+    let b = words.key()?;
+    put_key(out, &distance(&a, &b)).ok()
+}
+
 /// Writes where a finger begins.
-fn finger(out: &mut String, node: &Key, k: u32) -> Option<()> {
+fn put_finger(out: &mut String, mut words: Words<'_>) -> Option<()> {
+    let node = words.key()?;
+    let k = words.number()?;
     if k == 0 || k > 160 {
         return None;
     }
-    put_key(out, &finger_start(node, k)).ok()
+    put_key(out, &finger_start(&node, k)).ok()
+}
+
+/// Writes where the second of three places lies on the arc from the first to the third.
+fn put_arc(out: &mut String, mut words: Words<'_>) -> Option<()> {
+    let a = words.key()?;
+    let x = words.key()?;
+    let b = words.key()?;
+    out.push_str(arc(&a, &x, &b)).ok()
+}
+
+/// Writes how two places compare.
+fn put_order(out: &mut String, mut words: Words<'_>) -> Option<()> {
+    let a = words.key()?;
+    let b = words.key()?;
+    out.push_str(comparison(&a, &b)).ok()
 }
 
 /// Writes the answer to a question, `None` for want of memory and where there is none.
 pub fn answer(out: &mut String, mut words: Words<'_>) -> Option<()> {
     match words.word()? {
-        "id" => put_key(out, &node_id(words.number()?)).ok(),
-        "distance" => put_key(out, &distance(&words.key()?, &words.key()?)).ok(),
-        "finger" => finger(out, &words.key()?, words.number()?),
-        "arc" => out
-            .push_str(arc(&words.key()?, &words.key()?, &words.key()?))
-            .ok(),
-        "order" => out.push_str(comparison(&words.key()?, &words.key()?)).ok(),
+        "id" => put_id(out, words),
+        "distance" => put_distance(out, words),
+        "finger" => put_finger(out, words),
+        "arc" => put_arc(out, words),
+        "order" => put_order(out, words),
         _ => None,
     }
 }

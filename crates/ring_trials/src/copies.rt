@@ -3,7 +3,9 @@
 use crate::words::{
     Words, bytes_of, put_answer, put_bytes, put_heads, put_key, put_peers, put_posts,
 };
-use dht_ids::{Ack, Acks, Answer, Heads, Judged, Post, PostKind, Posts, Signature, StoreFault};
+use dht_ids::{
+    Ack, Acks, Answer, Heads, Judged, Peers, Post, PostKind, Posts, Signature, StoreFault,
+};
 use std::alloc::{AllocError, Global};
 
 /// The acknowledgement of a word, a key and a name.
@@ -26,13 +28,27 @@ fn put_acks(out: &mut String, acks: &[Ack]) -> Result<(), AllocError> {
     Ok(())
 }
 
-/// Acknowledgements, each a key and a name.
-fn acks(out: &mut String, alloc: Global, word: &str) -> Option<()> {
-    let mut acks = Vec::new(alloc);
+/// Adds the acknowledgements of a word, each a key and a name.
+fn push_acks(acks: &mut Vec<Ack>, word: &str) -> Option<()> {
     for word in word.split(',') {
         acks.push(ack_of(word)?).ok()?;
     }
-    put_acks(out, Acks::of(acks).copy(alloc).ok()?.as_slice()).ok()
+    Some(())
+}
+
+/// Writes the copy of acknowledgements.
+fn put_copied_acks(out: &mut String, alloc: Global, acks: &Acks) -> Option<()> {
+    match acks.copy(alloc) {
+        Ok(copy) => put_acks(out, copy.as_slice()).ok(),
+        Err(_) => None,
+    }
+}
+
+/// Acknowledgements, each a key and a name.
+fn acks(out: &mut String, alloc: Global, word: &str) -> Option<()> {
+    let mut acks = Vec::new(alloc);
+    push_acks(&mut acks, word)?;
+    put_copied_acks(out, alloc, &Acks::of(acks))
 }
 
 /// The head of a word, a number and a name.
@@ -42,13 +58,27 @@ fn head_of(word: &str) -> Option<Judged> {
     Some(Judged { seq, name })
 }
 
-/// Heads, each a number and a name.
-fn heads(out: &mut String, alloc: Global, word: &str) -> Option<()> {
-    let mut heads = Vec::new(alloc);
+/// Adds the heads of a word, each a number and a name.
+fn push_heads(heads: &mut Vec<Judged>, word: &str) -> Option<()> {
     for word in word.split(',') {
         heads.push(head_of(word)?).ok()?;
     }
-    put_heads(out, Heads::of(heads).copy(alloc).ok()?.as_slice()).ok()
+    Some(())
+}
+
+/// Writes the copy of heads.
+fn put_copied_heads(out: &mut String, alloc: Global, heads: &Heads) -> Option<()> {
+    match heads.copy(alloc) {
+        Ok(copy) => put_heads(out, copy.as_slice()).ok(),
+        Err(_) => None,
+    }
+}
+
+/// Heads, each a number and a name.
+fn heads(out: &mut String, alloc: Global, word: &str) -> Option<()> {
+    let mut heads = Vec::new(alloc);
+    push_heads(&mut heads, word)?;
+    put_copied_heads(out, alloc, &Heads::of(heads))
 }
 
 /// What a word says that a block is.
@@ -69,18 +99,41 @@ fn post_of(alloc: Global, word: &str) -> Option<Post> {
     Some(Post { key, bytes, kind })
 }
 
-/// Posts, each a key, a kind and bytes.
-fn posts(out: &mut String, alloc: Global, word: &str) -> Option<()> {
-    let mut posts = Vec::new(alloc);
+/// Adds the posts of a word, each a key, a kind and bytes.
+fn push_posts(posts: &mut Vec<Post>, alloc: Global, word: &str) -> Option<()> {
     for word in word.split(',') {
         posts.push(post_of(alloc, word)?).ok()?;
     }
-    put_posts(out, Posts::of(posts).copy(alloc).ok()?.as_slice()).ok()
+    Some(())
+}
+
+/// Writes the copy of posts.
+fn put_copied_posts(out: &mut String, alloc: Global, posts: &Posts) -> Option<()> {
+    match posts.copy(alloc) {
+        Ok(copy) => put_posts(out, copy.as_slice()).ok(),
+        Err(_) => None,
+    }
+}
+
+/// Posts, each a key, a kind and bytes.
+fn posts(out: &mut String, alloc: Global, word: &str) -> Option<()> {
+    let mut posts = Vec::new(alloc);
+    push_posts(&mut posts, alloc, word)?;
+    put_copied_posts(out, alloc, &Posts::of(posts))
+}
+
+/// Writes the copy of nodes.
+fn put_copied_peers(out: &mut String, alloc: Global, peers: &Peers) -> Option<()> {
+    match peers.copy(alloc) {
+        Ok(copy) => put_peers(out, copy.as_slice()).ok(),
+        Err(_) => None,
+    }
 }
 
 /// Nodes by their numbers.
 fn peers(out: &mut String, alloc: Global, mut words: Words<'_>) -> Option<()> {
-    put_peers(out, words.peers(alloc)?.copy(alloc).ok()?.as_slice()).ok()
+    let peers = words.peers(alloc)?;
+    put_copied_peers(out, alloc, &peers)
 }
 
 /// The bytes of a signature.
@@ -105,15 +158,27 @@ fn near(alloc: Global, mut words: Words<'_>) -> Option<Answer> {
     Some(Answer::Near { before, list })
 }
 
+/// An answer of a block.
+fn found(alloc: Global, mut words: Words<'_>) -> Option<Answer> {
+    let bytes = words.bytes(alloc)?;
+    Some(Answer::Found(bytes))
+}
+
+/// An answer that refuses a head for a newer one.
+fn older(mut words: Words<'_>) -> Option<Answer> {
+    let seq = words.number()?;
+    Some(Answer::Refused(StoreFault::Older(seq)))
+}
+
 /// An answer of the form that the first word names.
 fn answer_of(alloc: Global, mut words: Words<'_>) -> Option<Answer> {
     match words.word()? {
         "nearer" => route(alloc, words),
         "before" => near(alloc, words),
-        "found" => Some(Answer::Found(words.bytes(alloc)?)),
+        "found" => found(alloc, words),
         "nothing" => Some(Answer::Nothing),
         "stored" => Some(Answer::Stored),
-        "older" => Some(Answer::Refused(StoreFault::Older(words.number()?))),
+        "older" => older(words),
         "full" => Some(Answer::Refused(StoreFault::Full)),
         "noted" => Some(Answer::Noted),
         "silent" => Some(Answer::Silent),
@@ -123,7 +188,16 @@ fn answer_of(alloc: Global, mut words: Words<'_>) -> Option<Answer> {
 
 /// Writes the copy of an answer.
 fn put_copy(out: &mut String, alloc: Global, answer: &Answer) -> Option<()> {
-    put_answer(out, &answer.copy(alloc).ok()?).ok()
+    match answer.copy(alloc) {
+        Ok(copy) => put_answer(out, &copy).ok(),
+        Err(_) => None,
+    }
+}
+
+/// Writes the copy of the answer of a line.
+fn answered(out: &mut String, alloc: Global, words: Words<'_>) -> Option<()> {
+    let answer = answer_of(alloc, words)?;
+    put_copy(out, alloc, &answer)
 }
 
 /// Writes the answer to a line, `None` for want of memory and where there is none.
@@ -134,7 +208,7 @@ pub fn answer(out: &mut String, alloc: Global, mut words: Words<'_>) -> Option<(
         "heads" => heads(out, alloc, words.word()?),
         "posts" => posts(out, alloc, words.word()?),
         "signature" => signature(out, alloc, words.word()?),
-        "answer" => put_copy(out, alloc, &answer_of(alloc, words)?),
+        "answer" => answered(out, alloc, words),
         _ => None,
     }
 }

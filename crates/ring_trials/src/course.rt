@@ -62,6 +62,61 @@ impl Others<'_> {
             Others::Strangers(strangers) => strangers.route(alloc, node),
         }
     }
+
+    /// What the node answers to Route. It counts as asked.
+    fn asked(
+        &self,
+        alloc: Global,
+        asked: &mut Vec<Peer>,
+        node: Peer,
+        key: Key,
+    ) -> Result<Answer, Memory> {
+        asked.push(node)?;
+        self.route(alloc, node, key)
+    }
+}
+
+/// Tells a look-up to go on until it has its result, and notes the nodes that it asks; `None` where it doesn't end.
+fn result_of(
+    alloc: Global,
+    lookup: &mut Lookup,
+    asked: &mut Vec<Peer>,
+    key: Key,
+    others: &Others<'_>,
+) -> Result<Option<Result<Peers, Miss>>, Memory> {
+    for _ in 0..MOST_STEPS {
+        match lookup.next()? {
+            Want::Ask(node, _) => lookup.heard(others.asked(alloc, asked, node, key)?)?,
+            Want::Done(found) => return Ok(Some(found)),
+        }
+    }
+    Ok(None)
+}
+
+/// Looks a key up from these nodes, and notes the nodes that it asks; `None` where the look-up doesn't end.
+fn found_from(
+    alloc: Global,
+    asked: &mut Vec<Peer>,
+    key: Key,
+    entries: &Peers,
+    others: &Others<'_>,
+) -> Result<Option<Result<Peers, Miss>>, Memory> {
+    let mut lookup = Lookup::start(alloc, key, 1, entries)?;
+    result_of(alloc, &mut lookup, asked, key, others)
+}
+
+/// Looks a key up; `None` where the look-up doesn't end.
+pub fn drive(
+    alloc: Global,
+    key: Key,
+    entries: &Peers,
+    others: &Others<'_>,
+) -> Result<Option<Course>, Memory> {
+    let mut asked = Vec::new(alloc);
+    match found_from(alloc, &mut asked, key, entries, others)? {
+        Some(found) => Ok(Some(Course { found, asked })),
+        None => Ok(None),
+    }
 }
 
 /// Looks a key up from a node of a ring; `None` where the look-up doesn't end.
@@ -73,25 +128,4 @@ pub fn look_up(
 ) -> Result<Option<Course>, Memory> {
     let entries = Peers::of(vec![in alloc; entry]?);
     drive(alloc, key, &entries, &Others::Ring(nodes))
-}
-
-/// Looks a key up; `None` where the look-up doesn't end.
-pub fn drive(
-    alloc: Global,
-    key: Key,
-    entries: &Peers,
-    others: &Others<'_>,
-) -> Result<Option<Course>, Memory> {
-    let mut lookup = Lookup::start(alloc, key, 1, entries)?;
-    let mut asked = Vec::new(alloc);
-    for _ in 0..MOST_STEPS {
-        match lookup.next()? {
-            Want::Ask(node, _) => {
-                asked.push(node)?;
-                lookup.heard(others.route(alloc, node, key)?)?;
-            }
-            Want::Done(found) => return Ok(Some(Course { found, asked })),
-        }
-    }
-    Ok(None)
 }

@@ -3,7 +3,7 @@
 ghost use Rattle.std.specs.Prelude.{◌<◌};
 
 use crate::words::{
-    Words, peer, push_numbered, put_bytes, put_heads, put_key, put_peer, put_peers,
+    Words, peer, push_numbered, put_bytes, put_heads, put_key, put_named_peers, put_peer, put_peers,
 };
 use dhash_client::{GetBlock, GetHead, Miss, PutBlock, PutHead, Want};
 use dht_ids::{Answer, Ask, Heads, Judge, Judged, Peer, Peers, StoreFault};
@@ -136,101 +136,6 @@ impl Judge for Counts {
     }
 }
 
-/// Drives a machine to its result; `None` where it goes on.
-macro_rules! drive {
-    ($machine:expr, $alloc:expr, $owners:expr) => {{
-        for _ in 0..MOST_STEPS {
-            match $machine.next()? {
-                Want::Ask(node, ask) => $machine.heard($owners.answer($alloc, node, &ask)?)?,
-                Want::Done(result) => return Ok(Some(result)),
-            }
-        }
-        Ok(None)
-    }};
-}
-
-fn drive_get_block(
-    machine: &mut GetBlock,
-    alloc: Global,
-    owners: &mut Owners,
-) -> Result<Option<Result<Bytes, Miss>>, Memory> {
-    drive!(machine, alloc, owners)
-}
-
-fn drive_get_head(
-    machine: &mut GetHead<Counts>,
-    alloc: Global,
-    owners: &mut Owners,
-) -> Result<Option<Result<Heads, Miss>>, Memory> {
-    drive!(machine, alloc, owners)
-}
-
-fn drive_put_block(
-    machine: &mut PutBlock,
-    alloc: Global,
-    owners: &mut Owners,
-) -> Result<Option<Result<bool, Miss>>, Memory> {
-    drive!(machine, alloc, owners)
-}
-
-fn drive_put_head(
-    machine: &mut PutHead,
-    alloc: Global,
-    owners: &mut Owners,
-) -> Result<Option<Result<bool, Miss>>, Memory> {
-    drive!(machine, alloc, owners)
-}
-
-/// Gets the block `block`.
-fn get_block(
-    alloc: Global,
-    replicas: u32,
-    entries: &Peers,
-    owners: &mut Owners,
-) -> Result<Option<Result<Bytes, Miss>>, Memory> {
-    let key = name_of(b"block".as_slice());
-    let mut machine = GetBlock::start(alloc, key, replicas, entries)?;
-    drive_get_block(&mut machine, alloc, owners)
-}
-
-/// Gets the heads under the name of `owner`.
-fn get_head(
-    alloc: Global,
-    replicas: u32,
-    entries: &Peers,
-    owners: &mut Owners,
-) -> Result<Option<Result<Heads, Miss>>, Memory> {
-    let key = name_of(b"owner".as_slice());
-    let mut machine = GetHead::start(alloc, Counts(key), key, replicas, entries)?;
-    drive_get_head(&mut machine, alloc, owners)
-}
-
-/// Puts the block `block`.
-fn put_block(
-    alloc: Global,
-    replicas: u32,
-    entries: &Peers,
-    owners: &mut Owners,
-) -> Result<Option<Result<bool, Miss>>, Memory> {
-    let key = name_of(b"block".as_slice());
-    let bytes = Bytes::copy_of(alloc, b"block".as_slice())?;
-    let mut machine = PutBlock::start(alloc, key, bytes, replicas, entries)?;
-    drive_put_block(&mut machine, alloc, owners)
-}
-
-/// Puts the head `head` under the name of `owner`.
-fn put_head(
-    alloc: Global,
-    replicas: u32,
-    entries: &Peers,
-    owners: &mut Owners,
-) -> Result<Option<Result<bool, Miss>>, Memory> {
-    let key = name_of(b"owner".as_slice());
-    let bytes = Bytes::copy_of(alloc, b"head".as_slice())?;
-    let mut machine = PutHead::start(alloc, key, bytes, replicas, entries)?;
-    drive_put_head(&mut machine, alloc, owners)
-}
-
 /// Writes why there is no result.
 fn put_miss(out: &mut String, miss: &Miss) -> Result<(), AllocError> {
     match miss {
@@ -241,8 +146,7 @@ fn put_miss(out: &mut String, miss: &Miss) -> Result<(), AllocError> {
         Miss::Missing { key, asked } => {
             out.push_str("missing ")?;
             put_key(out, key)?;
-            out.push_str(" at ")?;
-            put_peers(out, asked.as_slice())
+            put_named_peers(out, " at ", asked.as_slice())
         }
         Miss::Damaged { key, node } => {
             out.push_str("damaged ")?;
@@ -278,41 +182,152 @@ fn put_gotten_heads(out: &mut String, end: &Result<Heads, Miss>) -> Result<(), A
     }
 }
 
-/// Writes what the get or the put that a word names comes to.
+/// Drives a machine to its result, and writes that; false where it goes on, and for want of memory to write in.
+macro_rules! drive {
+    ($out:expr, $machine:expr, $alloc:expr, $owners:expr, $put:expr) => {{
+        for _ in 0..MOST_STEPS {
+            match $machine.next()? {
+                Want::Ask(node, ask) => $machine.heard($owners.answer($alloc, node, &ask)?)?,
+                Want::Done(result) => return Ok($put($out, &result).is_ok()),
+            }
+        }
+        Ok(false)
+    }};
+}
+
+fn drive_get_block(
+    out: &mut String,
+    machine: &mut GetBlock,
+    alloc: Global,
+    owners: &mut Owners,
+) -> Result<bool, Memory> {
+    drive!(out, machine, alloc, owners, put_gotten_block)
+}
+
+fn drive_get_head(
+    out: &mut String,
+    machine: &mut GetHead<Counts>,
+    alloc: Global,
+    owners: &mut Owners,
+) -> Result<bool, Memory> {
+    drive!(out, machine, alloc, owners, put_gotten_heads)
+}
+
+fn drive_put_block(
+    out: &mut String,
+    machine: &mut PutBlock,
+    alloc: Global,
+    owners: &mut Owners,
+) -> Result<bool, Memory> {
+    drive!(out, machine, alloc, owners, put_acknowledged)
+}
+
+fn drive_put_head(
+    out: &mut String,
+    machine: &mut PutHead,
+    alloc: Global,
+    owners: &mut Owners,
+) -> Result<bool, Memory> {
+    drive!(out, machine, alloc, owners, put_acknowledged)
+}
+
+/// Gets the block `block`.
+fn get_block(
+    out: &mut String,
+    alloc: Global,
+    replicas: u32,
+    entries: &Peers,
+    owners: &mut Owners,
+) -> Result<bool, Memory> {
+    let key = name_of(b"block".as_slice());
+    let mut machine = GetBlock::start(alloc, key, replicas, entries)?;
+    drive_get_block(out, &mut machine, alloc, owners)
+}
+
+/// Gets the heads under the name of `owner`.
+fn get_head(
+    out: &mut String,
+    alloc: Global,
+    replicas: u32,
+    entries: &Peers,
+    owners: &mut Owners,
+) -> Result<bool, Memory> {
+    let key = name_of(b"owner".as_slice());
+    let mut machine = GetHead::start(alloc, Counts(key), key, replicas, entries)?;
+    drive_get_head(out, &mut machine, alloc, owners)
+}
+
+/// Puts the block `block`.
+fn put_block(
+    out: &mut String,
+    alloc: Global,
+    replicas: u32,
+    entries: &Peers,
+    owners: &mut Owners,
+) -> Result<bool, Memory> {
+    let key = name_of(b"block".as_slice());
+    let bytes = Bytes::copy_of(alloc, b"block".as_slice())?;
+    let mut machine = PutBlock::start(alloc, key, bytes, replicas, entries)?;
+    drive_put_block(out, &mut machine, alloc, owners)
+}
+
+/// Puts the head `head` under the name of `owner`.
+fn put_head(
+    out: &mut String,
+    alloc: Global,
+    replicas: u32,
+    entries: &Peers,
+    owners: &mut Owners,
+) -> Result<bool, Memory> {
+    let key = name_of(b"owner".as_slice());
+    let bytes = Bytes::copy_of(alloc, b"head".as_slice())?;
+    let mut machine = PutHead::start(alloc, key, bytes, replicas, entries)?;
+    drive_put_head(out, &mut machine, alloc, owners)
+}
+
+/// Writes what the get or the put that a word names comes to; false where it comes to nothing, and where the word names
+/// none.
 fn put_end(
     out: &mut String,
     alloc: Global,
     what: &str,
     replicas: u32,
     owners: &mut Owners,
-) -> Option<()> {
-    let entries = &owners.entries(alloc).ok()?;
+) -> Result<bool, Memory> {
+    let entries = owners.entries(alloc)?;
     match what {
-        "get-block" => {
-            put_gotten_block(out, &get_block(alloc, replicas, entries, owners).ok()??).ok()
-        }
-        "get-head" => {
-            put_gotten_heads(out, &get_head(alloc, replicas, entries, owners).ok()??).ok()
-        }
-        "put-block" => {
-            put_acknowledged(out, &put_block(alloc, replicas, entries, owners).ok()??).ok()
-        }
-        "put-head" => {
-            put_acknowledged(out, &put_head(alloc, replicas, entries, owners).ok()??).ok()
-        }
-        _ => None,
+        "get-block" => get_block(out, alloc, replicas, &entries, owners),
+        "get-head" => get_head(out, alloc, replicas, &entries, owners),
+        "put-block" => put_block(out, alloc, replicas, &entries, owners),
+        "put-head" => put_head(out, alloc, replicas, &entries, owners),
+        _ => Ok(false),
     }
+}
+
+/// Writes what the get or the put comes to, and the owners that were asked, over the owners of a word.
+fn put_trial(
+    out: &mut String,
+    alloc: Global,
+    what: &str,
+    replicas: u32,
+    word: &str,
+    owners: &mut Owners,
+) -> Option<()> {
+    owners.push(alloc, word)?;
+    if put_end(out, alloc, what, replicas, owners) != Ok(true) {
+        return None;
+    }
+    out.push_str("; asked ").ok()?;
+    put_peers(out, &owners.asked).ok()
 }
 
 /// Writes the answer to a line that such a word begins, `None` for want of memory and where there is none.
 pub fn answer(out: &mut String, alloc: Global, what: &str, mut words: Words<'_>) -> Option<()> {
-    let (replicas, word) = (words.number()?, words.word()?);
+    let replicas = words.number()?;
+    let word = words.word()?;
     let mut owners = Owners {
         owners: Vec::new(alloc),
         asked: Vec::new(alloc),
     };
-    owners.push(alloc, word)?;
-    put_end(out, alloc, what, replicas, &mut owners)?;
-    out.push_str("; asked ").ok()?;
-    put_peers(out, &owners.asked).ok()
+    put_trial(out, alloc, what, replicas, word, &mut owners)
 }

@@ -42,19 +42,30 @@ impl Mesh for Lone {
     }
 }
 
-/// The route that the first node names, by any mesh.
-fn route_by<M: Mesh>(mesh: &mut M, alloc: Global, key: Key) -> Result<Option<Answer>, Memory> {
-    let entries = mesh.entries(alloc)?;
-    let Some(first) = entries.as_slice().first() else {
-        return Ok(None);
-    };
-    Ok(Some(mesh.ask(alloc, first, &Ask::Route(key))?))
+/// Writes the route that a node names, by any mesh.
+fn put_route<M: Mesh>(
+    out: &mut String,
+    mesh: &mut M,
+    alloc: Global,
+    node: &Peer,
+    key: Key,
+) -> Option<()> {
+    match mesh.ask(alloc, node, &Ask::Route(key)) {
+        Ok(answer) => put_answer(out, &answer).ok(),
+        Err(_) => None,
+    }
+}
+
+/// Writes the route that the first node names, by any mesh.
+fn put_first_route<M: Mesh>(out: &mut String, mesh: &mut M, alloc: Global, key: Key) -> Option<()> {
+    let entries = mesh.entries(alloc).ok()?;
+    put_route(out, mesh, alloc, entries.as_slice().first()?, key)
 }
 
 /// Writes the answer to a line, `None` for want of memory and where there is none.
 pub fn answer(out: &mut String, alloc: Global, mut words: Words<'_>) -> Option<()> {
     let key = words.key()?;
     let mut mesh = Lone(peer(0));
-    put_answer(out, &route_by(&mut mesh, alloc, key).ok()??).ok()?;
+    put_first_route(out, &mut mesh, alloc, key)?;
     write!(out, " of {}", mesh.replicas()).ok()
 }

@@ -67,20 +67,29 @@ fn is_right(course: &Course, ring: &Ring, owners: &[Peer]) -> bool {
     }
 }
 
+/// Looks a key up from each live node.
+fn look_up_key(
+    alloc: Global,
+    ring: &Ring,
+    key: Key,
+    owners: &[Peer],
+    tally: &mut Tally,
+) -> Result<(), Memory> {
+    for entry in ring.live.as_slice() {
+        if let Some(course) = look_up(alloc, &ring.nodes, key, *entry)? {
+            tally.count(is_right(&course, ring, owners), course.asked.len());
+        }
+    }
+    Ok(())
+}
+
 /// Looks so many keys up in a ring, each from each live node.
 pub fn look_up_keys(alloc: Global, ring: &Ring, replicas: u32, keys: u32) -> Result<Tally, Memory> {
     let mut tally = Tally::new();
     for number in 0..keys {
         let key = key(number);
         let owners = ring.owners(alloc, key, replicas)?;
-        for entry in ring.live.as_slice() {
-            if let Some(course) = look_up(alloc, &ring.nodes, key, *entry)? {
-                tally.count(
-                    is_right(&course, ring, owners.as_slice()),
-                    course.asked.len(),
-                );
-            }
-        }
+        look_up_key(alloc, ring, key, &owners, &mut tally)?;
     }
     Ok(tally)
 }

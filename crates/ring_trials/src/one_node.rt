@@ -41,7 +41,9 @@ fn hear_near(node: &mut Node, alloc: Global, mut words: Words<'_>) -> Option<()>
 }
 
 /// Has the node fix a finger.
-fn fix_finger(node: &mut Node, k: u32, owner: Peer) -> Option<()> {
+fn fix_finger(node: &mut Node, mut words: Words<'_>) -> Option<()> {
+    let k = words.number()?;
+    let owner = words.peer()?;
     if k == 0 || k > 160 {
         return None;
     }
@@ -49,21 +51,38 @@ fn fix_finger(node: &mut Node, k: u32, owner: Peer) -> Option<()> {
     Some(())
 }
 
+/// Has the node hear no answer.
+fn hear_silence(node: &mut Node, alloc: Global) -> Option<()> {
+    node.stabilise(alloc, &Answer::Silent).ok()
+}
+
+/// Has the node hear that another takes itself for its predecessor.
+fn notify(node: &mut Node, mut words: Words<'_>) -> Option<()> {
+    node.notify(words.peer()?);
+    Some(())
+}
+
+/// Has the node forget its predecessor.
+fn forget(node: &mut Node) -> Option<()> {
+    node.forget();
+    Some(())
+}
+
+/// Has the node take a list.
+fn adopt(node: &mut Node, alloc: Global, mut words: Words<'_>) -> Option<()> {
+    let list = words.peers(alloc)?;
+    node.adopt(alloc, &list).ok()
+}
+
 /// Has the node hear or take what the line says.
-fn change(node: &mut Node, alloc: Global, how: &str, mut words: Words<'_>) -> Option<()> {
+fn change(node: &mut Node, alloc: Global, how: &str, words: Words<'_>) -> Option<()> {
     match how {
         "near" => hear_near(node, alloc, words),
-        "silent" => node.stabilise(alloc, &Answer::Silent).ok(),
-        "notify" => {
-            node.notify(words.peer()?);
-            Some(())
-        }
-        "forget" => {
-            node.forget();
-            Some(())
-        }
-        "adopt" => node.adopt(alloc, &words.peers(alloc)?).ok(),
-        "finger" => fix_finger(node, words.number()?, words.peer()?),
+        "silent" => hear_silence(node, alloc),
+        "notify" => notify(node, words),
+        "forget" => forget(node),
+        "adopt" => adopt(node, alloc, words),
+        "finger" => fix_finger(node, words),
         _ => None,
     }
 }
@@ -72,7 +91,55 @@ fn change(node: &mut Node, alloc: Global, how: &str, mut words: Words<'_>) -> Op
 fn put_answered(out: &mut String, node: &Node, alloc: Global, ask: &Ask) -> Option<()>
     requires { IsOfRing ask.now }
 {
-    put_answer(out, &node.answer(alloc, ask).ok()?).ok()
+    match node.answer(alloc, ask) {
+        Ok(answer) => put_answer(out, &answer).ok(),
+        Err(_) => None,
+    }
+}
+
+/// Writes what the node answers to Near.
+fn put_near(out: &mut String, node: &Node, alloc: Global) -> Option<()> {
+    put_answered(out, node, alloc, &Ask::Near)
+}
+
+/// Writes what the node answers to Route.
+fn put_route(out: &mut String, node: &Node, alloc: Global, mut words: Words<'_>) -> Option<()> {
+    let key = words.key()?;
+    put_answered(out, node, alloc, &Ask::Route(key))
+}
+
+/// Begins anew, with the node that a line makes.
+fn make(node: &mut Option<Node>, alloc: Global, how: &str, words: Words<'_>) -> Option<()> {
+    *node = Some(made(alloc, how, words)?);
+    Some(())
+}
+
+/// Has the node hear or take what the line says, and writes what it then answers to Near.
+fn put_changed(
+    out: &mut String,
+    node: &mut Node,
+    alloc: Global,
+    how: &str,
+    words: Words<'_>,
+) -> Option<()> {
+    change(node, alloc, how, words)?;
+    put_near(out, node, alloc)
+}
+
+/// Writes what the node answers to a line, where there is a node.
+fn put_known(
+    out: &mut String,
+    node: Option<&mut Node>,
+    alloc: Global,
+    how: &str,
+    words: Words<'_>,
+) -> Option<()> {
+    let node = node?;
+    match how {
+        "route" => put_route(out, node, alloc, words),
+        "alone" | "settled" => put_near(out, node, alloc),
+        _ => put_changed(out, node, alloc, how, words),
+    }
 }
 
 /// Writes the answer to a line, `None` for want of memory and where there is none.
@@ -82,13 +149,9 @@ pub fn answer(
     alloc: Global,
     mut words: Words<'_>,
 ) -> Option<()> {
-    match words.word()? {
-        "route" => {
-            let ask = Ask::Route(words.key()?);
-            return put_answered(out, node.as_ref()?, alloc, &ask);
-        }
-        how @ ("alone" | "settled") => *node = Some(made(alloc, how, words)?),
-        how => change(node.as_mut()?, alloc, how, words)?,
+    let how = words.word()?;
+    if matches!(how, "alone" | "settled") {
+        make(node, alloc, how, words)?;
     }
-    put_answered(out, node.as_ref()?, alloc, &Ask::Near)
+    put_known(out, node.as_mut(), alloc, how, words)
 }

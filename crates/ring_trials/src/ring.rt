@@ -3,7 +3,7 @@
 ghost use Rattle.std.specs.Prelude.{◌≤◌};
 ghost use Rattle.chord_core.specs.State.{IsOfRing};
 
-use crate::words::push_numbered;
+use crate::words::{place, push_numbered};
 use chord_core::Node;
 use dht_ids::{Answer, Ask, Peer, Peers, distance, order};
 use ivy_base::{Key, Memory};
@@ -22,9 +22,14 @@ pub struct Ring {
     pub nodes: Nodes,
 }
 
-/// The peers in ascending order of their identifiers.
+/// Sorts the peers by their distances from a place on.
+fn sort_from(peers: &mut [Peer], key: &Key) {
+    peers.sort_unstable_by(|a, b| order(&distance(key, &a.id), &distance(key, &b.id)));
+}
+
+/// The peers in ascending order of their identifiers, which are their distances from the place 0 on.
 fn ascending(mut peers: Vec<Peer>) -> Peers {
-    peers.sort_unstable_by(|a, b| order(&a.id, &b.id));
+    sort_from(&mut peers, &place(0));
     Peers::of(peers)
 }
 
@@ -76,7 +81,7 @@ impl Ring {
     /// The owners of a key: the first of the live members from the key on, at most `replicas`.
     pub fn owners(&self, alloc: Global, key: Key, replicas: u32) -> Result<Vec<Peer>, Memory> {
         let mut owners = self.live.as_slice().to_vec(alloc)?;
-        owners.sort_unstable_by(|a, b| order(&distance(&key, &a.id), &distance(&key, &b.id)));
+        sort_from(&mut owners, &key);
         owners.truncate(replicas as usize);
         Ok(owners)
     }

@@ -53,22 +53,32 @@ fn first_live(alloc: Global, nodes: &mut Nodes, me: Peer) -> Result<Option<Peer>
     Ok(None)
 }
 
-/// What a node does in a pass: it renews its list by its first live entry, and notifies the first of the new list.
-fn renew(alloc: Global, nodes: &mut Nodes, me: Peer) -> Result<(), Memory> {
-    let Some(first) = first_live(alloc, nodes, me)? else {
-        return Ok(());
-    };
-    let Some(asked) = nodes.get(&first.number) else {
+/// Has the node renew its list by what another answers.
+fn hear_from(alloc: Global, nodes: &mut Nodes, me: Peer, asked: Peer) -> Result<(), Memory> {
+    let Some(asked) = nodes.get(&asked.number) else {
         return Ok(());
     };
     let heard = asked.answer(alloc, &Ask::Near)?;
-    if let Some(node) = nodes.get_mut(&me.number) {
-        node.stabilise(alloc, &heard)?;
+    match nodes.get_mut(&me.number) {
+        Some(node) => node.stabilise(alloc, &heard),
+        None => Ok(()),
     }
+}
+
+/// Has the first of the node's list hear that the node takes itself for its predecessor.
+fn notify_first(nodes: &mut Nodes, me: Peer) {
     if let Some(first) = first_of(nodes, me)
         && let Some(told) = nodes.get_mut(&first.number)
     {
         told.notify(me);
+    }
+}
+
+/// What a node does in a pass: it renews its list by its first live entry, and notifies the first of the new list.
+fn renew(alloc: Global, nodes: &mut Nodes, me: Peer) -> Result<(), Memory> {
+    if let Some(first) = first_live(alloc, nodes, me)? {
+        hear_from(alloc, nodes, me, first)?;
+        notify_first(nodes, me);
     }
     Ok(())
 }
@@ -81,14 +91,23 @@ fn owner_of(alloc: Global, nodes: &Nodes, key: Key, me: Peer) -> Result<Option<P
     }
 }
 
+/// Has the node fix a finger by a look-up from itself.
+fn fix_finger(alloc: Global, nodes: &mut Nodes, me: Peer, k: u32) -> Result<(), Memory>
+    requires { (1 ≤ k) × (k ≤ 160) }
+{
+    let Some(owner) = owner_of(alloc, nodes, finger_start(&me.id, k), me)? else {
+        return Ok(());
+    };
+    if let Some(node) = nodes.get_mut(&me.number) {
+        node.fix_finger(k, owner);
+    }
+    Ok(())
+}
+
 /// Has the node fix its fingers by look-ups from itself.
 fn fix_fingers(alloc: Global, nodes: &mut Nodes, me: Peer) -> Result<(), Memory> {
     for k in 1..161 {
-        if let Some(owner) = owner_of(alloc, nodes, finger_start(&me.id, k), me)?
-            && let Some(node) = nodes.get_mut(&me.number)
-        {
-            node.fix_finger(k, owner);
-        }
+        fix_finger(alloc, nodes, me, k)?;
     }
     Ok(())
 }
@@ -109,18 +128,32 @@ pub fn round(alloc: Global, ring: &mut Ring, passes: u32) -> Result<(), Memory> 
     Ok(())
 }
 
-/// Has the node of that number join: it finds its first list by a look-up from the live node of the least number.
+/// The least of the numbers.
+fn least_number(nodes: &Nodes) -> Option<u32> {
+    nodes.keys().next().copied()
+}
+
+/// Has a node that knows no other find its first list, by a look-up from the live node of the least number.
+fn find_list(alloc: Global, nodes: &Nodes, node: &mut Node, me: Peer) -> Result<(), Memory> {
+    let Some(entry) = least_number(nodes) else {
+        return Ok(());
+    };
+    let Some(course) = look_up(alloc, nodes, me.id, peer(entry))? else {
+        return Ok(());
+    };
+    match &course.found {
+        Ok(owners) => node.adopt(alloc, owners),
+        Err(_) => Ok(()),
+    }
+}
+
+/// Has the node of that number join.
 pub fn join(alloc: Global, ring: &mut Ring, number: u32, replicas: u32) -> Result<(), Memory>
     requires { (1 ≤ replicas) × (replicas ≤ 8) }
 {
     let me = peer(number);
     let mut node = Node::alone(alloc, me, replicas)?;
-    if let Some(entry) = ring.nodes.keys().next()
-        && let Some(course) = look_up(alloc, &ring.nodes, me.id, peer(*entry))?
-        && let Ok(owners) = &course.found
-    {
-        node.adopt(alloc, owners)?;
-    }
+    find_list(alloc, &ring.nodes, &mut node, me)?;
     ring.add(alloc, me, node)
 }
 
@@ -163,16 +196,22 @@ fn is_same(alloc: Global, me: Peer, node: &Node, other: &Node) -> Result<bool, M
     is_same_route(alloc, node, other, me.id)
 }
 
-/// Whether each node is as in a settled ring of the live members.
-pub fn is_settled(alloc: Global, ring: &Ring, replicas: u32) -> Result<bool, Memory>
-    requires { (1 ≤ replicas) × (replicas ≤ 8) }
-{
-    let settled = Ring::settled(alloc, ring.live.as_slice().to_vec(alloc)?, replicas)?;
+/// Whether each live node of the ring is as in another.
+fn is_like(alloc: Global, ring: &Ring, other: &Ring) -> Result<bool, Memory> {
     for me in ring.live.as_slice() {
-        match (ring.nodes.get(&me.number), settled.nodes.get(&me.number)) {
+        match (ring.nodes.get(&me.number), other.nodes.get(&me.number)) {
             (Some(node), Some(other)) if is_same(alloc, *me, node, other)? => {}
             _ => return Ok(false),
         }
     }
     Ok(true)
+}
+
+/// Whether each node is as in a settled ring of the live members.
+pub fn is_settled(alloc: Global, ring: &Ring, replicas: u32) -> Result<bool, Memory>
+    requires { (1 ≤ replicas) × (replicas ≤ 8) }
+{
+    let members = ring.live.as_slice().to_vec(alloc)?;
+    let settled = Ring::settled(alloc, members, replicas)?;
+    is_like(alloc, ring, &settled)
 }

@@ -68,12 +68,16 @@ fn put_held(out: &mut String, store: &Store, key: &Key) -> Result<(), AllocError
 
 /// Writes all that is held, with how it was put.
 fn put_all(out: &mut String, store: &Store, alloc: Global) -> Option<()> {
-    put_posts(out, store.held(alloc).ok()?.as_slice()).ok()
+    match store.held(alloc) {
+        Ok(posts) => put_posts(out, posts.as_slice()).ok(),
+        Err(_) => None,
+    }
 }
 
 /// So many bytes, each of the same number, as two words say.
-fn row(alloc: Global, words: &mut Words<'_>) -> Option<Vec<u8>> {
-    let (byte, count) = (words.byte()?, words.number()?);
+fn row(alloc: Global, mut words: Words<'_>) -> Option<Vec<u8>> {
+    let byte = words.byte()?;
+    let count = words.number()?;
     vec![in alloc; byte; count as usize].ok()
 }
 
@@ -85,6 +89,72 @@ fn spoil(out: &mut String, store: &mut Store, mut words: Words<'_>) -> Option<()
     write!(out, "{spoilt}").ok()
 }
 
+/// Begins anew, with no blocks.
+fn empty(store: &mut Store, alloc: Global) {
+    *store = Store::new(alloc);
+}
+
+/// Begins anew, and writes all that is held.
+fn put_new(out: &mut String, store: &mut Store, alloc: Global) -> Option<()> {
+    empty(store, alloc);
+    put_all(out, store, alloc)
+}
+
+/// Puts the block of two words, a key and bytes.
+fn put_words(
+    out: &mut String,
+    store: &mut Store,
+    alloc: Global,
+    mut words: Words<'_>,
+) -> Option<()> {
+    let key = words.key()?;
+    let bytes = words.bytes(alloc)?;
+    put_block(out, store, alloc, &key, bytes.as_slice())
+}
+
+/// Puts the head of two words, a key and bytes.
+fn put_head_words(
+    out: &mut String,
+    store: &mut Store,
+    alloc: Global,
+    mut words: Words<'_>,
+) -> Option<()> {
+    let key = words.key()?;
+    let bytes = words.bytes(alloc)?;
+    put_head(out, store, alloc, &key, bytes.as_slice())
+}
+
+/// Puts the row of two words as a block under its name.
+fn put_row(out: &mut String, store: &mut Store, alloc: Global, words: Words<'_>) -> Option<()> {
+    let bytes = row(alloc, words)?;
+    put_block(out, store, alloc, &name_of(&bytes), &bytes)
+}
+
+/// Puts the row of two words as a head under the key of a word before them.
+fn put_head_row(
+    out: &mut String,
+    store: &mut Store,
+    alloc: Global,
+    mut words: Words<'_>,
+) -> Option<()> {
+    let key = words.key()?;
+    let bytes = row(alloc, words)?;
+    put_head(out, store, alloc, &key, &bytes)
+}
+
+/// Writes the bytes that the key of a word holds.
+fn put_gotten(out: &mut String, store: &Store, mut words: Words<'_>) -> Option<()> {
+    let key = words.key()?;
+    put_held(out, store, &key).ok()
+}
+
+/// Drops the block under the key of a word, and writes what that holds then.
+fn put_dropped(out: &mut String, store: &mut Store, mut words: Words<'_>) -> Option<()> {
+    let key = words.key()?;
+    store.drop_block(&key);
+    put_held(out, store, &key).ok()
+}
+
 /// Writes the answer to a line, `None` for want of memory and where there is none.
 pub fn answer(
     store: &mut Store,
@@ -93,32 +163,13 @@ pub fn answer(
     mut words: Words<'_>,
 ) -> Option<()> {
     match words.word()? {
-        "new" => {
-            *store = Store::new(alloc);
-            put_all(out, store, alloc)
-        }
-        "put" => {
-            let (key, bytes) = (words.key()?, words.bytes(alloc)?);
-            put_block(out, store, alloc, &key, bytes.as_slice())
-        }
-        "head" => {
-            let (key, bytes) = (words.key()?, words.bytes(alloc)?);
-            put_head(out, store, alloc, &key, bytes.as_slice())
-        }
-        "put-row" => {
-            let bytes = row(alloc, &mut words)?;
-            put_block(out, store, alloc, &name_of(&bytes), &bytes)
-        }
-        "head-row" => {
-            let (key, bytes) = (words.key()?, row(alloc, &mut words)?);
-            put_head(out, store, alloc, &key, &bytes)
-        }
-        "get" => put_held(out, store, &words.key()?).ok(),
-        "drop" => {
-            let key = words.key()?;
-            store.drop_block(&key);
-            put_held(out, store, &key).ok()
-        }
+        "new" => put_new(out, store, alloc),
+        "put" => put_words(out, store, alloc, words),
+        "head" => put_head_words(out, store, alloc, words),
+        "put-row" => put_row(out, store, alloc, words),
+        "head-row" => put_head_row(out, store, alloc, words),
+        "get" => put_gotten(out, store, words),
+        "drop" => put_dropped(out, store, words),
         "spoil" => spoil(out, store, words),
         "held" => put_all(out, store, alloc),
         _ => None,

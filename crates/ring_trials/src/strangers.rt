@@ -1,7 +1,7 @@
 //! Look-ups over nodes that answer without a ring.
 
 use crate::course::{Course, Others, drive};
-use crate::words::{Words, peer, push_numbered, put_key, put_peers};
+use crate::words::{Words, peer, push_numbered, put_key, put_named_peers};
 use dhash_client::Miss;
 use dht_ids::{Answer, Peer, Peers, node_id};
 use ivy_base::{Key, Memory};
@@ -75,10 +75,7 @@ impl Strangers {
 /// Writes what was found.
 fn put_found(out: &mut String, found: &Result<Peers, Miss>) -> Result<(), AllocError> {
     match found {
-        Ok(owners) => {
-            out.push_str("owners ")?;
-            put_peers(out, owners.as_slice())
-        }
+        Ok(owners) => put_named_peers(out, "owners ", owners.as_slice()),
         Err(Miss::NoRoute(key)) => {
             out.push_str("no route to ")?;
             put_key(out, key)
@@ -113,13 +110,16 @@ fn strangers_of(word: &str) -> Option<Strangers> {
 /// Writes what a look-up from so many strangers comes to.
 fn put_trial(out: &mut String, alloc: Global, who: Strangers, count: u32, key: Key) -> Option<()> {
     let entries = peers(alloc, 0, count).ok()?;
-    let course = drive(alloc, key, &entries, &Others::Strangers(who)).ok()??;
-    put_course(out, &course).ok()
+    match drive(alloc, key, &entries, &Others::Strangers(who)) {
+        Ok(Some(course)) => put_course(out, &course).ok(),
+        _ => None,
+    }
 }
 
 /// Writes the answer to a line, `None` for want of memory and where there is none.
 pub fn answer(out: &mut String, alloc: Global, mut words: Words<'_>) -> Option<()> {
     let who = strangers_of(words.word()?)?;
-    let (count, number) = (words.number()?, words.number()?);
-    put_trial(out, alloc, who, count, node_id(number))
+    let count = words.number()?;
+    let key = node_id(words.number()?);
+    put_trial(out, alloc, who, count, key)
 }

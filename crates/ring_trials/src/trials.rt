@@ -6,6 +6,7 @@ use crate::lookups::{Tally, look_up_keys};
 use crate::ring::Ring;
 use crate::round::{is_settled, join, round};
 use crate::words::Words;
+use ivy_base::Memory;
 use std::alloc::{AllocError, Global};
 use std::fmt::Write;
 
@@ -15,23 +16,63 @@ fn put_tally(out: &mut String, tally: Tally) -> Result<(), AllocError> {
     write!(out, ", asks in all {}", tally.asks)
 }
 
-/// Writes what look-ups come to in a ring whose nodes 1 to `stopped` have stopped, fewer than R and than all.
+/// What is done with a settled ring.
+#[derive(Clone, Copy)]
+enum Trial {
+    /// The nodes 1 to `stopped` stop, fewer than R, and so many keys are looked up.
+    Lookups { keys: u32, stopped: u32 },
+    /// The nodes 1 to `stopped` stop, and a round follows.
+    Round { stopped: u32 },
+    /// The node of that number joins, and a round with that many passes follows, 2R + 1 where they are 0.
+    Join { number: u32, passes: u32 },
+}
+
+/// The trial that a word names, of the number that stands behind R and of the words after it.
+fn trial_of(word: &str, number: u32, mut words: Words<'_>) -> Option<Trial> {
+    match word {
+        "lookups" => Some(Trial::Lookups {
+            keys: number,
+            stopped: 0,
+        }),
+        "stopped" => {
+            let stopped = words.number()?;
+            Some(Trial::Lookups {
+                keys: number,
+                stopped,
+            })
+        }
+        "round" => Some(Trial::Round { stopped: number }),
+        "join" => {
+            let passes = words.number()?;
+            Some(Trial::Join { number, passes })
+        }
+        _ => None,
+    }
+}
+
+/// Whether the trial can be made of a ring of that many nodes: one node must live, fewer than R stop before look-ups,
+/// and who joins is no member.
+fn is_possible(trial: Trial, size: u32, replicas: u32) -> bool {
+    match trial {
+        Trial::Lookups { stopped, .. } => stopped < size && stopped < replicas,
+        Trial::Round { stopped } => stopped < size,
+        Trial::Join { number, .. } => number >= size,
+    }
+}
+
+/// Writes what look-ups come to in a ring whose nodes 1 to `stopped` stop.
 fn lookups(
     out: &mut String,
     alloc: Global,
-    size: u32,
+    ring: &mut Ring,
     replicas: u32,
     keys: u32,
     stopped: u32,
-) -> Option<()>
-    requires { (1 ≤ replicas) × (replicas ≤ 8) }
-{
-    if stopped >= size || stopped >= replicas {
-        return None;
-    }
-    let mut ring = Ring::of_size(alloc, size, replicas).ok()?;
-    ring.stop(alloc, stopped).ok()?;
-    put_tally(out, look_up_keys(alloc, &ring, replicas, keys).ok()?).ok()
+) -> Result<(), Memory> {
+    ring.stop(alloc, stopped)?;
+    let tally = look_up_keys(alloc, ring, replicas, keys)?;
+    put_tally(out, tally)?;
+    Ok(())
 }
 
 /// Writes how a ring stands after a round with that many passes.
@@ -41,63 +82,63 @@ fn after_round(
     ring: &mut Ring,
     replicas: u32,
     passes: u32,
-) -> Option<()>
+) -> Result<(), Memory>
     requires { (1 ≤ replicas) × (replicas ≤ 8) }
 {
-    round(alloc, ring, passes).ok()?;
-    let word = if is_settled(alloc, ring, replicas).ok()? {
+    round(alloc, ring, passes)?;
+    let word = if is_settled(alloc, ring, replicas)? {
         ": settled"
     } else {
         ": not settled"
     };
-    out.push_str(word).ok()
+    out.push_str(word)?;
+    Ok(())
 }
 
-/// How many passes a round has.
-fn passes_of(replicas: u32) -> u32 {
-    replicas.saturating_mul(2).saturating_add(1)
-}
-
-/// Writes how a ring stands after a round where the nodes 1 to `stopped` have stopped.
-fn after_stops(
-    out: &mut String,
-    alloc: Global,
-    size: u32,
-    replicas: u32,
-    stopped: u32,
-) -> Option<()>
-    requires { (1 ≤ replicas) × (replicas ≤ 8) }
-{
-    if stopped >= size {
-        return None;
-    }
-    let mut ring = Ring::of_size(alloc, size, replicas).ok()?;
-    ring.stop(alloc, stopped).ok()?;
-    after_round(out, alloc, &mut ring, replicas, passes_of(replicas))
-}
-
-/// Writes how a ring stands after a round with that many passes, 2R + 1 where they are 0, where a node has joined.
-fn after_join(
-    out: &mut String,
-    alloc: Global,
-    size: u32,
-    replicas: u32,
-    number: u32,
-    passes: u32,
-) -> Option<()>
-    requires { (1 ≤ replicas) × (replicas ≤ 8) }
-{
-    if number < size {
-        return None;
-    }
-    let passes = if passes == 0 {
-        passes_of(replicas)
+/// How many passes a round has that is told to have this many.
+fn passes_of(replicas: u32, passes: u32) -> u32 {
+    if passes == 0 {
+        replicas.saturating_mul(2).saturating_add(1)
     } else {
         passes
-    };
-    let mut ring = Ring::of_size(alloc, size, replicas).ok()?;
-    join(alloc, &mut ring, number, replicas).ok()?;
-    after_round(out, alloc, &mut ring, replicas, passes)
+    }
+}
+
+/// Writes what the trial comes to in a settled ring.
+fn put_end(
+    out: &mut String,
+    alloc: Global,
+    ring: &mut Ring,
+    replicas: u32,
+    trial: Trial,
+) -> Result<(), Memory>
+    requires { (1 ≤ replicas) × (replicas ≤ 8) }
+{
+    match trial {
+        Trial::Lookups { keys, stopped } => lookups(out, alloc, ring, replicas, keys, stopped),
+        Trial::Round { stopped } => {
+            ring.stop(alloc, stopped)?;
+            after_round(out, alloc, ring, replicas, passes_of(replicas, 0))
+        }
+        Trial::Join { number, passes } => {
+            join(alloc, ring, number, replicas)?;
+            after_round(out, alloc, ring, replicas, passes_of(replicas, passes))
+        }
+    }
+}
+
+/// Writes what the trial comes to in a settled ring of that many nodes.
+fn put_trial(
+    out: &mut String,
+    alloc: Global,
+    size: u32,
+    replicas: u32,
+    trial: Trial,
+) -> Result<(), Memory>
+    requires { (1 ≤ replicas) × (replicas ≤ 8) }
+{
+    let mut ring = Ring::of_size(alloc, size, replicas)?;
+    put_end(out, alloc, &mut ring, replicas, trial)
 }
 
 /// Writes the answer to a line, `None` for want of memory and where the line asks nothing.
@@ -105,20 +146,16 @@ pub fn answer(
     out: &mut String,
     alloc: Global,
     line: &str,
-    trial: &str,
+    word: &str,
     mut words: Words<'_>,
 ) -> Option<()> {
-    let (size, replicas) = (words.number()?, words.number()?);
+    let size = words.number()?;
+    let replicas = words.number()?;
     let number = words.number()?;
-    if replicas == 0 || replicas > 8 {
+    let trial = trial_of(word, number, words)?;
+    if replicas == 0 || replicas > 8 || !is_possible(trial, size, replicas) {
         return None;
     }
     out.push_str(line).ok()?;
-    match trial {
-        "lookups" => lookups(out, alloc, size, replicas, number, 0),
-        "stopped" => lookups(out, alloc, size, replicas, number, words.number()?),
-        "round" => after_stops(out, alloc, size, replicas, number),
-        "join" => after_join(out, alloc, size, replicas, number, words.number()?),
-        _ => None,
-    }
+    put_trial(out, alloc, size, replicas, trial).ok()
 }

@@ -209,36 +209,49 @@ pub fn put_heads(out: &mut String, heads: &[Judged]) -> Result<(), AllocError> {
     put_none(out, heads.is_empty())
 }
 
-/// Writes the word of posts, by their keys, kinds and bytes.
+/// Writes a post, by its key, kind and bytes.
+fn put_post(out: &mut String, post: &Post) -> Result<(), AllocError> {
+    put_key(out, &post.key)?;
+    write!(out, ":{:?}:", post.kind)?;
+    put_bytes(out, post.bytes.as_slice())
+}
+
+/// Writes the word of posts.
 pub fn put_posts(out: &mut String, posts: &[Post]) -> Result<(), AllocError> {
     let mut between = "";
     for post in posts {
         out.push_str(between)?;
-        put_key(out, &post.key)?;
-        write!(out, ":{:?}:", post.kind)?;
-        put_bytes(out, post.bytes.as_slice())?;
+        put_post(out, post)?;
         between = ",";
     }
     put_none(out, posts.is_empty())
 }
 
+/// Writes the word of nodes behind what they are.
+pub fn put_named_peers(out: &mut String, name: &str, peers: &[Peer]) -> Result<(), AllocError> {
+    out.push_str(name)?;
+    put_peers(out, peers)
+}
+
 /// Writes what a node answers to Route.
-fn put_route(out: &mut String, nearer: &Peers, owners: &Peers) -> Result<(), AllocError> {
-    out.push_str("nearer ")?;
-    put_peers(out, nearer.as_slice())?;
-    out.push_str(" owners ")?;
-    put_peers(out, owners.as_slice())
+fn put_route(out: &mut String, nearer: &[Peer], owners: &[Peer]) -> Result<(), AllocError> {
+    put_named_peers(out, "nearer ", nearer)?;
+    put_named_peers(out, " owners ", owners)
+}
+
+/// Writes the word of a node where there is one.
+fn put_maybe_peer(out: &mut String, node: Option<Peer>) -> Result<(), AllocError> {
+    match node {
+        Some(node) => put_peer(out, &node),
+        None => out.push_str("-"),
+    }
 }
 
 /// Writes what a node answers to Near.
-fn put_near(out: &mut String, before: &Option<Peer>, list: &Peers) -> Result<(), AllocError> {
+fn put_near(out: &mut String, before: Option<Peer>, list: &[Peer]) -> Result<(), AllocError> {
     out.push_str("before ")?;
-    match before {
-        Some(before) => put_peer(out, before)?,
-        None => out.push_str("-")?,
-    }
-    out.push_str(" list ")?;
-    put_peers(out, list.as_slice())
+    put_maybe_peer(out, before)?;
+    put_named_peers(out, " list ", list)
 }
 
 /// Writes the bytes that were found.
@@ -250,8 +263,8 @@ fn put_found(out: &mut String, bytes: &[u8]) -> Result<(), AllocError> {
 /// Writes what a node answers.
 pub fn put_answer(out: &mut String, answer: &Answer) -> Result<(), AllocError> {
     match answer {
-        Answer::Route { nearer, owners } => put_route(out, nearer, owners),
-        Answer::Near { before, list } => put_near(out, before, list),
+        Answer::Route { nearer, owners } => put_route(out, nearer.as_slice(), owners.as_slice()),
+        Answer::Near { before, list } => put_near(out, *before, list.as_slice()),
         Answer::Found(bytes) => put_found(out, bytes.as_slice()),
         Answer::Nothing => out.push_str("nothing"),
         Answer::Stored => out.push_str("stored"),
