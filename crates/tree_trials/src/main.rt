@@ -26,32 +26,28 @@
 #![tactic(auto)]
 
 mod alike;
-mod answers;
 mod generated;
 mod many;
 mod operations;
+mod text;
 mod trees;
 mod trial;
 mod words;
 
 use std::io;
+use text::Text;
 use trial::Trial;
 
 fn main(rt: HostRuntime) -> io::Result<()> {
-    let Ok(mut trial) = Trial::new(rt.alloc()) else {
+    let alloc = rt.alloc();
+    let Ok(mut trial) = Trial::new(alloc) else {
         return println!(rt; "no answer");
     };
-    for line in rt.lines(rt.alloc()) {
+    for line in rt.lines(alloc) {
         let line = line?;
-        let line = line.as_str();
-        if line.is_empty() || line.starts_with('#') {
-            println!(rt; "{line}")?;
-            continue;
-        }
-        match trial.answer(rt.alloc(), line) {
-            Some(answer) => println!(rt; "{line}: {answer}")?,
-            None => println!(rt; "{line}: no answer")?,
-        }
+        let mut answer = Text::new(alloc);
+        trial.answer(&mut answer, alloc, line.as_str());
+        println!(rt; "{line}{}", answer.as_str())?;
     }
     Ok(())
 }

@@ -1,9 +1,13 @@
 //! Many names in one directory.
 
-use crate::answers::Many;
+ghost use Rattle.std.specs.Prelude.{IfSome};
+ghost use Rattle.fs_tree.specs.Applicable.{IsApplicable};
+
+use crate::operations::{link, make};
+use crate::text::Text;
 use dir_replay::Listing;
 use fs_tree::{ROOT, Tree};
-use ivy_base::{Bytes, Key, Kind, Memory, Moment, Op};
+use ivy_base::{Bytes, Key, Kind, Moment, Op};
 use std::alloc::Global;
 
 const NOW: Moment = Moment { sec: 1, nsec: 7 };
@@ -17,61 +21,59 @@ fn directory(number: u32) -> Key {
     Key([d, c, 3, 3, 3, 3, 3, 3, 3, 3, 3, 3, 3, 3, 3, 3, a, b, c, d])
 }
 
-fn make(tree: &mut Tree, alloc: Global, ino: Key, kind: Kind) -> Result<(), Memory> {
-    let op = Op::Inode {
-        ino,
-        kind,
-        mode: 0o755,
-        uid: 10,
-        gid: 20,
-        target: Bytes::of(Vec::new(alloc)),
-    };
-    tree.apply(alloc, NOW, &op)
+fn apply(tree: &mut Tree, alloc: Global, op: Option<Op>) -> Option<()>
+    requires { IfSome op (λ op. IsApplicable op) }
+{
+    tree.apply(alloc, NOW, &op?).ok()
 }
 
 /// Gives the inode a name in the root: the letter and the number's bytes.
-fn name(tree: &mut Tree, alloc: Global, ino: Key, letter: u8, number: u32) -> Result<(), Memory> {
+fn name(tree: &mut Tree, alloc: Global, ino: Key, letter: u8, number: u32) -> Option<()> {
     let [a, b, c, d] = number.to_be_bytes();
-    let op = Op::Link {
-        dir: ROOT,
-        name: Bytes::copy_of(alloc, &[letter, a, b, c, d])?,
-        ino,
-    };
-    tree.apply(alloc, NOW, &op)
+    apply(tree, alloc, link(alloc, ROOT, &[letter, a, b, c, d], ino))
 }
 
 /// Whether each name is below the next one.
-fn is_ascending(listing: &Listing) -> bool {
-    let pairs = listing.as_slice();
-    for (pair, next) in pairs.iter().zip(pairs.iter().skip(1)) {
-        if pair.0.as_slice() >= next.0.as_slice() {
+fn is_ascending(pairs: &[(Bytes, Key)]) -> bool {
+    for index in 1..pairs.len() {
+        if pairs[index - 1].0.as_slice() >= pairs[index].0.as_slice() {
             return false;
         }
     }
     true
 }
 
-/// A tree with so many directories in the root, beside as many names of the file.
-fn wide_tree(alloc: Global, count: u32) -> Result<Tree, Memory> {
-    let mut tree = Tree::empty(alloc)?;
-    make(&mut tree, alloc, FILE, Kind::Reg)?;
+/// Adds so many directories to the root, beside as many names of the file.
+fn fill(tree: &mut Tree, alloc: Global, count: u32) -> Option<()> {
+    apply(tree, alloc, make(alloc, FILE, Kind::Reg, ""))?;
     for step in 0..count {
         let number = step.wrapping_mul(7) % count;
-        make(&mut tree, alloc, directory(number), Kind::Dir)?;
-        name(&mut tree, alloc, directory(number), b'd', number)?;
-        name(&mut tree, alloc, FILE, b'f', number)?;
+        let dir = directory(number);
+        apply(tree, alloc, make(alloc, dir, Kind::Dir, ""))?;
+        name(tree, alloc, dir, b'd', number)?;
+        name(tree, alloc, FILE, b'f', number)?;
     }
-    Ok(tree)
+    Some(())
 }
 
-/// What a copy of such a tree has.
-pub fn run(alloc: Global, count: u32) -> Result<Many, Memory> {
-    let tree = wide_tree(alloc, count)?.copy(alloc)?;
-    let listing = Listing::of(tree.names().listing(alloc, &ROOT)?.into_vec());
-    Ok(Many {
-        entries: listing.as_slice().len(),
-        ascending: is_ascending(&listing),
-        subdirs: tree.subdirs(&ROOT),
-        names: tree.names().names_of(&FILE),
-    })
+/// Tells what the tree has.
+fn show(text: &mut Text, alloc: Global, tree: &Tree) -> Option<()> {
+    let listing = Listing::of(tree.names().listing(alloc, &ROOT).ok()?.into_vec());
+    let pairs = listing.as_slice();
+    text.count("entries ", pairs.len() as u64);
+    text.add(if is_ascending(pairs) {
+        " in order"
+    } else {
+        " out of order"
+    });
+    text.count(", directories ", tree.subdirs(&ROOT));
+    text.count(", names of the file ", tree.names().names_of(&FILE));
+    Some(())
+}
+
+/// Tells what a copy of such a tree has.
+pub fn run(text: &mut Text, alloc: Global, count: u32) -> Option<()> {
+    let mut tree = Tree::empty(alloc).ok()?;
+    fill(&mut tree, alloc, count)?;
+    show(text, alloc, &tree.copy(alloc).ok()?)
 }

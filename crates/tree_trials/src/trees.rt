@@ -1,7 +1,9 @@
 //! A tree that is kept in three ways.
 
+ghost use Rattle.std.specs.Prelude.{IfSome};
 ghost use Rattle.fs_tree.specs.Applicable.{IsApplicable};
 
+use crate::alike::{agree, are_alike};
 use dir_replay::{Names, Touched};
 use fs_tree::Tree;
 use ivy_base::{Memory, Moment, Op};
@@ -9,11 +11,29 @@ use plain_tree::Plain;
 use std::alloc::Global;
 
 /// What the same operations made of a whole tree, of names alone, and of a tree kept plainly.
-#[derive(Drop)]
 pub struct Trees {
     pub tree: Tree,
     pub names: Names,
     pub plain: Plain,
+}
+
+// Written out, so that what drops trees calls it and isn't made over all their parts.
+impl Drop for Trees {
+    fn drop(self) {
+        let Trees {
+            tree: _,
+            names: _,
+            plain: _,
+        } = self;
+    }
+}
+
+/// What an operation did, and whether the trees agree afterwards.
+#[derive(Clone, Copy)]
+pub struct Effect {
+    pub touched: Touched,
+    pub has_changed: bool,
+    pub agree: bool,
 }
 
 impl Trees {
@@ -36,11 +56,29 @@ impl Trees {
     }
 
     /// Does the operation to each, and says which directories' entries changed.
-    pub fn apply(&mut self, alloc: Global, moment: Moment, op: &Op) -> Result<Touched, Memory>
+    fn apply(&mut self, alloc: Global, moment: Moment, op: &Op) -> Result<Touched, Memory>
         requires { IsApplicable op.now }
     {
         self.tree.apply(alloc, moment, op)?;
         self.plain.apply(alloc, moment, op)?;
         self.names.apply_names(alloc, op)
+    }
+
+    /// What the trees have become, which were like that one, by an operation that touched these directories.
+    fn effect(&self, alloc: Global, before: &Tree, touched: Touched) -> Result<Effect, Memory> {
+        Ok(Effect {
+            touched,
+            has_changed: !are_alike(alloc, before, &self.tree)?,
+            agree: agree(alloc, self)?,
+        })
+    }
+
+    /// Does the operation; `None` for want of memory, and where there is none.
+    pub fn perform(&mut self, alloc: Global, moment: Moment, op: Option<Op>) -> Option<Effect>
+        requires { IfSome op (λ op. IsApplicable op) }
+    {
+        let before = self.tree.copy(alloc).ok()?;
+        let touched = self.apply(alloc, moment, &op?).ok()?;
+        self.effect(alloc, &before, touched).ok()
     }
 }

@@ -1,13 +1,12 @@
 //! A trial: the trees, and how each line is answered.
 
-use crate::alike::{agree, are_alike};
-use crate::answers::{Answer, Attributes, Entries, Naming};
 use crate::operations::operation_of;
-use crate::trees::Trees;
-use crate::words::{key_of, moment_of, words_of};
+use crate::text::Text;
+use crate::trees::{Effect, Trees};
+use crate::words::{Words, inode, moment_of, number, small_number};
 use crate::{generated, many};
 use fs_tree::Tree;
-use ivy_base::{Bytes, Key, Kind, Memory, Moment};
+use ivy_base::{Key, Kind, Memory, Moment};
 use std::alloc::Global;
 
 /// The trees that operations are done to, and those that are kept.
@@ -26,147 +25,223 @@ impl Trial {
         })
     }
 
-    /// The answer to a line, `None` for want of memory and where the line asks nothing.
-    pub fn answer(&mut self, alloc: Global, line: &str) -> Option<Answer> {
-        let words = words_of(alloc, line)?;
-        let [word, rest @ ..] = &words[..] else {
-            return None;
-        };
+    /// Adds the answer to a line, or that it has none: for want of memory and where the line asks nothing.
+    pub fn answer(&mut self, text: &mut Text, alloc: Global, line: &str) {
+        if line.is_empty() || line.starts_with('#') {
+            return;
+        }
+        text.add(": ");
+        if self
+            .answer_words(text, alloc, Words { rest: Some(line) })
+            .is_none()
+        {
+            text.add("no answer");
+        }
+    }
+
+    /// Adds the answer, and for `None` nothing.
+    fn answer_words(&mut self, text: &mut Text, alloc: Global, mut words: Words<'_>) -> Option<()> {
+        let word = words.word()?;
         if let Some(moment) = moment_of(word) {
-            return self.operate(alloc, moment, rest);
+            return self.operate(text, alloc, moment, words);
         }
-        match &words[..] {
-            ["new"] => self.begin(alloc),
-            ["keep"] => self.keep(alloc),
-            ["back"] => self.go_back(alloc),
-            ["many", count] => Some(Answer::Many(many::run(alloc, count.parse().ok()?).ok()?)),
-            ["generated", seed, count] => {
-                generated::run(alloc, seed.parse().ok()?, count.parse().ok()?)
+        match word {
+            "new" => {
+                words.end()?;
+                replace(&mut self.trees, text, Trees::empty(alloc))
             }
-            _ => self.show(alloc, &words[..]),
+            "keep" => {
+                words.end()?;
+                replace(&mut self.kept, text, self.trees.copy(alloc))
+            }
+            "back" => {
+                words.end()?;
+                replace(&mut self.trees, text, self.kept.copy(alloc))
+            }
+            "many" => many::run(text, alloc, small_number(words.last()?)?),
+            "generated" => {
+                let seed = small_number(words.word()?)?;
+                generated::run(text, alloc, seed, small_number(words.last()?)?)
+            }
+            _ => show(&self.trees.tree, text, alloc, word, words),
         }
     }
 
-    fn begin(&mut self, alloc: Global) -> Option<Answer> {
-        self.trees = Trees::empty(alloc).ok()?;
-        Some(Answer::Done)
+    /// Tells what an operation changed.
+    fn operate(
+        &mut self,
+        text: &mut Text,
+        alloc: Global,
+        moment: Moment,
+        words: Words<'_>,
+    ) -> Option<()> {
+        let op = operation_of(alloc, words);
+        let effect = self.trees.perform(alloc, moment, op)?;
+        tell(text, &effect);
+        Some(())
     }
+}
 
-    fn keep(&mut self, alloc: Global) -> Option<Answer> {
-        self.kept = self.trees.copy(alloc).ok()?;
-        Some(Answer::Done)
+/// Puts trees in place of others.
+fn replace(trees: &mut Trees, text: &mut Text, other: Result<Trees, Memory>) -> Option<()> {
+    *trees = other.ok()?;
+    text.add("done");
+    Some(())
+}
+
+fn tell(text: &mut Text, effect: &Effect) {
+    if !effect.agree {
+        return text.add("they differ");
     }
-
-    fn go_back(&mut self, alloc: Global) -> Option<Answer> {
-        self.trees = self.kept.copy(alloc).ok()?;
-        Some(Answer::Done)
-    }
-
-    /// What an operation changed.
-    fn operate(&mut self, alloc: Global, moment: Moment, words: &[&str]) -> Option<Answer> {
-        let op = operation_of(alloc, words)?;
-        let before = self.trees.tree.copy(alloc).ok()?;
-        let touched = self.trees.apply(alloc, moment, &op).ok()?;
-        if !agree(alloc, &self.trees).ok()? {
-            return Some(Answer::Differ);
+    match (effect.touched.first, effect.touched.second) {
+        (Some(first), second) => {
+            text.inode("touched ", &first);
+            if let Some(second) = second {
+                text.inode(" ", &second);
+            }
         }
-        if touched.first.is_some() {
-            return Some(Answer::Touched(touched));
-        }
-        if are_alike(alloc, &before, &self.trees.tree).ok()? {
-            Some(Answer::Nothing)
+        _ => text.add(if effect.has_changed {
+            "changed"
         } else {
-            Some(Answer::Changed)
-        }
-    }
-
-    /// What is asked about an inode.
-    fn show(&self, alloc: Global, words: &[&str]) -> Option<Answer> {
-        let [question, number, rest @ ..] = words else {
-            return None;
-        };
-        let tree = &self.trees.tree;
-        let ino = key_of(number)?;
-        match *question {
-            "attr" => Some(attributes(tree, &ino)),
-            "names" => Some(naming(tree, &ino)),
-            "list" => entries(alloc, tree, &ino),
-            "entry" => entry(tree, &ino, rest),
-            "inside" => inside(tree, &ino, rest),
-            "read" => read(alloc, tree, &ino, rest),
-            "target" => target(alloc, tree, &ino),
-            "stored" => Some(stored(tree, &ino)),
-            _ => None,
-        }
-    }
-}
-
-fn attributes(tree: &Tree, ino: &Key) -> Answer {
-    match (tree.kind(ino), tree.attr(ino), tree.content(ino)) {
-        (Some(kind), Some(attr), Some(content)) => Answer::Attributes(Attributes {
-            kind,
-            attr,
-            size: content.size(),
+            "nothing"
         }),
-        _ => Answer::Missing,
     }
 }
 
-fn naming(tree: &Tree, ino: &Key) -> Answer {
-    Answer::Naming(Naming {
-        names: tree.names().names_of(ino),
-        parent: tree.names().parent(ino),
-        live: tree.live(ino),
-    })
-}
-
-fn entries(alloc: Global, tree: &Tree, dir: &Key) -> Option<Answer> {
-    Some(Answer::Entries(Entries {
-        subdirs: tree.subdirs(dir),
-        listing: tree.names().listing(alloc, dir).ok()?,
-    }))
-}
-
-fn entry(tree: &Tree, dir: &Key, words: &[&str]) -> Option<Answer> {
-    let [name] = words else {
-        return None;
-    };
-    match tree.entry(dir, name.as_bytes()) {
-        Some(ino) => Some(Answer::Inode(ino)),
-        None => Some(Answer::Missing),
+/// Tells what is asked about an inode.
+fn show(
+    tree: &Tree,
+    text: &mut Text,
+    alloc: Global,
+    word: &str,
+    mut words: Words<'_>,
+) -> Option<()> {
+    let ino = words.inode()?;
+    match word {
+        "attr" => or_none(attributes(tree, text, &ino), text),
+        "names" => naming(tree, text, &ino),
+        "list" => entries(tree, text, alloc, &ino),
+        "entry" => or_none(entry(tree, text, &ino, words.last()?), text),
+        "inside" => inside(tree, text, &ino, &inode(words.last()?)?),
+        "read" => {
+            let offset = number(words.word()?)?;
+            read(
+                tree,
+                text,
+                alloc,
+                &ino,
+                offset,
+                small_number(words.last()?)?,
+            )
+        }
+        "target" => target(tree, text, &ino),
+        "stored" => or_none(stored(tree, text, &ino), text),
+        _ => None,
     }
 }
 
-fn inside(tree: &Tree, ino: &Key, words: &[&str]) -> Option<Answer> {
-    let [dir] = words else {
-        return None;
-    };
-    Some(Answer::Truth(tree.names().inside(ino, &key_of(dir)?)))
+/// What is missing is told as `none`.
+fn or_none(told: Option<()>, text: &mut Text) -> Option<()> {
+    if told.is_none() {
+        text.add("none");
+    }
+    Some(())
 }
 
-fn read(alloc: Global, tree: &Tree, ino: &Key, words: &[&str]) -> Option<Answer> {
-    let [offset, count] = words else {
-        return None;
-    };
-    let (offset, count) = (offset.parse().ok()?, count.parse().ok()?);
+fn name_of(kind: Kind) -> &'static str {
+    match kind {
+        Kind::Reg => "reg",
+        Kind::Dir => "dir",
+        Kind::Lnk => "lnk",
+    }
+}
+
+/// An inode's kind, attributes and size.
+fn attributes(tree: &Tree, text: &mut Text, ino: &Key) -> Option<()> {
+    let kind = tree.kind(ino)?;
+    let attr = tree.attr(ino)?;
+    let size = tree.content(ino)?.size();
+    text.add(name_of(kind));
+    text.octal(" mode ", attr.mode);
+    text.count(" owner ", u64::from(attr.uid));
+    text.count(" ", u64::from(attr.gid));
+    text.count(" size ", size);
+    text.moment(" atime ", attr.atime);
+    text.moment(" mtime ", attr.mtime);
+    text.moment(" ctime ", attr.ctime);
+    Some(())
+}
+
+/// How many names an inode has, the directory of a directory's name, and whether it is live.
+fn naming(tree: &Tree, text: &mut Text, ino: &Key) -> Option<()> {
+    text.count("names ", tree.names().names_of(ino));
+    match tree.names().parent(ino) {
+        Some(parent) => text.inode(", parent ", &parent),
+        None => text.add(", parent none"),
+    }
+    text.add(if tree.live(ino) {
+        ", live"
+    } else {
+        ", not live"
+    });
+    Some(())
+}
+
+/// The entries of a directory, and how many lead to directories.
+fn entries(tree: &Tree, text: &mut Text, alloc: Global, dir: &Key) -> Option<()> {
+    let listing = tree.names().listing(alloc, dir).ok()?;
+    let pairs = listing.as_slice();
+    text.count("entries ", pairs.len() as u64);
+    text.count(", directories ", tree.subdirs(dir));
+    text.add(":");
+    for (name, ino) in pairs {
+        text.add(" ");
+        text.quote(name.as_slice());
+        text.inode(" ", ino);
+    }
+    Some(())
+}
+
+fn entry(tree: &Tree, text: &mut Text, dir: &Key, name: &str) -> Option<()> {
+    text.inode("", &tree.entry(dir, name.as_bytes())?);
+    Some(())
+}
+
+fn inside(tree: &Tree, text: &mut Text, ino: &Key, dir: &Key) -> Option<()> {
+    text.add(if tree.names().inside(ino, dir) {
+        "yes"
+    } else {
+        "no"
+    });
+    Some(())
+}
+
+fn read(
+    tree: &Tree,
+    text: &mut Text,
+    alloc: Global,
+    ino: &Key,
+    offset: u64,
+    count: u32,
+) -> Option<()> {
     let bytes = tree.content(ino)?.read_range(alloc, offset, count).ok()?;
-    Some(Answer::Bytes(bytes))
+    text.quote(bytes.as_slice());
+    Some(())
 }
 
 /// The text of a symbolic link.
-fn target(alloc: Global, tree: &Tree, ino: &Key) -> Option<Answer> {
+fn target(tree: &Tree, text: &mut Text, ino: &Key) -> Option<()> {
     let content = tree.content(ino)?;
-    if content.kind() != Kind::Lnk {
-        return Some(Answer::Missing);
+    if content.kind() == Kind::Lnk {
+        text.quote(content.target());
+    } else {
+        text.add("none");
     }
-    let bytes = Bytes::copy_of(alloc, content.target()).ok()?;
-    Some(Answer::Bytes(bytes))
+    Some(())
 }
 
 /// How many of the inode's bytes are stored.
-fn stored(tree: &Tree, ino: &Key) -> Answer {
-    match tree.content(ino) {
-        Some(content) => Answer::Stored(content.stored()),
-        None => Answer::Missing,
-    }
+fn stored(tree: &Tree, text: &mut Text, ino: &Key) -> Option<()> {
+    text.count("", tree.content(ino)?.stored());
+    Some(())
 }

@@ -1,20 +1,10 @@
 //! The words of a line.
 
 use fs_tree::ROOT;
-use ivy_base::{Bytes, Key, Kind, Moment};
-use std::alloc::Global;
+use ivy_base::{Key, Kind, Moment};
 
 /// The highest number of an inode.
 pub const HIGHEST: u8 = 11;
-
-/// The words of a line. `None` is want of memory.
-pub fn words_of(alloc: Global, line: &str) -> Option<Vec<&str>> {
-    let mut words = Vec::new(alloc);
-    for word in line.split(' ') {
-        words.push(word).ok()?;
-    }
-    Some(words)
-}
 
 /// The inode of that number: the root for 0, and others in another order than that of their numbers.
 pub fn key(number: u8) -> Key {
@@ -32,25 +22,31 @@ pub fn number_of(key: &Key) -> u8 {
     key.0[19]
 }
 
-/// The inode whose number a word is.
-pub fn key_of(word: &str) -> Option<Key> {
-    match word.parse() {
-        Ok(number) if number <= HIGHEST => Some(key(number)),
-        _ => None,
-    }
+/// The number that a word is.
+pub fn number(word: &str) -> Option<u64> {
+    word.parse().ok()
 }
 
-/// The bytes of a word.
-pub fn bytes_of(alloc: Global, word: &str) -> Option<Bytes> {
-    Bytes::copy_of(alloc, word.as_bytes()).ok()
+/// The number below 2^32 that a word is.
+pub fn small_number(word: &str) -> Option<u32> {
+    word.parse().ok()
+}
+
+/// The inode whose number a word is.
+pub fn inode(word: &str) -> Option<Key> {
+    let number = word.parse().ok()?;
+    if number > HIGHEST {
+        return None;
+    }
+    Some(key(number))
 }
 
 /// The moment that a word is.
 pub fn moment_of(word: &str) -> Option<Moment> {
     let (sec, nsec) = word.split_once(':')?;
     Some(Moment {
-        sec: sec.parse().ok()?,
-        nsec: nsec.parse().ok()?,
+        sec: small_number(sec)?,
+        nsec: small_number(nsec)?,
     })
 }
 
@@ -61,5 +57,45 @@ pub fn kind_of(word: &str) -> Option<Kind> {
         "dir" => Some(Kind::Dir),
         "lnk" => Some(Kind::Lnk),
         _ => None,
+    }
+}
+
+/// The words of a line, taken from the front.
+#[derive(Clone, Copy)]
+pub struct Words<'a> {
+    /// What was not taken yet.
+    pub rest: Option<&'a str>,
+}
+
+impl<'a> Words<'a> {
+    /// The next word.
+    pub fn word(&mut self) -> Option<&'a str> {
+        let rest = self.rest?;
+        match rest.split_once(' ') {
+            Some((word, rest)) => {
+                self.rest = Some(rest);
+                Some(word)
+            }
+            None => {
+                self.rest = None;
+                Some(rest)
+            }
+        }
+    }
+
+    /// The last word, where one is left.
+    pub fn last(&self) -> Option<&'a str> {
+        let rest = self.rest?;
+        if rest.contains(' ') { None } else { Some(rest) }
+    }
+
+    /// The inode whose number the next word is.
+    pub fn inode(&mut self) -> Option<Key> {
+        inode(self.word()?)
+    }
+
+    /// That no word is left.
+    pub fn end(&self) -> Option<()> {
+        if self.rest.is_some() { None } else { Some(()) }
     }
 }
