@@ -1,79 +1,72 @@
 //! Whether trees answer alike about all inodes.
 
 use crate::generated::NAMES;
+use crate::telling::{attributes, bytes, entries, kind_name, naming, times};
+use crate::text::Text;
 use crate::trees::Trees;
 use crate::words::{HIGHEST, key};
-use dir_replay::{Listing, Names};
+use dir_replay::Names;
 use fs_tree::{ROOT, Tree};
 use inode_replay::Content;
-use ivy_base::{Bytes, Key, Memory};
+use ivy_base::{Bytes, Key};
 use plain_tree::Plain;
 use std::alloc::Global;
 
-/// Whether names answer the same about an inode, but for the entries themselves.
-fn same_counts(a: &Names, b: &Names, ino: &Key) -> bool {
-    a.kind(ino) == b.kind(ino)
-        && a.parent(ino) == b.parent(ino)
-        && a.names_of(ino) == b.names_of(ino)
-        && a.entries(ino) == b.entries(ino)
-        && a.subdirs(ino) == b.subdirs(ino)
-}
-
-fn same_listing(a: &[(Bytes, Key)], b: &[(Bytes, Key)]) -> bool {
-    if a.len() != b.len() {
-        return false;
-    }
-    for index in 0..a.len() {
-        if a[index].1 != b[index].1 || a[index].0.as_slice() != b[index].0.as_slice() {
-            return false;
-        }
-    }
-    true
-}
-
-/// Whether the names have that listing of the directory.
-fn has_listing(alloc: Global, names: &Names, dir: &Key, listing: &Listing) -> Result<bool, Memory> {
-    let other = names.listing(alloc, dir)?;
-    Ok(same_listing(listing.as_slice(), other.as_slice()))
-}
-
-/// Whether both have the same names for the inode and in it.
-fn same_names(alloc: Global, a: &Names, b: &Names, ino: &Key) -> Result<bool, Memory> {
-    if !same_counts(a, b, ino) {
-        return Ok(false);
-    }
-    let listing = a.listing(alloc, ino)?;
-    has_listing(alloc, b, ino, &listing)
-}
-
-/// How many bytes at each end of two inodes are compared.
+/// How many bytes at each end of an inode are compared.
 const ENDS: u32 = 64;
 
-fn same_bytes(alloc: Global, a: &Content, b: &Content, offset: u64) -> Result<bool, Memory> {
-    let bytes = a.read_range(alloc, offset, ENDS)?;
-    let others = b.read_range(alloc, offset, ENDS)?;
-    Ok(bytes.as_slice() == others.as_slice())
+/// Tells an inode's kind, attributes, size, count of stored bytes and bytes at both ends, or that it is missing.
+fn tell_content(text: &mut Text, alloc: Global, content: Option<&Content>) {
+    let Some(content) = content else {
+        return text.add("none");
+    };
+    let (size, attr) = (content.size(), content.attr());
+    text.add(kind_name(Some(content.kind())));
+    attributes(text, &attr);
+    times(text, size, &attr);
+    text.count(" stored ", content.stored());
+    bytes(text, alloc, content, 0, ENDS);
+    bytes(
+        text,
+        alloc,
+        content,
+        size.saturating_sub(u64::from(ENDS)),
+        ENDS,
+    );
 }
 
-fn same_facts(a: &Content, b: &Content) -> bool {
-    a.kind() == b.kind() && a.attr() == b.attr() && a.size() == b.size() && a.stored() == b.stored()
+/// Tells what names answer about an inode.
+fn tell_names(text: &mut Text, alloc: Global, names: &Names, ino: &Key) {
+    text.add(kind_name(names.kind(ino)));
+    naming(text, names, ino);
+    text.count(" has ", names.entries(ino));
+    entries(text, alloc, names, ino);
 }
 
-/// Whether both have the same kind, attributes, size, count of stored bytes and bytes at both ends.
-fn same_content(alloc: Global, a: &Content, b: &Content) -> Result<bool, Memory> {
-    if !same_facts(a, b) || !same_bytes(alloc, a, b, 0)? {
-        return Ok(false);
+/// What a tree answers about all inodes.
+fn tell_tree(alloc: Global, tree: &Tree) -> Text {
+    let mut text = Text::new(alloc);
+    for number in 0..=HIGHEST {
+        let ino = key(number);
+        tell_names(&mut text, alloc, tree.names(), &ino);
+        tell_content(&mut text, alloc, tree.content(&ino));
     }
-    same_bytes(alloc, a, b, a.size().saturating_sub(u64::from(ENDS)))
+    text
 }
 
-/// Whether both have the same contents, or are missing.
-fn same_contents(alloc: Global, a: Option<&Content>, b: Option<&Content>) -> Result<bool, Memory> {
-    match (a, b) {
-        (Some(a), Some(b)) => same_content(alloc, a, b),
-        (None, None) => Ok(true),
-        _ => Ok(false),
+/// The same of names and of a plain tree.
+fn tell_apart(alloc: Global, names: &Names, plain: &Plain) -> Text {
+    let mut text = Text::new(alloc);
+    for number in 0..=HIGHEST {
+        let ino = key(number);
+        tell_names(&mut text, alloc, names, &ino);
+        tell_content(&mut text, alloc, plain.inode(&ino));
     }
+    text
+}
+
+fn is_same(text: &Text, other: &Text) -> Option<bool> {
+    Some(text.whole()? == other.whole()?)
 }
 
 /// Whether the plain tree has these entries in the directory.
@@ -116,47 +109,29 @@ fn same_place(tree: &Tree, plain: &Plain, ino: &Key, entries: &[(Bytes, Key)]) -
         && tree.live(ino) == (*ino == ROOT || plain.has_name(ino))
 }
 
-/// Whether the plain tree answers about the inode what the other one does.
-fn same_plain(alloc: Global, tree: &Tree, plain: &Plain, ino: &Key) -> Result<bool, Memory> {
-    if !same_contents(alloc, tree.content(ino), plain.inode(ino))? {
-        return Ok(false);
-    }
-    let listing = tree.names().listing(alloc, ino)?;
-    Ok(same_place(tree, plain, ino, listing.as_slice()))
-}
-
-/// Whether the three trees answer alike about the inode.
-fn agree_about(alloc: Global, trees: &Trees, ino: &Key) -> Result<bool, Memory> {
-    if !same_names(alloc, trees.tree.names(), &trees.names, ino)? {
-        return Ok(false);
-    }
-    same_plain(alloc, &trees.tree, &trees.plain, ino)
-}
-
-/// Whether the three trees answer alike about all inodes.
-pub fn agree(alloc: Global, trees: &Trees) -> Result<bool, Memory> {
+/// Whether the plain tree has the same names as the other one.
+fn same_places(alloc: Global, tree: &Tree, plain: &Plain) -> Option<bool> {
     for number in 0..=HIGHEST {
-        if !agree_about(alloc, trees, &key(number))? {
-            return Ok(false);
+        let ino = key(number);
+        let listing = tree.names().listing(alloc, &ino).ok()?;
+        if !same_place(tree, plain, &ino, listing.as_slice()) {
+            return Some(false);
         }
     }
-    Ok(true)
+    Some(true)
 }
 
-/// Whether both trees answer alike about the inode.
-fn are_alike_about(alloc: Global, a: &Tree, b: &Tree, ino: &Key) -> Result<bool, Memory> {
-    if !same_names(alloc, a.names(), b.names(), ino)? {
-        return Ok(false);
+/// Whether the three trees answer alike about all inodes. `None` is want of memory, here and below.
+pub fn agree(alloc: Global, trees: &Trees) -> Option<bool> {
+    let apart = tell_apart(alloc, &trees.names, &trees.plain);
+    if is_same(&tell_tree(alloc, &trees.tree), &apart)? {
+        same_places(alloc, &trees.tree, &trees.plain)
+    } else {
+        Some(false)
     }
-    same_contents(alloc, a.content(ino), b.content(ino))
 }
 
 /// Whether both trees answer alike about all inodes.
-pub fn are_alike(alloc: Global, a: &Tree, b: &Tree) -> Result<bool, Memory> {
-    for number in 0..=HIGHEST {
-        if !are_alike_about(alloc, a, b, &key(number))? {
-            return Ok(false);
-        }
-    }
-    Ok(true)
+pub fn are_alike(alloc: Global, a: &Tree, b: &Tree) -> Option<bool> {
+    is_same(&tell_tree(alloc, a), &tell_tree(alloc, b))
 }

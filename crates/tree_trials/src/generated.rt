@@ -1,17 +1,24 @@
 //! Operations that a generator chooses.
 
-ghost use Rattle.std.specs.Prelude.{◌<◌, IfSome};
-ghost use Rattle.fs_tree.specs.Applicable.{IsApplicable};
+ghost use Rattle.std.specs.Prelude.{◌<◌};
 
-use crate::operations::{NO_CHANGE, link, make, prepare, rename, set_attributes, unlink, write};
 use crate::text::Text;
-use crate::trees::Trees;
-use crate::words::key;
-use ivy_base::{Change, Key, Kind, Moment, Op};
+use crate::trees::{Effect, Trees};
+use crate::words::{Words, small_number};
+use ivy_base::Moment;
 use std::alloc::Global;
 
 /// The names that are chosen.
 pub const NAMES: [&str; 4] = ["b", "ab", "a", "ba"];
+
+/// What a new inode is: directories are 0 to 2, a symbolic link is 7, and 8 is never made.
+fn kind_of(number: u8) -> &'static str {
+    match number {
+        0..=2 => " dir",
+        7 => " lnk b",
+        _ => " reg",
+    }
+}
 
 /// A linear congruential generator, whose highest byte is used.
 #[derive(Drop)]
@@ -32,87 +39,79 @@ impl Choices {
         highest % limit
     }
 
-    /// A directory, or a file in place of one.
-    fn directory(&mut self) -> Key {
-        key(self.below(4))
-    }
-
-    fn name(&mut self) -> &'static str {
-        NAMES[usize::from(self.below(4))]
+    /// A directory, or a file in place of one, and a name.
+    fn place(&mut self, line: &mut Text, words: &str) {
+        line.count(words, u64::from(self.below(4)));
+        line.add(" ");
+        line.add(NAMES[usize::from(self.below(4))]);
     }
 
     /// A change of some attribute, or of the size.
-    fn change(&mut self) -> Change {
-        let mut change = NO_CHANGE;
+    fn change(&mut self) -> &'static str {
         match self.below(6) {
-            0 => change.mode = Some(0o600),
-            1 => {
-                change.uid = Some(11);
-                change.gid = Some(21);
-            }
-            2 => change.size = Some(7),
-            3 => {
-                change.size = Some(25);
-                change.mtime = Some(Moment { sec: 60, nsec: 7 });
-            }
-            4 => change.atime = Some(Moment { sec: 50, nsec: 7 }),
-            _ => {
-                change.mode = Some(0o640);
-                change.size = Some(0);
-                change.atime = Some(Moment { sec: 51, nsec: 7 });
-                change.mtime = Some(Moment { sec: 61, nsec: 7 });
-            }
+            0 => " mode=600",
+            1 => " uid=11 gid=21",
+            2 => " size=7",
+            3 => " size=25 mtime=60:7",
+            4 => " atime=50:7",
+            _ => " mode=640 size=0 atime=51:7 mtime=61:7",
         }
-        change
     }
 
     /// Up to eight bytes that are written.
-    fn writing(&mut self, alloc: Global, ino: Key) -> Option<Op>
-        ensures { IfSome result (λ op. IsApplicable op) }
-    {
-        let offset = u64::from(self.below(20));
+    fn writing(&mut self, line: &mut Text) {
+        line.count(" ", u64::from(self.below(20)));
+        line.add(" ");
         let count = usize::from(self.below(9));
-        write(alloc, ino, offset, &b"abcdefgh"[..count])
+        line.add(&"abcdefgh"[..count]);
     }
 
-    fn renaming(&mut self, alloc: Global) -> Option<Op>
-        ensures { IfSome result (λ op. IsApplicable op) }
-    {
-        let (dir, name) = (self.directory(), self.name());
-        let (to_dir, to_name) = (self.directory(), self.name());
-        rename(alloc, dir, name, to_dir, to_name)
+    /// An operation on the contents of an inode or of none.
+    fn contents(&mut self, line: &mut Text, number: u8, choice: u8) {
+        match choice {
+            0..=2 => {
+                line.count("inode ", u64::from(number % 8));
+                line.add(kind_of(number % 8));
+            }
+            12 | 13 => {
+                line.count("write ", u64::from(number));
+                self.writing(line);
+            }
+            14 => {
+                line.count("setattr ", u64::from(number));
+                line.add(self.change());
+            }
+            16 => line.add("cancel 1"),
+            _ => line.add("end"),
+        }
     }
 
-    /// The next operation. `None` is want of memory.
-    fn operation(&mut self, alloc: Global) -> Option<Op>
-        ensures { IfSome result (λ op. IsApplicable op) }
-    {
+    /// The next operation.
+    fn operation(&mut self, line: &mut Text) {
         let number = self.below(9);
-        let ino = key(number);
-        match self.below(18) {
-            0..=2 => new_inode(alloc, number % 8),
-            3..=6 => link(alloc, self.directory(), self.name().as_bytes(), ino),
-            7 | 8 => unlink(alloc, self.directory(), self.name()),
-            9..=11 => self.renaming(alloc),
-            12 | 13 => self.writing(alloc, ino),
-            14 => set_attributes(ino, self.change()),
-            15 => prepare(alloc, self.directory(), self.name()),
-            16 => Some(Op::Cancel { seq: 1 }),
-            _ => Some(Op::End),
+        let choice = self.below(18);
+        match choice {
+            3..=6 => {
+                self.place(line, "link ");
+                line.count(" ", u64::from(number));
+            }
+            7 | 8 => self.place(line, "unlink "),
+            9..=11 => {
+                self.place(line, "rename ");
+                self.place(line, " ");
+            }
+            15 => self.place(line, "prepare "),
+            _ => self.contents(line, number, choice),
         }
     }
 }
 
-/// A new inode: directories are 0 to 2, and a symbolic link is 7. An 8 is never made.
-fn new_inode(alloc: Global, number: u8) -> Option<Op>
-    ensures { IfSome result (λ op. IsApplicable op) }
-{
-    let (kind, target) = match number {
-        0..=2 => (Kind::Dir, ""),
-        7 => (Kind::Lnk, "b"),
-        _ => (Kind::Reg, ""),
-    };
-    make(alloc, key(number), kind, target)
+/// Does the next operation.
+fn step(alloc: Global, trees: &mut Trees, choices: &mut Choices, moment: Moment) -> Option<Effect> {
+    let mut line = Text::new(alloc);
+    choices.operation(&mut line);
+    let words = Words { rest: line.whole() };
+    trees.operate(alloc, moment, words)
 }
 
 /// Does so many operations, each at a second of its own, and tells whether the trees agree after each one.
@@ -120,8 +119,7 @@ fn run_on(text: &mut Text, alloc: Global, trees: &mut Trees, seed: u32, count: u
     let mut choices = Choices { state: seed };
     let mut effects = 0u64;
     for sec in 1..=count {
-        let op = choices.operation(alloc);
-        let effect = trees.perform(alloc, Moment { sec, nsec: 7 }, op)?;
+        let effect = step(alloc, trees, &mut choices, Moment { sec, nsec: 7 })?;
         if !effect.agree {
             text.add("they differ");
             return Some(());
@@ -133,8 +131,10 @@ fn run_on(text: &mut Text, alloc: Global, trees: &mut Trees, seed: u32, count: u
     Some(())
 }
 
-/// The same on new trees.
-pub fn run(text: &mut Text, alloc: Global, seed: u32, count: u32) -> Option<()> {
+/// The same on new trees, by the words of a line.
+pub fn run(text: &mut Text, alloc: Global, mut words: Words<'_>) -> Option<()> {
+    let seed = small_number(words.word()?)?;
+    let count = small_number(words.last()?)?;
     let mut trees = Trees::empty(alloc).ok()?;
     run_on(text, alloc, &mut trees, seed, count)
 }

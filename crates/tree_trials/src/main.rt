@@ -11,8 +11,8 @@
 //!   directory of a directory's name, and whether it is live
 //! - `list DIR`: a directory's entries in their order. `entry DIR NAME`: the inode of one
 //! - `inside NUMBER DIR`: whether an inode is the directory or lies inside it
-//! - `read NUMBER OFFSET COUNT`: a file's bytes, `\0` being a zero byte. `target NUMBER`: the text of a link.
-//!   `stored NUMBER`: how many of a file's bytes were written and not cut away
+//! - `read NUMBER OFFSET COUNT`: a file's bytes, `\0` being a zero byte, and `\NUMBER;` a quote, a backslash or what isn't
+//!   printed. `target NUMBER`: the text of a link. `stored NUMBER`: how many of a file's bytes were written and not cut away
 //! - `many COUNT`: in a tree of its own, so many directories in the root, beside as many names of one file
 //! - `generated SEED COUNT`: so many operations that a generator of that seed chooses, on trees of their own; how many had an
 //!   effect
@@ -29,6 +29,7 @@ mod alike;
 mod generated;
 mod many;
 mod operations;
+mod telling;
 mod text;
 mod trees;
 mod trial;
@@ -47,7 +48,7 @@ fn main(rt: HostRuntime) -> io::Result<()> {
         let line = line?;
         let mut answer = Text::new(alloc);
         trial.answer(&mut answer, alloc, line.as_str());
-        println!(rt; "{line}{}", answer.as_str())?;
+        println!(rt; "{line}{}", answer.whole().unwrap_or(": no answer"))?;
     }
     Ok(())
 }

@@ -1,10 +1,9 @@
 //! Many names in one directory.
 
-ghost use Rattle.std.specs.Prelude.{IfSome};
 ghost use Rattle.fs_tree.specs.Applicable.{IsApplicable};
 
-use crate::operations::{link, make};
 use crate::text::Text;
+use crate::words::{Words, small_number};
 use dir_replay::Listing;
 use fs_tree::{ROOT, Tree};
 use ivy_base::{Bytes, Key, Kind, Moment, Op};
@@ -21,16 +20,31 @@ fn directory(number: u32) -> Key {
     Key([d, c, 3, 3, 3, 3, 3, 3, 3, 3, 3, 3, 3, 3, 3, 3, a, b, c, d])
 }
 
-fn apply(tree: &mut Tree, alloc: Global, op: Option<Op>) -> Option<()>
-    requires { IfSome op (λ op. IsApplicable op) }
+fn apply(tree: &mut Tree, alloc: Global, op: Op) -> Option<()>
+    requires { IsApplicable op }
 {
-    tree.apply(alloc, NOW, &op?).ok()
+    tree.apply(alloc, NOW, &op).ok()
+}
+
+fn make(tree: &mut Tree, alloc: Global, ino: Key, kind: Kind) -> Option<()> {
+    let target = Bytes::of(Vec::new(alloc));
+    let op = Op::Inode {
+        ino,
+        kind,
+        mode: 0o755,
+        uid: 10,
+        gid: 20,
+        target,
+    };
+    apply(tree, alloc, op)
 }
 
 /// Gives the inode a name in the root: the letter and the number's bytes.
 fn name(tree: &mut Tree, alloc: Global, ino: Key, letter: u8, number: u32) -> Option<()> {
     let [a, b, c, d] = number.to_be_bytes();
-    apply(tree, alloc, link(alloc, ROOT, &[letter, a, b, c, d], ino))
+    let name = Bytes::copy_of(alloc, &[letter, a, b, c, d]).ok()?;
+    let dir = ROOT;
+    apply(tree, alloc, Op::Link { dir, name, ino })
 }
 
 /// Whether each name is below the next one.
@@ -45,11 +59,11 @@ fn is_ascending(pairs: &[(Bytes, Key)]) -> bool {
 
 /// Adds so many directories to the root, beside as many names of the file.
 fn fill(tree: &mut Tree, alloc: Global, count: u32) -> Option<()> {
-    apply(tree, alloc, make(alloc, FILE, Kind::Reg, ""))?;
+    make(tree, alloc, FILE, Kind::Reg)?;
     for step in 0..count {
         let number = step.wrapping_mul(7) % count;
         let dir = directory(number);
-        apply(tree, alloc, make(alloc, dir, Kind::Dir, ""))?;
+        make(tree, alloc, dir, Kind::Dir)?;
         name(tree, alloc, dir, b'd', number)?;
         name(tree, alloc, FILE, b'f', number)?;
     }
@@ -71,8 +85,9 @@ fn show(text: &mut Text, alloc: Global, tree: &Tree) -> Option<()> {
     Some(())
 }
 
-/// Tells what a copy of such a tree has.
-pub fn run(text: &mut Text, alloc: Global, count: u32) -> Option<()> {
+/// Tells what a copy of such a tree has, of so many directories as the words say.
+pub fn run(text: &mut Text, alloc: Global, words: Words<'_>) -> Option<()> {
+    let count = small_number(words.last()?)?;
     let mut tree = Tree::empty(alloc).ok()?;
     fill(&mut tree, alloc, count)?;
     show(text, alloc, &tree.copy(alloc).ok()?)

@@ -1,30 +1,96 @@
 //! The operations that lines ask for.
 
-ghost use Rattle.std.specs.Prelude.{IfSome};
+ghost use Rattle.std.specs.Prelude.{◌≤◌, IfSome};
 ghost use Rattle.fs_tree.specs.Applicable.{IsApplicable};
 
-use crate::words::{Words, inode, kind_of, moment_of, number, small_number};
-use ivy_base::{Bytes, Change, Key, Kind, Op};
+use crate::words::{Words, kind_of, moment_of, number, small_number};
+use ivy_base::{Bytes, Change, Moment, Op};
 use std::alloc::Global;
 
 /// Where a file's bytes end at most.
 const MOST_BYTES: u64 = 16_777_216;
 
-/// No attribute is set.
-pub const NO_CHANGE: Change = Change {
-    mode: None,
-    uid: None,
-    gid: None,
-    size: None,
-    atime: None,
-    mtime: None,
-};
+/// The bytes of a word.
+fn bytes_of(alloc: Global, word: &str) -> Option<Bytes> {
+    Bytes::copy_of(alloc, word.as_bytes()).ok()
+}
 
-/// A new inode. `None` is want of memory, here and below.
-pub fn make(alloc: Global, ino: Key, kind: Kind, target: &str) -> Option<Op>
+fn set_moment(place: &mut Option<Moment>, value: &str) -> Option<()> {
+    *place = Some(moment_of(value)?);
+    Some(())
+}
+
+fn set_number(place: &mut Option<u32>, value: &str, radix: u32) -> Option<()>
+    requires low { 2 ≤ radix }
+    requires high { radix ≤ 36 }
+{
+    *place = Some(u32::from_str_radix(value, radix).ok()?);
+    Some(())
+}
+
+/// Takes a name and its value into a change, but for a time.
+fn change_number(change: &mut Change, name: &str, value: &str) -> Option<()> {
+    match name {
+        "mode" => set_number(&mut change.mode, value, 8),
+        "uid" => set_number(&mut change.uid, value, 10),
+        "gid" => set_number(&mut change.gid, value, 10),
+        "size" => {
+            change.size = Some(number(value)?);
+            Some(())
+        }
+        _ => None,
+    }
+}
+
+/// Takes one `NAME=VALUE` into a change.
+fn change_by(change: &mut Change, word: &str) -> Option<()> {
+    let (name, value) = word.split_once('=')?;
+    match name {
+        "atime" => set_moment(&mut change.atime, value),
+        "mtime" => set_moment(&mut change.mtime, value),
+        _ => change_number(change, name, value),
+    }
+}
+
+/// The change that all words of the text make.
+fn change_of(text: Option<&str>) -> Option<Change> {
+    let mut change = Change {
+        mode: None,
+        uid: None,
+        gid: None,
+        size: None,
+        atime: None,
+        mtime: None,
+    };
+    if let Some(text) = text {
+        for word in text.split(' ') {
+            change_by(&mut change, word)?;
+        }
+    }
+    Some(change)
+}
+
+/// Attributes that are set, where a size is within a file's limit.
+fn set_attributes(mut words: Words<'_>) -> Option<Op>
     ensures { IfSome result (λ op. IsApplicable op) }
 {
-    let target = Bytes::copy_of(alloc, target.as_bytes()).ok()?;
+    let ino = words.inode()?;
+    let change = change_of(words.rest)?;
+    if let Some(size) = change.size {
+        if size > MOST_BYTES {
+            return None;
+        }
+    }
+    Some(Op::SetAttrs { ino, change })
+}
+
+/// A new inode, with a target where the words have one.
+fn inode(alloc: Global, mut words: Words<'_>) -> Option<Op>
+    ensures { IfSome result (λ op. IsApplicable op) }
+{
+    let ino = words.inode()?;
+    let kind = kind_of(words.word()?)?;
+    let target = bytes_of(alloc, words.last_or_none()?)?;
     Some(Op::Inode {
         ino,
         kind,
@@ -36,9 +102,12 @@ pub fn make(alloc: Global, ino: Key, kind: Kind, target: &str) -> Option<Op>
 }
 
 /// Bytes that are written, where they end within a file's limit.
-pub fn write(alloc: Global, ino: Key, offset: u64, bytes: &[u8]) -> Option<Op>
+fn write(alloc: Global, mut words: Words<'_>) -> Option<Op>
     ensures { IfSome result (λ op. IsApplicable op) }
 {
+    let ino = words.inode()?;
+    let offset = number(words.word()?)?;
+    let bytes = words.last()?.as_bytes();
     if offset > MOST_BYTES || bytes.len() as u64 > MOST_BYTES - offset {
         return None;
     }
@@ -46,40 +115,52 @@ pub fn write(alloc: Global, ino: Key, offset: u64, bytes: &[u8]) -> Option<Op>
     Some(Op::Write { ino, offset, bytes })
 }
 
-/// Attributes that are set, where a size is within a file's limit.
-pub fn set_attributes(ino: Key, change: Change) -> Option<Op>
+/// An operation on what an inode is or contains.
+fn of_contents(alloc: Global, word: &str, words: Words<'_>) -> Option<Op>
     ensures { IfSome result (λ op. IsApplicable op) }
 {
-    if let Some(size) = change.size {
-        if size > MOST_BYTES {
-            return None;
-        }
+    match word {
+        "inode" => inode(alloc, words),
+        "write" => write(alloc, words),
+        "setattr" => set_attributes(words),
+        "cancel" => cancel(words),
+        _ => None,
     }
-    Some(Op::SetAttrs { ino, change })
 }
 
-/// A name that is given.
-pub fn link(alloc: Global, dir: Key, name: &[u8], ino: Key) -> Option<Op>
+fn cancel(words: Words<'_>) -> Option<Op>
     ensures { IfSome result (λ op. IsApplicable op) }
 {
-    let name = Bytes::copy_of(alloc, name).ok()?;
+    let seq = small_number(words.last()?)?;
+    Some(Op::Cancel { seq })
+}
+
+fn link(alloc: Global, mut words: Words<'_>) -> Option<Op>
+    ensures { IfSome result (λ op. IsApplicable op) }
+{
+    let dir = words.inode()?;
+    let name = words.word()?;
+    let ino = words.last_inode()?;
+    let name = bytes_of(alloc, name)?;
     Some(Op::Link { dir, name, ino })
 }
 
-/// A name that is taken away.
-pub fn unlink(alloc: Global, dir: Key, name: &str) -> Option<Op>
+fn unlink(alloc: Global, mut words: Words<'_>) -> Option<Op>
     ensures { IfSome result (λ op. IsApplicable op) }
 {
-    let name = Bytes::copy_of(alloc, name.as_bytes()).ok()?;
+    let dir = words.inode()?;
+    let name = bytes_of(alloc, words.last()?)?;
     Some(Op::Unlink { dir, name })
 }
 
-/// A name that is moved.
-pub fn rename(alloc: Global, dir: Key, name: &str, to_dir: Key, to_name: &str) -> Option<Op>
+fn rename(alloc: Global, mut words: Words<'_>) -> Option<Op>
     ensures { IfSome result (λ op. IsApplicable op) }
 {
-    let name = Bytes::copy_of(alloc, name.as_bytes()).ok()?;
-    let to_name = Bytes::copy_of(alloc, to_name.as_bytes()).ok()?;
+    let dir = words.inode()?;
+    let name = words.word()?;
+    let to_dir = words.inode()?;
+    let to_name = bytes_of(alloc, words.last()?)?;
+    let name = bytes_of(alloc, name)?;
     Some(Op::Rename {
         dir,
         name,
@@ -88,80 +169,25 @@ pub fn rename(alloc: Global, dir: Key, name: &str, to_dir: Key, to_name: &str) -
     })
 }
 
-/// A creation that is announced.
-pub fn prepare(alloc: Global, dir: Key, name: &str) -> Option<Op>
+fn prepare(alloc: Global, mut words: Words<'_>) -> Option<Op>
     ensures { IfSome result (λ op. IsApplicable op) }
 {
-    let name = Bytes::copy_of(alloc, name.as_bytes()).ok()?;
-    Some(Op::Prepare {
-        dir,
-        name,
-        verf: [1; 8],
-    })
+    let dir = words.inode()?;
+    let name = bytes_of(alloc, words.last()?)?;
+    let verf = [1; 8];
+    Some(Op::Prepare { dir, name, verf })
 }
 
-/// Takes one `NAME=VALUE` into a change.
-fn change_by(change: &mut Change, word: &str) -> Option<()> {
-    let (name, value) = word.split_once('=')?;
-    match name {
-        "mode" => change.mode = Some(u32::from_str_radix(value, 8).ok()?),
-        "uid" => change.uid = Some(small_number(value)?),
-        "gid" => change.gid = Some(small_number(value)?),
-        "size" => change.size = Some(number(value)?),
-        "atime" => change.atime = Some(moment_of(value)?),
-        "mtime" => change.mtime = Some(moment_of(value)?),
-        _ => return None,
-    }
-    Some(())
-}
-
-/// The change that all these words make.
-fn change_of(words: &Words<'_>) -> Option<Change> {
-    let mut change = NO_CHANGE;
-    let Some(rest) = words.rest else {
-        return Some(change);
-    };
-    for word in rest.split(' ') {
-        change_by(&mut change, word)?;
-    }
-    Some(change)
-}
-
-/// The inode that the words ask for, with a target where they have one.
-fn make_by(alloc: Global, mut words: Words<'_>) -> Option<Op>
-    ensures { IfSome result (λ op. IsApplicable op) }
-{
-    let ino = words.inode()?;
-    let kind = kind_of(words.word()?)?;
-    if words.rest.is_none() {
-        return make(alloc, ino, kind, "");
-    }
-    make(alloc, ino, kind, words.last()?)
-}
-
-/// An operation on what an inode is or contains.
-fn of_contents(alloc: Global, word: &str, mut words: Words<'_>) -> Option<Op>
+/// An operation on a name.
+fn of_names(alloc: Global, word: &str, words: Words<'_>) -> Option<Op>
     ensures { IfSome result (λ op. IsApplicable op) }
 {
     match word {
-        "inode" => make_by(alloc, words),
-        "write" => {
-            let ino = words.inode()?;
-            let offset = number(words.word()?)?;
-            write(alloc, ino, offset, words.last()?.as_bytes())
-        }
-        "setattr" => {
-            let ino = words.inode()?;
-            set_attributes(ino, change_of(&words)?)
-        }
-        "cancel" => Some(Op::Cancel {
-            seq: small_number(words.last()?)?,
-        }),
-        "end" => {
-            words.end()?;
-            Some(Op::End)
-        }
-        _ => None,
+        "link" => link(alloc, words),
+        "unlink" => unlink(alloc, words),
+        "rename" => rename(alloc, words),
+        "prepare" => prepare(alloc, words),
+        _ => of_contents(alloc, word, words),
     }
 }
 
@@ -170,19 +196,11 @@ pub fn operation_of(alloc: Global, mut words: Words<'_>) -> Option<Op>
     ensures { IfSome result (λ op. IsApplicable op) }
 {
     let word = words.word()?;
-    match word {
-        "link" => {
-            let dir = words.inode()?;
-            let name = words.word()?;
-            link(alloc, dir, name.as_bytes(), inode(words.last()?)?)
-        }
-        "unlink" => unlink(alloc, words.inode()?, words.last()?),
-        "rename" => {
-            let dir = words.inode()?;
-            let name = words.word()?;
-            rename(alloc, dir, name, words.inode()?, words.last()?)
-        }
-        "prepare" => prepare(alloc, words.inode()?, words.last()?),
-        _ => of_contents(alloc, word, words),
+    if words.rest.is_some() {
+        of_names(alloc, word, words)
+    } else if word == "end" {
+        Some(Op::End)
+    } else {
+        None
     }
 }

@@ -22,19 +22,24 @@ impl Text {
         }
     }
 
-    /// What was put together.
-    pub fn as_str(&self) -> &str {
+    /// What was put together; `None` where memory was wanting.
+    pub fn whole(&self) -> Option<&str> {
         if self.is_whole {
-            self.text.as_str()
+            Some(self.text.as_str())
         } else {
-            ": no answer"
+            None
         }
+    }
+
+    /// Notes that memory was wanting.
+    pub fn lack(&mut self) {
+        self.is_whole = false;
     }
 
     /// Adds words.
     pub fn add(&mut self, words: &str) {
         if self.text.push_str(words).is_err() {
-            self.is_whole = false;
+            self.lack();
         }
     }
 
@@ -42,7 +47,7 @@ impl Text {
     pub fn count(&mut self, words: &str, number: u64) {
         self.add(words);
         if write!(self.text, "{number}").is_err() {
-            self.is_whole = false;
+            self.lack();
         }
     }
 
@@ -50,7 +55,7 @@ impl Text {
     pub fn octal(&mut self, words: &str, number: u32) {
         self.add(words);
         if write!(self.text, "{number:o}").is_err() {
-            self.is_whole = false;
+            self.lack();
         }
     }
 
@@ -59,25 +64,40 @@ impl Text {
         self.count(words, u64::from(number_of(ino)));
     }
 
+    /// Adds words and the number of an inode, or that there is none.
+    pub fn any_inode(&mut self, words: &str, ino: &Option<Key>) {
+        match ino {
+            Some(ino) => self.inode(words, ino),
+            None => {
+                self.add(words);
+                self.add("none");
+            }
+        }
+    }
+
     /// Adds words and a moment.
     pub fn moment(&mut self, words: &str, moment: Moment) {
         self.count(words, u64::from(moment.sec));
         self.count(":", u64::from(moment.nsec));
     }
 
-    /// Adds a zero byte as `\0`, and one that is no printed letter as a point.
+    /// Adds a printed letter, a zero byte as `\0`, and any other byte as `\NUMBER;`.
     fn byte(&mut self, byte: u8) {
-        let letter = match byte {
-            0 => return self.add("\\0"),
-            b' '..=b'~' => char::from(byte),
-            _ => '.',
-        };
-        if self.text.push(letter).is_err() {
-            self.is_whole = false;
+        match byte {
+            0 => self.add("\\0"),
+            b' ' | b'!' | b'#'..=b'[' | b']'..=b'~' => {
+                if self.text.push(char::from(byte)).is_err() {
+                    self.lack();
+                }
+            }
+            _ => {
+                self.count("\\", u64::from(byte));
+                self.add(";");
+            }
         }
     }
 
-    /// Adds bytes between quotes.
+    /// Adds bytes between quotes, in no two ways the same.
     pub fn quote(&mut self, bytes: &[u8]) {
         self.add("\"");
         for byte in bytes {

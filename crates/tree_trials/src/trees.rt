@@ -1,9 +1,10 @@
 //! A tree that is kept in three ways.
 
-ghost use Rattle.std.specs.Prelude.{IfSome};
 ghost use Rattle.fs_tree.specs.Applicable.{IsApplicable};
 
 use crate::alike::{agree, are_alike};
+use crate::operations::operation_of;
+use crate::words::Words;
 use dir_replay::{Names, Touched};
 use fs_tree::Tree;
 use ivy_base::{Memory, Moment, Op};
@@ -64,21 +65,27 @@ impl Trees {
         self.names.apply_names(alloc, op)
     }
 
-    /// What the trees have become, which were like that one, by an operation that touched these directories.
-    fn effect(&self, alloc: Global, before: &Tree, touched: Touched) -> Result<Effect, Memory> {
-        Ok(Effect {
+    /// What has become of the trees, which were like that one, by an operation that touched these directories.
+    fn effect(&self, alloc: Global, before: &Tree, touched: Touched) -> Option<Effect> {
+        Some(Effect {
             touched,
             has_changed: !are_alike(alloc, before, &self.tree)?,
             agree: agree(alloc, self)?,
         })
     }
 
-    /// Does the operation; `None` for want of memory, and where there is none.
-    pub fn perform(&mut self, alloc: Global, moment: Moment, op: Option<Op>) -> Option<Effect>
-        requires { IfSome op (λ op. IsApplicable op) }
+    /// Does the operation. `None` is want of memory.
+    fn perform(&mut self, alloc: Global, moment: Moment, op: &Op) -> Option<Effect>
+        requires { IsApplicable op.now }
     {
         let before = self.tree.copy(alloc).ok()?;
-        let touched = self.apply(alloc, moment, &op?).ok()?;
-        self.effect(alloc, &before, touched).ok()
+        let touched = self.apply(alloc, moment, op).ok()?;
+        self.effect(alloc, &before, touched)
+    }
+
+    /// Does the operation that the words ask for; `None` where they ask for none, and for want of memory.
+    pub fn operate(&mut self, alloc: Global, moment: Moment, words: Words<'_>) -> Option<Effect> {
+        let op = operation_of(alloc, words)?;
+        self.perform(alloc, moment, &op)
     }
 }

@@ -1,12 +1,13 @@
 //! A trial: the trees, and how each line is answered.
 
-use crate::operations::operation_of;
+use crate::telling::{attributes, bytes, entries, kind_name, naming, times};
 use crate::text::Text;
 use crate::trees::{Effect, Trees};
-use crate::words::{Words, inode, moment_of, number, small_number};
+use crate::words::{Words, moment_of, number, small_number};
 use crate::{generated, many};
 use fs_tree::Tree;
-use ivy_base::{Key, Kind, Memory, Moment};
+use inode_replay::Content;
+use ivy_base::{Key, Kind, Memory};
 use std::alloc::Global;
 
 /// The trees that operations are done to, and those that are kept.
@@ -31,10 +32,8 @@ impl Trial {
             return;
         }
         text.add(": ");
-        if self
-            .answer_words(text, alloc, Words { rest: Some(line) })
-            .is_none()
-        {
+        let words = Words { rest: Some(line) };
+        if self.answer_words(text, alloc, words).is_none() {
             text.add("no answer");
         }
     }
@@ -42,206 +41,153 @@ impl Trial {
     /// Adds the answer, and for `None` nothing.
     fn answer_words(&mut self, text: &mut Text, alloc: Global, mut words: Words<'_>) -> Option<()> {
         let word = words.word()?;
-        if let Some(moment) = moment_of(word) {
-            return self.operate(text, alloc, moment, words);
+        if words.rest.is_none() {
+            return self.change_trees(text, alloc, word);
         }
         match word {
-            "new" => {
-                words.end()?;
-                replace(&mut self.trees, text, Trees::empty(alloc))
-            }
-            "keep" => {
-                words.end()?;
-                replace(&mut self.kept, text, self.trees.copy(alloc))
-            }
-            "back" => {
-                words.end()?;
-                replace(&mut self.trees, text, self.kept.copy(alloc))
-            }
-            "many" => many::run(text, alloc, small_number(words.last()?)?),
-            "generated" => {
-                let seed = small_number(words.word()?)?;
-                generated::run(text, alloc, seed, small_number(words.last()?)?)
-            }
-            _ => show(&self.trees.tree, text, alloc, word, words),
+            "many" => many::run(text, alloc, words),
+            "generated" => generated::run(text, alloc, words),
+            _ => self.answer_more(text, alloc, word, words),
         }
     }
 
-    /// Tells what an operation changed.
-    fn operate(
+    /// Adds what an operation changed, or what is asked about an inode.
+    fn answer_more(
         &mut self,
         text: &mut Text,
         alloc: Global,
-        moment: Moment,
-        words: Words<'_>,
+        word: &str,
+        mut words: Words<'_>,
     ) -> Option<()> {
-        let op = operation_of(alloc, words);
-        let effect = self.trees.perform(alloc, moment, op)?;
-        tell(text, &effect);
+        match moment_of(word) {
+            Some(moment) => {
+                let effect = self.trees.operate(alloc, moment, words)?;
+                tell(text, &effect);
+                Some(())
+            }
+            None => {
+                let ino = words.inode()?;
+                show(text, alloc, &self.trees.tree, &ino, word, words)
+            }
+        }
+    }
+
+    /// Puts trees in place of others.
+    fn change_trees(&mut self, text: &mut Text, alloc: Global, word: &str) -> Option<()> {
+        match word {
+            "new" => self.trees = Trees::empty(alloc).ok()?,
+            "keep" => self.kept = self.trees.copy(alloc).ok()?,
+            "back" => self.trees = self.kept.copy(alloc).ok()?,
+            _ => return None,
+        }
+        text.add("done");
         Some(())
     }
-}
-
-/// Puts trees in place of others.
-fn replace(trees: &mut Trees, text: &mut Text, other: Result<Trees, Memory>) -> Option<()> {
-    *trees = other.ok()?;
-    text.add("done");
-    Some(())
 }
 
 fn tell(text: &mut Text, effect: &Effect) {
     if !effect.agree {
         return text.add("they differ");
     }
-    match (effect.touched.first, effect.touched.second) {
-        (Some(first), second) => {
-            text.inode("touched ", &first);
-            if let Some(second) = second {
-                text.inode(" ", &second);
-            }
-        }
-        _ => text.add(if effect.has_changed {
+    let Some(first) = &effect.touched.first else {
+        return text.add(if effect.has_changed {
             "changed"
         } else {
             "nothing"
-        }),
+        });
+    };
+    text.inode("touched ", first);
+    if let Some(second) = &effect.touched.second {
+        text.inode(" ", second);
     }
 }
 
-/// Tells what is asked about an inode.
+/// Tells what is asked about an inode's names.
 fn show(
-    tree: &Tree,
     text: &mut Text,
     alloc: Global,
+    tree: &Tree,
+    ino: &Key,
     word: &str,
-    mut words: Words<'_>,
+    words: Words<'_>,
 ) -> Option<()> {
-    let ino = words.inode()?;
     match word {
-        "attr" => or_none(attributes(tree, text, &ino), text),
-        "names" => naming(tree, text, &ino),
-        "list" => entries(tree, text, alloc, &ino),
-        "entry" => or_none(entry(tree, text, &ino, words.last()?), text),
-        "inside" => inside(tree, text, &ino, &inode(words.last()?)?),
-        "read" => {
-            let offset = number(words.word()?)?;
-            read(
-                tree,
-                text,
-                alloc,
-                &ino,
-                offset,
-                small_number(words.last()?)?,
-            )
-        }
-        "target" => target(tree, text, &ino),
-        "stored" => or_none(stored(tree, text, &ino), text),
-        _ => None,
-    }
-}
-
-/// What is missing is told as `none`.
-fn or_none(told: Option<()>, text: &mut Text) -> Option<()> {
-    if told.is_none() {
-        text.add("none");
+        "names" => names(text, tree, ino),
+        "list" => entries(text, alloc, tree.names(), ino),
+        "attr" => attr(text, tree, ino),
+        "entry" => text.any_inode("", &tree.entry(ino, words.last()?.as_bytes())),
+        "inside" => text.add(if tree.names().inside(ino, &words.last_inode()?) {
+            "yes"
+        } else {
+            "no"
+        }),
+        _ => return show_content(text, alloc, tree.content(ino), word, words),
     }
     Some(())
 }
 
-fn name_of(kind: Kind) -> &'static str {
-    match kind {
-        Kind::Reg => "reg",
-        Kind::Dir => "dir",
-        Kind::Lnk => "lnk",
-    }
-}
-
-/// An inode's kind, attributes and size.
-fn attributes(tree: &Tree, text: &mut Text, ino: &Key) -> Option<()> {
-    let kind = tree.kind(ino)?;
-    let attr = tree.attr(ino)?;
-    let size = tree.content(ino)?.size();
-    text.add(name_of(kind));
-    text.octal(" mode ", attr.mode);
-    text.count(" owner ", u64::from(attr.uid));
-    text.count(" ", u64::from(attr.gid));
-    text.count(" size ", size);
-    text.moment(" atime ", attr.atime);
-    text.moment(" mtime ", attr.mtime);
-    text.moment(" ctime ", attr.ctime);
-    Some(())
-}
-
-/// How many names an inode has, the directory of a directory's name, and whether it is live.
-fn naming(tree: &Tree, text: &mut Text, ino: &Key) -> Option<()> {
-    text.count("names ", tree.names().names_of(ino));
-    match tree.names().parent(ino) {
-        Some(parent) => text.inode(", parent ", &parent),
-        None => text.add(", parent none"),
-    }
+/// Tells how many names an inode has, the directory of a directory's name, and whether it is live.
+fn names(text: &mut Text, tree: &Tree, ino: &Key) {
+    naming(text, tree.names(), ino);
     text.add(if tree.live(ino) {
         ", live"
     } else {
         ", not live"
     });
-    Some(())
 }
 
-/// The entries of a directory, and how many lead to directories.
-fn entries(tree: &Tree, text: &mut Text, alloc: Global, dir: &Key) -> Option<()> {
-    let listing = tree.names().listing(alloc, dir).ok()?;
-    let pairs = listing.as_slice();
-    text.count("entries ", pairs.len() as u64);
-    text.count(", directories ", tree.subdirs(dir));
-    text.add(":");
-    for (name, ino) in pairs {
-        text.add(" ");
-        text.quote(name.as_slice());
-        text.inode(" ", ino);
+/// Tells an inode's kind, attributes and size, or that it is missing.
+fn attr(text: &mut Text, tree: &Tree, ino: &Key) {
+    text.add(kind_name(tree.kind(ino)));
+    if let Some(attr) = tree.attr(ino) {
+        attributes(text, &attr);
+        if let Some(content) = tree.content(ino) {
+            times(text, content.size(), &attr);
+        }
+    }
+}
+
+/// Tells what is asked about an inode's contents.
+fn show_content(
+    text: &mut Text,
+    alloc: Global,
+    content: Option<&Content>,
+    word: &str,
+    words: Words<'_>,
+) -> Option<()> {
+    if word == "stored" {
+        stored(text, content);
+        return Some(());
+    }
+    let content = content?;
+    match word {
+        "target" => target(text, content),
+        "read" => read(text, alloc, content, words)?,
+        _ => return None,
     }
     Some(())
 }
 
-fn entry(tree: &Tree, text: &mut Text, dir: &Key, name: &str) -> Option<()> {
-    text.inode("", &tree.entry(dir, name.as_bytes())?);
-    Some(())
+/// Tells how many of the inode's bytes are stored.
+fn stored(text: &mut Text, content: Option<&Content>) {
+    match content {
+        Some(content) => text.count("", content.stored()),
+        None => text.add("none"),
+    }
 }
 
-fn inside(tree: &Tree, text: &mut Text, ino: &Key, dir: &Key) -> Option<()> {
-    text.add(if tree.names().inside(ino, dir) {
-        "yes"
-    } else {
-        "no"
-    });
-    Some(())
-}
-
-fn read(
-    tree: &Tree,
-    text: &mut Text,
-    alloc: Global,
-    ino: &Key,
-    offset: u64,
-    count: u32,
-) -> Option<()> {
-    let bytes = tree.content(ino)?.read_range(alloc, offset, count).ok()?;
-    text.quote(bytes.as_slice());
-    Some(())
-}
-
-/// The text of a symbolic link.
-fn target(tree: &Tree, text: &mut Text, ino: &Key) -> Option<()> {
-    let content = tree.content(ino)?;
+/// Tells the text of a symbolic link.
+fn target(text: &mut Text, content: &Content) {
     if content.kind() == Kind::Lnk {
         text.quote(content.target());
     } else {
         text.add("none");
     }
-    Some(())
 }
 
-/// How many of the inode's bytes are stored.
-fn stored(tree: &Tree, text: &mut Text, ino: &Key) -> Option<()> {
-    text.count("", tree.content(ino)?.stored());
+fn read(text: &mut Text, alloc: Global, content: &Content, mut words: Words<'_>) -> Option<()> {
+    let offset = number(words.word()?)?;
+    let count = small_number(words.last()?)?;
+    bytes(text, alloc, content, offset, count);
     Some(())
 }

@@ -33,7 +33,7 @@ pub fn small_number(word: &str) -> Option<u32> {
 }
 
 /// The inode whose number a word is.
-pub fn inode(word: &str) -> Option<Key> {
+fn inode(word: &str) -> Option<Key> {
     let number = word.parse().ok()?;
     if number > HIGHEST {
         return None;
@@ -89,13 +89,21 @@ impl<'a> Words<'a> {
         if rest.contains(' ') { None } else { Some(rest) }
     }
 
+    /// The last word, where one is left, or else no letters.
+    pub fn last_or_none(&self) -> Option<&'a str> {
+        if self.rest.is_none() {
+            return Some("");
+        }
+        self.last()
+    }
+
     /// The inode whose number the next word is.
     pub fn inode(&mut self) -> Option<Key> {
         inode(self.word()?)
     }
 
-    /// That no word is left.
-    pub fn end(&self) -> Option<()> {
-        if self.rest.is_some() { None } else { Some(()) }
+    /// The inode whose number the last word is.
+    pub fn last_inode(&self) -> Option<Key> {
+        inode(self.last()?)
     }
 }
