@@ -1,17 +1,13 @@
 -- What was brought tells how a refresh stands.
-use Rattle.std.proofs.Common.{◌≡◌, ⊎_elim, ℕ, List, [], ◌∷◌, ◌++◌, Option, Some, None, Ok, Err, refl, sym, ap, ◌∙◌, subst, Contains}
-use Rattle.std.specs.List.{AllByRecursion}
+use Rattle.std.proofs.Common.{◌≡◌, ℕ, List, [], ◌∷◌, ◌++◌, Option, Some, None, Ok, Err, refl, sym, ap, ◌∙◌, subst}
 use Rattle.std.proofs.lemmas.List.{append-nil}
-use Rattle.std.proofs.lemmas.List.Elements.{Contains-append_left, Contains-append_cases}
 use Rattle.ivy_base.specs.declared.key.Key.{Key}
 use Rattle.ivy_base.specs.declared.key.PubKey.{PubKey}
-use Rattle.ivy_base.specs.Naming.{NamesTellApart}
 use Rattle.log_model.specs.Vector.{Vector}
-use Rattle.log_model.proofs.Lists.{each, each_append, here, there}
 use Rattle.turn_model.specs.Basis.{Basis}
-use Rattle.snapshot_model.specs.Reading.{AreOf, Names, Part}
-use Rattle.snapshot_model.proofs.Loaded.{loaded_is_made as one_is_made}
+use Rattle.snapshot_model.specs.Reading.{Names, Part}
 use Rattle.snapshot_model.proofs.OneNames.{names_are_one}
+use Rattle.snapshot_wholes.proofs.OneBasis.{snapshot_is_one}
 use Rattle.agent_model.specs.Standing.{Chain, Refresh, Standing}
 use Rattle.session_model.specs.Brought.{Brought, BlockOf, Content}
 use Rattle.session_model.specs.Refreshing.{FetchesAll, Loaded, LoadEnd, LoadWants, Loads, LoadsFor, Needs, Note, RefreshEnd, Refreshes, chains_of, counting, end_of_log, start_of}
@@ -20,7 +16,6 @@ use Rattle.session_model.specs.Refreshing.Loads.{loaded, no_whole, wants, misses
 use Rattle.session_model.specs.Refreshing.LoadsFor.{none as nothing_to_load, some as snapshot_to_load}
 use Rattle.session_model.specs.Refreshing.Refreshes.{loading, fetching}
 use Rattle.session_model.specs.Walks.{Gives, GivesNone, Lacks, LogEnd, Stops}
-use Rattle.session_laws.specs.Bringing.{AreMet}
 use Rattle.session_laws.specs.Once.{FetchIsOne, RefreshIsOne}
 use Rattle.session_laws.proofs.OneCourse.{TriesHere, came_or_not, fetch_one, nothing_more, same_block, same_first, same_rest}
 
@@ -74,46 +69,46 @@ abbrev LoadsHere : LoadEnd → List Brought → Type 0
 LoadsHere (LoadWants key) more = more ≡ []
 LoadsHere (Loaded basis) more = Unit {0}
 
--- blocks that were read are of one basis
-basis_one : (met read : List (List ℕ)) (b c : Basis) → NamesTellApart met → AllByRecursion (Contains met) read → AreOf read b → AreOf read c → b ≡ c
-basis_one met read b c apart are f g =
-    let among : (x : List ℕ) → Contains (read ++ read) x → Contains met x = λ x h. ⊎_elim (λ one. each (Contains met) read x are one) (λ other. each (Contains met) read x are other) (Contains-append_cases read read x h) in
-    one_is_made read read b c f g (λ x y in_x in_y e. apart x y (among x in_x) (among y in_y) e) refl
+load_one : {todo : List (Part × Key)} {read : List (List ℕ)} {b c : List Brought} {e f : LoadEnd} (m l : List Brought) → Loads todo read b e → Loads todo read c f → LoadsHere e m → LoadsHere f l → b ++ m ≡ c ++ l
+    → (e ≡ f) × (m ≡ l)
+load_one m l (loaded {read = read} b are) (loaded c also) h g same = (ap (λ (x : Basis). Loaded (Some x)) (snapshot_is_one read c b also are), same)
+load_one m l (loaded b are) (no_whole not) h g same = absurd (not b are)
+load_one m l (no_whole not) (loaded b are) h g same = absurd (not b are)
+load_one m l (no_whole not) (no_whole nor) h g same = (refl, same)
+load_one m l wants wants h g same = (refl, h ∙ sym g)
+load_one m l (wants {key = key}) (misses miss) h g same = absurd (nothing_more m (BlockOf key (Err miss)) l h same)
+load_one m l (wants {key = key}) (garbled bytes none) h g same = absurd (nothing_more m (BlockOf key (Ok bytes)) l h same)
+load_one m l (wants {key = key}) (goes_on {more = later} bytes named names rest) h g same = absurd (nothing_more m (BlockOf key (Ok bytes)) (later ++ l) h same)
+load_one m l (misses {key = key} miss) wants h g same = absurd (nothing_more l (BlockOf key (Err miss)) m g (sym same))
+load_one m l (misses miss) (misses lost) h g same = (refl, same_rest _ _ m l same)
+load_one m l (misses {key = key} miss) (garbled bytes none) h g same = absurd (came_or_not key miss bytes (same_first _ _ m l same))
+load_one m l (misses {key = key} miss) (goes_on {more = later} bytes named names rest) h g same = absurd (came_or_not key miss bytes (same_first _ _ m (later ++ l) same))
+load_one m l (garbled {key = key} bytes none) wants h g same = absurd (nothing_more l (BlockOf key (Ok bytes)) m g (sym same))
+load_one m l (garbled {key = key} bytes none) (misses miss) h g same = absurd (came_or_not key miss bytes (sym (same_first _ _ m l same)))
+load_one m l (garbled bytes none) (garbled other nor) h g same = (refl, same_rest _ _ m l same)
+load_one m l (garbled {part = part} {key = key} bytes none) (goes_on {more = later} other named names rest) h g same =
+    absurd (none named (subst (λ (x : List ℕ). Names part x named) (sym (same_block key bytes other (same_first _ _ m (later ++ l) same))) names))
+load_one m l (goes_on {key = key} {more = later} bytes named names rest) wants h g same = absurd (nothing_more l (BlockOf key (Ok bytes)) (later ++ m) g (sym same))
+load_one m l (goes_on {key = key} {more = later} bytes named names rest) (misses miss) h g same = absurd (came_or_not key miss bytes (sym (same_first _ _ (later ++ m) l same)))
+load_one m l (goes_on {part = part} {key = key} {more = later} bytes named names rest) (garbled other none) h g same =
+    absurd (none named (subst (λ (x : List ℕ). Names part x named) (same_block key bytes other (same_first _ _ (later ++ m) l same)) names))
+load_one m l (goes_on {part = part} {key = key} {todo = todo} {read = read} {more = later} bytes named names rest) (goes_on {more = behind} {end = f} other others also its) h g same =
+    let one : bytes ≡ other = same_block key bytes other (same_first _ _ (later ++ m) (behind ++ l) same) in
+    let list : named ≡ others = names_are_one part bytes named others names (subst (λ (x : List ℕ). Names part x others) (sym one) also) in
+    load_one m l rest (subst (λ (x : List (Part × Key)). Loads (x ++ todo) (read ++ bytes ∷ []) behind f) (sym list) (subst (λ (x : List ℕ). Loads (others ++ todo) (read ++ x ∷ []) behind f) (sym one) its))
+    h g (same_rest _ _ (later ++ m) (behind ++ l) same)
 
-module _ (met : List (List ℕ)) (apart : NamesTellApart met) where
-  load_one : {todo : List (Part × Key)} {read : List (List ℕ)} {b c : List Brought} {e f : LoadEnd} (m l : List Brought) → Loads todo read b e → Loads todo read c f → AllByRecursion (Contains met) read → AreMet met b
-      → LoadsHere e m → LoadsHere f l → b ++ m ≡ c ++ l → (e ≡ f) × (m ≡ l)
-  load_one m l (loaded {read = read} b are) (loaded c also) in_met met_b h g same = (ap (λ (x : Basis). Loaded (Some x)) (basis_one met read b c apart in_met are also), same)
-  load_one m l (loaded b are) (no_whole not) in_met met_b h g same = absurd (not b are)
-  load_one m l (no_whole not) (loaded b are) in_met met_b h g same = absurd (not b are)
-  load_one m l (no_whole not) (no_whole nor) in_met met_b h g same = (refl, same)
-  load_one m l wants wants in_met met_b h g same = (refl, h ∙ sym g)
-  load_one m l (wants {key = key}) (misses miss) in_met met_b h g same = absurd (nothing_more m (BlockOf key (Err miss)) l h same)
-  load_one m l (wants {key = key}) (garbled bytes none) in_met met_b h g same = absurd (nothing_more m (BlockOf key (Ok bytes)) l h same)
-  load_one m l (wants {key = key}) (goes_on {more = later} bytes named names rest) in_met met_b h g same = absurd (nothing_more m (BlockOf key (Ok bytes)) (later ++ l) h same)
-  load_one m l (misses {key = key} miss) wants in_met met_b h g same = absurd (nothing_more l (BlockOf key (Err miss)) m g (sym same))
-  load_one m l (misses miss) (misses lost) in_met met_b h g same = (refl, same_rest _ _ m l same)
-  load_one m l (misses {key = key} miss) (garbled bytes none) in_met met_b h g same = absurd (came_or_not key miss bytes (same_first _ _ m l same))
-  load_one m l (misses {key = key} miss) (goes_on {more = later} bytes named names rest) in_met met_b h g same = absurd (came_or_not key miss bytes (same_first _ _ m (later ++ l) same))
-  load_one m l (garbled {key = key} bytes none) wants in_met met_b h g same = absurd (nothing_more l (BlockOf key (Ok bytes)) m g (sym same))
-  load_one m l (garbled {key = key} bytes none) (misses miss) in_met met_b h g same = absurd (came_or_not key miss bytes (sym (same_first _ _ m l same)))
-  load_one m l (garbled bytes none) (garbled other nor) in_met met_b h g same = (refl, same_rest _ _ m l same)
-  load_one m l (garbled {part = part} {key = key} bytes none) (goes_on {more = later} other named names rest) in_met met_b h g same =
-      absurd (none named (subst (λ (x : List ℕ). Names part x named) (sym (same_block key bytes other (same_first _ _ m (later ++ l) same))) names))
-  load_one m l (goes_on {key = key} {more = later} bytes named names rest) wants in_met met_b h g same = absurd (nothing_more l (BlockOf key (Ok bytes)) (later ++ m) g (sym same))
-  load_one m l (goes_on {key = key} {more = later} bytes named names rest) (misses miss) in_met met_b h g same = absurd (came_or_not key miss bytes (sym (same_first _ _ (later ++ m) l same)))
-  load_one m l (goes_on {part = part} {key = key} {more = later} bytes named names rest) (garbled other none) in_met met_b h g same =
-      absurd (none named (subst (λ (x : List ℕ). Names part x named) (same_block key bytes other (same_first _ _ (later ++ m) l same)) names))
-  load_one m l (goes_on {part = part} {key = key} {todo = todo} {read = read} {more = later} bytes named names rest) (goes_on {more = behind} {end = f} other others also its) in_met met_b h g same =
-      let one : bytes ≡ other = same_block key bytes other (same_first _ _ (later ++ m) (behind ++ l) same) in
-      let list : named ≡ others = names_are_one part bytes named others names (subst (λ (x : List ℕ). Names part x others) (sym one) also) in
-      load_one m l rest (subst (λ (x : List (Part × Key)). Loads (x ++ todo) (read ++ bytes ∷ []) behind f) (sym list) (subst (λ (x : List ℕ). Loads (others ++ todo) (read ++ x ∷ []) behind f) (sym one) its))
-      (each_append (Contains met) read (bytes ∷ []) in_met ((met_b key bytes (here (BlockOf key (Ok bytes)) later)).0, tt))
-      (λ k block c. met_b k block (there (BlockOf key (Ok bytes)) later (BlockOf k (Ok block)) c)) h g (same_rest _ _ (later ++ m) (behind ++ l) same)
+root_one : {root : Option Key} {b c : List Brought} {e f : LoadEnd} (m l : List Brought) → LoadsFor root b e → LoadsFor root c f → LoadsHere e m → LoadsHere f l → b ++ m ≡ c ++ l → (e ≡ f) × (m ≡ l)
+root_one m l nothing_to_load nothing_to_load h g same = (refl, same)
+root_one m l (snapshot_to_load loads) (snapshot_to_load also) h g same = load_one m l loads also h g same
 
-  root_one : {root : Option Key} {b c : List Brought} {e f : LoadEnd} (m l : List Brought) → LoadsFor root b e → LoadsFor root c f → AreMet met b → LoadsHere e m → LoadsHere f l → b ++ m ≡ c ++ l → (e ≡ f) × (m ≡ l)
-  root_one m l nothing_to_load nothing_to_load met_b h g same = (refl, same)
-  root_one m l (snapshot_to_load loads) (snapshot_to_load also) met_b h g same = load_one m l loads also tt met_b h g same
+loads_alone : (e : LoadEnd) → LoadsHere e []
+loads_alone (LoadWants key) = refl
+loads_alone (Loaded basis) = tt
+
+-- what was brought tells what loading came to
+pub load_is_one : (root : Option Key) (brought : List Brought) (e f : LoadEnd) → LoadsFor root brought e → LoadsFor root brought f → e ≡ f
+load_is_one root brought e f loads again = (root_one [] [] loads again (loads_alone e) (loads_alone f) refl).0
 
 -- ---- the refresh
 
@@ -126,17 +121,17 @@ same_basis a b e = cc e
 wants_or_not : (a : Key) (b : Option Basis) → LoadWants a ≡ Loaded b → ⊥
 wants_or_not a b e = cc e
 
-module _ (met : List (List ℕ)) (s : Standing) (apart : NamesTellApart met) where
-  course_one : {b c : List Brought} {ns os : List Note} {given also : Refresh} {e f : RefreshEnd} → AreMet met b → Refreshes s b ns given e → Refreshes s c os also f → b ≡ c → (ns ≡ os) × (given ≡ also) × (e ≡ f)
-  course_one are (loading {brought = b} {key = key} loads) (loading {brought = c} {key = other} its) same =
-      let w = root_one met apart [] [] loads its are refl refl (append-nil b ∙ same ∙ sym (append-nil c)) in
+module _ (s : Standing) where
+  course_one : {b c : List Brought} {ns os : List Note} {given also : Refresh} {e f : RefreshEnd} → Refreshes s b ns given e → Refreshes s c os also f → b ≡ c → (ns ≡ os) × (given ≡ also) × (e ≡ f)
+  course_one (loading {brought = b} {key = key} loads) (loading {brought = c} {key = other} its) same =
+      let w = root_one [] [] loads its refl refl (append-nil b ∙ same ∙ sym (append-nil c)) in
       (refl, refl, ap (λ (k : Key). Needs (Content k)) (same_key key other w.0))
-  course_one are (loading {brought = b} {key = key} loads) (fetching {loaded = c} {brought = d} basis its fetches) same =
-      let w = root_one met apart [] d loads its are refl tt (append-nil b ∙ same) in absurd (wants_or_not key basis w.0)
-  course_one are (fetching {loaded = b} {brought = d} basis loads fetches) (loading {brought = c} {key = key} its) same =
-      let w = root_one met apart d [] loads its (λ k block h. are k block (Contains-append_left b d (BlockOf k (Ok block)) h)) tt refl (same ∙ sym (append-nil c)) in absurd (wants_or_not key basis (sym w.0))
-  course_one are (fetching {loaded = b} {brought = d} {chains = cs} basis loads fetches) (fetching {loaded = c} {brought = x} {notes = os} {chains = ds} {end = f} other its others) same =
-      let w = root_one met apart d x loads its (λ k block h. are k block (Contains-append_left b d (BlockOf k (Ok block)) h)) tt tt same in
+  course_one (loading {brought = b} {key = key} loads) (fetching {loaded = c} {brought = d} basis its fetches) same =
+      let w = root_one [] d loads its refl tt (append-nil b ∙ same) in absurd (wants_or_not key basis w.0)
+  course_one (fetching {loaded = b} {brought = d} basis loads fetches) (loading {brought = c} {key = key} its) same =
+      let w = root_one d [] loads its tt refl (same ∙ sym (append-nil c)) in absurd (wants_or_not key basis (sym w.0))
+  course_one (fetching {loaded = b} {brought = d} {chains = cs} basis loads fetches) (fetching {loaded = c} {brought = x} {notes = os} {chains = ds} {end = f} other its others) same =
+      let w = root_one d x loads its tt tt same in
       let one : basis ≡ other = same_basis basis other w.0 in
       let rest = all_one s (start_of s (counting s.floor basis)) fetches (subst (λ (o : Option Basis). FetchesAll s (start_of s (counting s.floor o)) s.view.members x os ds f) (sym one) others) w.1 in
       (rest.0, given_one (counting s.floor basis) (counting s.floor other) cs ds (ap (counting s.floor) one) rest.1, rest.2)
@@ -146,4 +141,4 @@ module _ (met : List (List ℕ)) (s : Standing) (apart : NamesTellApart met) whe
       given_one o p chains others e g = λ i. record { started = start_of s (e i); chains = g i; basis = e i }
 
 pub refresh_is_one : RefreshIsOne
-refresh_is_one met s brought notes others given also end stand apart are refreshed again = course_one met s apart are refreshed again refl
+refresh_is_one s brought notes others given also end stand refreshed again = course_one s refreshed again refl

@@ -1,19 +1,17 @@
 -- What was brought tells how a refresh stands.
 use Rattle.std.specs.Prelude.{◌≡◌, ℕ, List}
-use Rattle.ivy_base.specs.Naming.{NamesTellApart}
 use Rattle.ivy_base.specs.declared.key.PubKey.{PubKey}
 use Rattle.log_model.specs.Vector.{Vector}
 use Rattle.agent_model.specs.Standing.{Standing, Chain, Refresh}
 use Rattle.session_model.specs.Brought.{Brought}
 use Rattle.session_model.specs.Refreshing.{Note, RefreshEnd, FetchesAll, Refreshes}
-use Rattle.session_laws.specs.Bringing.{AreMet}
 
--- Where names tell the blocks apart, a refresh has one course: what it was brought tells what is noted, what it gives and how it stands.
+-- A refresh has one course: what it was brought tells what is noted, what it gives and how it stands. By the bytes alone: no names have to tell blocks apart.
 abbrev pub RefreshIsOne : Type 0
-RefreshIsOne = (met : List (List ℕ)) (s : Standing) (brought : List Brought) (notes others : List Note) (given also : Refresh) (end stand : RefreshEnd)
-    → NamesTellApart met → AreMet met brought → Refreshes s brought notes given end → Refreshes s brought others also stand → (notes ≡ others) × (given ≡ also) × (end ≡ stand)
+RefreshIsOne = (s : Standing) (brought : List Brought) (notes others : List Note) (given also : Refresh) (end stand : RefreshEnd)
+    → Refreshes s brought notes given end → Refreshes s brought others also stand → (notes ≡ others) × (given ≡ also) × (end ≡ stand)
 
--- Apart from a snapshot that is so whatever names tell: what was brought of these logs tells what is noted, which chains there are and how the fetch stands.
+-- So has the fetch that is its part: what was brought of these logs tells what is noted, which chains there are and how the fetch stands.
 abbrev pub FetchIsOne : Type 0
 FetchIsOne = (s : Standing) (start : Vector) (owners : List PubKey) (brought : List Brought) (notes others : List Note) (chains also : List Chain) (end stand : RefreshEnd)
     → FetchesAll s start owners brought notes chains end → FetchesAll s start owners brought others also stand → (notes ≡ others) × (chains ≡ also) × (end ≡ stand)

@@ -5,9 +5,9 @@
 //! For the layers above, where names tell the blocks apart: a refresh that is done has brought of each member's log what
 //! `agent_model` holds a turn to (`Brings`), and the floor's record where the floor goes further than what it started from, so
 //! that its own agent isn't behind (`is_behind`). All ask that it starts from known records, which it does
-//! (`start_is_known`), also where it goes by a basis, since what it loads is what was made (`loaded_is_made`). What a refresh was
-//! brought tells how it stands (`refreshes_are_one`), so one that is done wants nothing more; and whatever comes of what it wants,
-//! it goes on (`refreshes_go_on`).
+//! (`start_is_known`), also where it goes by a basis, since what it loads is what was made (`loaded_is_made`). Whatever names
+//! tell, what a refresh was brought tells how it stands (`refreshes_are_one`), so one that is done wants nothing more; and
+//! whatever comes of what it wants, it goes on (`refreshes_go_on`).
 //! Definitions: `specs/Bringing.antt` (`AreMet`, `StartsFrom`, and the laws on what is brought), `specs/Starting.antt`,
 //! `specs/Loading.antt` (`IsSnapshotOf`), `specs/Once.antt`, `specs/Going.antt` (`ComesTo`).
 //! Lemmas, each file on those before it: `proofs/ReadBack.antt`, that a walk back by names reads the linked records that end at
@@ -15,7 +15,8 @@
 //! `proofs/OneLog.antt`, `proofs/OwnParts.antt`, `proofs/AllLogs.antt`: one head, one log, each log's part of what was brought,
 //! all logs; `proofs/NotBehind.antt`, `proofs/Refreshed.antt`. By themselves: `proofs/Starting.antt`; `proofs/Loading.antt`
 //! over `proofs/WholeTrees.antt` (trees that operations make have the facts of a snapshot's tree) and `proofs/MadeBlocks.antt`;
-//! `proofs/SortedEntries.antt`; `proofs/OneRefresh.antt` over `proofs/OneCourse.antt` (walks, and the heads of one log);
+//! `proofs/SortedEntries.antt`; `proofs/OneRefresh.antt` (also `load_is_one`, of what loading came to) over
+//! `proofs/OneCourse.antt` (walks, and the heads of one log);
 //! `proofs/Going.antt` over `proofs/GoingCourse.antt`, `proofs/GoingChains.antt` (whether records are sound and onward is known)
 //! and `proofs/GoingHeads.antt` (heads can be put in order); `proofs/DecidedSnapshots.antt`.
 #![tactic(auto)]
@@ -65,8 +66,8 @@ pub fn loaded_is_made()
 
 /// A law and no code.
 ///
-/// Where names tell the blocks apart, what a refresh was brought tells what it notes, what it gives and how it stands; so one
-/// that is done wants nothing more. Where no snapshot is loaded that is so whatever names tell.
+/// What a refresh was brought tells what it notes, what it gives and how it stands; so one that is done wants nothing more. By
+/// the bytes alone: no names have to tell blocks apart.
 pub fn refreshes_are_one()
     ensures refresh { RefreshIsOne }
     ensures fetch { FetchIsOne }

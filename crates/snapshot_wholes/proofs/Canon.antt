@@ -10,7 +10,7 @@ use Rattle.log_model.specs.Spelling.{IsKey}
 use Rattle.turn_model.specs.Basis.{Basis}
 use Rattle.snapshot_model.specs.Blocks.{InodeBlock, Ascend, IsEntry, IsInodeBlock, IsRootBlock, entries_block, inode_block, list_block, root_block}
 use Rattle.snapshot_model.specs.Spelling.{Made, made_name, list_made, list_of, named_by, in_pieces, piece_made, entries_made, items_of, size_of, target_of, inode_made, snapshot_named}
-use Rattle.snapshot_model.specs.Reading.{Part, Root, AnInode, Piece, Entries, Names, item_of, part_below, top_of, HasBounds, IsBodyOf, IsBasisSpelled, IsWholeTree}
+use Rattle.snapshot_model.specs.Reading.{Part, Root, AnInode, Piece, Entries, Names, item_of, part_below, top_of, HasBounds, IsBodyOf, IsBasisSpelled, IsWholeTree, AreOf}
 use Rattle.snapshot_model.proofs.Pieces.{few_pieces, short_pieces, each_joined, join-in_pieces}
 use Rattle.snapshot_model.proofs.MadeLists.{is_listed}
 use Rattle.snapshot_model.proofs.SameNames.{listed_fit}
@@ -264,13 +264,30 @@ basis_forest view b key whole spelled =
       viewed = refl;
     }
 
+-- the blocks of a snapshot are a root with all below it, and it shows the basis
+pub record AreForest (blocks : List (List ℕ)) (b : Basis) : Type 0 where
+  pub bytes : List ℕ
+  pub below : Forest
+  pub fits : Fits (block Root bytes below nothing)
+  pub order : map (λ p. p.1) (flat (block Root bytes below nothing)) ≡ blocks
+  pub shows : ShowsBasis bytes below b
+
+pub are_forest : (blocks : List (List ℕ)) (b : Basis) → AreOf blocks b → AreForest blocks b
+are_forest blocks b are =
+    let g = basis_forest are.view b are.is_key are.whole are.bounds in
+    record {
+      bytes = g.bytes;
+      below = g.below;
+      fits = g.fits;
+      order = sym (shown_reading g.bytes g.below b g.fits g.shows) ∙ ap (λ (v : Key). (snapshot_named v b).reading) g.viewed ∙ are.spelled;
+      shows = g.shows;
+    }
+
 pub loaded_is_shown : LoadedIsShown
 loaded_is_shown bytes below b fits = (
   λ are.
-      let g = basis_forest are.view b are.is_key are.whole are.bounds in
-      let same : map (λ p. p.1) (flat (block Root g.bytes g.below nothing)) ≡ map (λ p. p.1) (flat (block Root bytes below nothing)) =
-      sym (shown_reading g.bytes g.below b g.fits g.shows) ∙ ap (λ (v : Key). (snapshot_named v b).reading) g.viewed ∙ are.spelled in
-      let one = forest_is_one g.bytes bytes g.below below g.fits fits same in
+      let g = are_forest (map (λ p. p.1) (flat (block Root bytes below nothing))) b are in
+      let one = forest_is_one g.bytes bytes g.below below g.fits fits g.order in
       (are.whole, are.bounds, subst (λ (x : List ℕ). ShowsBasis x below b) one.0 (subst (λ (f : Forest). ShowsBasis g.bytes f b) one.1 g.shows)),
   λ w. shown_are_loaded bytes below b fits w.0 w.1 w.2,
 )

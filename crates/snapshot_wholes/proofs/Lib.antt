@@ -9,3 +9,4 @@ pub mod Bases
 pub mod Canon
 pub mod Whole
 pub mod Ends
+pub mod OneBasis

@@ -69,3 +69,7 @@ pub record EndsByShown (l : Loading) (read : List Read) : Type 0 where
 
 abbrev pub LoadingEnds : Type 0
 LoadingEnds = (l : Loading) (read : List Read) → IsReadWhole l read → EndsByShown l read
+
+-- Blocks are the snapshot of one basis at most.
+abbrev pub SnapshotIsOne : Type 0
+SnapshotIsOne = (blocks : List (List ℕ)) (b other : Basis) → AreOf blocks b → AreOf blocks other → other ≡ b

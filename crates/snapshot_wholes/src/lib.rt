@@ -6,17 +6,18 @@
 //! loading comes to the basis that the root shows, or to none (`loading_ends`): the front, the tide, and inode by inode the
 //! attributes and what is at the bottom of its list, of a tree without contradictions and within the bounds. A list need only
 //! be even: on each level all blocks but the last have 512 names, pieces 8,192 bytes and blocks of entries 32 entries.
-//! Nothing has to be spelled or hashed again.
+//! Nothing has to be spelled or hashed again. And blocks are of one basis at most, whatever names tell (`snapshot_is_one`).
 //!
 //! Definitions: `specs/Forests.antt` has blocks with those below them as they are read, and when lists of them are even;
 //! `specs/Inodes.antt` what an inode's block shows, `specs/Wholes.antt` what a root's does, and `specs/Laws.antt`.
 //! Lemmas, each file on those before it: `proofs/Forests.antt`, `proofs/Full.antt` (pieces), `proofs/Even.antt` (even lists
 //! are lists), `proofs/Same.antt` (a forest is known by what it reads), `proofs/Lists.antt` (lists are even),
 //! `proofs/OneForest.antt`, `proofs/Inodes.antt` and `proofs/Bases.antt` (what is shown is made), `proofs/Canon.antt` (what was
-//! made shows its basis), `proofs/Ends.antt`; and by itself `proofs/Whole.antt` (trees).
+//! made shows its basis), `proofs/Ends.antt`, `proofs/OneBasis.antt` (a root shows one basis); and by itself
+//! `proofs/Whole.antt` (trees).
 #![tactic(auto)]
 
-ghost use Rattle.snapshot_wholes.specs.Laws.{EvenListsAreLists, ForestIsOne, LoadedIsShown, LoadingEnds, ReadIsForest, ShownInodesAreMade, WholeTreesAreSound};
+ghost use Rattle.snapshot_wholes.specs.Laws.{EvenListsAreLists, ForestIsOne, LoadedIsShown, LoadingEnds, ReadIsForest, ShownInodesAreMade, SnapshotIsOne, WholeTreesAreSound};
 
 /// A law and no code: a list block with all below it is the list over what is at its bottom exactly where it is even, and of
 /// the least level.
@@ -52,4 +53,9 @@ pub fn loaded_is_shown()
 /// contradictions and it is within the bounds; and to none, where it shows no such basis.
 pub fn loading_ends()
     ensures { LoadingEnds }
+{}
+
+/// A law and no code: blocks are the snapshot of one basis at most, by their bytes alone: no names have to tell them apart.
+pub fn snapshot_is_one()
+    ensures { SnapshotIsOne }
 {}

@@ -2,7 +2,6 @@
 use Rattle.std.proofs.Common.{◌≡◌, ◌⊎◌, inl, inr, ⊎_elim, ℕ, ◌+◌, ◌≤◌, Bool, List, [], ◌∷◌, Option, Some, refl, sym, ap, ◌∙◌, subst, arith}
 use Rattle.ivy_base.specs.declared.key.Key.{Key}
 use Rattle.ivy_base.specs.declared.operation.Moment.{Moment}
-use Rattle.ivy_base.specs.Naming.{NamesTellApart}
 use Rattle.log_heads.specs.Signed.{hss_judged}
 use Rattle.log_model.specs.View.{View}
 use Rattle.dht_ids.specs.declared.ask.Answer.{Answer}
@@ -34,9 +33,8 @@ use Rattle.world_model.specs.Steps.{Acts, Scene, Steps, with_cache}
 use Rattle.world_model.specs.Steps.Acts.{asks as acts_asks, asks_in_vain, turns as acts_turns, is_refused, settles}
 use Rattle.world_model.specs.Steps.Steps.{acts, lacks_memory}
 use Rattle.world_laws.specs.Causes.{IsOf}
-use Rattle.world_laws.specs.Keeps.{IsInHand, IsSoundSession, Keeps}
 use Rattle.world_laws.specs.Laws.{FreshTurnsAreAnswered, HasTurned, RefreshEndsInTurn}
-use Rattle.world_laws.proofs.Bringing.{are_named, its_key, its_view, some_same}
+use Rattle.world_laws.proofs.Bringing.{its_key, its_view, some_same}
 use Rattle.world_laws.proofs.SecondTurns.{IsFreshNow, none_refused_later, turn_not_refused}
 
 -- ---- nothing is wanted
@@ -135,13 +133,9 @@ refused_turn p now s t r = by r.takes r.refused
 abbrev EndsSo : Scene → Scene → Type 0
 EndsSo c next = HasTurned c next ⊎ (((p : Participant) × (participant c.world c.session.by ≡ Some p) × IsRefusedTo p c.world.now c.session next.session) ⊎ LacksMemory c.session next.session)
 
-module _ (c : Scene) (r : ℕ) (keeps : Keeps (c.world, c.story)) (apart : NamesTellApart (named_bytes c.world)) (hand : IsInHand c r)
-    (sound : IsSoundSession c.world c.story c.session c.began) (notes : List Note) (given : Refresh) (done : HasRefreshed c.session notes given) where
+module _ (c : Scene) (r : ℕ) (notes : List Note) (given : Refresh) (done : HasRefreshed c.session notes given) where
   wants_nothing : (want : Want) → Wants hss_judged r c.session want → ⊥
-  wants_nothing want wants =
-      let one = refresh_is_one (named_bytes c.world) c.session.standing (brought_in c.session.parts) wants.1 notes wants.2 given (Needs want) Done apart
-      (are_named c keeps apart sound hand.goes_on.by hand.goes_on.is_by hand.goes_on.in_view) wants.3 done.1 in
-      wants_or_done want one.2
+  wants_nothing want wants = wants_or_done want (refresh_is_one c.session.standing (brought_in c.session.parts) wants.1 notes wants.2 given (Needs want) Done wants.3 done.1).2
 
   step_done : {next : Scene} → Steps hss_judged r c.session.by c next → EndsSo c next
   step_done (acts p taken cache next is takes act) =
@@ -168,7 +162,7 @@ pub refresh_ends_in_turn : RefreshEndsInTurn
 refresh_ends_in_turn c next r notes given keeps apart replicas hand done step = ⊎_elim
     (λ turn. inl turn)
     (λ else. inr (⊎_elim (λ refused. inl (anew refused.0 refused.1 refused.2)) (λ lacks. inr lacks) else))
-    (step_done c r keeps apart hand (hand.sound apart) notes given done step)
+    (step_done c r notes given done step)
   where
     anew : (p : Participant) → participant c.world c.session.by ≡ Some p → IsRefusedTo p c.world.now c.session next.session → next.session.starts ≡ c.session.starts + 1
     anew p is refused =
@@ -180,7 +174,7 @@ pub fresh_turns_are_answered : FreshTurnsAreAnswered
 fresh_turns_are_answered c next r notes given keeps apart replicas hand sound fresh done step = ⊎_elim
     (λ turn. inl turn)
     (λ else. inr (⊎_elim (λ refused. absurd (never refused.0 refused.1 refused.2)) (λ lacks. lacks) else))
-    (step_done c r keeps apart hand sound notes given done step)
+    (step_done c r notes given done step)
   where
     never : (p : Participant) → participant c.world c.session.by ≡ Some p → IsRefusedTo p c.world.now c.session next.session → ⊥
     never p is refused =

@@ -35,7 +35,7 @@ use Rattle.world_model.specs.World.{Participant, named_bytes, participant}
 use Rattle.world_model.specs.Story.{known_of}
 use Rattle.world_model.specs.Steps.{Scene, after_turn, turn_told, world_after}
 use Rattle.world_laws.specs.Keeps.{IsInHand, Keeps}
-use Rattle.world_laws.proofs.Bringing.{are_named, in_a_view, its_view}
+use Rattle.world_laws.proofs.Bringing.{in_a_view, its_view}
 use Rattle.world_laws.proofs.TurnsFloors.{own_number}
 use Rattle.world_laws.proofs.TurnsKnown.{are_candidates, taken_known, turned_is, writes}
 use Rattle.world_laws.proofs.TurnsRefresh.{one_asked, one_xid}
@@ -149,8 +149,7 @@ module _ (c : Scene) (r : ℕ) (p : Participant) (keeps : Keeps (c.world, c.stor
 
   one_given : (notes others : List Note) (given also : Refresh) → HasRefreshed c.session notes given → HasRefreshed c.session others also → (notes ≡ others) × (given ≡ also)
   one_given notes others given also done again =
-      let one = refresh_is_one (named_bytes c.world) c.session.standing (brought_in c.session.parts) notes others given also Done Done apart
-      (are_named c keeps apart (hand.sound apart) p is_p (its_view c r hand p is_p)) done.1 again.1 in
+      let one = refresh_is_one c.session.standing (brought_in c.session.parts) notes others given also Done Done done.1 again.1 in
       (one.0, one.1)
 
   module _ (notes : List Note) (given : Refresh) (xid : ℕ) (asked : Asked) (done : HasRefreshed c.session notes given) (asks : Asks c.session.standing.view c.session.message xid asked)

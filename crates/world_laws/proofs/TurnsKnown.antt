@@ -42,7 +42,7 @@ use Rattle.world_model.specs.World.{Participant, named_bytes, participant}
 use Rattle.world_model.specs.Story.{Knowing, knowing_of, known_of}
 use Rattle.world_model.specs.Steps.{Scene}
 use Rattle.world_laws.specs.Keeps.{IsInHand, IsKeptSo, IsSavedWell, IsSound, IsSoundSession, Keeps}
-use Rattle.world_laws.proofs.Bringing.{agent_sound, are_named, found_named, in_a_view, its_key, its_view, knew_before, refresh_may_turn}
+use Rattle.world_laws.proofs.Bringing.{agent_sound, found_named, in_a_view, its_key, its_view, knew_before, refresh_may_turn}
 use Rattle.world_laws.proofs.MoreMet.{more_stand, more_verified}
 use Rattle.world_laws.proofs.SignedHeads.{from_map}
 use Rattle.world_laws.proofs.TurnsBlocks.{stand_met}
@@ -152,7 +152,7 @@ module _ (c : Scene) (r : ℕ) (p : Participant) (keeps : Keeps (c.world, c.stor
     of = let may = refresh_may_turn c p r notes given keeps apart hand is_p done in by_definition heads (named_bytes c.world) c.session.standing c.began.knew knowing.known apart may.0 may.1
 
     given_is : is_turn.given ≡ given
-    given_is = (refresh_is_one (named_bytes c.world) c.session.standing (brought_in c.session.parts) is_turn.notes notes is_turn.given given Done Done apart (are_named c keeps apart its p is_p in_view) is_turn.refreshed.1 done.1).1
+    given_is = (refresh_is_one c.session.standing (brought_in c.session.parts) is_turn.notes notes is_turn.given given Done Done is_turn.refreshed.1 done.1).1
 
     pub asked_is : is_turn.asked ≡ asked
     asked_is = one_asked view c.session.message is_turn.xid xid is_turn.asked asked is_turn.asks asks
