@@ -2,7 +2,7 @@
 
 ghost use Rattle.std.specs.Prelude.{◌≡◌, ◌≢◌, ◌<◌, ◌≤◌, [], Some, None, IfOk, false};
 ghost use Rattle.log_fetch.specs.Fetching.{awaited_in, fetch_awaited, fetch_left, fetch_wanted, is_failed, most_left, FetchIsAfter, FetchIsWanted, FetchHasHeard, FetchWasGiven, FetchStands, HasFailed, IsSound};
-ghost use Rattle.log_fetch.specs.Standings.{standing_of, note_of_miss};
+ghost use Rattle.log_fetch.specs.Standings.{standing_of};
 ghost use Rattle.log_fetch.specs.Gathering.{heads_wanted, block_wanted};
 ghost use Rattle.log_fetch.specs.Gets.{IsKept};
 ghost use Rattle.log_fetch.specs.Stepping.{BeginsFor, BroughtNothing, GetsFor, HearsNext, IsMiss, WantsNext, Takes, FailsWith, Finishes, IsWantedKind, LeavesNoMore, StandsBehind};
@@ -369,7 +369,7 @@ fn fail(gather: Gather, miss: Miss) -> Result<Fetched, Memory>
     ensures { IfOk result (FailsWith gather miss) }
 {
     let (_, mut notes) = gather.into_parts()?;
-    notes.push(note_of(&miss))?;
+    notes.push(Note::of_miss(&miss))?;
     Ok(Fetched {
         result: Err(miss),
         notes,
@@ -386,17 +386,6 @@ fn finish(gather: Gather) -> Result<Fetched, Memory>
         result: Ok(batch),
         notes,
     })
-}
-
-/// What is noted of that miss.
-fn note_of(miss: &Miss) -> Note
-    ensures { result ≡ note_of_miss miss.now }
-{
-    match miss {
-        Miss::NoRoute(key) => Note::NoRoute(*key),
-        Miss::Missing { key, .. } => Note::Missing(*key),
-        Miss::Damaged { key, .. } => Note::Damaged(*key),
-    }
 }
 
 /// Whatever a fetch was brought is known to come to some end, and while a get is on its way to that what it is for is wanted.

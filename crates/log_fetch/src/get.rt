@@ -31,7 +31,8 @@ pub enum Came {
 
 /// A get whose last ask is to be heard.
 #[derive(Drop)]
-pub(crate) struct Waiting<J: Judge> {
+pub struct Waiting<J: Judge> {
+    /// The get.
     pub get: Get<J>,
     /// The node that was asked.
     pub node: Peer,
@@ -40,7 +41,7 @@ pub(crate) struct Waiting<J: Judge> {
 }
 
 /// What becomes of a get.
-pub(crate) enum Progress<J: Judge> {
+pub enum Progress<J: Judge> {
     /// It waits for its next ask to be heard.
     Waits(Waiting<J>),
     /// It is over.
@@ -103,7 +104,7 @@ impl<J: Judge> Get<J> {
     }
 
     /// Goes on to the next ask, where there is one. The error is want of memory.
-    pub(crate) fn go_on(mut self) -> Result<Progress<J>, Memory>
+    pub fn go_on(mut self) -> Result<Progress<J>, Memory>
         ensures { IfOk result (GoesTo J.judges self) }
     {
         match self.next()? {
@@ -118,7 +119,7 @@ impl<J: Judge> Get<J> {
 
     /// Hears what the node answered that was asked last, and goes on to the next ask, where there is one. The error is want
     /// of memory.
-    pub(crate) fn hear(mut self, answer: Answer) -> Result<Progress<J>, Memory>
+    pub fn hear(mut self, answer: Answer) -> Result<Progress<J>, Memory>
         requires { get_awaited self ≢ None }
         ensures { IfOk result (HearsTo J.judges self answer) }
     {
@@ -129,7 +130,7 @@ impl<J: Judge> Get<J> {
 
 impl<J: Judge> Waiting<J> {
     /// Hears what the node answered, and goes on to the next ask, where there is one. The error is want of memory.
-    pub(crate) fn hear(self, answer: Answer) -> Result<Progress<J>, Memory>
+    pub fn hear(self, answer: Answer) -> Result<Progress<J>, Memory>
         requires { get_awaited self.get ≢ None }
         ensures { IfOk result (HearsTo J.judges self.get answer) }
     {
@@ -137,7 +138,7 @@ impl<J: Judge> Waiting<J> {
     }
 
     /// The node that was asked and what it was asked, again.
-    pub(crate) fn again(&self) -> (Peer, Ask)
+    pub fn again(&self) -> (Peer, Ask)
         requires { IsOfGet self.now.question }
         ensures { result ≡ (self.now.node, self.now.question) }
     {

@@ -15,14 +15,15 @@
 //! block that was given, and the result is what the definition of the members' fetch gives (`FetchesAll`), with its notes and
 //! chains. The chains were added under the view, with the floor and the edges, and are of its members. Each answer, and each
 //! block that is given, leaves fewer asks to the whole fetch (`fetch_left`). The fetch starts from what is held; a snapshot
-//! isn't loaded here.
+//! isn't loaded here. A [`Get`] can be driven alone, too, as those of a snapshot's blocks are: [`Progress`] says whether it is
+//! over, and a [`Waiting`] keeps the ask that is to be heard, since a get that was asked for it again could be over.
 //!
 //! Within: [`log::open`] begins with a log whose heads were got and [`log::go_on`] goes on with a block that was wanted, by
 //! `session_model`'s `Tries` (`specs/Logs.antt`). `gather` goes over the members, whatever is brought and however it came:
 //! how far it is behind that is `Gathers` in `specs/Gathering.antt`. A [`Get`] gets what is wanted of the ring: the trail of
 //! one that is driven is a whole get of `session_model` (`Gets`), with what it brings (`specs/Gets.antt`;
 //! `proofs/Getting.antt` has how it begins), and each answer leaves fewer asks. `fetch` is both together
-//! (`specs/Stepping.antt`): the ask that is to be heard is kept, since a get that was asked for it again could be over.
+//! (`specs/Stepping.antt`).
 //!
 //! Costs: view, floor and edges are copied once at the start. An edge is looked for among those of at most sixteen logs,
 //! and copied for each head that is tested. A block that a get brought is read where it is, and not copied.
@@ -42,7 +43,7 @@ pub mod turned;
 pub use asked::Asked;
 pub use edges::{Edge, Edges};
 pub use fetch::{Fetch, Fetched};
-pub use get::{Came, Get};
+pub use get::{Came, Get, Progress, Waiting};
 pub use note::{Note, Notes};
 pub use refresh::Refresh;
 pub use standing::Standing;

@@ -1,7 +1,9 @@
 //! What a refresh notes.
 
 ghost use Rattle.std.specs.Prelude.{◌≡◌, [], ◌∷◌, ◌++◌, OnOk};
+ghost use Rattle.log_fetch.specs.Standings.{note_of_miss};
 
+use dhash_client::Miss;
 use ivy_base::{Key, Memory};
 use std::marker::Model;
 
@@ -18,6 +20,19 @@ pub enum Note {
     Missing(Key),
     /// An owner gave another block, none gave the right one, and the refresh ended.
     Damaged(Key),
+}
+
+impl Note {
+    /// What is noted of that miss.
+    pub fn of_miss(miss: &Miss) -> Note
+        ensures { result ≡ note_of_miss miss.now }
+    {
+        match miss {
+            Miss::NoRoute(key) => Note::NoRoute(*key),
+            Miss::Missing { key, .. } => Note::Missing(*key),
+            Miss::Damaged { key, .. } => Note::Damaged(*key),
+        }
+    }
 }
 
 /// Notes in a row.

@@ -1,0 +1,16 @@
+pub mod Reaching
+pub mod Fetches
+pub mod Asking
+pub mod Bringing
+pub mod Nobody
+pub mod Falling
+pub mod Counting
+pub mod Standing
+pub mod Starting
+pub mod Wanting
+pub mod Giving
+pub mod Hearing
+pub mod Placing
+pub mod Beginning
+pub mod Laws
+pub mod Wants

@@ -1,0 +1,4 @@
+pub mod States
+pub mod Behind
+pub mod Steps
+pub mod Parts

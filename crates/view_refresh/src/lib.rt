@@ -1,0 +1,23 @@
+//! The refresh of a view: the snapshot first, where there is one to load, and then all logs.
+//!
+//! Layer: over `log_fetch`, which fetches the logs, and `snapshot_loading` and `snapshot_basis`, which load a snapshot that is
+//! given block by block; below sessions, which carry its asks to nodes and its result to an agent.
+//! For the layers above: a [`ViewRefresh`] is driven as a fetch is: [`ViewRefresh::next`] says which node is to be asked, and
+//! [`ViewRefresh::heard`] takes its answer. With its last answer a get is over, and a block that it brought is handed out.
+//! Between gets a block that is pending is taken instead of being got ([`ViewRefresh::take_pending`]), another one that is at
+//! hand can be given ([`ViewRefresh::wanted`], [`ViewRefresh::give`]), and [`ViewRefresh::failed`] says whether something that
+//! is needed couldn't be had. Behind the parts that it was brought so
+//! far and the asks of the get on its way (`RefreshIsAfter` in `specs/Behind.antt`) each ask is the next of a get of exactly
+//! what the refresh wants by its definition (`Refreshes` of `session_model`), and its result is what that gives, with its notes
+//! (`specs/Steps.antt`). A snapshot that can't be had, or is none, counts as there being none: then the logs are fetched over
+//! what is held, and else over the snapshot's front, where the floor knows all that it covers. Each answer, and each block
+//! that is given, leaves fewer asks to the whole refresh (`refresh_left` in `specs/States.antt`).
+//!
+//! Costs: view, floor and edges are copied once, as the fetch begins, and each block of the snapshot once, since it is kept
+//! until all are there and handed out beside that.
+#![tactic(auto)]
+
+mod pending;
+pub mod refresh;
+
+pub use refresh::{Refreshed, ViewRefresh};
