@@ -1,7 +1,5 @@
--- What a fetch or a put is to ask is the next ask of its get or put, and was told once it was heard.
+-- What a put is to ask is the next ask of the first post that is left, and what a get or a put asks was told once it was heard.
 use Rattle.std.proofs.Common.{◌≡◌, ◌≢◌, ⊎_elim, ℕ, Bool, true, false, List, [], ◌∷◌, ◌++◌, Option, Some, None, if◌then◌else◌, refl, sym, ◌∙◌, subst}
-use Rattle.log_model.specs.Vector.{Vector}
-use Rattle.ivy_base.specs.Naming.{head_key_of}
 use Rattle.ivy_base.specs.declared.key.Key.{Key}
 use Rattle.dht_ids.specs.Asked.{IsForData, told}
 use Rattle.dht_ids.specs.declared.ask.Answer.{Answer}
@@ -12,61 +10,18 @@ use Rattle.dht_ids.specs.declared.peer.Peer.{Peer}
 use Rattle.dht_ids.specs.declared.post.Post.{Post}
 use Rattle.dht_ids.specs.declared.post.PostKind.{PostKind}
 use Rattle.dht_ids.specs.declared.post.PostKind.TheVariants as kind
-use Rattle.dhash_client.specs.GetHead.{Judges}
 use Rattle.dhash_client.specs.Puts.{put_awaited, put_kind}
 use Rattle.dhash_client.specs.declared.put.PutKind.TheVariants as put
 use Rattle.agent_model.specs.Agent.{is_head}
-use Rattle.agent_model.specs.Standing.{Standing}
 use Rattle.session_model.specs.Asking.{AsksNext}
-use Rattle.session_model.specs.Brought.{Brought, Part, Want, Heads, Content}
-use Rattle.session_model.specs.Sessions.{IsGet, put_question, wanted_key}
-use Rattle.log_fetch.specs.declared.fetch.State.{State}
-use Rattle.log_fetch.specs.declared.fetch.State.TheVariants as state
-use Rattle.log_fetch.specs.declared.gather.Stage.{Stage}
-use Rattle.log_fetch.specs.declared.get.Get.{Get}
-use Rattle.log_fetch.specs.declared.get.Get.TheVariants as get
-use Rattle.log_fetch.specs.Fetching.{Fetching, FetchIsAfter, IsAsking, IsFor, IsSound, aim, aim_in, awaited_in, fetch_aim, fetch_awaited}
-use Rattle.log_fetch.specs.Gets.{GetIsAfter, get_awaited}
+use Rattle.session_model.specs.Sessions.{put_question}
 use Rattle.post_publishing.specs.Putting.{Putting, PuttingIsAfter, post_of}
 use Rattle.post_publishing.specs.Publishing.{PublishingState, PublishingIsAfter, PutIsBehind, awaited_in as put_awaited_in, posts_in, posts_of, publishing_awaited}
 use Rattle.ask_laws.specs.Laws.{IsWholePutOfPost}
-use Rattle.ask_laws.proofs.AskedMachines.{heads_are_asked_next, content_is_asked_next, post_is_asked_next}
+use Rattle.ask_laws.proofs.AskedMachines.{post_is_asked_next}
 
 some_or_none : {T : Type 0} (x : T) → Some x ≡ None → ⊥
 some_or_none x e = cc e
-
-same_some : {T : Type 0} (x y : T) → Some x ≡ Some y → x ≡ y
-same_some x y e = cc e
-
--- ---- gets
-
-module _ {J : Type 0} (judges : Judges J) (judge : J) (replicas : ℕ) (entries : List Peer) (at : Stage) (current : List Heard) (node : Peer) (question : Ask) where
-  abbrev Next : Want → Type 0
-  Next want = AsksNext (wanted_key want) (ask.Get (wanted_key want)) (IsGet (judges judge) replicas entries want) current node question
-
-  get_next : (x : Get J) → IsFor judge replicas at x → GetIsAfter judges entries current x → get_awaited x ≡ Some (node, question) → Next (aim x)
-  get_next (get.Heads owner s) fits h waits =
-      subst (λ (r : ℕ). AsksNext (head_key_of owner) (ask.Get (head_key_of owner)) (IsGet (judges judge) r entries (Heads owner)) current node question) fits.2
-      (subst (λ (j : J). AsksNext (head_key_of owner) (ask.Get (head_key_of owner)) (IsGet (judges j) s.course.replicas entries (Heads owner)) current node question) fits.1
-      (heads_are_asked_next judges entries current s owner node question h.0 h.1 waits))
-  get_next (get.Block s) fits h waits =
-      subst (λ (r : ℕ). AsksNext s.course.look.key (ask.Get s.course.look.key) (IsGet (judges judge) r entries (Content s.course.look.key)) current node question) fits.1
-      (content_is_asked_next (judges judge) entries current s node question h waits)
-
-module _ {J : Type 0} (judges : Judges J) (judge : J) (replicas : ℕ) (entries : List Peer) (s : Standing) (start : Vector) (brought : List Brought) (current : List Heard) (node : Peer) (question : Ask) where
-  next_in : (st : State J) (want : Want) → IsSound judge replicas st → IsAsking judges entries s start brought current st → awaited_in st ≡ Some (node, question) → aim_in st ≡ Some want
-      → AsksNext (wanted_key want) (ask.Get (wanted_key want)) (IsGet (judges judge) replicas entries want) current node question
-  next_in (state.Free g) want sound h waits aims = absurd (some_or_none (node, question) (sym waits))
-  next_in (state.Asking g x) want sound h waits aims =
-      subst (λ (w : Want). AsksNext (wanted_key w) (ask.Get (wanted_key w)) (IsGet (judges judge) replicas entries w) current node question) (same_some (aim x.get) want aims)
-      (get_next judges judge replicas entries g.stage current node question x.get sound.0 h.2 waits)
-  next_in (state.Ended fetched) want sound h waits aims = absurd (some_or_none (node, question) (sym waits))
-  next_in state.Over want sound h waits aims = absurd h
-
--- the fetch is to ask this next of a get of what it is for
-pub fetch_asks_next : {J : Type 0} (judges : Judges J) (s : Standing) (start : Vector) (f : Fetching J) {parts : List Part} (current : List Heard) (node : Peer) (question : Ask) (want : Want) → FetchIsAfter judges s start parts current f
-    → fetch_awaited f ≡ Some (node, question) → fetch_aim f ≡ Some want → AsksNext (wanted_key want) (ask.Get (wanted_key want)) (IsGet (judges f.judge) f.replicas f.entries want) current node question
-fetch_asks_next judges s start f current node question want h waits aims = next_in judges f.judge f.replicas f.entries s start _ current node question f.state want h.sound h.asking waits aims
 
 -- ---- puts
 

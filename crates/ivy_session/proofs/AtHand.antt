@@ -1,73 +1,77 @@
 -- The block that is wanted, where it is at hand.
-use Rattle.std.proofs.Common.{◌≡◌, ◌≢◌, ◌<◌, ◌≤◌, not, ◌&&◌, ℕ, Bool, true, false, List, Option, Some, None, Result, Ok, Err, find, refl, sym, ap, ◌∙◌, subst, arith}
-use Rattle.std.specs.Option.{option_map_or}
+use Rattle.std.proofs.Common.{◌≡◌, ◌≢◌, ◌<◌, ◌≤◌, ℕ, Bool, true, false, List, Option, Some, None, IfSome, Result, Ok, Err, refl, sym, ap, ◌∙◌, subst, arith}
 use Rattle.ivy_base.specs.declared.key.Key.{Key}
 use Rattle.ivy_base.specs.declared.memory.Memory.{Memory}
-use Rattle.tree_model.specs.Tree.{same_key}
-use Rattle.dht_ids.specs.declared.post.Post.{Post}
+use Rattle.ivy_base.specs.Naming.{name}
 use Rattle.dhash_client.specs.GetHead.{Judges}
 use Rattle.block_cache.specs.Blocks.{block_of, moved_to_front}
-use Rattle.agent_model.specs.Agent.{is_head}
 use Rattle.session_model.specs.Sessions.{Cache, pending_block}
-use Rattle.log_fetch.specs.Fetching.{Fetching, FetchWasGiven, fetch_awaited, fetch_left, fetch_wanted, is_failed}
+use Rattle.view_refresh.specs.States.{Refreshing as RefreshState, refresh_left, refresh_wanted}
+use Rattle.view_refresh.specs.Steps.{RefreshWasGiven, TakesPending}
 use Rattle.ivy_session.specs.Taking.{IsAway, TakesHand, TakesOne}
-use Rattle.ivy_session.proofs.Taken.{HasTakenSome, all_taken, one_taken, some_taken, takes_cached, takes_posted, unasked}
+use Rattle.ivy_session.proofs.Taken.{HasTakenSome, all_taken, one_taken, some_taken, takes_cached, takes_posted}
 
 some_or_none : {T : Type 0} (x : T) → Some x ≡ None → ⊥
 some_or_none x e = cc e
 
--- ---- among the posts
+-- ---- it is pending
 
-abbrev found_in : Key → List Post → Option Post
-found_in key posts = find (λ p. not (is_head p.kind) && same_key p.key key) posts
+module _ {J : Type 0} (judges : Judges J) (old mid : RefreshState J) (cache : Cache) (taken : Bool) (pending : TakesPending judges old mid taken) where
+  pub one_pending : taken ≡ true → (taken ≡ true → refresh_left mid < refresh_left old) → TakesOne judges old mid cache cache (Ok true)
+  one_pending is left =
+      let p = subst (TakesPending judges old mid) is pending in
+      (takes_posted judges old mid p.0 p.1 cache p.2 p.3 p.4, left is)
 
-pub none_posted : (key : Key) (posts : List Post) → None ≡ found_in key posts → None ≡ pending_block key posts
-none_posted key posts e = ap (λ (o : Option Post). option_map_or (λ p. Some p.bytes) o None) e
+  -- ---- it isn't, but may be in the cache
 
-pub is_posted : (key : Key) (posts : List Post) (post : Post) (bytes : List ℕ) → Some post ≡ found_in key posts → bytes ≡ post.bytes → Some bytes ≡ pending_block key posts
-is_posted key posts post bytes e is = ap (λ (b : List ℕ). Some b) is ∙ ap (λ (o : Option Post). option_map_or (λ p. Some p.bytes) o None) e
+  module _ (none : taken ≡ false) where
+    unpended : (mid ≡ old) × IfSome (refresh_wanted old) (λ key. pending_block key old.pending ≡ None)
+    unpended = subst (TakesPending judges old mid) none pending
 
--- ---- what is done with it
+    pub nothing_wanted : None ≡ refresh_wanted mid → TakesOne judges old mid cache cache (Ok false)
+    nothing_wanted e = (unpended.0, refl, subst (λ (o : Option Key). IsAway o old.pending cache) (e ∙ ap refresh_wanted unpended.0) tt)
 
-module _ {J : Type 0} (judges : Judges J) (posts : List Post) (old : Fetching J) (cache : Cache) where
-  pub nothing_wanted : None ≡ fetch_wanted old → TakesOne judges posts old old cache cache (Ok false)
-  nothing_wanted e = (refl, refl, subst (λ (o : Option Key). IsAway o posts cache) e tt)
+    module _ (key : Key) (want : Some key ≡ refresh_wanted mid) where
+      wanted : refresh_wanted old ≡ Some key
+      wanted = sym (want ∙ ap refresh_wanted unpended.0)
 
-  module _ (key : Key) (want : Some key ≡ fetch_wanted old) where
-    pub is_wanted : fetch_wanted old ≢ None
-    is_wanted none = some_or_none key (want ∙ none)
+      not_pending : pending_block key old.pending ≡ None
+      not_pending = subst (λ (o : Option Key). IfSome o (λ k. pending_block k old.pending ≡ None)) wanted unpended.1
 
-    pub nothing_at_hand : None ≡ pending_block key posts → None ≡ block_of key cache → TakesOne judges posts old old cache cache (Ok false)
-    nothing_at_hand none away = (refl, refl, subst (λ (o : Option Key). IsAway o posts cache) want (sym none, sym away))
+      pub nothing_at_hand : None ≡ block_of key cache → TakesOne judges old mid cache cache (Ok false)
+      nothing_at_hand away = (unpended.0, refl, subst (λ (o : Option Key). IsAway o old.pending cache) (sym wanted) (not_pending, sym away))
 
-    pub one_posted : (new : Fetching J) (bytes : List ℕ) → Some bytes ≡ pending_block key posts → FetchWasGiven judges old new bytes → (fetch_awaited new ≡ None) × (is_failed new ≡ false) → fetch_left new < fetch_left old
-        → TakesOne judges posts old new cache cache (Ok true)
-    one_posted new bytes found given free left = (takes_posted judges posts old new key bytes cache (sym want) (sym found) given free, left)
+      pub one_cached : (new : RefreshState J) (after : Cache) (bytes : List ℕ) → Some bytes ≡ block_of key cache → after ≡ moved_to_front key cache → RefreshWasGiven judges mid new bytes → refresh_left new < refresh_left mid
+          → TakesOne judges old new cache after (Ok true)
+      one_cached new after bytes found moved given left =
+          subst (λ (c : Cache). TakesOne judges old new cache c (Ok true)) (sym moved) (
+            takes_cached judges old new key bytes cache wanted not_pending (sym found) (subst (λ (r : RefreshState J). RefreshWasGiven judges r new bytes) unpended.0 given),
+            subst (λ (r : RefreshState J). refresh_left new < refresh_left r) unpended.0 left,
+          )
 
-    pub one_cached : (new : Fetching J) (after : Cache) (bytes : List ℕ) → None ≡ pending_block key posts → Some bytes ≡ block_of key cache → after ≡ moved_to_front key cache → FetchWasGiven judges old new bytes
-        → (fetch_awaited new ≡ None) × (is_failed new ≡ false) → fetch_left new < fetch_left old → TakesOne judges posts old new cache after (Ok true)
-    one_cached new after bytes none found moved given free left =
-        subst (λ (c : Cache). TakesOne judges posts old new cache c (Ok true)) (sym moved) (takes_cached judges posts old new key bytes cache (sym want) (sym none) (sym found) given free, left)
+-- what a refresh needs to know of the block
+module _ {J : Type 0} (r : RefreshState J) (key : Key) (want : Some key ≡ refresh_wanted r) where
+  pub is_wanted : refresh_wanted r ≢ None
+  is_wanted none = some_or_none key (want ∙ none)
 
-    pub none_given : (new : Fetching J) (lacks : Memory) → TakesOne judges posts old new cache cache (Err lacks)
-    none_given new lacks = (unasked old key (sym want), refl)
+  pub is_named : (bytes : List ℕ) → key ≡ name bytes → refresh_wanted r ≡ Some (name bytes)
+  is_named bytes named = sym want ∙ ap (λ (k : Key). Some k) named
 
 -- ---- one after the other
 
-module _ {J : Type 0} (judges : Judges J) (posts : List Post) (old mid new : Fetching J) (before between after : Cache) (h : HasTakenSome judges posts old mid before between) where
-  pub takes_on : (found : Bool) → TakesOne judges posts mid new between after (Ok found) → found ≡ true → HasTakenSome judges posts old new before after
-  takes_on found one e = one_taken judges posts old mid new before between after h (subst (λ (b : Bool). TakesOne judges posts mid new between after (Ok b)) e one).0
+module _ {J : Type 0} (judges : Judges J) (old mid new : RefreshState J) (before between after : Cache) (h : HasTakenSome judges old mid before between) where
+  pub takes_on : (found : Bool) → TakesOne judges mid new between after (Ok found) → found ≡ true → HasTakenSome judges old new before after
+  takes_on found one e = one_taken judges old mid new before between after h (subst (λ (b : Bool). TakesOne judges mid new between after (Ok b)) e one).0
 
-  pub has_taken : (found : Bool) → TakesOne judges posts mid new between after (Ok found) → found ≡ false → TakesHand judges posts old new before after (Ok tt)
+  pub has_taken : (found : Bool) → TakesOne judges mid new between after (Ok found) → found ≡ false → TakesHand judges old new before after (Ok tt)
   has_taken found one e =
-      let none = subst (λ (b : Bool). TakesOne judges posts mid new between after (Ok b)) e one in
-      subst (λ (f : Fetching J). TakesHand judges posts old f before after (Ok tt)) (sym none.0)
-      (subst (λ (c : Cache). TakesHand judges posts old mid before c (Ok tt)) (sym none.1) (all_taken judges posts old mid before between h none.2))
+      let none = subst (λ (b : Bool). TakesOne judges mid new between after (Ok b)) e one in
+      subst (λ (r : RefreshState J). TakesHand judges old r before after (Ok tt)) (sym none.0)
+      (subst (λ (c : Cache). TakesHand judges old mid before c (Ok tt)) (sym none.1) (all_taken judges old mid before between h none.2))
 
-  pub lacks_block : (lacks : Memory) → TakesOne judges posts mid new between after (Err lacks) → (given : Result (Unit {0}) Memory) → given ≡ Err lacks → TakesHand judges posts old new before after given
-  lacks_block lacks one given e =
-      subst (TakesHand judges posts old new before after) (sym e) (some_taken judges posts old mid new before between after lacks h one.0 one.1)
+  pub lacks_block : (lacks : Memory) → TakesOne judges mid new between after (Err lacks) → (given : Result (Unit {0}) Memory) → given ≡ Err lacks → TakesHand judges old new before after given
+  lacks_block lacks one given e = subst (TakesHand judges old new before after) (sym e) (some_taken judges old mid new before between after lacks h one)
 
-  pub leaves_no_more : (found : Bool) → TakesOne judges posts mid new between after (Ok found) → fetch_left mid ≤ fetch_left old → fetch_left new ≤ fetch_left old
+  pub leaves_no_more : (found : Bool) → TakesOne judges mid new between after (Ok found) → refresh_left mid ≤ refresh_left old → refresh_left new ≤ refresh_left old
   leaves_no_more true one no_more = let less = one.1 in omega (arith, less, no_more)
-  leaves_no_more false one no_more = subst (λ (f : Fetching J). fetch_left f ≤ fetch_left old) (sym one.0) no_more
+  leaves_no_more false one no_more = subst (λ (r : RefreshState J). refresh_left r ≤ refresh_left old) (sym one.0) no_more

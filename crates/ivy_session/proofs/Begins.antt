@@ -1,52 +1,39 @@
 -- How a session begins.
-use Rattle.std.proofs.Common.{◌≡◌, ℕ, Bool, true, false, List, [], Option, Some, None, refl, sym, ap, subst}
-use Rattle.log_model.specs.Vector.{Vector}
+use Rattle.std.proofs.Common.{◌≡◌, ℕ, false, List, [], Option, Some, None, refl, sym, subst}
 use Rattle.log_model.specs.View.{View}
 use Rattle.dht_ids.specs.declared.peer.Peer.{Peer}
-use Rattle.dht_ids.specs.declared.post.Post.{Post}
 use Rattle.dhash_client.specs.GetHead.{Judges}
 use Rattle.agent_model.specs.Standing.{Standing}
 use Rattle.session_model.specs.Replies.{IsByMessage, said_bare}
 use Rattle.session_model.specs.Sessions.{Over, Refreshing}
-use Rattle.session_model.specs.Courses.{Begins, fresh_session, publishing_session}
+use Rattle.session_model.specs.Courses.{Begins, fresh_session}
 use Rattle.call_messages.specs.Reading.{AsksWell}
 use Rattle.log_fetch.specs.declared.asked.Asked.{Asked}
 use Rattle.log_fetch.specs.declared.note.Note.{Note as Noted}
 use Rattle.log_fetch.specs.declared.standing.Standing.{Standing as Given}
-use Rattle.log_fetch.specs.Fetching.{Fetching, FetchIsAfter, is_failed}
 use Rattle.log_fetch.specs.Standings.{asked_of, standing_of}
-use Rattle.post_publishing.specs.Publishing.{PublishingIsAfter, PublishingState, publishing_begun, stage_of}
+use Rattle.view_refresh.specs.States.{Refreshing as RefreshState, has_failed}
+use Rattle.view_refresh.specs.Behind.{RefreshIsAfter}
 use Rattle.ivy_session.specs.declared.served.Call.{Call}
-use Rattle.ivy_session.specs.declared.served.Served.TheVariants as served
 use Rattle.ivy_session.specs.declared.session.Stage.{Stage}
 use Rattle.ivy_session.specs.declared.session.Stage.TheVariants as stage
-use Rattle.ivy_session.specs.States.{BeginsAs, IsSession, begun, reply_or_none}
-use Rattle.ivy_session.proofs.Bringing.{never_missed}
-use Rattle.ivy_session.proofs.Hears.{failed_by}
-
--- a fetch that was brought nothing hasn't failed
-pub begun_on : {J : Type 0} (judges : Judges J) (s : Standing) (start : Vector) (f : Fetching J) → FetchIsAfter judges s start [] [] f → is_failed f ≡ false
-begun_on judges s start f h = by (is_failed f) refl
-  where
-    by : (b : Bool) → is_failed f ≡ b → is_failed f ≡ false
-    by false e = e
-    by true e = let w = failed_by judges f.entries s start [] [] f.state h.asking e in absurd (never_missed w.0 w.3 refl)
+use Rattle.ivy_session.specs.States.{BeginsAs, begun, reply_or_none}
 
 -- the call as it was read
 pub asks_well : (view : View) (message : List ℕ) (xid other : ℕ) (asked also : Asked) → other ≡ xid → also ≡ asked → AsksWell view message xid asked → AsksWell view message other also
 asks_well view message xid other asked also e f h = subst (λ (n : ℕ). AsksWell view message n also) (sym e) (subst (λ (a : Asked). AsksWell view message xid a) (sym f) h)
 
 module _ {J : Type 0} (judges : Judges J) (judge : J) (replicas : ℕ) (entries : List Peer) (message : List ℕ) where
-  pub alone_begins : (standing : Standing) (pending : List Post) (given : Option (List ℕ)) → IsByMessage standing.view message given → BeginsAs judges message standing (begun judge replicas entries pending (stage.Over (reply_or_none given)))
-  alone_begins standing pending given h by = (
+  pub alone_begins : (standing : Standing) (given : Option (List ℕ)) → IsByMessage standing.view message given → BeginsAs judges message standing (begun judge replicas entries (stage.Over (reply_or_none given)))
+  alone_begins standing given h by = (
     fresh_session by message entries standing (Over (Some (said_bare given))),
     Begins.alone given h,
     record { entries = refl; starts = refl; at = record { said = Some (said_bare given); is_told = refl; stage = refl; noted = refl } },
   )
 
-  pub call_begins : (given : Given) (c : Call) (f : Fetching J) → given.basis ≡ None → AsksWell given.view message c.xid c.asked → (f.judge ≡ judge) × (f.replicas ≡ replicas) × (f.entries ≡ entries)
-      → FetchIsAfter judges (standing_of given) given.held [] [] f → BeginsAs judges message (standing_of given) (begun judge replicas entries given.pending (stage.Refreshing c f))
-  call_begins given c f none h by_same started by = (
+  pub call_begins : (given : Given) (c : Call) (r : RefreshState J) → AsksWell given.view message c.xid c.asked → (r.judge ≡ judge) × (r.replicas ≡ replicas) × (r.entries ≡ entries)
+      → RefreshIsAfter judges (standing_of given) [] [] r → has_failed r ≡ false → BeginsAs judges message (standing_of given) (begun judge replicas entries (stage.Refreshing c r))
+  call_begins given c r h by_same started unfailed by = (
     fresh_session by message entries (standing_of given) Refreshing,
     Begins.refreshes c.xid (asked_of c.asked) h.asks,
     record {
@@ -54,7 +41,7 @@ module _ {J : Type 0} (judges : Judges J) (judge : J) (replicas : ℕ) (entries 
       starts = refl;
       at = record {
         call = record { asks = h.asks; caller = h.caller; args = h.args };
-        fetching = record { stage = refl; none = none; pending = refl; entries = by_same.2; unmissed = refl; fetch = started; unfailed = begun_on judges (standing_of given) given.held f started };
+        refreshing = record { stage = refl; entries = by_same.2; unmissed = refl; after = started; unfailed = unfailed };
         judge = by_same.0;
         replicas = by_same.1;
         unnoted = refl;
@@ -62,25 +49,8 @@ module _ {J : Type 0} (judges : Judges J) (judge : J) (replicas : ℕ) (entries 
     },
   )
 
-  pub publishing_begins : (by : List ℕ) (standing : Standing) (posts : List Post) (p : PublishingState) → p ≡ publishing_begun replicas entries posts
-      → IsSession judges (publishing_session by entries standing posts) (begun judge replicas entries [] (stage.Publishing served.Published p))
-  publishing_begins by standing posts p is = record {
-    entries = refl;
-    starts = refl;
-    at = record {
-      said = None;
-      is_told = refl;
-      stage = sym (ap (stage_of None) is);
-      replicas = ap (λ (x : PublishingState). x.replicas) is;
-      entries = ap (λ (x : PublishingState). x.entries) is;
-      asks = subst (PublishingIsAfter []) (sym is) refl;
-      noted = refl;
-    };
-  }
-
-  -- with these posts at hand, and nothing noted
-  pub begun_with : (standing : Standing) (pending other : List Post) (notes : List Noted) (at : Stage J) → other ≡ pending → notes ≡ [] → BeginsAs judges message standing (begun judge replicas entries pending at)
-      → BeginsAs judges message standing (record { judge = judge; replicas = replicas; entries = entries; pending = other; starts = 0; notes = notes; is_cut = false; stage = at })
-  begun_with standing pending other notes at e none h =
-      subst (λ (l : List Noted). BeginsAs judges message standing (record { judge = judge; replicas = replicas; entries = entries; pending = other; starts = 0; notes = l; is_cut = false; stage = at })) (sym none)
-      (subst (λ (l : List Post). BeginsAs judges message standing (begun judge replicas entries l at)) (sym e) h)
+  -- with nothing noted
+  pub begun_with : (standing : Standing) (notes : List Noted) (at : Stage J) → notes ≡ [] → BeginsAs judges message standing (begun judge replicas entries at)
+      → BeginsAs judges message standing (record { judge = judge; replicas = replicas; entries = entries; starts = 0; notes = notes; is_cut = false; stage = at })
+  begun_with standing notes at none h =
+      subst (λ (l : List Noted). BeginsAs judges message standing (record { judge = judge; replicas = replicas; entries = entries; starts = 0; notes = l; is_cut = false; stage = at })) (sym none) h

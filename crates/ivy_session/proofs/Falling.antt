@@ -14,9 +14,9 @@ use Rattle.dhash_client.specs.GetHead.{Judges}
 use Rattle.agent_model.specs.Agent.{is_head}
 use Rattle.agent_model.specs.Others.{is_block}
 use Rattle.session_model.specs.Sessions.{Cache, in_publishing_order, is_log}
-use Rattle.log_fetch.specs.declared.fetch.Fetched.{Fetched}
 use Rattle.log_fetch.specs.declared.standing.Standing.{Standing}
-use Rattle.log_fetch.specs.Fetching.{Fetching, fetch_left, most_left}
+use Rattle.view_refresh.specs.declared.refresh.Refreshed.{Refreshed}
+use Rattle.view_refresh.specs.States.{Refreshing as RefreshState, most_refresh, refresh_left}
 use Rattle.post_publishing.specs.Publishing.{PublishingState, most_asks, publishing_begun, puts_left}
 use Rattle.ivy_session.specs.declared.served.Call.{Call}
 use Rattle.ivy_session.specs.declared.served.Served.{Served}
@@ -26,7 +26,7 @@ use Rattle.ivy_session.specs.declared.session.Stage.{Stage}
 use Rattle.ivy_session.specs.declared.session.Stage.TheVariants as stage
 use Rattle.ivy_session.specs.States.{SessionState, is_turning}
 use Rattle.ivy_session.specs.Ending.{BeginsAnew, ConcludesAs, lacking}
-use Rattle.ivy_session.specs.InPlace.{EndsRefresh, FetchHeard, PutHeard, PutWants, call_at, is_refreshing, told_at}
+use Rattle.ivy_session.specs.InPlace.{EndsRefresh, PutHeard, PutWants, RefreshHeard, call_at, is_refreshing, told_at}
 use Rattle.ivy_session.specs.Left.{FallsLeft, LeavesNoMore, StaysLeft, left_at, most_puts, session_left}
 use Rattle.ivy_session.proofs.TurnsInPlace.{at_turn}
 
@@ -36,12 +36,12 @@ at_least : (n : ℕ) → 0 ≤ n
 at_least n = omega arith
 
 module _ (puts anew : ℕ) where
-  -- the fetch goes on
-  fetch_stays : (old new : ℕ) → new ≤ old → new + 2 + puts + anew ≤ old + 2 + puts + anew
-  fetch_stays old new no_more = omega (arith, no_more)
+  -- the refresh goes on
+  asks_stay : (old new : ℕ) → new ≤ old → new + 2 + puts + anew ≤ old + 2 + puts + anew
+  asks_stay old new no_more = omega (arith, no_more)
 
-  fetch_falls : (old new : ℕ) → new < old → new + 2 + puts + anew < old + 2 + puts + anew
-  fetch_falls old new less = omega (arith, less)
+  asks_fall : (old new : ℕ) → new < old → new + 2 + puts + anew < old + 2 + puts + anew
+  asks_fall old new less = omega (arith, less)
 
   -- it is over
   turn_falls : (left : ℕ) → 2 + puts + anew ≤ left + 2 + puts + anew
@@ -107,13 +107,13 @@ few_puts r entries posts few =
 
 -- ---- stages
 
-pub refresh_stays : {J T E : Type 0} (c : Call) (f g : Fetching J) (r : Result T E) → IfOk r (λ _. fetch_left g ≤ fetch_left f) → IfOk r (λ _. StaysLeft (stage.Refreshing c f) (stage.Refreshing c g))
-refresh_stays c f g (Ok x) no_more = λ starts. fetch_stays most_puts (most_left * (2 - starts)) (fetch_left f) (fetch_left g) no_more
-refresh_stays c f g (Err e) no_more = tt
+pub refresh_stays : {J T E : Type 0} (c : Call) (r q : RefreshState J) (x : Result T E) → IfOk x (λ _. refresh_left q ≤ refresh_left r) → IfOk x (λ _. StaysLeft (stage.Refreshing c r) (stage.Refreshing c q))
+refresh_stays c r q (Ok x) no_more = λ starts. asks_stay most_puts (most_refresh * (2 - starts)) (refresh_left r) (refresh_left q) no_more
+refresh_stays c r q (Err e) no_more = tt
 
-pub refresh_falls : {J T E : Type 0} (c : Call) (f g : Fetching J) (r : Result T E) → IfOk r (λ _. fetch_left g < fetch_left f) → IfOk r (λ _. FallsLeft (stage.Refreshing c f) (stage.Refreshing c g))
-refresh_falls c f g (Ok x) less = λ starts. fetch_falls most_puts (most_left * (2 - starts)) (fetch_left f) (fetch_left g) less
-refresh_falls c f g (Err e) less = tt
+pub refresh_falls : {J T E : Type 0} (c : Call) (r q : RefreshState J) (x : Result T E) → IfOk x (λ _. refresh_left q < refresh_left r) → IfOk x (λ _. FallsLeft (stage.Refreshing c r) (stage.Refreshing c q))
+refresh_falls c r q (Ok x) less = λ starts. asks_fall most_puts (most_refresh * (2 - starts)) (refresh_left r) (refresh_left q) less
+refresh_falls c r q (Err e) less = tt
 
 pub publishing_stays : {T E : Type 0} (J : Type 0) (told : Served) (p q : PublishingState) (r : Result T E) → IfOk r (λ _. puts_left q ≤ puts_left p) → IfOk r (λ _. StaysLeft {J = J} (stage.Publishing told p) (stage.Publishing told q))
 publishing_stays J told p q (Ok x) no_more = λ starts. more_puts (puts_left p) (puts_left q) no_more
@@ -138,7 +138,7 @@ pub told_next : {J : Type 0} (old new : SessionState J) (told : Served) → new.
 told_next old new told is = subst (λ (n : ℕ). n ≤ session_left old) (sym (ap (left_at new.starts) is)) (at_least (session_left old))
 
 refreshing_on : {J : Type 0} (at : Stage J) → is_refreshing at ≡ true → is_turning at ≡ false
-refreshing_on (stage.Refreshing c f) is = refl
+refreshing_on (stage.Refreshing c r) is = refl
 refreshing_on (stage.Turning c) is = cc is
 refreshing_on (stage.Publishing told p) is = refl
 refreshing_on (stage.Over told) is = refl
@@ -150,16 +150,16 @@ module _ {J : Type 0} (st : SessionState J) where
 
   -- ---- what is wanted
 
-  tells_next : (at between : Stage J) (new : SessionState J) (c : Call) (given : Fetched) (told : Served) → between ≡ stage.Told → ConcludesAs (With between) new c given (next.Done told) → LeavesNoMore (With at) new (next.Done told)
+  tells_next : (at between : Stage J) (new : SessionState J) (c : Call) (given : Refreshed) (told : Served) → between ≡ stage.Told → ConcludesAs (With between) new c given (next.Done told) → LeavesNoMore (With at) new (next.Done told)
   tells_next at between new c given told is h =
       ⊎_elim (λ missed. told_next (With at) new told (ap (λ (x : SessionState J). x.stage) missed.1 ∙ is)) (λ lacks. told_next (With at) new told (ap (λ (x : SessionState J). x.stage) lacks.1 ∙ is)) h.2
 
-  pub concludes_next : (at between : Stage J) (new : SessionState J) (c : Call) (given : Fetched) (wanted : Next) → is_refreshing at ≡ true → between ≡ stage.Told → ConcludesAs (With between) new c given wanted → LeavesNoMore (With at) new wanted
-  concludes_next (stage.Refreshing d f) between new c given (next.Turn refresh) refreshing is h =
-      subst (λ (x : SessionState J). session_left x ≤ session_left (With (stage.Refreshing d f))) (sym h.2) (turn_falls most_puts (most_left * (2 - st.starts)) (fetch_left f))
-  concludes_next (stage.Refreshing d f) between new c given (next.Done told) refreshing is h = tells_next (stage.Refreshing d f) between new c given told is h
-  concludes_next (stage.Refreshing d f) between new c given (next.Ask node question) refreshing is h = absurd h
-  concludes_next (stage.Refreshing d f) between new c given (next.Settle acks) refreshing is h = absurd h
+  pub concludes_next : (at between : Stage J) (new : SessionState J) (c : Call) (given : Refreshed) (wanted : Next) → is_refreshing at ≡ true → between ≡ stage.Told → ConcludesAs (With between) new c given wanted → LeavesNoMore (With at) new wanted
+  concludes_next (stage.Refreshing d r) between new c given (next.Turn refresh) refreshing is h =
+      subst (λ (x : SessionState J). session_left x ≤ session_left (With (stage.Refreshing d r))) (sym h.1) (turn_falls most_puts (most_refresh * (2 - st.starts)) (refresh_left r))
+  concludes_next (stage.Refreshing d r) between new c given (next.Done told) refreshing is h = tells_next (stage.Refreshing d r) between new c given told is h
+  concludes_next (stage.Refreshing d r) between new c given (next.Ask node question) refreshing is h = absurd h
+  concludes_next (stage.Refreshing d r) between new c given (next.Settle acks) refreshing is h = absurd h
   concludes_next (stage.Turning d) between new c given wanted refreshing is h = cc refreshing
   concludes_next (stage.Publishing told p) between new c given wanted refreshing is h = cc refreshing
   concludes_next (stage.Over told) between new c given wanted refreshing is h = cc refreshing
@@ -170,13 +170,13 @@ module _ {J : Type 0} (st : SessionState J) where
   ends : (at now : Stage J) (told : Served) → 0 < left_at st.starts at → now ≡ stage.Over told → Falls (With at) (With now)
   ends at now told some is = subst (λ (x : Stage J). Falls (With at) (With x)) (sym is) (refl, some)
 
-  some_refresh : (c : Call) (f : Fetching J) → 0 < left_at st.starts (stage.Refreshing c f)
-  some_refresh c f = some_asks most_puts (most_left * (2 - st.starts)) (fetch_left f)
+  some_refresh : (c : Call) (r : RefreshState J) → 0 < left_at st.starts (stage.Refreshing c r)
+  some_refresh c r = some_asks most_puts (most_refresh * (2 - st.starts)) (refresh_left r)
 
   pub settles_next : (at mid now : Stage J) (wanted : Want (List Ack)) → PutWants at mid (Ok wanted) → IfSome (told_at mid) (λ told. now ≡ stage.Over told) → left_at st.starts now < left_at st.starts at
   settles_next (stage.Publishing told p) mid now wanted h e =
       let over : now ≡ stage.Over told = subst (λ (x : Stage J). IfSome (told_at x) (λ t. now ≡ stage.Over t)) h.1 e in (ends (stage.Publishing told p) now told (some_puts (puts_left p)) over).1
-  settles_next (stage.Refreshing c f) mid now wanted h e = absurd h
+  settles_next (stage.Refreshing c r) mid now wanted h e = absurd h
   settles_next (stage.Turning c) mid now wanted h e = absurd h
   settles_next (stage.Over told) mid now wanted h e = absurd h
   settles_next stage.Told mid now wanted h e = absurd h
@@ -185,7 +185,7 @@ module _ {J : Type 0} (st : SessionState J) where
 
   pub put_falls : (at now : Stage J) (given : Result Answer Memory) (r : Result (Unit {0}) Memory) → PutHeard at now given r → FallsLeft at now → Falls (With at) (With now)
   put_falls (stage.Publishing told p) now given r h falls = (ap (λ (x : Stage J). is_turning x) h.1, falls st.starts)
-  put_falls (stage.Refreshing c f) now given r h falls = absurd h
+  put_falls (stage.Refreshing c q) now given r h falls = absurd h
   put_falls (stage.Turning c) now given r h falls = absurd h
   put_falls (stage.Over told) now given r h falls = absurd h
   put_falls stage.Told now given r h falls = absurd h
@@ -193,30 +193,30 @@ module _ {J : Type 0} (st : SessionState J) where
   pub put_ends : (at mid now : Stage J) (given : Result Answer Memory) (r : Result (Unit {0}) Memory) → PutHeard at mid given r → IfSome (told_at mid) (λ told. now ≡ stage.Over told) → Falls (With at) (With now)
   put_ends (stage.Publishing told p) mid now given r h e =
       ends (stage.Publishing told p) now told (some_puts (puts_left p)) (subst (λ (x : Stage J). IfSome (told_at x) (λ t. now ≡ stage.Over t)) h.1 e)
-  put_ends (stage.Refreshing c f) mid now given r h e = absurd h
+  put_ends (stage.Refreshing c q) mid now given r h e = absurd h
   put_ends (stage.Turning c) mid now given r h e = absurd h
   put_ends (stage.Over told) mid now given r h e = absurd h
   put_ends stage.Told mid now given r h e = absurd h
 
   module _ (judges : Judges J) (before after : Cache) (given : Result Answer Memory) (r : Result Bool Memory) where
-    pub get_falls : (at now : Stage J) → FetchHeard judges at now before after given r → FallsLeft at now → Falls (With at) (With now)
-    get_falls (stage.Refreshing c f) now h falls = (ap (λ (x : Stage J). is_turning x) h.1, falls st.starts)
+    pub get_falls : (at now : Stage J) → RefreshHeard judges at now before after given r → FallsLeft at now → Falls (With at) (With now)
+    get_falls (stage.Refreshing c q) now h falls = (ap (λ (x : Stage J). is_turning x) h.1, falls st.starts)
     get_falls (stage.Turning c) now h falls = absurd h
     get_falls (stage.Publishing told p) now h falls = absurd h
     get_falls (stage.Over told) now h falls = absurd h
     get_falls stage.Told now h falls = absurd h
 
-    pub get_ends : (at between : Stage J) (new : SessionState J) → FetchHeard judges at between before after given r → EndsRefresh judges (With between) new → Falls (With at) new
-    get_ends (stage.Refreshing c f) between new h over =
-        let e = over c h.0 h.1 in subst (λ (x : SessionState J). Falls (With (stage.Refreshing c f)) x) (sym e.3) (refl, some_refresh c f)
+    pub get_ends : (at between : Stage J) (new : SessionState J) → RefreshHeard judges at between before after given r → EndsRefresh judges (With between) new → Falls (With at) new
+    get_ends (stage.Refreshing c q) between new h over =
+        let e = over c h.0 h.1 in subst (λ (x : SessionState J). Falls (With (stage.Refreshing c q)) x) (sym e.3) (refl, some_refresh c q)
     get_ends (stage.Turning c) between new h over = absurd h
     get_ends (stage.Publishing told p) between new h over = absurd h
     get_ends (stage.Over told) between new h over = absurd h
     get_ends stage.Told between new h over = absurd h
 
-    pub get_lacks : (at mid now : Stage J) → FetchHeard judges at mid before after given r → IfSome (call_at mid) (λ call. now ≡ stage.Over (lacking call)) → Falls (With at) (With now)
-    get_lacks (stage.Refreshing c f) mid now h e =
-        ends (stage.Refreshing c f) now (lacking c) (some_refresh c f) (subst (λ (x : Stage J). IfSome (call_at x) (λ call. now ≡ stage.Over (lacking call))) h.1 e)
+    pub get_lacks : (at mid now : Stage J) → RefreshHeard judges at mid before after given r → IfSome (call_at mid) (λ call. now ≡ stage.Over (lacking call)) → Falls (With at) (With now)
+    get_lacks (stage.Refreshing c q) mid now h e =
+        ends (stage.Refreshing c q) now (lacking c) (some_refresh c q) (subst (λ (x : Stage J). IfSome (call_at x) (λ call. now ≡ stage.Over (lacking call))) h.1 e)
     get_lacks (stage.Turning c) mid now h e = absurd h
     get_lacks (stage.Publishing told p) mid now h e = absurd h
     get_lacks (stage.Over told) mid now h e = absurd h
@@ -229,8 +229,8 @@ module _ {J : Type 0} (st : SessionState J) where
     some_left = by at turning
       where
         by : (x : Stage J) → is_turning x ≡ true → 0 < left_at st.starts x
-        by (stage.Refreshing c f) is = cc is
-        by (stage.Turning c) is = some_turn most_puts (most_left * (2 - st.starts))
+        by (stage.Refreshing c r) is = cc is
+        by (stage.Turning c) is = some_turn most_puts (most_refresh * (2 - st.starts))
         by (stage.Publishing told p) is = cc is
         by (stage.Over told) is = cc is
         by stage.Told is = cc is
@@ -243,8 +243,8 @@ module _ {J : Type 0} (st : SessionState J) where
     turn_lacks now = by at turning
       where
         by : (x : Stage J) → is_turning x ≡ true → IfSome (call_at x) (λ call. now ≡ stage.Over (lacking call)) → Falls (With x) (With now)
-        by (stage.Refreshing c f) is over = cc is
-        by (stage.Turning c) is over = ends (stage.Turning c) now (lacking c) (some_turn most_puts (most_left * (2 - st.starts))) over
+        by (stage.Refreshing c r) is over = cc is
+        by (stage.Turning c) is over = ends (stage.Turning c) now (lacking c) (some_turn most_puts (most_refresh * (2 - st.starts))) over
         by (stage.Publishing told p) is over = cc is
         by (stage.Over told) is over = cc is
         by stage.Told is over = cc is
@@ -256,12 +256,12 @@ module _ {J : Type 0} (st : SessionState J) where
       -- it publishes
       pub answer_falls : (told : Served) (p : PublishingState) (now : Stage J) → puts_left p ≤ most_puts → now ≡ stage.Publishing told p → Falls (With at) (With now)
       answer_falls told p now few is =
-          at_its_turn (With now) (subst (λ (x : Stage J). Falls (With (stage.Turning c)) (With x)) (sym is) (refl, puts_fall most_puts (most_left * (2 - st.starts)) (puts_left p) few))
+          at_its_turn (With now) (subst (λ (x : Stage J). Falls (With (stage.Turning c)) (With x)) (sym is) (refl, puts_fall most_puts (most_refresh * (2 - st.starts)) (puts_left p) few))
 
       -- it begins anew
-      pub anew_is_less : (judges : Judges J) (between : Stage J) (given : Standing) (mid : SessionState J) (f : Fetching J) (now : Stage J) → BeginsAnew judges (With between) mid given (Some f) → now ≡ stage.Refreshing c f
+      pub anew_is_less : (judges : Judges J) (between : Stage J) (given : Standing) (mid : SessionState J) (r : RefreshState J) (now : Stage J) → BeginsAnew judges (With between) mid given (Some r) → now ≡ stage.Refreshing c r
           → Falls (With at) (record mid { stage = now })
-      anew_is_less judges between given mid f now h is =
+      anew_is_less judges between given mid r now h is =
           at_its_turn (record mid { stage = now })
           (subst (λ (x : Stage J). Falls (With (stage.Turning c)) (record mid { stage = x })) (sym is)
-          (refl, subst (λ (n : ℕ). left_at {J = J} n (stage.Refreshing c f) < left_at {J = J} st.starts (stage.Turning c)) (sym (ap (λ (x : SessionState J). x.starts) h.0.1)) (anew_falls most_left most_puts (fetch_left f) st.starts h.0.0 h.1.left)))
+          (refl, subst (λ (n : ℕ). left_at {J = J} n (stage.Refreshing c r) < left_at {J = J} st.starts (stage.Turning c)) (sym (ap (λ (x : SessionState J). x.starts) h.0.1)) (anew_falls most_refresh most_puts (refresh_left r) st.starts h.0.0 h.1.left)))

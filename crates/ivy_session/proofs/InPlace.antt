@@ -29,7 +29,7 @@ module _ {J : Type 0} (judges : Judges J) (st : SessionState J) where
   pub put_asks : (cache : Cache) (node : Peer) (question : Ask) (at now : Stage J) → PutWants at now (Ok (want.Ask node question)) → IsNext judges (With at) (With now) cache cache (next.Ask node question)
   put_asks cache node question (stage.Publishing told p) now h =
       subst (λ (x : Stage J). IsNext judges (With (stage.Publishing told p)) (With x) cache cache (next.Ask node question)) (sym h.1) (puts_next judges st told p h.0 cache node question h.2)
-  put_asks cache node question (stage.Refreshing c f) now h = absurd h
+  put_asks cache node question (stage.Refreshing c r) now h = absurd h
   put_asks cache node question (stage.Turning c) now h = absurd h
   put_asks cache node question (stage.Over told) now h = absurd h
   put_asks cache node question stage.Told now h = absurd h
@@ -38,7 +38,7 @@ module _ {J : Type 0} (judges : Judges J) (st : SessionState J) where
   put_settles cache acks (stage.Publishing told p) mid now h e =
       let over : now ≡ stage.Over told = subst (λ (x : Stage J). IfSome (told_at x) (λ t. now ≡ stage.Over t)) h.1 e in
       subst (λ (x : Stage J). IsNext judges (With (stage.Publishing told p)) (With x) cache cache (next.Settle acks)) (sym over) (settles_next judges st told p h.0 cache acks h.2)
-  put_settles cache acks (stage.Refreshing c f) mid now h e = absurd h
+  put_settles cache acks (stage.Refreshing c r) mid now h e = absurd h
   put_settles cache acks (stage.Turning c) mid now h e = absurd h
   put_settles cache acks (stage.Over told) mid now h e = absurd h
   put_settles cache acks stage.Told mid now h e = absurd h
@@ -47,7 +47,7 @@ module _ {J : Type 0} (judges : Judges J) (st : SessionState J) where
   put_is_cut cache lacks told (stage.Publishing first p) mid now h e =
       let one : first ≡ told = same_some first told (sym (ap told_at h.1) ∙ e) in
       subst (λ (x : Served). IsNext judges (With (stage.Publishing first p)) (record st { is_cut = true; stage = now }) cache cache (next.Done x)) one (cut_next judges (With now) first p p cache)
-  put_is_cut cache lacks told (stage.Refreshing c f) mid now h e = absurd h
+  put_is_cut cache lacks told (stage.Refreshing c r) mid now h e = absurd h
   put_is_cut cache lacks told (stage.Turning c) mid now h e = absurd h
   put_is_cut cache lacks told (stage.Over other) mid now h e = absurd h
   put_is_cut cache lacks told stage.Told mid now h e = absurd h
@@ -57,7 +57,7 @@ module _ {J : Type 0} (judges : Judges J) (st : SessionState J) where
   pub put_is_heard : (cache : Cache) (given : Result Answer Memory) (at now : Stage J) → PutHeard at now given (Ok tt) → IsHeard judges (With at) (With now) cache cache given
   put_is_heard cache given (stage.Publishing told p) now h =
       subst (λ (x : Stage J). IsHeard judges (With (stage.Publishing told p)) (With x) cache cache given) (sym h.1) (puts_hear judges st told p h.0 cache given h.2)
-  put_is_heard cache given (stage.Refreshing c f) now h = absurd h
+  put_is_heard cache given (stage.Refreshing c r) now h = absurd h
   put_is_heard cache given (stage.Turning c) now h = absurd h
   put_is_heard cache given (stage.Over told) now h = absurd h
   put_is_heard cache given stage.Told now h = absurd h
@@ -67,7 +67,7 @@ module _ {J : Type 0} (judges : Judges J) (st : SessionState J) where
   put_ends cache given lacks (stage.Publishing told p) mid now h e =
       let over : now ≡ stage.Over told = subst (λ (x : Stage J). IfSome (told_at x) (λ t. now ≡ stage.Over t)) h.1 e in
       subst (λ (x : Stage J). IsHeard judges (With (stage.Publishing told p)) (record st { is_cut = true; stage = x }) cache cache given) (sym over) (puts_cut judges st told p p cache given)
-  put_ends cache given lacks (stage.Refreshing c f) mid now h e = absurd h
+  put_ends cache given lacks (stage.Refreshing c r) mid now h e = absurd h
   put_ends cache given lacks (stage.Turning c) mid now h e = absurd h
   put_ends cache given lacks (stage.Over told) mid now h e = absurd h
   put_ends cache given lacks stage.Told mid now h e = absurd h

@@ -1,9 +1,7 @@
-mod Reaching
-mod Fetches
+mod Refreshes
 mod Asking
 mod Bringing
 mod Nobody
-mod Begun
 mod Taken
 mod AtHand
 mod Hears

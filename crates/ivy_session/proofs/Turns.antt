@@ -17,8 +17,8 @@ use Rattle.session_model.specs.Courses.{LacksMemory, anew, answered, ended}
 use Rattle.log_fetch.specs.declared.standing.Standing.{Standing as Given}
 use Rattle.log_fetch.specs.declared.turned.Turned.{Turned}
 use Rattle.log_fetch.specs.declared.turned.TurnFault.TheVariants as fault
-use Rattle.log_fetch.specs.Fetching.{Fetching}
 use Rattle.log_fetch.specs.Standings.{asked_of, notes_of, standing_of}
+use Rattle.view_refresh.specs.States.{Refreshing as RefreshState}
 use Rattle.post_publishing.specs.Publishing.{PublishingIsAfter, PublishingState, publishing_begun, stage_of}
 use Rattle.ivy_session.specs.declared.served.Call.{Call}
 use Rattle.ivy_session.specs.declared.served.Served.TheVariants as served
@@ -26,10 +26,8 @@ use Rattle.ivy_session.specs.declared.session.Stage.{Stage}
 use Rattle.ivy_session.specs.declared.session.Stage.TheVariants as stage
 use Rattle.ivy_session.specs.States.{IsCallOf, IsSession, SessionState, served_of}
 use Rattle.ivy_session.specs.Stepping.{IsRefused, IsTurned, TurnedIs}
-use Rattle.ivy_session.specs.Ending.{BeginsAnew, IsFetchFor, lacking, replying}
-use Rattle.ivy_session.proofs.Begins.{begun_on}
-use Rattle.ivy_session.proofs.Begun.{first_stands}
-use Rattle.ivy_session.proofs.Fetches.{lacks_so}
+use Rattle.ivy_session.specs.Ending.{BeginsAnew, IsRefreshFor, lacking, replying}
+use Rattle.ivy_session.proofs.Refreshes.{begun_comes, lacks_so}
 
 -- ---- what needs no turn needs none in any view
 
@@ -120,37 +118,37 @@ module _ {J : Type 0} (judges : Judges J) (st : SessionState J) (c : Call) where
 
     -- the state in which it begins anew
     abbrev New : Stage J → SessionState J
-    New at = record st { starts = st.starts + 1; notes = []; pending = given.pending; stage = at }
+    New at = record st { starts = st.starts + 1; notes = []; stage = at }
 
-    begins_by : (f : Fetching J) (s : Session) → IsSession judges s At → st.starts < 2 → given.basis ≡ None → IsFetchFor judges st given f → IsRefused judges At (New (stage.Refreshing c f)) s (standing_of given)
-    begins_by f s is few none h = IsRefused.begins_anew (subst (λ (n : ℕ). n < 2) is.starts few) (record {
+    begins_by : (r : RefreshState J) (s : Session) → IsSession judges s At → st.starts < 2 → IsRefreshFor judges st given r → IsRefused judges At (New (stage.Refreshing c r)) s (standing_of given)
+    begins_by r s is few h = IsRefused.begins_anew (subst (λ (n : ℕ). n < 2) is.starts few) (record {
       entries = is.entries;
       starts = ap (λ (n : ℕ). n + 1) is.starts;
       at = record {
         call = call_anew s (standing_of given) c is.at.call;
-        fetching = record { stage = is.at.refreshed.0; none = none; pending = refl; entries = h.entries ∙ is.entries; unmissed = is.at.unmissed; fetch = h.started; unfailed = begun_on judges (standing_of given) given.held f h.started };
+        refreshing = record { stage = is.at.refreshed.0; entries = h.entries ∙ is.entries; unmissed = is.at.unmissed; after = h.started; unfailed = h.unfailed };
         judge = h.judge;
         replicas = h.replicas;
         unnoted = refl;
       };
     })
 
-    lacks_by : (s : Session) → IsSession judges s At → st.starts < 2 → given.basis ≡ None → IsRefused judges At (New (stage.Over (lacking c))) s (standing_of given)
-    lacks_by s is few none =
+    lacks_by : (s : Session) → IsSession judges s At → st.starts < 2 → IsRefused judges At (New (stage.Over (lacking c))) s (standing_of given)
+    lacks_by s is few =
         let t : Session = anew s (standing_of given) in
         let call = call_anew s (standing_of given) c is.at.call in
         IsRefused.lacks_memory (ended t (said_no_memory c.xid) [] None) (subst (λ (n : ℕ). n < 2) is.starts few)
-        (lacks_so t c.xid (asked_of c.asked) is.at.refreshed.0 none (first_stands t refl) call.asks)
+        (lacks_so t c.xid (asked_of c.asked) is.at.refreshed.0 (begun_comes (standing_of given)) call.asks)
         (record { entries = is.entries; starts = ap (λ (n : ℕ). n + 1) is.starts; at = record { said = Some (said_no_memory c.xid); is_told = refl; stage = refl; noted = refl } })
 
     abbrev With : SessionState J → Stage J → SessionState J
     With x at = record x { stage = at }
 
-    pub begins_anew : (new : SessionState J) (f : Fetching J) → given.basis ≡ None → BeginsAnew judges st new given (Some f) → IsTurned judges At (With new (stage.Refreshing c f)) (Err (fault.Behind given))
-    begins_anew new f none h = subst (λ (x : SessionState J). IsTurned judges At (With x (stage.Refreshing c f)) (Err (fault.Behind given))) (sym h.0.1) ((refl, refl, refl), λ s is. begins_by f s is h.0.0 none h.1)
+    pub begins_anew : (new : SessionState J) (r : RefreshState J) → BeginsAnew judges st new given (Some r) → IsTurned judges At (With new (stage.Refreshing c r)) (Err (fault.Behind given))
+    begins_anew new r h = subst (λ (x : SessionState J). IsTurned judges At (With x (stage.Refreshing c r)) (Err (fault.Behind given))) (sym h.0.1) ((refl, refl, refl), λ s is. begins_by r s is h.0.0 h.1)
 
-    pub lacks_anew : (new : SessionState J) → given.basis ≡ None → BeginsAnew judges st new given None → IsTurned judges At (With new (stage.Over (lacking c))) (Err (fault.Behind given))
-    lacks_anew new none h = ⊎_elim
-        (λ begun. subst (λ (x : SessionState J). IsTurned judges At (With x (stage.Over (lacking c))) (Err (fault.Behind given))) (sym begun.1) ((refl, refl, refl), λ s is. lacks_by s is begun.0 none))
+    pub lacks_anew : (new : SessionState J) → BeginsAnew judges st new given None → IsTurned judges At (With new (stage.Over (lacking c))) (Err (fault.Behind given))
+    lacks_anew new h = ⊎_elim
+        (λ begun. subst (λ (x : SessionState J). IsTurned judges At (With x (stage.Over (lacking c))) (Err (fault.Behind given))) (sym begun.1) ((refl, refl, refl), λ s is. lacks_by s is begun.0))
         (λ many. subst (λ (x : SessionState J). IsTurned judges At (With x (stage.Over (lacking c))) (Err (fault.Behind given))) (sym many.1) ((refl, refl, refl), λ s is. gives_up s is many.0))
         h

@@ -2,15 +2,15 @@
 use Rattle.std.proofs.Common.{◌≡◌, ◌≢◌, inl, inr, ℕ, ◌+◌, ◌<◌, ◌≤◌, true, false, List, [], Some, None, Result, Ok, Err, IfOk, IfSome, refl, sym, ap, ◌∙◌, subst}
 use Rattle.std.specs.Result.{result_ok}
 use Rattle.ivy_base.specs.declared.memory.Memory.{Memory}
-use Rattle.dht_ids.specs.declared.post.Post.{Post}
 use Rattle.dhash_client.specs.GetHead.{Judges}
 use Rattle.session_model.specs.Sessions.{Cache}
 use Rattle.log_fetch.specs.declared.standing.Standing.{Standing}
 use Rattle.log_fetch.specs.declared.turned.Turned.{Turned}
 use Rattle.log_fetch.specs.declared.turned.TurnFault.{TurnFault}
 use Rattle.log_fetch.specs.declared.turned.TurnFault.TheVariants as fault
-use Rattle.log_fetch.specs.Fetching.{Fetching, FetchIsAfter, fetch_awaited, fetch_left, most_left}
 use Rattle.log_fetch.specs.Standings.{standing_of}
+use Rattle.view_refresh.specs.States.{Refreshing as RefreshState, has_failed, most_refresh, refresh_awaited, refresh_left}
+use Rattle.view_refresh.specs.Behind.{RefreshIsAfter}
 use Rattle.post_publishing.specs.Publishing.{PublishingState, publishing_begun}
 use Rattle.ivy_session.specs.declared.served.Call.{Call}
 use Rattle.ivy_session.specs.declared.served.Served.{Served}
@@ -32,14 +32,14 @@ same_some x y e = cc e
 
 -- the call's turn is awaited
 pub at_turn : {J : Type 0} (at : Stage J) (c : Call) → is_turning at ≡ true → call_at at ≡ Some c → at ≡ stage.Turning c
-at_turn (stage.Refreshing d f) c turning call = cc turning
+at_turn (stage.Refreshing d r) c turning call = cc turning
 at_turn (stage.Turning d) c turning call = ap (λ (x : Call). stage.Turning x) (same_some d c call)
 at_turn (stage.Publishing told p) c turning call = cc turning
 at_turn (stage.Over told) c turning call = cc turning
 at_turn stage.Told c turning call = cc turning
 
 pub turning_call : {J : Type 0} (at : Stage J) → is_turning at ≡ true → call_at at ≢ None
-turning_call (stage.Refreshing d f) turning none = cc turning
+turning_call (stage.Refreshing d r) turning none = cc turning
 turning_call (stage.Turning d) turning none = some_or_none d none
 turning_call (stage.Publishing told p) turning none = cc turning
 turning_call (stage.Over told) turning none = cc turning
@@ -72,32 +72,28 @@ module _ {J : Type 0} (judges : Judges J) (st : SessionState J) (at : Stage J) (
 
   -- ---- it was refused
 
-  pub refresh_anew : (between : Stage J) (given : Standing) (mid : SessionState J) (f : Fetching J) (now : Stage J) → given.basis ≡ None → BeginsAnew judges (With between) mid given (Some f) → now ≡ stage.Refreshing c f
+  pub refresh_anew : (between : Stage J) (given : Standing) (mid : SessionState J) (r : RefreshState J) (now : Stage J) → BeginsAnew judges (With between) mid given (Some r) → now ≡ stage.Refreshing c r
       → IsTurned judges (With at) (record mid { stage = now }) (Err (fault.Behind given))
-  refresh_anew between given mid f now none h is =
+  refresh_anew between given mid r now h is =
       subst (λ (x : Stage J). IsTurned judges (With at) (record mid { stage = x }) (Err (fault.Behind given))) (sym is)
-      (at_its_turn (record mid { stage = stage.Refreshing c f }) (Err (fault.Behind given)) (begins_anew judges (With between) c given mid f none h))
+      (at_its_turn (record mid { stage = stage.Refreshing c r }) (Err (fault.Behind given)) (begins_anew judges (With between) c given mid r h))
 
-  pub end_anew : (between : Stage J) (given : Standing) (mid : SessionState J) (told : Served) (now : Stage J) → given.basis ≡ None → BeginsAnew judges (With between) mid given None → told ≡ lacking c → now ≡ stage.Over told
+  pub end_anew : (between : Stage J) (given : Standing) (mid : SessionState J) (told : Served) (now : Stage J) → BeginsAnew judges (With between) mid given None → told ≡ lacking c → now ≡ stage.Over told
       → IsTurned judges (With at) (record mid { stage = now }) (Err (fault.Behind given))
-  end_anew between given mid told now none h e is =
+  end_anew between given mid told now h e is =
       subst (λ (x : Stage J). IsTurned judges (With at) (record mid { stage = x }) (Err (fault.Behind given))) (sym (is ∙ ap (λ (x : Served). stage.Over x) e))
-      (at_its_turn (record mid { stage = stage.Over (lacking c) }) (Err (fault.Behind given)) (lacks_anew judges (With between) c given mid none h))
+      (at_its_turn (record mid { stage = stage.Over (lacking c) }) (Err (fault.Behind given)) (lacks_anew judges (With between) c given mid h))
 
--- ---- the fetch with which it begins anew
-
-pub renewed : {J : Type 0} (old new : SessionState J) (pending : List Post) (given : Standing) → new ≡ record old { starts = old.starts + 1; notes = []; pending = pending } → pending ≡ given.pending
-    → new ≡ record old { starts = old.starts + 1; notes = []; pending = given.pending }
-renewed old new pending given is e = is ∙ ap (λ (x : List Post). record old { starts = old.starts + 1; notes = []; pending = x }) e
+-- ---- the refresh with which it begins anew
 
 module _ {J : Type 0} (judges : Judges J) (old new : SessionState J) (given : Standing) where
   pub no_more_starts : 2 ≤ old.starts → new ≡ old → BeginsAnew judges old new given None
   no_more_starts many same = inr (many, same)
 
-  pub starts_anew : old.starts < 2 → new ≡ record old { starts = old.starts + 1; notes = []; pending = given.pending } → (f : Result (Fetching J) Memory) → IfOk f (λ fetch. (fetch.judge ≡ old.judge) × (fetch.replicas ≡ old.replicas) × (fetch.entries ≡ old.entries))
-      → IfOk f (FetchIsAfter judges (standing_of given) given.held [] []) → IfOk f (λ fetch. fetch_awaited fetch ≡ None) → IfOk f (λ fetch. fetch_left fetch < most_left) → BeginsAnew judges old new given (result_ok f)
-  starts_anew few is (Ok f) by started free left = ((few, is), record { judge = by.0; replicas = by.1; entries = by.2; started = started; free = free; left = left })
-  starts_anew few is (Err lacks) by started free left = inl (few, is)
+  pub starts_anew : old.starts < 2 → new ≡ record old { starts = old.starts + 1; notes = [] } → (r : Result (RefreshState J) Memory) → IfOk r (λ refresh. (refresh.judge ≡ old.judge) × (refresh.replicas ≡ old.replicas) × (refresh.entries ≡ old.entries))
+      → IfOk r (RefreshIsAfter judges (standing_of given) [] []) → IfOk r (λ refresh. refresh_awaited refresh ≡ None) → IfOk r (λ refresh. has_failed refresh ≡ false) → IfOk r (λ refresh. refresh_left refresh < most_refresh) → BeginsAnew judges old new given (result_ok r)
+  starts_anew few is (Ok r) by started free unfailed left = ((few, is), record { judge = by.0; replicas = by.1; entries = by.2; started = started; free = free; unfailed = unfailed; left = left })
+  starts_anew few is (Err lacks) by started free unfailed left = inl (few, is)
 
 -- ---- it is over
 
@@ -106,42 +102,42 @@ module _ {J : Type 0} (judges : Judges J) (st : SessionState J) where
   At x = record st { stage = x }
 
   abbrev NotRefreshing : Stage J → Type 0
-  NotRefreshing at = (c : Call) (f : Fetching J) → at ≡ stage.Refreshing c f → ⊥
+  NotRefreshing at = (c : Call) (r : RefreshState J) → at ≡ stage.Refreshing c r → ⊥
 
   abbrev NotPublishing : Stage J → Type 0
   NotPublishing at = (told : Served) (p : PublishingState) → at ≡ stage.Publishing told p → ⊥
 
   pub is_to_tell : (at : Stage J) → NotRefreshing at → is_turning at ≡ false → is_told at ≡ false → told_at at ≢ None
-  is_to_tell (stage.Refreshing c f) fetching turning was = absurd (fetching c f refl)
-  is_to_tell (stage.Turning c) fetching turning was = cc turning
-  is_to_tell (stage.Publishing told p) fetching turning was = some_or_none told
-  is_to_tell (stage.Over told) fetching turning was = some_or_none told
-  is_to_tell stage.Told fetching turning was = cc was
+  is_to_tell (stage.Refreshing c r) refreshing turning was = absurd (refreshing c r refl)
+  is_to_tell (stage.Turning c) refreshing turning was = cc turning
+  is_to_tell (stage.Publishing told p) refreshing turning was = some_or_none told
+  is_to_tell (stage.Over told) refreshing turning was = some_or_none told
+  is_to_tell stage.Told refreshing turning was = cc was
 
   pub is_told_next : (cache : Cache) (told : Served) (at now : Stage J) → NotRefreshing at → NotPublishing at → told_at at ≡ Some told → IsNext judges (At at) (At now) cache cache (next.Done told)
-  is_told_next cache told (stage.Refreshing c f) now fetching publishing e = absurd (fetching c f refl)
-  is_told_next cache told (stage.Turning c) now fetching publishing e = absurd (some_or_none told (sym e))
-  is_told_next cache told (stage.Publishing first p) now fetching publishing e = absurd (publishing first p refl)
-  is_told_next cache told (stage.Over first) now fetching publishing e = (
+  is_told_next cache told (stage.Refreshing c r) now refreshing publishing e = absurd (refreshing c r refl)
+  is_told_next cache told (stage.Turning c) now refreshing publishing e = absurd (some_or_none told (sym e))
+  is_told_next cache told (stage.Publishing first p) now refreshing publishing e = absurd (publishing first p refl)
+  is_told_next cache told (stage.Over first) now refreshing publishing e = (
     (refl, refl, refl),
     λ s is. subst (λ (x : Served). NextIs judges (At (stage.Over first)) (At now) s cache cache (next.Done x)) (sym is.at.is_told ∙ same_some first told e) (is_over is.at.said is.at.stage refl is.at.noted),
   )
-  is_told_next cache told stage.Told now fetching publishing e = absurd (some_or_none told (sym e))
+  is_told_next cache told stage.Told now refreshing publishing e = absurd (some_or_none told (sym e))
 
 -- what waits for an answer and doesn't refresh publishes
-pub is_to_put : {J : Type 0} (at : Stage J) → ((c : Call) (f : Fetching J) → at ≡ stage.Refreshing c f → ⊥) → awaited_at at ≢ None → is_publishing at ≡ true
-is_to_put (stage.Refreshing c f) fetching waits = absurd (fetching c f refl)
-is_to_put (stage.Turning c) fetching waits = absurd (waits refl)
-is_to_put (stage.Publishing told p) fetching waits = refl
-is_to_put (stage.Over told) fetching waits = absurd (waits refl)
-is_to_put stage.Told fetching waits = absurd (waits refl)
+pub is_to_put : {J : Type 0} (at : Stage J) → ((c : Call) (r : RefreshState J) → at ≡ stage.Refreshing c r → ⊥) → awaited_at at ≢ None → is_publishing at ≡ true
+is_to_put (stage.Refreshing c r) refreshing waits = absurd (refreshing c r refl)
+is_to_put (stage.Turning c) refreshing waits = absurd (waits refl)
+is_to_put (stage.Publishing told p) refreshing waits = refl
+is_to_put (stage.Over told) refreshing waits = absurd (waits refl)
+is_to_put stage.Told refreshing waits = absurd (waits refl)
 
 -- the call is told that memory is wanting
 pub lack_at_turn : {J : Type 0} (judges : Judges J) (st : SessionState J) (at now : Stage J) (given : Result Turned TurnFault) (why : TurnFault) → is_turning at ≡ true → given ≡ Err why → why ≡ fault.Memory → IfSome (call_at at) (λ call. now ≡ stage.Over (lacking call))
     → IsTurned judges (record st { stage = at }) (record st { stage = now }) given
 lack_at_turn judges st (stage.Turning c) now given why turning is is_memory over =
     subst (λ (x : Result Turned TurnFault). IsTurned judges (record st { stage = stage.Turning c }) (record st { stage = now }) x) (sym (is ∙ ap (λ (x : TurnFault). Err x) is_memory)) (turn_lacks judges st (stage.Turning c) c refl refl now over)
-lack_at_turn judges st (stage.Refreshing c f) now given why turning is is_memory over = cc turning
+lack_at_turn judges st (stage.Refreshing c r) now given why turning is is_memory over = cc turning
 lack_at_turn judges st (stage.Publishing told p) now given why turning is is_memory over = cc turning
 lack_at_turn judges st (stage.Over told) now given why turning is is_memory over = cc turning
 lack_at_turn judges st stage.Told now given why turning is is_memory over = cc turning

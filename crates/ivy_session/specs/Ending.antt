@@ -1,5 +1,5 @@
 -- How a session's refresh is concluded.
-use Rattle.std.specs.Prelude.{◌≡◌, ◌⊎◌, ℕ, ◌+◌, ◌<◌, ◌≤◌, List, [], None, Some, Result, Ok, Err, Option}
+use Rattle.std.specs.Prelude.{◌≡◌, false, ◌⊎◌, ℕ, ◌+◌, ◌<◌, ◌≤◌, List, [], None, Some, Result, Ok, Err, Option}
 use Rattle.ivy_base.specs.declared.memory.Memory.{Memory}
 use Rattle.wire_model.specs.Rpc.{Success, SystemError, reply}
 use Rattle.nfs_model.specs.Results.{result as bytes_of}
@@ -7,11 +7,12 @@ use Rattle.dht_ids.specs.declared.ask.Answer.{Answer}
 use Rattle.dhash_client.specs.declared.miss.Miss.{Miss}
 use Rattle.dhash_client.specs.GetHead.{Judges}
 use Rattle.session_model.specs.Replies.{missed_reply}
-use Rattle.log_fetch.specs.declared.fetch.Fetched.{Fetched}
 use Rattle.log_fetch.specs.declared.note.Note.{Note as Noted}
 use Rattle.log_fetch.specs.declared.standing.Standing.{Standing}
-use Rattle.log_fetch.specs.Fetching.{Fetching, FetchIsAfter, fetch_awaited, fetch_left, most_left}
 use Rattle.log_fetch.specs.Standings.{asked_of, standing_of}
+use Rattle.view_refresh.specs.declared.refresh.Refreshed.{Refreshed}
+use Rattle.view_refresh.specs.States.{Refreshing as RefreshState, has_failed, most_refresh, refresh_awaited, refresh_left}
+use Rattle.view_refresh.specs.Behind.{RefreshIsAfter}
 use Rattle.post_publishing.specs.Publishing.{PublishingState, PublishingHasHeard}
 use Rattle.ivy_session.specs.declared.served.Call.{Call}
 use Rattle.ivy_session.specs.declared.served.Served.{Served}
@@ -38,35 +39,36 @@ missing c miss = served.Reply (reply c.xid (Success (bytes_of (missed_reply (ask
 abbrev pub TellsMiss : {J : Type 0} → SessionState J → SessionState J → Call → Miss → List Noted → Served → Type 0
 TellsMiss old new c miss notes told = ((told ≡ missing c miss) × (new ≡ record old { notes = notes })) ⊎ ((told ≡ lacking c) × (new ≡ old))
 
--- its agent's turn is wanted with the batch, or the refresh failed
-abbrev pub ConcludesAs : {J : Type 0} → SessionState J → SessionState J → Call → Fetched → Next → Type 0
-ConcludesAs old new c given (next.Turn refresh) = (given.result ≡ Ok refresh.batch) × (refresh.basis ≡ None) × (new ≡ record old { notes = given.notes; stage = stage.Turning c })
+-- its agent's turn is wanted with what was brought, or the refresh failed
+abbrev pub ConcludesAs : {J : Type 0} → SessionState J → SessionState J → Call → Refreshed → Next → Type 0
+ConcludesAs old new c given (next.Turn refresh) = (given.result ≡ Ok refresh) × (new ≡ record old { notes = given.notes; stage = stage.Turning c })
 ConcludesAs old new c given (next.Done told) = (miss : Miss) × (given.result ≡ Err miss) × TellsMiss old new c miss given.notes told
 ConcludesAs old new c given _ = ⊥
 
 -- it is told why its refresh failed; or that memory is wanting, and nothing is noted
-abbrev pub EndsAs : {J : Type 0} → Judges J → SessionState J → SessionState J → Call → Fetching J → Served → Type 0
-EndsAs judges old new c f told =
-    ((told ≡ lacking c) × (new ≡ old)) ⊎ ((miss : Miss) × (notes : List Noted) × IsFailure judges f (miss, notes) × (told ≡ missing c miss) × (new ≡ record old { notes = notes }))
+abbrev pub EndsAs : {J : Type 0} → Judges J → SessionState J → SessionState J → Call → RefreshState J → Served → Type 0
+EndsAs judges old new c r told =
+    ((told ≡ lacking c) × (new ≡ old)) ⊎ ((miss : Miss) × (notes : List Noted) × IsFailure judges r (miss, notes) × (told ≡ missing c miss) × (new ≡ record old { notes = notes }))
 
 -- the answer was heard by what publishes
 abbrev pub PutHears : PublishingState → PublishingState → Result Answer Memory → Result (Unit {0}) Memory → Type 0
 PutHears old new given (Ok done) = (answer : Answer) × (given ≡ Ok answer) × PublishingHasHeard old new answer
 PutHears old new given (Err lacks) = Unit {0}
 
--- the fetch is for that standing, by the same judge, from as many owners and the same nodes on, waits for no node yet, and asks only so much
-pub record IsFetchFor {J : Type 0} (judges : Judges J) (st : SessionState J) (standing : Standing) (f : Fetching J) : Type 0 where
-  pub judge : f.judge ≡ st.judge
-  pub replicas : f.replicas ≡ st.replicas
-  pub entries : f.entries ≡ st.entries
-  pub started : FetchIsAfter judges (standing_of standing) standing.held [] [] f
-  pub free : fetch_awaited f ≡ None
-  pub left : fetch_left f < most_left
+-- the refresh is for that standing, by the same judge, from as many owners and the same nodes on, waits for no node yet, and asks only so much
+pub record IsRefreshFor {J : Type 0} (judges : Judges J) (st : SessionState J) (standing : Standing) (r : RefreshState J) : Type 0 where
+  pub judge : r.judge ≡ st.judge
+  pub replicas : r.replicas ≡ st.replicas
+  pub entries : r.entries ≡ st.entries
+  pub started : RefreshIsAfter judges (standing_of standing) [] [] r
+  pub free : refresh_awaited r ≡ None
+  pub unfailed : has_failed r ≡ false
+  pub left : refresh_left r < most_refresh
 
--- it began anew with this fetch, or without memory for one; or it did so twice before, and stays as it is
-abbrev pub IsNew : {J : Type 0} → SessionState J → SessionState J → Standing → Type 0
-IsNew old new standing = (old.starts < 2) × (new ≡ record old { starts = old.starts + 1; notes = []; pending = standing.pending })
+-- it began anew with this refresh, or without memory for one; or it did so twice before, and stays as it is
+abbrev pub IsNew : {J : Type 0} → SessionState J → SessionState J → Type 0
+IsNew old new = (old.starts < 2) × (new ≡ record old { starts = old.starts + 1; notes = [] })
 
-abbrev pub BeginsAnew : {J : Type 0} → Judges J → SessionState J → SessionState J → Standing → Option (Fetching J) → Type 0
-BeginsAnew judges old new standing (Some f) = IsNew old new standing × IsFetchFor judges old standing f
-BeginsAnew judges old new standing None = IsNew old new standing ⊎ ((2 ≤ old.starts) × (new ≡ old))
+abbrev pub BeginsAnew : {J : Type 0} → Judges J → SessionState J → SessionState J → Standing → Option (RefreshState J) → Type 0
+BeginsAnew judges old new standing (Some r) = IsNew old new × IsRefreshFor judges old standing r
+BeginsAnew judges old new standing None = IsNew old new ⊎ ((2 ≤ old.starts) × (new ≡ old))

@@ -1,6 +1,6 @@
 -- How much is left to a session: a number that falls with each answer, turn and settling.
 use Rattle.std.specs.Prelude.{ℕ, ◌+◌, ◌-◌, ◌*◌, ◌^◌, ◌<◌, ◌≤◌}
-use Rattle.log_fetch.specs.Fetching.{fetch_left, most_left}
+use Rattle.view_refresh.specs.States.{most_refresh, refresh_left}
 use Rattle.post_publishing.specs.Publishing.{most_asks, puts_left}
 use Rattle.ivy_session.specs.declared.session.Next.{Next}
 use Rattle.ivy_session.specs.declared.session.Next.TheVariants as next
@@ -14,8 +14,8 @@ most_puts = most_asks * 2 ^ 64
 
 -- that far, where it began anew so often
 abbrev pub left_at : {J : Type 0} → ℕ → Stage J → ℕ
-left_at starts (stage.Refreshing c f) = fetch_left f + 2 + most_puts + most_left * (2 - starts)
-left_at starts (stage.Turning c) = 2 + most_puts + most_left * (2 - starts)
+left_at starts (stage.Refreshing c r) = refresh_left r + 2 + most_puts + most_refresh * (2 - starts)
+left_at starts (stage.Turning c) = 2 + most_puts + most_refresh * (2 - starts)
 left_at starts (stage.Publishing told p) = 1 + puts_left p
 left_at starts (stage.Over told) = 0
 left_at starts stage.Told = 0

@@ -2,7 +2,6 @@
 use Rattle.std.specs.Prelude.{◌≡◌, ◌≢◌, ℕ, Bool, true, false, List, [], Option, Some, None}
 use Rattle.dht_ids.specs.declared.ask.Ask.{Ask}
 use Rattle.dht_ids.specs.declared.peer.Peer.{Peer}
-use Rattle.dht_ids.specs.declared.post.Post.{Post}
 use Rattle.dhash_client.specs.GetHead.{Judges}
 use Rattle.wire_model.specs.Rpc.{IsIdentity}
 use Rattle.nfs_model.specs.Arguments.{ArgumentsFit}
@@ -14,8 +13,9 @@ use Rattle.session_model.specs.Sessions.{Said, Session, Refreshing, Over}
 use Rattle.session_model.specs.Courses.{Begins, HasRefreshed}
 use Rattle.log_fetch.specs.declared.asked.Asked.{Asked}
 use Rattle.log_fetch.specs.declared.note.Note.{Note as Noted}
-use Rattle.log_fetch.specs.Fetching.{Fetching, FetchIsAfter, fetch_awaited, is_failed}
 use Rattle.log_fetch.specs.Standings.{asked_of, notes_of}
+use Rattle.view_refresh.specs.States.{Refreshing as RefreshState, has_failed, refresh_awaited}
+use Rattle.view_refresh.specs.Behind.{RefreshIsAfter}
 use Rattle.post_publishing.specs.Publishing.{PublishingState, PublishingIsAfter, publishing_awaited, stage_of}
 use Rattle.ivy_session.specs.declared.served.Call.{Call}
 use Rattle.ivy_session.specs.declared.session.Stage.{Stage}
@@ -23,20 +23,19 @@ use Rattle.ivy_session.specs.declared.session.Stage.TheVariants as stage
 use Rattle.ivy_session.specs.declared.served.Served.{Served}
 use Rattle.ivy_session.specs.declared.served.Served.TheVariants as served
 
--- by which judge, from how many owners and at which nodes it asks; the posts that are at hand, how often it began anew, what is noted, whether its publishing ended before
+-- by which judge, from how many owners and at which nodes it asks; how often it began anew, what is noted, whether its publishing ended before
 -- all puts were made, and how far it has come
 pub record SessionState (J : Type 0) : Type 0 where
   pub judge : J
   pub replicas : ℕ
   pub entries : List Peer
-  pub pending : List Post
   pub starts : ℕ
   pub notes : List Noted
   pub is_cut : Bool
   pub stage : Stage J
 
 abbrev pub awaited_at : {J : Type 0} → Stage J → Option (Peer × Ask)
-awaited_at (stage.Refreshing c f) = fetch_awaited f
+awaited_at (stage.Refreshing c r) = refresh_awaited r
 awaited_at (stage.Turning c) = None
 awaited_at (stage.Publishing told p) = publishing_awaited p
 awaited_at (stage.Over told) = None
@@ -52,7 +51,7 @@ HasAsked st s = session_awaited st ≢ None → s.current ≢ []
 
 -- its agent's turn is awaited
 abbrev pub is_turning : {J : Type 0} → Stage J → Bool
-is_turning (stage.Refreshing c f) = false
+is_turning (stage.Refreshing c r) = false
 is_turning (stage.Turning c) = true
 is_turning (stage.Publishing told p) = false
 is_turning (stage.Over told) = false
@@ -60,7 +59,7 @@ is_turning stage.Told = false
 
 -- how it ended was told
 abbrev pub is_told : {J : Type 0} → Stage J → Bool
-is_told (stage.Refreshing c f) = false
+is_told (stage.Refreshing c r) = false
 is_told (stage.Turning c) = false
 is_told (stage.Publishing told p) = false
 is_told (stage.Over told) = false
@@ -68,7 +67,7 @@ is_told stage.Told = true
 
 -- what the call asks for, until its turn is over
 abbrev pub asked_at : {J : Type 0} → Stage J → Option Asked
-asked_at (stage.Refreshing c f) = Some c.asked
+asked_at (stage.Refreshing c r) = Some c.asked
 asked_at (stage.Turning c) = Some c.asked
 asked_at (stage.Publishing told p) = None
 asked_at (stage.Over told) = None
@@ -89,23 +88,21 @@ pub record IsCallOf (s : Session) (c : Call) : Type 0 where
   pub caller : IsIdentity (identity_of c.asked.caller)
   pub args : ArgumentsFit c.asked.args
 
--- it refreshes by this fetch, without a snapshot to load, and these posts are at hand
-pub record IsFetching {J : Type 0} (judges : Judges J) (posts : List Post) (s : Session) (f : Fetching J) : Type 0 where
+-- it refreshes by this
+pub record IsRefreshingBy {J : Type 0} (judges : Judges J) (s : Session) (r : RefreshState J) : Type 0 where
   pub stage : s.stage ≡ Refreshing
-  pub none : s.standing.to_load ≡ None
-  pub pending : posts ≡ s.standing.pending
-  pub entries : f.entries ≡ s.entries
+  pub entries : r.entries ≡ s.entries
   pub unmissed : s.missed ≡ None
-  pub fetch : FetchIsAfter judges s.standing s.standing.held s.parts s.current f
-  pub unfailed : is_failed f ≡ false
+  pub after : RefreshIsAfter judges s.standing s.parts s.current r
+  pub unfailed : has_failed r ≡ false
 
 module _ {J : Type 0} (judges : Judges J) (s : Session) (st : SessionState J) where
   -- its refresh is on its way
-  pub record IsRefreshing (c : Call) (f : Fetching J) : Type 0 where
+  pub record IsRefreshing (c : Call) (r : RefreshState J) : Type 0 where
     pub call : IsCallOf s c
-    pub fetching : IsFetching judges st.pending s f
-    pub judge : f.judge ≡ st.judge
-    pub replicas : f.replicas ≡ st.replicas
+    pub refreshing : IsRefreshingBy judges s r
+    pub judge : r.judge ≡ st.judge
+    pub replicas : r.replicas ≡ st.replicas
     pub unnoted : st.notes ≡ []
 
   -- its refresh is done, and has noted this
@@ -136,7 +133,7 @@ module _ {J : Type 0} (judges : Judges J) (s : Session) (st : SessionState J) wh
     pub noted : st.notes ≡ notes_of s.notes s.missed
 
   abbrev pub IsAt : Stage J → Type 0
-  IsAt (stage.Refreshing c f) = IsRefreshing c f
+  IsAt (stage.Refreshing c r) = IsRefreshing c r
   IsAt (stage.Turning c) = IsTurning c
   IsAt (stage.Publishing told p) = IsPublishing told p
   IsAt (stage.Over told) = IsOver told
@@ -151,8 +148,8 @@ module _ {J : Type 0} (judges : Judges J) (s : Session) (st : SessionState J) wh
 -- ---- how it begins
 
 -- that far, it has just begun
-abbrev pub begun : {J : Type 0} → J → ℕ → List Peer → List Post → Stage J → SessionState J
-begun judge replicas entries pending at = record { judge = judge; replicas = replicas; entries = entries; pending = pending; starts = 0; notes = []; is_cut = false; stage = at }
+abbrev pub begun : {J : Type 0} → J → ℕ → List Peer → Stage J → SessionState J
+begun judge replicas entries at = record { judge = judge; replicas = replicas; entries = entries; starts = 0; notes = []; is_cut = false; stage = at }
 
 -- whosever it is, it begins as a session of the definitions does
 abbrev pub BeginsAs : {J : Type 0} → Judges J → List ℕ → Standing → SessionState J → Type 0

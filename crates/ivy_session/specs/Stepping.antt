@@ -48,9 +48,8 @@ module _ (judged : Key → List ℕ → Option Judged) (replicas : ℕ) (s : Ses
     puts : (said : Option Said) (p : Post) (posts : List Post) (acks : List Ack) → s.stage ≡ Publishing said (p ∷ posts) acks
         → AsksNext p.key (put_question p) (IsPut judged replicas s p) s.current node question → AsksOf
 
--- the batch is over what is held, with the floor, of members' logs, and each chain was tested under the view
+-- the batch is with the floor, of members' logs, and each chain was tested under the view
 pub record IsBatchOf (s : ModelStanding) (b : Batch) : Type 0 where
-  pub held : b.held ≡ s.held
   pub floor : b.floor ≡ s.floor
   pub under : AreUnder s.view (edge_in s.edges) b
   pub members : (owner : PubKey) → Contains (owners_in b.chains) owner → Contains s.view.members owner
@@ -72,7 +71,7 @@ module _ {J : Type 0} (judges : Judges J) (old new : SessionState J) (s : Sessio
     asks_again : (node : Peer) (question : Ask) → session_awaited old ≢ None → session_awaited new ≡ Some (node, question) → IsSession judges s new
         → AsksOf (judges old.judge) old.replicas s node question → after ≡ before → NextIs before after (next.Ask node question)
     turns : (t : Session) (notes : List Note) (refresh : Refresh) → TakesAll (judges old.judge) old.replicas s before t after → IsSession judges t new
-        → is_turning new.stage ≡ true → HasRefreshed t notes (refresh_of refresh) → IsBatchOf t.standing refresh.batch → refresh.basis ≡ None → NextIs before after (next.Turn refresh)
+        → is_turning new.stage ≡ true → HasRefreshed t notes (refresh_of refresh) → IsBatchOf t.standing refresh.batch → NextIs before after (next.Turn refresh)
     settles : (said : Option Said) (acks : List Ack)
         → (s.stage ≡ Publishing said [] acks) ⊎ ((s.entries ≡ []) × Passes old.replicas s.stage (Publishing said [] acks)) → s.current ≡ []
         → after ≡ before → IsSession judges (record s { stage = Over said }) new → NextIs before after (next.Settle acks)

@@ -2,12 +2,13 @@
 
 ghost use Rattle.std.specs.Prelude.{◌≡◌, ◌≢◌, ◌<◌, ◌≤◌, false, List, None, IfOk, IfSome, OnOk, OnErr};
 ghost use Rattle.ivy_base.specs.Naming.{name};
-ghost use Rattle.dht_ids.specs.declared.post.Post.{Post as Posted};
 ghost use Rattle.block_cache.specs.Blocks.{kept};
-ghost use Rattle.log_fetch.specs.Fetching.{fetch_awaited, fetch_left};
+ghost use Rattle.std.specs.List.{AllByRecursion};
+ghost use Rattle.agent_model.specs.SavedBytes.{HasItsName};
+ghost use Rattle.view_refresh.specs.States.{refresh_awaited, refresh_left};
 ghost use Rattle.log_fetch.specs.Standings.{standing_of};
 ghost use Rattle.ivy_session.specs.States.{BeginsAs, awaited_at, begun, is_turning, reply_or_none};
-ghost use Rattle.ivy_session.specs.Taking.{Advances, FetchHears, IsFailure, kept_back};
+ghost use Rattle.ivy_session.specs.Taking.{Advances, IsFailure, RefreshHears, kept_back};
 
 use crate::hand::take_all;
 use crate::served::{Call, Served};
@@ -15,10 +16,11 @@ use crate::session::Stage;
 use block_cache::BlockCache;
 use call_messages::{Reading, ReplyRoom, read_message};
 use dhash_client::Miss;
-use dht_ids::{Answer, Judge, Peers, Posts, Want};
+use dht_ids::{Answer, Judge, Peers, Want};
 use ivy_base::{Bytes, Key, Memory, name_of};
-use log_fetch::{Asked, Fetch, Fetched, Notes, Standing};
+use log_fetch::{Asked, Notes, Standing};
 use std::alloc::Global;
+use view_refresh::{Refreshed, ViewRefresh};
 
 /// How far a session is that begins with that message: its refresh begins, or the message reaches no turn, and what is said
 /// of it is to be told. The error is want of memory.
@@ -27,11 +29,11 @@ pub(crate) fn first_stage<J: Judge>(
     judge: J,
     replicas: u32,
     entries: &Peers,
-    standing: &Standing,
+    standing: Standing,
     message: &[u8],
 ) -> Result<Stage<J>, Memory>
-    requires { standing.now.basis ≡ None }
-    ensures begun { IfOk result (λ stage. BeginsAs J.judges message.now (standing_of standing.now) (begun judge replicas entries.now standing.now.pending stage)) }
+    requires { standing.basis ≢ None → AllByRecursion HasItsName standing.pending }
+    ensures begun { IfOk result (λ stage. BeginsAs J.judges message.now (standing_of standing) (begun judge replicas entries.now stage)) }
     ensures free { IfOk result (λ stage. awaited_at stage ≡ None) }
     ensures turning { IfOk result (λ stage. is_turning stage ≡ false) }
 {
@@ -39,8 +41,9 @@ pub(crate) fn first_stage<J: Judge>(
         Reading::Alone(reply) => Ok(Stage::Over(told(reply))),
         Reading::Asks { xid, asked } => {
             let call = call_of(alloc, xid, asked)?;
-            let fetch = Fetch::start(alloc, judge, replicas, entries.copy(alloc)?, standing)?;
-            Ok(Stage::Refreshing(call, fetch))
+            let entries = entries.copy(alloc)?;
+            let refresh = ViewRefresh::start(alloc, judge, replicas, entries, standing)?;
+            Ok(Stage::Refreshing(call, refresh))
         }
     }
 }
@@ -67,33 +70,32 @@ fn call_of(alloc: Global, xid: u32, asked: Asked) -> Result<Call, Memory>
     })
 }
 
-/// What the fetch wants once it took what is at hand. The error is want of memory; the fetch isn't used after it.
+/// What the refresh wants once it took what is at hand. The error is want of memory; the refresh isn't used after it.
 pub(crate) fn advance<J: Judge>(
-    fetch: &mut Fetch<J>,
-    posts: &Posts,
+    refresh: &mut ViewRefresh<J>,
     cache: &mut BlockCache,
-) -> Result<Want<Fetched>, Memory>
-    ensures wanted { Advances J.judges posts.now fetch.old fetch.new cache.old cache.new result }
-    ensures left { IfOk result (λ _. fetch_left fetch.new ≤ fetch_left fetch.old) }
+) -> Result<Want<Refreshed>, Memory>
+    ensures wanted { Advances J.judges refresh.old refresh.new cache.old cache.new result }
+    ensures left { IfOk result (λ _. refresh_left refresh.new ≤ refresh_left refresh.old) }
 {
-    take_all(fetch, posts, cache)?;
-    fetch.next()
+    take_all(refresh, cache)?;
+    refresh.next()
 }
 
-/// The fetch hears the answer, and a block that it brought is kept; says whether the fetch has failed. The error is want of
-/// memory; the fetch isn't used after it.
+/// The refresh hears the answer, and a block that it brought is kept; says whether the refresh has failed. The error is want
+/// of memory; the refresh isn't used after it.
 pub(crate) fn hear<J: Judge>(
-    fetch: &mut Fetch<J>,
+    refresh: &mut ViewRefresh<J>,
     cache: &mut BlockCache,
     answer: Result<Answer, Memory>,
 ) -> Result<bool, Memory>
-    requires { fetch_awaited fetch.old ≢ None }
-    ensures heard { (posts : List Posted) → FetchHears J.judges posts fetch.old fetch.new cache.old cache.new answer result }
-    ensures left { IfOk result (λ _. fetch_left fetch.new < fetch_left fetch.old) }
+    requires { refresh_awaited refresh.old ≢ None }
+    ensures heard { RefreshHears J.judges refresh.old refresh.new cache.old cache.new answer result }
+    ensures left { IfOk result (λ _. refresh_left refresh.new < refresh_left refresh.old) }
 {
-    let block = fetch.heard(answer?)?;
+    let block = refresh.heard(answer?)?;
     keep_back(cache, block)?;
-    Ok(fetch.failed())
+    Ok(refresh.failed())
 }
 
 /// Keeps the block that was given back, where one was. The error is want of memory.
@@ -120,24 +122,24 @@ fn keep(cache: &mut BlockCache, bytes: Bytes) -> Result<(), Memory>
     }
 }
 
-/// Why the fetch failed, which did, and what is noted then. None is want of memory.
-pub(crate) fn failure<J: Judge>(fetch: &mut Fetch<J>) -> Option<(Miss, Notes)>
-    ensures { IfSome result (IsFailure J.judges fetch.old) }
+/// Why the refresh failed, which did, and what is noted then. None is want of memory.
+pub(crate) fn failure<J: Judge>(refresh: &mut ViewRefresh<J>) -> Option<(Miss, Notes)>
+    ensures { IfSome result (IsFailure J.judges refresh.old) }
 {
-    match fetch.next() {
-        Ok(Want::Done(fetched)) => miss_in(fetched),
+    match refresh.next() {
+        Ok(Want::Done(refreshed)) => miss_in(refreshed),
         _ => None,
     }
 }
 
 /// The miss and the notes, where something was missed.
-fn miss_in(fetched: Fetched) -> Option<(Miss, Notes)>
-    ensures { IfSome result (λ why. (fetched.result ≡ Err why.0) × (fetched.notes ≡ why.1)) }
+fn miss_in(refreshed: Refreshed) -> Option<(Miss, Notes)>
+    ensures { IfSome result (λ why. (refreshed.result ≡ Err why.0) × (refreshed.notes ≡ why.1)) }
 {
-    let Fetched { result, notes } = fetched;
+    let Refreshed { result, notes } = refreshed;
     match result {
-        Ok(batch) => {
-            drop(batch);
+        Ok(refresh) => {
+            drop(refresh);
             drop(notes);
             None
         }

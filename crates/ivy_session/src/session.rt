@@ -1,6 +1,7 @@
 //! The machine of a session.
 
 ghost use Rattle.std.specs.Prelude.{◌≡◌, ◌≢◌, ℕ, ◌+◌, ◌<◌, ◌≤◌, ◌^◌, List, [], true, false, length, nat_lt, Some, None, IfOk, IfErr, IfSome, option_map};
+ghost use Rattle.std.specs.List.{AllByRecursion};
 ghost use Rattle.agent_model.specs.Standing.{Standing as ModelStanding};
 ghost use Rattle.session_model.specs.Courses.{publishing_session};
 ghost use Rattle.log_fetch.specs.Standings.{standing_of};
@@ -8,10 +9,12 @@ ghost use Rattle.ivy_session.specs.States.{BeginsAs, IsSession, asked_at, awaite
 ghost use Rattle.ivy_session.specs.Stepping.{IsAnewFor, IsHeard, IsNext, IsTurned};
 ghost use Rattle.ivy_session.specs.Left.{FallsLeft, LeavesNoMore, StaysLeft, most_puts, session_left};
 ghost use Rattle.ivy_session.specs.Ending.{BeginsAnew, ConcludesAs, PutHears, TellsMiss, lacking};
-ghost use Rattle.ivy_session.specs.InPlace.{EndsRefresh, FailureAt, FetchHeard, FetchWants, PutHeard, PutWants, TellsWhy, call_at, is_publishing, is_refreshing, told_at};
+ghost use Rattle.ivy_session.specs.InPlace.{EndsRefresh, FailureAt, PutHeard, PutWants, RefreshHeard, RefreshWants, TellsWhy, call_at, is_publishing, is_refreshing, told_at};
 ghost use Rattle.session_model.specs.Sessions.{Cache};
 ghost use Rattle.wire_model.specs.Rpc.{SystemError, reply};
-ghost use Rattle.log_fetch.specs.Fetching.{FetchIsAfter, fetch_awaited, fetch_left, most_left};
+ghost use Rattle.agent_model.specs.SavedBytes.{HasItsName};
+ghost use Rattle.view_refresh.specs.States.{has_failed, most_refresh, refresh_awaited, refresh_left};
+ghost use Rattle.view_refresh.specs.Behind.{RefreshIsAfter};
 ghost use Rattle.post_publishing.specs.Publishing.{publishing_awaited, publishing_begun, puts_left};
 
 use crate::refreshing::{advance, failure, first_stage, hear};
@@ -21,11 +24,12 @@ use call_messages::missed;
 use dhash_client::Miss;
 use dht_ids::{Acks, Answer, Ask, Judge, Peer, Peers, Post, Posts, Want};
 use ivy_base::Memory;
-use log_fetch::{Asked, Fetch, Fetched, Notes, Refresh, Standing, TurnFault, Turned};
+use log_fetch::{Asked, Notes, Refresh, Standing, TurnFault, Turned};
 use post_publishing::Publishing;
 use std::alloc::Global;
 use std::marker::Model;
 use std::mem;
+use view_refresh::{Refreshed, ViewRefresh};
 
 /// What a session wants next.
 #[derive(Drop)]
@@ -45,7 +49,7 @@ pub enum Next {
 #[derive(Drop)]
 pub(crate) enum Stage<J: Judge> {
     /// Its refresh is on its way.
-    Refreshing(Call, Fetch<J>),
+    Refreshing(Call, ViewRefresh<J>),
     /// Its agent's turn is awaited.
     Turning(Call),
     /// It publishes; this is told in the end.
@@ -57,13 +61,12 @@ pub(crate) enum Stage<J: Judge> {
 }
 
 /// One call of a participant, or the publishing of its posts alone. Contracts see by which judge, from how many owners and at
-/// which nodes it asks, what is at hand, and how far it is (`specs/States.antt`).
+/// which nodes it asks, and how far it is (`specs/States.antt`).
 pub struct Session<J: Judge> {
     alloc: Global,
     judge: J,
     replicas: u32,
     entries: Peers,
-    pending: Posts,
     starts: u32,
     notes: Notes,
     is_cut: bool,
@@ -78,7 +81,6 @@ impl<J: Judge> Drop for Session<J> {
             judge: _,
             replicas: _,
             entries: _,
-            pending: _,
             starts: _,
             notes: _,
             is_cut: _,
@@ -92,7 +94,7 @@ impl<J: Judge> Model for Session<J> {
 
     ghost Value = { SessionState J };
 
-    ghost view = { λ s. record { judge = s.judge; replicas = s.replicas; entries = s.entries; pending = s.pending; starts = s.starts; notes = s.notes; is_cut = s.is_cut; stage = s.stage } };
+    ghost view = { λ s. record { judge = s.judge; replicas = s.replicas; entries = s.entries; starts = s.starts; notes = s.notes; is_cut = s.is_cut; stage = s.stage } };
 }
 
 /// How often a session begins anew at most.
@@ -100,7 +102,8 @@ const MOST_STARTS: u32 = 2;
 
 impl<J: Judge> Session<J> {
     /// A session that answers this message for the agent of that standing; it asks these nodes first, and is content with
-    /// that many answers. The error is want of memory.
+    /// that many answers. Where there is a snapshot to load, each block that is pending has its name. The error is want of
+    /// memory.
     pub fn begin(
         alloc: Global,
         judge: J,
@@ -109,19 +112,18 @@ impl<J: Judge> Session<J> {
         standing: Standing,
         message: &[u8],
     ) -> Result<Session<J>, Memory>
-        requires { standing.basis ≡ None }
+        requires { standing.basis ≢ None → AllByRecursion HasItsName standing.pending }
         ensures by { IfOk result (λ st. (st.judge ≡ judge) × (st.replicas ≡ replicas) × (st.entries ≡ entries)) }
         ensures begun { IfOk result (BeginsAs J.judges message.now (standing_of standing)) }
         ensures free { IfOk result (λ st. session_awaited st ≡ None) }
         ensures turning { IfOk result (λ st. is_turning st.stage ≡ false) }
     {
-        let stage = first_stage(alloc, judge, replicas, &entries, &standing, message)?;
+        let stage = first_stage(alloc, judge, replicas, &entries, standing, message)?;
         Ok(Session {
             alloc,
             judge,
             replicas,
             entries,
-            pending: pending_of(standing),
             starts: 0,
             notes: Notes::of(Vec::new(alloc)),
             is_cut: false,
@@ -148,7 +150,6 @@ impl<J: Judge> Session<J> {
             judge,
             replicas,
             entries,
-            pending: Posts::of(Vec::new(alloc)),
             starts: 0,
             notes: Notes::of(Vec::new(alloc)),
             is_cut: false,
@@ -243,26 +244,26 @@ impl<J: Judge> Session<J> {
         ensures wanted { IsNext J.judges self.old self.new cache.old cache.new result }
         ensures left { LeavesNoMore self.old self.new result }
     {
-        match fetch_wants(&mut self.stage, &self.pending, cache) {
+        match refresh_wants(&mut self.stage, cache) {
             Ok(Want::Ask(node, question)) => Next::Ask(node, question),
-            Ok(Want::Done(fetched)) => {
+            Ok(Want::Done(refreshed)) => {
                 let call = take_call(&mut self.stage);
-                self.conclude(call, fetched)
+                self.conclude(call, refreshed)
             }
             Err(Memory) => Next::Done(no_memory(take_call(&mut self.stage))),
         }
     }
 
     /// Concludes the refresh, which brought this: its agent's turn is wanted, or it has failed.
-    fn conclude(&mut self, call: Call, fetched: Fetched) -> Next
-        ensures { ConcludesAs self.old self.new call fetched result }
+    fn conclude(&mut self, call: Call, refreshed: Refreshed) -> Next
+        ensures { ConcludesAs self.old self.new call refreshed result }
     {
-        let Fetched { result, notes } = fetched;
+        let Refreshed { result, notes } = refreshed;
         match result {
-            Ok(batch) => {
+            Ok(refresh) => {
                 self.notes = notes;
                 go_to(&mut self.stage, Stage::Turning(call));
-                Next::Turn(Refresh { batch, basis: None })
+                Next::Turn(refresh)
             }
             Err(miss) => Next::Done(self.fail(call, &miss, notes)),
         }
@@ -309,7 +310,7 @@ impl<J: Judge> Session<J> {
         ensures turning { is_turning self.new.stage ≡ false }
         ensures left { session_left self.new < session_left self.old }
     {
-        match fetch_heard(&mut self.stage, cache, answer) {
+        match refresh_heard(&mut self.stage, cache, answer) {
             Ok(false) => {}
             Ok(true) => self.end_refresh(),
             Err(Memory) => lack(&mut self.stage),
@@ -398,44 +399,46 @@ impl<J: Judge> Session<J> {
         ensures left { session_left self.new < session_left self.old }
     {
         let call = take_call(&mut self.stage);
-        match self.fetch_anew(standing) {
-            Some(fetch) => go_to(&mut self.stage, Stage::Refreshing(call, fetch)),
+        match self.refresh_anew(standing) {
+            Some(refresh) => go_to(&mut self.stage, Stage::Refreshing(call, refresh)),
             None => go_to(&mut self.stage, Stage::Over(no_memory(call))),
         }
     }
 
-    /// The fetch with which the session begins anew from that standing. None is want of memory, or that it did so twice
+    /// The refresh with which the session begins anew from that standing. None is want of memory, or that it did so twice
     /// before.
-    fn fetch_anew(&mut self, standing: Standing) -> Option<Fetch<J>>
+    fn refresh_anew(&mut self, standing: Standing) -> Option<ViewRefresh<J>>
+        requires { standing.basis ≡ None }
         ensures { BeginsAnew J.judges self.old self.new standing result }
     {
         if !self.may_begin_anew() {
             drop(standing);
             return None;
         }
-        let fetch = self.fetch_for(&standing);
-        self.renew(pending_of(standing));
-        fetch.ok()
+        let refresh = self.refresh_for(standing);
+        self.renew();
+        refresh.ok()
     }
 
-    /// Counts that it begins anew, with these posts at hand and nothing noted.
-    fn renew(&mut self, pending: Posts)
+    /// Counts that it begins anew, with nothing noted.
+    fn renew(&mut self)
         requires { self.old.starts < 2 }
-        ensures { self.new ≡ record self.old { starts = self.old.starts + 1; notes = []; pending = pending } }
+        ensures { self.new ≡ record self.old { starts = self.old.starts + 1; notes = [] } }
     {
         self.starts += 1;
         self.notes = Notes::of(Vec::new(self.alloc));
-        self.pending = pending;
     }
 
-    /// The fetch for that standing. The error is want of memory.
-    fn fetch_for(&self, standing: &Standing) -> Result<Fetch<J>, Memory>
-        ensures by { IfOk result (λ fetch. (fetch.judge ≡ self.now.judge) × (fetch.replicas ≡ self.now.replicas) × (fetch.entries ≡ self.now.entries)) }
-        ensures started { IfOk result (FetchIsAfter J.judges (standing_of standing.now) standing.now.held [] []) }
-        ensures free { IfOk result (λ fetch. fetch_awaited fetch ≡ None) }
-        ensures left { IfOk result (λ fetch. fetch_left fetch < most_left) }
+    /// The refresh for that standing. The error is want of memory.
+    fn refresh_for(&self, standing: Standing) -> Result<ViewRefresh<J>, Memory>
+        requires { standing.basis ≡ None }
+        ensures by { IfOk result (λ refresh. (refresh.judge ≡ self.now.judge) × (refresh.replicas ≡ self.now.replicas) × (refresh.entries ≡ self.now.entries)) }
+        ensures started { IfOk result (RefreshIsAfter J.judges (standing_of standing) [] []) }
+        ensures free { IfOk result (λ refresh. refresh_awaited refresh ≡ None) }
+        ensures unfailed { IfOk result (λ refresh. has_failed refresh ≡ false) }
+        ensures left { IfOk result (λ refresh. refresh_left refresh < most_refresh) }
     {
-        Fetch::start(
+        ViewRefresh::start(
             self.alloc,
             self.judge,
             self.replicas,
@@ -449,13 +452,6 @@ impl<J: Judge> Session<J> {
 fn are_few(posts: &[Post])
     ensures { length posts.now < 2 ^ 63 }
 {}
-
-/// The blocks that are still to be put by that standing.
-fn pending_of(standing: Standing) -> Posts
-    ensures { result ≡ standing.pending }
-{
-    standing.pending
-}
 
 /// Goes to that stage. What is left of the one before is dropped by a call, so that whatever changes a stage isn't proved
 /// over all of its parts once more.
@@ -472,8 +468,8 @@ fn take_call<J: Judge>(stage: &mut Stage<J>) -> Call
     ensures told { stage.new ≡ Stage.Told }
 {
     match mem::replace(stage, Stage::Told) {
-        Stage::Refreshing(call, fetch) => {
-            drop(fetch);
+        Stage::Refreshing(call, refresh) => {
+            drop(refresh);
             call
         }
         Stage::Turning(call) => call,
@@ -516,34 +512,33 @@ fn lack<J: Judge>(stage: &mut Stage<J>)
 }
 
 /// What the refresh wants. The error is want of memory.
-fn fetch_wants<J: Judge>(
+fn refresh_wants<J: Judge>(
     stage: &mut Stage<J>,
-    posts: &Posts,
     cache: &mut BlockCache,
-) -> Result<Want<Fetched>, Memory>
+) -> Result<Want<Refreshed>, Memory>
     requires { is_refreshing stage.old ≡ true }
-    ensures wanted { FetchWants J.judges posts.now stage.old stage.new cache.old cache.new result }
+    ensures wanted { RefreshWants J.judges stage.old stage.new cache.old cache.new result }
     ensures left { IfOk result (λ _. StaysLeft stage.old stage.new) }
 {
     match stage {
-        Stage::Refreshing(_, fetch) => advance(fetch, posts, cache),
+        Stage::Refreshing(_, refresh) => advance(refresh, cache),
         _ => unreachable!(),
     }
 }
 
 /// The refresh hears an answer; says whether it has failed. The error is want of memory.
-fn fetch_heard<J: Judge>(
+fn refresh_heard<J: Judge>(
     stage: &mut Stage<J>,
     cache: &mut BlockCache,
     answer: Result<Answer, Memory>,
 ) -> Result<bool, Memory>
     requires refreshing { is_refreshing stage.old ≡ true }
     requires awaited { awaited_at stage.old ≢ None }
-    ensures heard { FetchHeard J.judges stage.old stage.new cache.old cache.new answer result }
+    ensures heard { RefreshHeard J.judges stage.old stage.new cache.old cache.new answer result }
     ensures left { IfOk result (λ _. FallsLeft stage.old stage.new) }
 {
     match stage {
-        Stage::Refreshing(_, fetch) => hear(fetch, cache, answer),
+        Stage::Refreshing(_, refresh) => hear(refresh, cache, answer),
         _ => unreachable!(),
     }
 }
@@ -554,7 +549,7 @@ fn failure_at<J: Judge>(stage: &mut Stage<J>) -> Option<(Miss, Notes)>
     ensures { FailureAt J.judges stage.old stage.new result }
 {
     match stage {
-        Stage::Refreshing(_, fetch) => failure(fetch),
+        Stage::Refreshing(_, refresh) => failure(refresh),
         _ => unreachable!(),
     }
 }

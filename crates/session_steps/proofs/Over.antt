@@ -14,7 +14,7 @@ over_or_refreshing s said over e = cc (sym over ∙ e)
 
 -- it asks for nothing, and waits for no turn
 pub over_asks : (s : Session) (st : SessionState HssJudge) (said : Option Said) → s.stage ≡ Over said → (at : Stage HssJudge) → IsAt judges s st at → (asked_at at ≡ None) × (is_turning at ≡ false)
-over_asks s st said over (stage.Refreshing call fetch) is = absurd (over_or_refreshing s said over is.fetching.stage)
+over_asks s st said over (stage.Refreshing call fetch) is = absurd (over_or_refreshing s said over is.refreshing.stage)
 over_asks s st said over (stage.Turning call) is = absurd (over_or_refreshing s said over is.refreshed.0)
 over_asks s st said over (stage.Publishing told posts) is = (refl, refl)
 over_asks s st said over (stage.Over told) is = (refl, refl)

@@ -1,6 +1,5 @@
 -- A scene whose session is one in code: what is at hand was taken, and it is in hand still.
 use Rattle.std.proofs.Common.{◌≡◌, ◌≢◌, ℕ, Bool, true, false, cond, List, [], ◌∷◌, map, Option, Some, None, refl, sym, ap, ◌∙◌, subst}
-use Rattle.std.specs.Prelude.{IfSome}
 use Rattle.std.specs.Str.{bytes_eq}
 use Rattle.std.proofs.lemmas.Slice.Eq.{bytes_eq-Decides}
 use Rattle.ivy_base.specs.declared.key.Key.{Key}
@@ -20,7 +19,6 @@ use Rattle.session_model.specs.Sessions.Hears.{gets_on, got, puts_on, puts}
 use Rattle.session_model.specs.Sessions.Takes.{posted, cached}
 use Rattle.session_model.specs.Sessions.TakesAll.{none as takes_none, more as takes_more}
 use Rattle.session_model.specs.Sessions.TakesSome.{none as some_none, more as some_more}
-use Rattle.session_laws.specs.Going.{SnapshotsAreDecided}
 use Rattle.ivy_session.specs.States.{SessionState}
 use Rattle.ivy_session.specs.Stepping.{IsSameSession}
 use Rattle.ivy_session.specs.Taking.{IsSameCall}
@@ -118,5 +116,5 @@ module _ {J : Type 0} (judges : Judges J) (c : Scene) (r : ℕ) (p : Participant
     found_then = subst (λ (u : Session). participant (with_participant c.world (record p { cache = cache })) u.by ≡ Some (record p { cache = cache })) (sym (taken_same takes))
         (found_placed c.world keeps.apart c.session.by p is.is_by (record p { cache = cache }) refl)
 
-    pub keeps_then : IsInHand c r → c.session.standing.to_load ≡ None → Keeps (with_participant c.world (record p { cache = cache }), c.story) × IsInHand (with_cache hss_judged r c p t cache) r
-    keeps_then hand none = taking_keeps c r p t cache keeps hand is.is_by (all_some takes)
+    pub keeps_then : IsInHand c r → Keeps (with_participant c.world (record p { cache = cache }), c.story) × IsInHand (with_cache hss_judged r c p t cache) r
+    keeps_then hand = taking_keeps c r p t cache keeps hand is.is_by (all_some takes)

@@ -1,8 +1,7 @@
 -- Whatever comes of the turn of a session in code, and whatever the session makes of it, is a step of the scene.
-use Rattle.std.proofs.Common.{◌≡◌, ⊎_elim, ℕ, ◌<◌, Bool, true, false, List, [], ◌++◌, Option, Some, None, Result, Ok, Err, refl, sym, ap, ◌∙◌, subst, Contains}
+use Rattle.std.proofs.Common.{◌≡◌, ⊎_elim, ℕ, ◌<◌, Bool, true, false, List, [], Option, Some, None, Result, Ok, Err, refl, sym, ap, ◌∙◌, subst, Contains}
 use Rattle.std.specs.Prelude.{IfErr, IfSome, IsSomeAnd, IsTrue, option_map}
 use Rattle.std.specs.List.{AllByRecursion}
-use Rattle.ivy_base.specs.declared.key.Key.{Key}
 use Rattle.ivy_base.specs.declared.operation.Moment.{Moment}
 use Rattle.ivy_base.specs.Naming.{HasClash, NamesTellApart}
 use Rattle.hss_keys.specs.Saved.{IsSigner}
@@ -19,24 +18,21 @@ use Rattle.nfs_laws.specs.Replies.{AnswersAreReplies, FinishesAreReplies, PlansA
 use Rattle.nfs_model.specs.Replies.{IsFittingReply}
 use Rattle.nfs_model.specs.Results.{result as bytes_of}
 use Rattle.nfs_model.specs.declared.replies.Reply.{Reply}
-use Rattle.turn_model.specs.Basis.{Basis, Holding}
+use Rattle.turn_model.specs.Basis.{Holding}
 use Rattle.turn_model.specs.Turn.{Asked as ModelAsked, Turned as ModelTurned}
-use Rattle.dht_ids.specs.declared.post.Ack.{Ack}
 use Rattle.dht_ids.specs.declared.post.Post.{Post}
 use Rattle.dhash_client.specs.GetHead.{Judges}
 use Rattle.agent_model.specs.Agent.{kept_of}
-use Rattle.agent_model.specs.Standing.{Chain, Refresh as ModelRefresh, Standing as ModelStanding, anew_in}
+use Rattle.agent_model.specs.Standing.{Refresh as ModelRefresh, Standing as ModelStanding, anew_in}
 use Rattle.agent_model.specs.Turning.{Answered, Behind, BelowTide, IsByDefinition, TurnEnd, Turns}
 use Rattle.agent_model.specs.Turning.Turns.{behind, below, answers as answers_it}
-use Rattle.session_model.specs.Brought.{Brought, brought_in, heads_at}
+use Rattle.session_model.specs.Brought.{brought_in, heads_at}
 use Rattle.session_model.specs.Courses.{HasRefreshed, IsRefusal, LacksMemory, anew, answered, ended}
 use Rattle.session_model.specs.Courses.TakesTurn.{answers, begins_anew, gives_up}
-use Rattle.session_model.specs.Refreshing.{Done, FetchesAll, Loaded, LoadEnd, LoadsFor, LoadWants, Note, RefreshEnd, Refreshes, counting, start_of}
-use Rattle.session_model.specs.Refreshing.LoadsFor.{none as nothing_to_load, some as snapshot_to_load}
-use Rattle.session_model.specs.Refreshing.Refreshes.{loading, fetching}
+use Rattle.session_model.specs.Refreshing.{Done, Note}
 use Rattle.session_model.specs.Replies.{Asks, said_no_memory, said_of}
-use Rattle.session_model.specs.Sessions.{Cache, Over, Publishing, Refreshing, Said, Session, TakesAll}
-use Rattle.session_laws.proofs.OneRefresh.{fetch_is_one}
+use Rattle.session_model.specs.Sessions.{Cache, Session, TakesAll}
+use Rattle.session_laws.proofs.OneRefresh.{refresh_is_one}
 use Rattle.log_fetch.specs.declared.asked.Asked.{Asked}
 use Rattle.log_fetch.specs.declared.refresh.Refresh.{Refresh}
 use Rattle.log_fetch.specs.declared.standing.Standing.{Standing}
@@ -46,6 +42,7 @@ use Rattle.log_fetch.specs.declared.turned.TurnFault.TheVariants as fault
 use Rattle.log_fetch.specs.Edges.{edge_in}
 use Rattle.log_fetch.specs.Standings.{asked_of, refresh_of, standing_of}
 use Rattle.ivy_agent.specs.Answering.{IsCall}
+use Rattle.ivy_agent.specs.Bounds.{HasBounds}
 use Rattle.ivy_agent.specs.Holders.{Holder}
 use Rattle.ivy_agent.specs.Saves.{Saves}
 use Rattle.ivy_agent.specs.Turns.{IsFetchedIn, TurnsAs}
@@ -73,6 +70,7 @@ use Rattle.world_laws.proofs.Frames.{into_map}
 use Rattle.session_steps.specs.Laws.{AgentsGiveTurns, BatchesAreFetched, GivesNothing, RefusalsAreFresh, RepliesAreRead, TurnsAreSteps, TurnsMayBe}
 use Rattle.session_steps.specs.Scenes.{GivesTurn, HadTurn, IsLeft, IsSceneOf, IsStep, MayLack, given_at, given_by, given_of, holder_of, memory_saves, turned_participant, turned_world}
 use Rattle.session_steps.specs.Scenes.IsLeft.{goes_on as left_on, lacks_memory as left_lacking, is_cut as left_cut}
+use Rattle.agent_turns.proofs.Bounds.{bounds_in}
 use Rattle.session_steps.proofs.Read.{reply_of}
 use Rattle.session_steps.proofs.SceneSteps.{all_some, as_ring, found_then, keeps_then, lacking_gives, taken_same, twice_placed}
 
@@ -80,34 +78,6 @@ use Rattle.session_steps.proofs.SceneSteps.{all_some, as_ring, found_then, keeps
 
 asks_one_number : (view : View) (message : List ℕ) (xid number : ℕ) (asked other : ModelAsked) → Asks view message xid asked → Asks view message number other → xid ≡ number
 asks_one_number view message xid number asked other a b = sym a.xid_is ∙ ap (λ c. c.xid) (one_call message a.call b.call a.is_call b.is_call) ∙ b.xid_is
-
--- ---- a refresh with no snapshot to load notes one thing
-
-nothing_loaded : {root : Option Key} {brought : List Brought} {end : LoadEnd} → LoadsFor root brought end → root ≡ None → (brought ≡ []) × (end ≡ Loaded None)
-nothing_loaded nothing_to_load e = (refl, refl)
-nothing_loaded (snapshot_to_load loads) e = cc e
-
-wants_or_loaded : (key : Key) → LoadWants key ≡ Loaded None → ⊥
-wants_or_loaded key e = cc e
-
-same_basis : (a b : Option Basis) → Loaded a ≡ Loaded b → a ≡ b
-same_basis a b e = cc e
-
-fetches_by : (s : ModelStanding) {brought : List Brought} {notes : List Note} {given : ModelRefresh} {end : RefreshEnd} → s.to_load ≡ None → Refreshes s brought notes given end
-    → (chains : List Chain) × FetchesAll s s.held s.view.members brought notes chains end
-fetches_by s none (loading {brought} {key} loads) = absurd (wants_or_loaded key (nothing_loaded loads none).1)
-fetches_by s none (fetching {loaded} {brought} {notes} {chains} {end} basis loads fetches) =
-    let l = nothing_loaded loads none in (
-      chains,
-      subst (λ (b : List Brought). FetchesAll s s.held s.view.members (b ++ brought) notes chains end) (sym l.0)
-          (subst (λ (o : Option Basis). FetchesAll s (start_of s (counting s.floor o)) s.view.members brought notes chains end) (same_basis basis None l.1) fetches),
-    )
-
-same_notes : (s : Session) (notes others : List Note) (given also : ModelRefresh) → s.standing.to_load ≡ None → HasRefreshed s notes given → HasRefreshed s others also → notes ≡ others
-same_notes s notes others given also none done again =
-    let a = fetches_by s.standing none done.1 in
-    let b = fetches_by s.standing none again.1 in
-    (fetch_is_one s.standing s.standing.held s.standing.view.members (brought_in s.parts) notes others a.0 b.0 Done Done a.1 b.1).0
 
 -- ---- what the agent's turn is
 
@@ -165,12 +135,6 @@ same_view v w e = cc e
 turning_or_not : true ≡ false → ⊥
 turning_or_not e = cc e
 
-publishing_or_not : (said : Option Said) (posts : List Post) (acks : List Ack) → Publishing said posts acks ≡ Refreshing → ⊥
-publishing_or_not said posts acks e = cc e
-
-over_or_not : (said : Option Said) → Over said ≡ Refreshing → ⊥
-over_or_not said e = cc e
-
 same_asked : (a b : Asked) → Some a ≡ Some b → a ≡ b
 same_asked a b e = cc e
 
@@ -178,14 +142,6 @@ none_asked : (a : Asked) → None ≡ Some a → ⊥
 none_asked a e = cc e
 
 module _ {J : Type 0} (judges : Judges J) (s : Session) (st : SessionState J) where
-  -- there is no snapshot to load
-  no_snapshot : (at : CodeStage J) → is_turning at ≡ false → s.stage ≡ Refreshing → IsAt judges s st at → s.standing.to_load ≡ None
-  no_snapshot (stage.Refreshing c f) turning refreshes h = h.fetching.none
-  no_snapshot (stage.Turning c) turning refreshes h = absurd (turning_or_not turning)
-  no_snapshot (stage.Publishing told q) turning refreshes h = absurd (publishing_or_not _ _ _ (sym h.stage ∙ refreshes))
-  no_snapshot (stage.Over told) turning refreshes h = absurd (over_or_not _ (sym h.stage ∙ refreshes))
-  no_snapshot stage.Told turning refreshes h = absurd h
-
   -- what it is asked is the message's
   call_of : (at : CodeStage J) (asked : Asked) → is_turning at ≡ true → asked_at at ≡ Some asked → IsAt judges s st at → (xid : ℕ) × Asks s.standing.view s.message xid (asked_of asked) × ((now : Moment) → IsMoment now → IsCall (asked_of asked) now)
   call_of (stage.Refreshing c f) asked turning is h = absurd (turning_or_not (sym turning))
@@ -215,10 +171,10 @@ module _ {J : Type 0} (judges : Judges J) (c : Scene) (r : ℕ) (p : Participant
     pub turning : is_turning mid.stage ≡ true
     pub done : HasRefreshed taken notes (refresh_of refresh)
     pub batch : IsBatchOf taken.standing refresh.batch
-    pub basis : refresh.basis ≡ None
+    pub bounds : IfSome refresh.basis (λ basis. HasBounds basis.tree)
 
   turns_then : (mid : SessionState J) (cache : Cache) (refresh : Refresh) → NextIs judges old mid c.session p.cache cache (next.Turn refresh) → TurnsThen mid cache refresh
-  turns_then mid cache refresh (next_turns t notes _ takes session turning done batch basis) = record {
+  turns_then mid cache refresh (next_turns t notes _ takes session turning done batch) = record {
     taken = t;
     notes = notes;
     takes = as_ring judges c r p old is (λ judged n. TakesAll judged n c.session p.cache t cache) takes;
@@ -226,22 +182,22 @@ module _ {J : Type 0} (judges : Judges J) (c : Scene) (r : ℕ) (p : Participant
     turning = turning;
     done = done;
     batch = batch;
-    basis = basis;
+    bounds = bounds_in t notes refresh done;
   }
 
   may_be : (mid : SessionState J) (cache : Cache) (refresh : Refresh) → TurnsThen mid cache refresh
-      → (is_turning mid.stage ≡ true) × IsSomeAnd p.agent.view (λ view. IsFetchedIn view refresh.batch) × (refresh.basis ≡ None) × ((asked : Asked) → asked_at mid.stage ≡ Some asked → IsCall (asked_of asked) c.world.now)
+      → (is_turning mid.stage ≡ true) × IsSomeAnd p.agent.view (λ view. IsFetchedIn view refresh.batch) × IfSome refresh.basis (λ basis. HasBounds basis.tree) × ((asked : Asked) → asked_at mid.stage ≡ Some asked → IsCall (asked_of asked) c.world.now)
   may_be mid cache refresh h = (
     h.turning,
     subst (λ (o : Option View). IsSomeAnd o (λ view. IsFetchedIn view refresh.batch)) (sym (its_view c r hand p is.is_by))
         (subst (λ (s : Session). IsFetchedIn s.standing.view refresh.batch) (taken_same h.takes) (batches_are_fetched h.taken.standing refresh.batch h.batch)),
-    h.basis,
+    h.bounds,
     λ asked is_asked. (call_of judges h.taken mid mid.stage asked h.turning is_asked h.session.at).2 c.world.now keeps.moment,
   )
 
   -- ---- the step
 
-  module _ (turning_before : is_turning old.stage ≡ false) (mid new : SessionState J) (cache : Cache) (refresh : Refresh) (asked : Asked) (h : TurnsThen mid cache refresh) (is_asked : asked_at mid.stage ≡ Some asked) (after : Holder Keeper Signer)
+  module _ (mid new : SessionState J) (cache : Cache) (refresh : Refresh) (asked : Asked) (h : TurnsThen mid cache refresh) (is_asked : asked_at mid.stage ≡ Some asked) (after : Holder Keeper Signer)
       (free : session_awaited new ≡ None) (past : is_turning new.stage ≡ false) where
     abbrev here : Scene
     here = with_cache hss_judged r c p h.taken cache
@@ -254,15 +210,8 @@ module _ {J : Type 0} (judges : Judges J) (c : Scene) (r : ℕ) (p : Participant
 
     -- ---- of the scene once what was at hand is taken
 
-    none_to_load : h.taken.standing.to_load ≡ None
-    none_to_load = subst (λ (s : Session). s.standing.to_load ≡ None) (sym (taken_same h.takes))
-        (no_snapshot judges c.session old old.stage turning_before (subst (λ (s : Session). s.stage ≡ Refreshing) (taken_same h.takes) h.done.0) is.session.at)
-
-    before_none : c.session.standing.to_load ≡ None
-    before_none = subst (λ (s : Session). s.standing.to_load ≡ None) (taken_same h.takes) none_to_load
-
     kept_now : Keeps (here.world, here.story) × IsInHand here r
-    kept_now = keeps_then judges c r p old is keeps h.taken cache h.takes hand before_none
+    kept_now = keeps_then judges c r p old is keeps h.taken cache h.takes hand
 
     found_now : participant here.world h.taken.by ≡ Some mine
     found_now = found_then judges c r p old is keeps h.taken cache h.takes
@@ -277,7 +226,7 @@ module _ {J : Type 0} (judges : Judges J) (c : Scene) (r : ℕ) (p : Participant
     asks_so xid other a = subst (λ (n : ℕ). Asks view h.taken.message n (asked_of asked)) (asks_one_number view h.taken.message call.0 xid (asked_of asked) other call.1 a) call.1
 
     done_so : (notes : List Note) (given : ModelRefresh) → HasRefreshed h.taken notes given → HasRefreshed h.taken notes (refresh_of refresh)
-    done_so notes given d = subst (λ (ns : List Note). HasRefreshed h.taken ns (refresh_of refresh)) (same_notes h.taken h.notes notes (refresh_of refresh) given none_to_load h.done d) h.done
+    done_so notes given d = subst (λ (ns : List Note). HasRefreshed h.taken ns (refresh_of refresh)) (refresh_is_one h.taken.standing (brought_in h.taken.parts) h.notes notes (refresh_of refresh) given Done Done h.done.1 d.1).0 h.done
 
     starts_are : h.taken.starts ≡ c.session.starts
     starts_are = ap (λ (s : Session). s.starts) (taken_same h.takes)
@@ -418,19 +367,19 @@ pub turns_may_be : {J : Type 0} → TurnsMayBe J
 turns_may_be judges c r p old mid cache refresh keeps hand is wanted = may_be judges c r p old is keeps hand mid cache refresh (turns_then judges c r p old is keeps hand mid cache refresh (wanted.1 c.session is.session))
 
 pub turns_are_steps : {J : Type 0} → TurnsAreSteps J
-turns_are_steps judges c r p old mid new cache refresh asked turned after keeps hand is turning wanted is_asked had told free past =
+turns_are_steps judges c r p old mid new cache refresh asked turned after keeps hand is wanted is_asked had told free past =
     let h = turns_then judges c r p old is keeps hand mid cache refresh (wanted.1 c.session is.session) in
-    by_turn judges c r p old is keeps hand turning mid new cache refresh asked h is_asked after free past turned
+    by_turn judges c r p old is keeps hand mid new cache refresh asked h is_asked after free past turned
     (subst (λ (o : Option View). IfSome o (λ view. GivesTurn p view refresh asked c.world.now turned after))
-    (in_view judges c r p old is keeps hand turning mid new cache refresh asked h is_asked after free past) had)
+    (in_view judges c r p old is keeps hand mid new cache refresh asked h is_asked after free past) had)
     (told.1 h.taken h.session)
 
 pub replies_are_read : AnswersAreReplies → PlansAreReplies → FinishesAreReplies → SetsMakeTrees → {J : Type 0} → RepliesAreRead J
-replies_are_read answers_are plans_are finishes_are sets_make judges c r p old mid new cache refresh asked turned after read keeps hand is turning wanted is_asked had told free past fits same =
+replies_are_read answers_are plans_are finishes_are sets_make judges c r p old mid new cache refresh asked turned after read keeps hand is wanted is_asked had told free past fits same =
     let h = turns_then judges c r p old is keeps hand mid cache refresh (wanted.1 c.session is.session) in
-    by_read judges c r p old is keeps hand turning mid new cache refresh asked h is_asked after free past turned answers_are plans_are finishes_are sets_make read fits same
+    by_read judges c r p old is keeps hand mid new cache refresh asked h is_asked after free past turned answers_are plans_are finishes_are sets_make read fits same
     (subst (λ (o : Option View). IfSome o (λ view. GivesTurn p view refresh asked c.world.now (Ok turned) after))
-    (in_view judges c r p old is keeps hand turning mid new cache refresh asked h is_asked after free past) had)
+    (in_view judges c r p old is keeps hand mid new cache refresh asked h is_asked after free past) had)
     (told.1 h.taken h.session)
 
 -- ---- after a refusal

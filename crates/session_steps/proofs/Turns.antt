@@ -51,7 +51,7 @@ taken_at (takes_more (cached key bytes wants free not is) rest) = taken_at rest
 
 -- and in code too it began anew so often
 turn_at : {old new : SessionState HssJudge} {s : Session} {before after : Cache} {refresh : Refresh} → NextIs judges old new s before after (next.Turn refresh) → (s.stage ≡ Refreshing) × (new.starts ≡ s.starts)
-turn_at (turns t notes refresh takes session turning refreshed batch basis) = (sym (taken_at takes).0 ∙ refreshed.0, session.starts ∙ (taken_at takes).1)
+turn_at (turns t notes refresh takes session turning refreshed batch) = (sym (taken_at takes).0 ∙ refreshed.0, session.starts ∙ (taken_at takes).1)
 
 some_asked : (at : Stage HssJudge) → is_turning at ≡ true → (asked : Asked) × (asked_at at ≡ Some asked)
 some_asked (stage.Refreshing call fetch) is = (call.asked, refl)
@@ -122,7 +122,7 @@ module _ (c : Scene) (r : ℕ) (old : Shown) (way : IsUnderWay c r) (shows : Sho
       record {
         waits = may.0;
         batch = subst (λ (who : ParticipantState). IsSomeAnd who.agent.view (λ view. IsFetchedIn view refresh.batch)) is_mine may.1;
-        no_basis = may.2;
+        bounds = may.2;
         is_call = λ asked is_asked. subst (IsCall (asked_of asked)) shows.now (may.3 asked is_asked);
       }
 
@@ -217,19 +217,19 @@ module _ (c : Scene) (r : ℕ) (old : Shown) (way : IsUnderWay c r) (shows : Sho
         → LeftBy mid new t.mid after old.met later turned → StepsTo c r then_shown
     by (Ok turned) took gave told left =
         let parts = left.1 asked.0 asked.1 in
-        let step = laws.read judges c r shows.p old.call.session mid.session new.session between.cache refresh asked.0 turned (holder t.mid) parts.reply way.keeps hand scene is_untold.no_turn wants asked.1 gave told t.is_told.free t.is_told.no_turn
+        let step = laws.read judges c r shows.p old.call.session mid.session new.session between.cache refresh asked.0 turned (holder t.mid) parts.reply way.keeps hand scene wants asked.1 gave told t.is_told.free t.is_told.no_turn
         parts.read.fits parts.read.spelled in
         by_step c r old way shows laws then_shown (turned_with turned.applied) (met_by c.world.met t.mid.agent.pending) is_untold step
         (left_is step.left whole (λ u may lacking session. may))
         (made_so turned.applied (given_by parts.reply) (counted shows.p between.cache took.0 refresh asked.0 old.now took.1.has_turn) left.0 (λ i. record { handle = parts.handle i; verifier = parts.verifier i }))
     by (Err fault.Memory) took gave told left =
-        let step = laws.turns judges c r shows.p old.call.session mid.session new.session between.cache refresh asked.0 (Err fault.Memory) (holder t.mid) way.keeps hand scene is_untold.no_turn wants asked.1 gave told t.is_told.free t.is_told.no_turn in
+        let step = laws.turns judges c r shows.p old.call.session mid.session new.session between.cache refresh asked.0 (Err fault.Memory) (holder t.mid) way.keeps hand scene wants asked.1 gave told t.is_told.free t.is_told.no_turn in
         by_step c r old way shows laws then_shown mine c.world.met is_untold step.1 (left_is step.1.left whole (λ u may lacking session. may)) (as_it_was step.0 (left.who ∙ took.1) left.blocks (left.given ∙ given_before ∙ sym step.2))
     by (Err (fault.Behind standing)) took gave told left =
-        let step = laws.turns judges c r shows.p old.call.session mid.session new.session between.cache refresh asked.0 (Err (fault.Behind standing)) (holder t.mid) way.keeps hand scene is_untold.no_turn wants asked.1 gave told t.is_told.free t.is_told.no_turn in
+        let step = laws.turns judges c r shows.p old.call.session mid.session new.session between.cache refresh asked.0 (Err (fault.Behind standing)) (holder t.mid) way.keeps hand scene wants asked.1 gave told t.is_told.free t.is_told.no_turn in
         refused_so Behind step.0 (counted shows.p between.cache took.0 refresh asked.0 old.now took.1.has_turn) refl step.1 step.2 left.0 left.1
     by (Err (fault.BelowTide standing)) took gave told left =
-        let step = laws.turns judges c r shows.p old.call.session mid.session new.session between.cache refresh asked.0 (Err (fault.BelowTide standing)) (holder t.mid) way.keeps hand scene is_untold.no_turn wants asked.1 gave told t.is_told.free t.is_told.no_turn in
+        let step = laws.turns judges c r shows.p old.call.session mid.session new.session between.cache refresh asked.0 (Err (fault.BelowTide standing)) (holder t.mid) way.keeps hand scene wants asked.1 gave told t.is_told.free t.is_told.no_turn in
         refused_so BelowTide step.0 (counted shows.p between.cache took.0 refresh asked.0 old.now took.1.has_turn) refl step.1 step.2 left.0 left.1
 
     -- the turn is a step

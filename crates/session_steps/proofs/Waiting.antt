@@ -19,7 +19,7 @@ publishing_or_over first said posts acks e = cc e
 
 module _ {J : Type 0} (judges : Judges J) (t : Session) (st : SessionState J) where
   at_its_end : (said : Option Said) → t.stage ≡ Over said → (at : Stage J) → IsAt judges t st at → awaited_at at ≡ None
-  at_its_end said over (stage.Refreshing c f) h = absurd (refreshing_or_over said (sym h.fetching.stage ∙ over))
+  at_its_end said over (stage.Refreshing c f) h = absurd (refreshing_or_over said (sym h.refreshing.stage ∙ over))
   at_its_end said over (stage.Turning c) h = refl
   at_its_end said over (stage.Publishing told p) h = absurd (publishing_or_over _ said _ _ (sym h.stage ∙ over))
   at_its_end said over (stage.Over told) h = refl

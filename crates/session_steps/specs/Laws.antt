@@ -1,5 +1,5 @@
 -- Laws that tie the contracts of sessions in code, of their agents' turns and of a ring's nodes to the steps of a world's sessions.
-use Rattle.std.specs.Prelude.{◌≡◌, ◌⊎◌, ℕ, true, false, List, map, Some, None, Result, Ok, Err, IfErr, IsSomeAnd}
+use Rattle.std.specs.Prelude.{◌≡◌, ◌⊎◌, ℕ, true, false, List, map, Some, None, Result, Ok, Err, IfErr, IfSome, IsSomeAnd}
 use Rattle.ivy_base.specs.declared.operation.Moment.{Moment}
 use Rattle.hss_keys.specs.Saved.{IsSigner}
 use Rattle.hss_keys.specs.Signer.{Signer}
@@ -24,6 +24,7 @@ use Rattle.log_fetch.specs.declared.turned.Turned.{Turned}
 use Rattle.log_fetch.specs.declared.turned.TurnFault.{TurnFault}
 use Rattle.log_fetch.specs.Standings.{asked_of, refresh_of}
 use Rattle.ivy_agent.specs.Answering.{IsCall}
+use Rattle.ivy_agent.specs.Bounds.{HasBounds}
 use Rattle.ivy_agent.specs.Holders.{Holder}
 use Rattle.ivy_agent.specs.Turns.{IsFetchedIn, TakesTurn}
 use Rattle.ivy_session.specs.declared.served.Served.{Served}
@@ -80,7 +81,7 @@ BatchesAreFetched = (s : ModelStanding) (b : Batch) → IsBatchOf s b → IsFetc
 abbrev pub TurnsMayBe : Type 0 → Type 0
 TurnsMayBe J = (judges : Judges J) (c : Scene) (r : ℕ) (p : Participant) (old mid : SessionState J) (after : Cache) (refresh : Refresh)
     → Keeps (c.world, c.story) → IsInHand c r → IsSceneOf judges c r p old → IsNext judges old mid p.cache after (next.Turn refresh)
-    → (is_turning mid.stage ≡ true) × IsSomeAnd p.agent.view (λ view. IsFetchedIn view refresh.batch) × (refresh.basis ≡ None)
+    → (is_turning mid.stage ≡ true) × IsSomeAnd p.agent.view (λ view. IsFetchedIn view refresh.batch) × IfSome refresh.basis (λ basis. HasBounds basis.tree)
     × ((asked : Asked) → asked_at mid.stage ≡ Some asked → IsCall (asked_of asked) c.world.now)
 
 -- What an agent that is kept in memory says of its turn is what came of it.
@@ -101,14 +102,14 @@ GivesNothing (Err fault) given = given ≡ given_of None
 -- Whatever comes of the turn, and whatever the session makes of it, is a step.
 abbrev pub TurnsAreSteps : Type 0 → Type 0
 TurnsAreSteps J = (judges : Judges J) (c : Scene) (r : ℕ) (p : Participant) (old mid new : SessionState J) (cache : Cache) (refresh : Refresh) (asked : Asked) (turned : Result Turned TurnFault) (after : Holder Keeper Signer)
-    → Keeps (c.world, c.story) → IsInHand c r → IsSceneOf judges c r p old → is_turning old.stage ≡ false → IsNext judges old mid p.cache cache (next.Turn refresh)
+    → Keeps (c.world, c.story) → IsInHand c r → IsSceneOf judges c r p old → IsNext judges old mid p.cache cache (next.Turn refresh)
     → asked_at mid.stage ≡ Some asked → GivesTurnThere p refresh asked c.world.now turned after → IsTurned judges mid new turned → session_awaited new ≡ None → is_turning new.stage ≡ false
     → (given : Given) × IsStep judges c r new (MayLack c.session.starts turned) (turned_world c.world (record p { cache = cache }) turned after) given × GivesNothing turned given
 
 -- Where the bytes of its turn are read as a reply of the call's procedure, that is what the session says then.
 abbrev pub RepliesAreRead : Type 0 → Type 0
 RepliesAreRead J = (judges : Judges J) (c : Scene) (r : ℕ) (p : Participant) (old mid new : SessionState J) (cache : Cache) (refresh : Refresh) (asked : Asked) (turned : Turned) (after : Holder Keeper Signer) (read : Reply)
-    → Keeps (c.world, c.story) → IsInHand c r → IsSceneOf judges c r p old → is_turning old.stage ≡ false → IsNext judges old mid p.cache cache (next.Turn refresh)
+    → Keeps (c.world, c.story) → IsInHand c r → IsSceneOf judges c r p old → IsNext judges old mid p.cache cache (next.Turn refresh)
     → asked_at mid.stage ≡ Some asked → GivesTurnThere p refresh asked c.world.now (Ok turned) after → IsTurned judges mid new (Ok turned) → session_awaited new ≡ None → is_turning new.stage ≡ false
     → IsFittingReply asked.args read → turned.reply ≡ bytes_of read
     → IsStep judges c r new ⊥ (turned_world c.world (record p { cache = cache }) (Ok turned) after) (given_by read)

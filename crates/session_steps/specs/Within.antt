@@ -14,6 +14,7 @@ use Rattle.log_fetch.specs.declared.turned.TurnFault.{TurnFault}
 use Rattle.log_fetch.specs.declared.turned.TurnFault.TheVariants as fault
 use Rattle.log_fetch.specs.Standings.{asked_of, refresh_of}
 use Rattle.ivy_agent.specs.Answering.{IsCall}
+use Rattle.ivy_agent.specs.Bounds.{HasBounds}
 use Rattle.ivy_agent.specs.Turns.{IsFetchedIn}
 use Rattle.ivy_session.specs.declared.session.Next.{Next}
 use Rattle.ivy_session.specs.Left.{LeavesNoMore, session_left}
@@ -87,7 +88,7 @@ pub record HasAskedOf (node : Peer) (question : Ask) (old new : CallState) (node
 pub record MayTurn (call : CallState) (who : ParticipantState) (refresh : Refresh) (now : Moment) : Type 0 where
   pub waits : is_turning call.session.stage ≡ true
   pub batch : IsSomeAnd who.agent.view (λ view. IsFetchedIn view refresh.batch)
-  pub no_basis : refresh.basis ≡ None
+  pub bounds : IfSome refresh.basis (λ basis. HasBounds basis.tree)
   pub is_call : (asked : Asked) → asked_at call.session.stage ≡ Some asked → IsCall (asked_of asked) now
 
 -- what came of it, on what the session is asked

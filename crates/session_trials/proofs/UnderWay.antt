@@ -43,6 +43,7 @@ use Rattle.ivy_session.specs.Stepping.HeardIs.{hears, lacks_memory as hearing_la
 use Rattle.ivy_session.specs.Stepping.IsRefused.{begins_anew, lacks_memory as refused_lacks, gives_up}
 use Rattle.ivy_session.specs.Stepping.NextIs.{asks, asks_again, turns, settles, is_over, lacks_memory, is_cut, is_unrouted}
 use Rattle.session_trials.specs.UnderWay.{GoesOn, IsUnderWay, MayWant}
+use Rattle.agent_turns.proofs.Bounds.{bounds_in}
 use Rattle.session_trials.proofs.SameStanding.{failed_same, heard_same, lacking_same, taken_same}
 
 true_or_false : true ≡ false → ⊥
@@ -138,13 +139,13 @@ module _ {J : Type 0} (judges : Judges J) (view : Option View) where
         record { under_way = stays u.session t new u.viewed (taken_same takes) is; waits = λ nobody. cc (sym waits ∙ nobody) }
     wants_so before after _ (asks_again node question waited waits is next same) =
         record { under_way = stays u.session u.session new u.viewed refl is; waits = λ nobody. cc (sym waits ∙ nobody) }
-    wants_so before after _ (turns t notes refresh takes is turning refreshed batch basis) =
+    wants_so before after _ (turns t notes refresh takes is turning refreshed batch) =
         let there = stays u.session t new u.viewed (taken_same takes) is in
         record {
           under_way = there;
           waits = turning;
           batch = some_view view t.standing.view refresh.batch there.viewed (fetched_in t.standing refresh.batch batch);
-          no_basis = basis;
+          bounds = bounds_in t notes refresh refreshed;
           is_call = λ asked now is_asked moment. call_of t new new.stage asked now turning is_asked moment is.at;
         }
     wants_so before after _ (settles said acks at free same is) =

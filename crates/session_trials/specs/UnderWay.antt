@@ -1,5 +1,5 @@
 -- A session on its way for an agent in a view, and what it may want next.
-use Rattle.std.specs.Prelude.{◌≡◌, ◌≢◌, true, false, Option, Some, None, IsSomeAnd}
+use Rattle.std.specs.Prelude.{◌≡◌, ◌≢◌, true, false, Option, Some, None, IfSome, IsSomeAnd}
 use Rattle.ivy_base.specs.declared.operation.Moment.{Moment}
 use Rattle.dhash_client.specs.GetHead.{Judges}
 use Rattle.log_heads.specs.Signed.{hss_judged}
@@ -11,6 +11,7 @@ use Rattle.log_fetch.specs.declared.asked.Asked.{Asked}
 use Rattle.log_fetch.specs.declared.refresh.Refresh.{Refresh}
 use Rattle.log_fetch.specs.Standings.{asked_of}
 use Rattle.ivy_agent.specs.Answering.{IsCall}
+use Rattle.ivy_agent.specs.Bounds.{HasBounds}
 use Rattle.ivy_agent.specs.Turns.{IsFetchedIn}
 use Rattle.ivy_session.specs.declared.session.Next.{Next}
 use Rattle.ivy_session.specs.declared.session.Next.TheVariants as next
@@ -42,7 +43,7 @@ module _ {J : Type 0} (judging : Judges J) (view : Option View) (st : SessionSta
     pub under_way : IsUnderWay
     pub waits : is_turning st.stage ≡ true
     pub batch : IsSomeAnd view (λ v. IsFetchedIn v refresh.batch)
-    pub no_basis : refresh.basis ≡ None
+    pub bounds : IfSome refresh.basis (λ basis. HasBounds basis.tree)
     pub is_call : (asked : Asked) (now : Moment) → asked_at st.stage ≡ Some asked → IsMoment now → IsCall (asked_of asked) now
 
   -- what may be had behind what it wants

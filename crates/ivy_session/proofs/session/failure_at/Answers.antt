@@ -6,4 +6,4 @@ use Rattle.ivy_session.proofs.session.failure_at.Goals as goal
 
 pub returns : goal.returns
 returns g c =
-    subst (λ (at : Stage g.row.J.Denot). FailureAt g.J.Judge.judges at (stage.Refreshing c.in-Refreshing.field-0 c.failure.new.fetch) c.failure.result) (sym c.in-Refreshing.is) (c.failure.new.fetch, refl, c.failure.ensures)
+    subst (λ (at : Stage g.row.J.Denot). FailureAt g.J.Judge.judges at (stage.Refreshing c.in-Refreshing.field-0 c.failure.new.refresh) c.failure.result) (sym c.in-Refreshing.is) (c.failure.new.refresh, refl, c.failure.ensures)

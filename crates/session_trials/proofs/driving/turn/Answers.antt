@@ -8,7 +8,7 @@ pub turn-turned-requires-clause-batch : goal.turn-turned-requires-clause-batch
 turn-turned-requires-clause-batch g c = c.requires.may.batch
 
 pub turn-turned-requires-clause-bounds : goal.turn-turned-requires-clause-bounds
-turn-turned-requires-clause-bounds g c = rw c.requires.may.no_basis tt
+turn-turned-requires-clause-bounds g c = c.requires.may.bounds
 
 pub turn-turned-requires-clause-call : goal.turn-turned-requires-clause-call
 turn-turned-requires-clause-call g c = c.requires.may.is_call c.in-Some.asked.now c.args.now (sym c.in-Some.ensures) c.requires.moment

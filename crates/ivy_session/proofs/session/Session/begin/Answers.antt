@@ -5,5 +5,4 @@ use Rattle.ivy_session.proofs.session.Session.begin.Goals as goal
 
 pub returns-clause-begun : goal.returns-clause-begun
 returns-clause-begun g c =
-    begun_with g.J.Judge.judges c.args.judge c.args.replicas c.args.entries c.args.message.now (standing_of c.args.standing) c.args.standing.pending c.pending_of.result c.of.result c.in_ok-stage.stage c.pending_of.ensures (c.of.ensures ∙ c.new.ensures.items)
-    c.in_ok-stage.ensures.begun
+    begun_with g.J.Judge.judges c.args.judge c.args.replicas c.args.entries c.args.message.now (standing_of c.args.standing) c.of.result c.in_ok-stage.stage (c.of.ensures ∙ c.new.ensures.items) c.in_ok-stage.ensures.begun

@@ -8,41 +8,41 @@ use Rattle.ivy_session.proofs.session.Session.hear_put.Goals as goal
 pub returns-in-Ok-clause-heard : goal.returns-in-Ok-clause-heard
 returns-in-Ok-clause-heard g c =
     let i = c.self.inside in
-    let st : SessionState g.row.J.Denot = record { judge = i.judge; replicas = i.replicas; entries = i.entries; pending = i.pending; starts = i.starts; notes = i.notes; is_cut = i.is_cut; stage = i.stage } in
+    let st : SessionState g.row.J.Denot = record { judge = i.judge; replicas = i.replicas; entries = i.entries; starts = i.starts; notes = i.notes; is_cut = i.is_cut; stage = i.stage } in
     λ cache. subst (λ (x : SessionState g.row.J.Denot). IsHeard g.J.Judge.judges x (record st { stage = c.put_heard.new.stage }) cache cache c.args.answer) c.self.view_is
     (put_is_heard g.J.Judge.judges st cache c.args.answer i.stage c.put_heard.new.stage c.in-Ok.ensures.heard)
 
 pub returns-in-Err-clause-heard : goal.returns-in-Err-clause-heard
 returns-in-Err-clause-heard g c =
     let i = c.self.inside in
-    let st : SessionState g.row.J.Denot = record { judge = i.judge; replicas = i.replicas; entries = i.entries; pending = i.pending; starts = i.starts; notes = i.notes; is_cut = i.is_cut; stage = i.stage } in
+    let st : SessionState g.row.J.Denot = record { judge = i.judge; replicas = i.replicas; entries = i.entries; starts = i.starts; notes = i.notes; is_cut = i.is_cut; stage = i.stage } in
     λ cache. subst (λ (x : SessionState g.row.J.Denot). IsHeard g.J.Judge.judges x (record st { is_cut = true; stage = c.end.new.stage }) cache cache c.args.answer) c.self.view_is
     (put_ends g.J.Judge.judges st cache c.args.answer c.in-Err.field-0 i.stage c.put_heard.new.stage c.end.new.stage c.in-Err.ensures.heard c.end.ensures)
 
 pub returns-in-Ok-clause-turning : goal.returns-in-Ok-clause-turning
 returns-in-Ok-clause-turning g c =
     let i = c.self.inside in
-    let st : SessionState g.row.J.Denot = record { judge = i.judge; replicas = i.replicas; entries = i.entries; pending = i.pending; starts = i.starts; notes = i.notes; is_cut = i.is_cut; stage = i.stage } in
+    let st : SessionState g.row.J.Denot = record { judge = i.judge; replicas = i.replicas; entries = i.entries; starts = i.starts; notes = i.notes; is_cut = i.is_cut; stage = i.stage } in
     (subst (λ (x : SessionState g.row.J.Denot). Falls x (record st { stage = c.put_heard.new.stage })) c.self.view_is
     (put_falls st i.stage c.put_heard.new.stage c.args.answer c.put_heard.result c.put_heard.ensures.heard c.in-Ok.ensures.left)).0
 
 pub returns-in-Ok-clause-left : goal.returns-in-Ok-clause-left
 returns-in-Ok-clause-left g c =
     let i = c.self.inside in
-    let st : SessionState g.row.J.Denot = record { judge = i.judge; replicas = i.replicas; entries = i.entries; pending = i.pending; starts = i.starts; notes = i.notes; is_cut = i.is_cut; stage = i.stage } in
+    let st : SessionState g.row.J.Denot = record { judge = i.judge; replicas = i.replicas; entries = i.entries; starts = i.starts; notes = i.notes; is_cut = i.is_cut; stage = i.stage } in
     (subst (λ (x : SessionState g.row.J.Denot). Falls x (record st { stage = c.put_heard.new.stage })) c.self.view_is
     (put_falls st i.stage c.put_heard.new.stage c.args.answer c.put_heard.result c.put_heard.ensures.heard c.in-Ok.ensures.left)).1
 
 pub returns-in-Err-clause-turning : goal.returns-in-Err-clause-turning
 returns-in-Err-clause-turning g c =
     let i = c.self.inside in
-    let st : SessionState g.row.J.Denot = record { judge = i.judge; replicas = i.replicas; entries = i.entries; pending = i.pending; starts = i.starts; notes = i.notes; is_cut = i.is_cut; stage = i.stage } in
+    let st : SessionState g.row.J.Denot = record { judge = i.judge; replicas = i.replicas; entries = i.entries; starts = i.starts; notes = i.notes; is_cut = i.is_cut; stage = i.stage } in
     (subst (λ (x : SessionState g.row.J.Denot). Falls x (record st { is_cut = true; stage = c.end.new.stage })) c.self.view_is
     (put_lacks st i.stage c.put_heard.new.stage c.end.new.stage c.args.answer c.put_heard.result c.put_heard.ensures.heard c.end.ensures)).0
 
 pub returns-in-Err-clause-left : goal.returns-in-Err-clause-left
 returns-in-Err-clause-left g c =
     let i = c.self.inside in
-    let st : SessionState g.row.J.Denot = record { judge = i.judge; replicas = i.replicas; entries = i.entries; pending = i.pending; starts = i.starts; notes = i.notes; is_cut = i.is_cut; stage = i.stage } in
+    let st : SessionState g.row.J.Denot = record { judge = i.judge; replicas = i.replicas; entries = i.entries; starts = i.starts; notes = i.notes; is_cut = i.is_cut; stage = i.stage } in
     (subst (λ (x : SessionState g.row.J.Denot). Falls x (record st { is_cut = true; stage = c.end.new.stage })) c.self.view_is
     (put_lacks st i.stage c.put_heard.new.stage c.end.new.stage c.args.answer c.put_heard.result c.put_heard.ensures.heard c.end.ensures)).1

@@ -14,7 +14,7 @@ use Rattle.ivy_session.proofs.session.Session.put.Goals as goal
 pub returns-in-Ok-Ask-clause-wanted : goal.returns-in-Ok-Ask-clause-wanted
 returns-in-Ok-Ask-clause-wanted g c =
     let i = c.self.inside in
-    let st : SessionState g.row.J.Denot = record { judge = i.judge; replicas = i.replicas; entries = i.entries; pending = i.pending; starts = i.starts; notes = i.notes; is_cut = i.is_cut; stage = i.stage } in
+    let st : SessionState g.row.J.Denot = record { judge = i.judge; replicas = i.replicas; entries = i.entries; starts = i.starts; notes = i.notes; is_cut = i.is_cut; stage = i.stage } in
     let wants = subst (λ (w : Want (List Ack)). PutWants i.stage c.put_wants.new.stage (Ok w)) c.in-Ok-Ask.field-0-is c.in-Ok-Ask.ensures.wanted in
     λ cache. subst (λ (x : SessionState g.row.J.Denot). IsNext g.J.Judge.judges x (record st { stage = c.put_wants.new.stage }) cache cache (next.Ask c.in-Ok-Ask.node c.in-Ok-Ask.question)) c.self.view_is
     (put_asks g.J.Judge.judges st cache c.in-Ok-Ask.node c.in-Ok-Ask.question i.stage c.put_wants.new.stage wants)
@@ -22,7 +22,7 @@ returns-in-Ok-Ask-clause-wanted g c =
 pub returns-in-Ok-Done-clause-wanted : goal.returns-in-Ok-Done-clause-wanted
 returns-in-Ok-Done-clause-wanted g c =
     let i = c.self.inside in
-    let st : SessionState g.row.J.Denot = record { judge = i.judge; replicas = i.replicas; entries = i.entries; pending = i.pending; starts = i.starts; notes = i.notes; is_cut = i.is_cut; stage = i.stage } in
+    let st : SessionState g.row.J.Denot = record { judge = i.judge; replicas = i.replicas; entries = i.entries; starts = i.starts; notes = i.notes; is_cut = i.is_cut; stage = i.stage } in
     let wants = subst (λ (w : Want (List Ack)). PutWants i.stage c.put_wants.new.stage (Ok w)) c.in-Ok-Done.field-0-is c.in-Ok-Done.ensures.wanted in
     λ cache. subst (λ (x : SessionState g.row.J.Denot). IsNext g.J.Judge.judges x (record st { stage = c.end.new.stage }) cache cache (next.Settle c.in-Ok-Done.acks)) c.self.view_is
     (put_settles g.J.Judge.judges st cache c.in-Ok-Done.acks i.stage c.put_wants.new.stage c.end.new.stage wants c.end.ensures)
@@ -30,25 +30,25 @@ returns-in-Ok-Done-clause-wanted g c =
 pub returns-in-Err-clause-wanted : goal.returns-in-Err-clause-wanted
 returns-in-Err-clause-wanted g c =
     let i = c.self.inside in
-    let st : SessionState g.row.J.Denot = record { judge = i.judge; replicas = i.replicas; entries = i.entries; pending = i.pending; starts = i.starts; notes = i.notes; is_cut = i.is_cut; stage = i.stage } in
+    let st : SessionState g.row.J.Denot = record { judge = i.judge; replicas = i.replicas; entries = i.entries; starts = i.starts; notes = i.notes; is_cut = i.is_cut; stage = i.stage } in
     λ cache. subst (λ (x : SessionState g.row.J.Denot). IsNext g.J.Judge.judges x (record st { is_cut = true; stage = c.take_told.new.stage }) cache cache (next.Done c.take_told.result)) c.self.view_is
     (put_is_cut g.J.Judge.judges st cache c.in-Err.field-0 c.take_told.result i.stage c.put_wants.new.stage c.take_told.new.stage c.in-Err.ensures.wanted c.take_told.ensures.served)
 
 pub returns-in-Ok-Ask-clause-left : goal.returns-in-Ok-Ask-clause-left
 returns-in-Ok-Ask-clause-left g c =
     let i = c.self.inside in
-    let st : SessionState g.row.J.Denot = record { judge = i.judge; replicas = i.replicas; entries = i.entries; pending = i.pending; starts = i.starts; notes = i.notes; is_cut = i.is_cut; stage = i.stage } in
+    let st : SessionState g.row.J.Denot = record { judge = i.judge; replicas = i.replicas; entries = i.entries; starts = i.starts; notes = i.notes; is_cut = i.is_cut; stage = i.stage } in
     subst (λ (x : SessionState g.row.J.Denot). LeavesNoMore x (record st { stage = c.put_wants.new.stage }) (next.Ask c.in-Ok-Ask.node c.in-Ok-Ask.question)) c.self.view_is (c.in-Ok-Ask.ensures.left i.starts)
 
 pub returns-in-Ok-Done-clause-left : goal.returns-in-Ok-Done-clause-left
 returns-in-Ok-Done-clause-left g c =
     let i = c.self.inside in
-    let st : SessionState g.row.J.Denot = record { judge = i.judge; replicas = i.replicas; entries = i.entries; pending = i.pending; starts = i.starts; notes = i.notes; is_cut = i.is_cut; stage = i.stage } in
+    let st : SessionState g.row.J.Denot = record { judge = i.judge; replicas = i.replicas; entries = i.entries; starts = i.starts; notes = i.notes; is_cut = i.is_cut; stage = i.stage } in
     subst (λ (x : SessionState g.row.J.Denot). LeavesNoMore x (record st { stage = c.end.new.stage }) (next.Settle c.in-Ok-Done.acks)) c.self.view_is
     (settles_next st i.stage c.put_wants.new.stage c.end.new.stage c.in-Ok-Done.field-0 c.in-Ok-Done.ensures.wanted c.end.ensures)
 
 pub returns-in-Err-clause-left : goal.returns-in-Err-clause-left
 returns-in-Err-clause-left g c =
     let i = c.self.inside in
-    let st : SessionState g.row.J.Denot = record { judge = i.judge; replicas = i.replicas; entries = i.entries; pending = i.pending; starts = i.starts; notes = i.notes; is_cut = i.is_cut; stage = i.stage } in
+    let st : SessionState g.row.J.Denot = record { judge = i.judge; replicas = i.replicas; entries = i.entries; starts = i.starts; notes = i.notes; is_cut = i.is_cut; stage = i.stage } in
     told_next c.args.self.now (record st { is_cut = true; stage = c.take_told.new.stage }) c.take_told.result c.take_told.ensures.told

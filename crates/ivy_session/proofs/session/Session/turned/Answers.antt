@@ -14,7 +14,7 @@ returns-in-Ok-clause-turned g c = subst (IsTurned g.J.Judge.judges c.args.self.n
 pub returns-in-Err-Memory-clause-turned : goal.returns-in-Err-Memory-clause-turned
 returns-in-Err-Memory-clause-turned g c =
     let i = c.self.inside in
-    let st : SessionState g.row.J.Denot = record { judge = i.judge; replicas = i.replicas; entries = i.entries; pending = i.pending; starts = i.starts; notes = i.notes; is_cut = i.is_cut; stage = i.stage } in
+    let st : SessionState g.row.J.Denot = record { judge = i.judge; replicas = i.replicas; entries = i.entries; starts = i.starts; notes = i.notes; is_cut = i.is_cut; stage = i.stage } in
     subst (λ (x : SessionState g.row.J.Denot). IsTurned g.J.Judge.judges x (record st { stage = c.lack.new.stage }) c.args.turned) c.self.view_is
     (lack_at_turn g.J.Judge.judges st i.stage c.lack.new.stage c.args.turned c.in-Err-Memory.field-0 (subst (λ (x : SessionState g.row.J.Denot). is_turning x.stage ≡ true) (sym c.self.view_is) c.requires.turning) c.in-Err-Memory.is c.in-Err-Memory.field-0-is c.lack.ensures)
 
@@ -30,13 +30,13 @@ returns-in-Err-BelowTide-clause-turned g c =
 pub returns-in-Err-Memory-clause-turning : goal.returns-in-Err-Memory-clause-turning
 returns-in-Err-Memory-clause-turning g c =
     let i = c.self.inside in
-    let st : SessionState g.row.J.Denot = record { judge = i.judge; replicas = i.replicas; entries = i.entries; pending = i.pending; starts = i.starts; notes = i.notes; is_cut = i.is_cut; stage = i.stage } in
+    let st : SessionState g.row.J.Denot = record { judge = i.judge; replicas = i.replicas; entries = i.entries; starts = i.starts; notes = i.notes; is_cut = i.is_cut; stage = i.stage } in
     (subst (λ (x : SessionState g.row.J.Denot). Falls x (record st { stage = c.lack.new.stage })) c.self.view_is
     (turn_lacks st i.stage (subst (λ (x : SessionState g.row.J.Denot). is_turning x.stage ≡ true) (sym c.self.view_is) c.requires.turning) c.lack.new.stage c.lack.ensures)).0
 
 pub returns-in-Err-Memory-clause-left : goal.returns-in-Err-Memory-clause-left
 returns-in-Err-Memory-clause-left g c =
     let i = c.self.inside in
-    let st : SessionState g.row.J.Denot = record { judge = i.judge; replicas = i.replicas; entries = i.entries; pending = i.pending; starts = i.starts; notes = i.notes; is_cut = i.is_cut; stage = i.stage } in
+    let st : SessionState g.row.J.Denot = record { judge = i.judge; replicas = i.replicas; entries = i.entries; starts = i.starts; notes = i.notes; is_cut = i.is_cut; stage = i.stage } in
     (subst (λ (x : SessionState g.row.J.Denot). Falls x (record st { stage = c.lack.new.stage })) c.self.view_is
     (turn_lacks st i.stage (subst (λ (x : SessionState g.row.J.Denot). is_turning x.stage ≡ true) (sym c.self.view_is) c.requires.turning) c.lack.new.stage c.lack.ensures)).1

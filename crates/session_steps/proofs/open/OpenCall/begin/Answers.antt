@@ -1,8 +1,11 @@
 use Rattle.std.proofs.Common.{subst}
 use Rattle.log_fetch.specs.Standings.{standing_of}
 use Rattle.session_steps.specs.Showing.{BeginsIn}
-use Rattle.session_steps.proofs.Begun.{begins_in, same_call}
+use Rattle.session_steps.proofs.Begun.{begins_in, none_to_load, same_call}
 use Rattle.session_steps.proofs.open.OpenCall.begin.Goals as goal
+
+pub begin-requires : goal.begin-requires
+begin-requires c = λ some. absurd (some (none_to_load c.args.who.now (standing_of c.in_ok-standing.standing) c.args.who.now.agent.view c.requires.view c.in_ok-standing.ensures c.requires.none))
 
 pub returns-clause-begun : goal.returns-clause-begun
 returns-clause-begun c = subst (BeginsIn c.args.nodes.now c.args.who.now c.args.message.now)
