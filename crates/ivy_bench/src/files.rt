@@ -1,11 +1,12 @@
 //! Times of writing a regular file in pieces of 8,192 bytes.
 
+use crate::measured::{Measured, since};
 use fs_tree::Tree;
 use ivy_base::{Bytes, Key, Kind, Memory, Moment, Op};
 use std::alloc::Global;
 use std::io;
 use std::rt::Clock;
-use std::time::{Duration, Instant};
+use std::time::Instant;
 
 const NOW: Moment = Moment { sec: 1, nsec: 0 };
 
@@ -64,12 +65,23 @@ fn write_all(tree: &mut Tree, alloc: Global, count: u32, shuffled: bool) -> Resu
     Ok(())
 }
 
-/// Measures what the words ask for. None where they ask for nothing of this family.
-pub fn answer<R: Clock + Print>(
+/// Writes so many pieces into an empty file, and says whether all were written. None where memory is short for that file.
+fn time_writes<R: Clock>(
     rt: &R,
     alloc: Global,
-    asked: &str,
-) -> io::Result<Option<Duration>> {
+    count: u32,
+    shuffled: bool,
+) -> io::Result<Option<Measured>> {
+    let Ok(mut tree) = empty_file(alloc) else {
+        return Ok(None);
+    };
+    let start = Instant::now(rt);
+    let written = write_all(&mut tree, alloc, count, shuffled).is_ok();
+    since(rt, start, "all written", written as u64)
+}
+
+/// Measures what the words ask for. None where they ask for nothing of this family.
+pub fn answer<R: Clock>(rt: &R, alloc: Global, asked: &str) -> io::Result<Option<Measured>> {
     let Some((order, count)) = asked.split_once(' ') else {
         return Ok(None);
     };
@@ -78,13 +90,5 @@ pub fn answer<R: Clock + Print>(
         "shuffled" => true,
         _ => return Ok(None),
     };
-    let count = count.parse().unwrap_or(0);
-    let Ok(mut tree) = empty_file(alloc) else {
-        return Ok(None);
-    };
-    let start = Instant::now(rt)?;
-    let is_written = write_all(&mut tree, alloc, count, shuffled).is_ok();
-    let time = start.elapsed(rt)?;
-    println!(rt; "written: {is_written}")?;
-    Ok(Some(time))
+    time_writes(rt, alloc, count.parse().unwrap_or(0), shuffled)
 }

@@ -1,5 +1,5 @@
 //! Measures the crates below. Each line of the standard input asks for one measurement, and each answer is a time in
-//! microseconds; the first word is the family.
+//! microseconds and what was counted meanwhile; the first word is the family.
 //!
 //! Signatures, by one tree of a set such as `w4h10`, beside hashes of one block:
 //!
@@ -45,6 +45,7 @@ mod files;
 mod gather;
 mod levels;
 mod logs;
+mod measured;
 mod order;
 mod records;
 mod sets;
@@ -52,18 +53,14 @@ mod signatures;
 mod trees;
 mod wire;
 
+use measured::Measured;
 use std::alloc::Global;
 use std::io;
 use std::rt::Clock;
 use std::thread::Threads;
-use std::time::Duration;
 
 /// Measures what the line asks for. None where nothing is measured.
-fn answer<R: Clock + Print + Threads>(
-    rt: &R,
-    alloc: Global,
-    line: &str,
-) -> io::Result<Option<Duration>> {
+fn answer<R: Clock + Threads>(rt: &R, alloc: Global, line: &str) -> io::Result<Option<Measured>> {
     let Some((family, asked)) = line.split_once(' ') else {
         return Ok(None);
     };
@@ -83,7 +80,9 @@ fn main(rt: HostRuntime) -> io::Result<()> {
     for line in rt.lines(rt.alloc()) {
         let line = line?;
         match answer(&rt, rt.alloc(), line.as_str())? {
-            Some(time) => println!(rt; "{line}: {} us", time.as_micros())?,
+            Some(Measured { time, what, count }) => {
+                println!(rt; "{line}: {} us, {what} {count}", time.as_micros())?
+            }
             None => println!(rt; "{line}: nothing measured")?,
         }
     }

@@ -1,19 +1,65 @@
 //! Times of taking the largest causally closed part of logs that were fetched.
 
+ghost use Rattle.std.specs.Prelude.{[], IfSome};
+ghost use Rattle.std.specs.List.{AllByRecursion};
+ghost use Rattle.causal_order.specs.AtHand.{IsFetched};
+
 use crate::gather::{batch_of, part_of};
 use crate::logs::{logs_of, view_of};
+use crate::measured::{Measured, since};
+use ivy_base::Memory;
+use log_records::Batch;
 use std::alloc::Global;
 use std::io;
 use std::rt::Clock;
-use std::time::{Duration, Instant};
+use std::time::Instant;
+use view_blocks::View;
 
-/// Measures what the words ask for, and says how many records the part has. None where they ask for nothing of this
-/// family, or memory is short.
-pub fn answer<R: Clock + Print>(
+/// Takes the largest closed part of the batch, and says how many records it has. None where memory is short.
+fn time_part<R: Clock>(
     rt: &R,
     alloc: Global,
-    asked: &str,
-) -> io::Result<Option<Duration>> {
+    view: &View,
+    batch: Batch,
+) -> io::Result<Option<Measured>>
+    requires { AllByRecursion (λ c. IsFetched view.now [] [] c.1) batch.chains }
+{
+    let start = Instant::now(rt);
+    match part_of(alloc, view, batch) {
+        Ok(part) => since(rt, start, "records", part.len() as u64),
+        Err(Memory) => Ok(None),
+    }
+}
+
+/// The same, of that many logs with that many records each.
+fn time_logs<R: Clock>(
+    rt: &R,
+    alloc: Global,
+    count: u8,
+    len: u32,
+    cites: bool,
+) -> io::Result<Option<Measured>> {
+    let Ok(view) = view_of(alloc, count) else {
+        return Ok(None);
+    };
+    match fetched(alloc, &view, count, len, cites) {
+        Some(batch) => time_part(rt, alloc, &view, batch),
+        None => Ok(None),
+    }
+}
+
+/// A batch of that many logs with that many records each. None where memory is short.
+fn fetched(alloc: Global, view: &View, count: u8, len: u32, cites: bool) -> Option<Batch>
+    ensures { IfSome result (λ batch. AllByRecursion (λ c. IsFetched view.now [] [] c.1) batch.chains) }
+{
+    match logs_of(alloc, count, len, cites) {
+        Ok(logs) => batch_of(alloc, view, logs),
+        Err(Memory) => None,
+    }
+}
+
+/// Measures what the words ask for. None where they ask for nothing of this family, or memory is short.
+pub fn answer<R: Clock>(rt: &R, alloc: Global, asked: &str) -> io::Result<Option<Measured>> {
     let mut words = asked.split(' ');
     let cites = match words.next() {
         Some("concurrent") => false,
@@ -22,18 +68,5 @@ pub fn answer<R: Clock + Print>(
     };
     let count: u8 = words.next().and_then(|word| word.parse().ok()).unwrap_or(0);
     let len: u32 = words.next().and_then(|word| word.parse().ok()).unwrap_or(0);
-    let (Ok(logs), Ok(view)) = (logs_of(alloc, count, len, cites), view_of(alloc, count)) else {
-        return Ok(None);
-    };
-    let Some(batch) = batch_of(alloc, &view, logs) else {
-        return Ok(None);
-    };
-    let start = Instant::now(rt)?;
-    let part = part_of(alloc, &view, batch);
-    let time = start.elapsed(rt)?;
-    let Ok(part) = part else {
-        return Ok(None);
-    };
-    println!(rt; "records: {}", part.len())?;
-    Ok(Some(time))
+    time_logs(rt, alloc, count, len, cites)
 }

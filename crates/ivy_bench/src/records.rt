@@ -1,11 +1,12 @@
 //! Times of writing and reading records, beside the time of copying as many bytes.
 
+use crate::measured::{Measured, since};
 use ivy_base::{Bytes, Key, Memory, Moment, Op, PubKey};
 use log_records::Record;
 use std::alloc::Global;
 use std::io;
 use std::rt::Clock;
-use std::time::{Duration, Instant};
+use std::time::Instant;
 use version_vectors::{Entry, Vector};
 
 const OWNER: PubKey = PubKey([9; 60]);
@@ -49,6 +50,13 @@ fn record(alloc: Global) -> Result<Record, Memory> {
     })
 }
 
+/// That record, and its block.
+fn record_and_block(alloc: Global) -> Result<(Record, Bytes), Memory> {
+    let record = record(alloc)?;
+    let block = record.write(alloc)?;
+    Ok((record, block))
+}
+
 /// How often a copy of the block was had.
 fn copies(alloc: Global, block: &[u8], count: u32) -> u64 {
     let mut done = 0u64;
@@ -79,40 +87,31 @@ fn reads(alloc: Global, block: &[u8], count: u32) -> u64 {
     done
 }
 
-/// Measures what the words ask for. None where they ask for nothing of this family, or memory is short.
-pub fn answer<R: Clock + Print>(
-    rt: &R,
-    alloc: Global,
-    asked: &str,
-) -> io::Result<Option<Duration>> {
-    let Ok(record) = record(alloc) else {
-        return Ok(None);
-    };
-    let Ok(block) = record.write(alloc) else {
-        return Ok(None);
-    };
-    time_with(rt, alloc, asked, &record, block.as_slice())
-}
-
-/// The same, of this record and its block. It owns nothing, so that nothing is let go where a line can't be written.
-fn time_with<R: Clock + Print>(
+/// Measures what is asked for, of a record and its block. None where that is nothing of this family.
+fn time_with<R: Clock>(
     rt: &R,
     alloc: Global,
     asked: &str,
     record: &Record,
     block: &[u8],
-) -> io::Result<Option<Duration>> {
+) -> io::Result<Option<Measured>> {
     let mut words = asked.split(' ');
     let what = words.next();
     let count = words.next().and_then(|word| word.parse().ok()).unwrap_or(0);
-    let start = Instant::now(rt)?;
-    let done = match what {
-        Some("copy") => copies(alloc, block, count),
-        Some("write") => writes(alloc, record, count),
-        Some("read") => reads(alloc, block, count),
+    let start = Instant::now(rt);
+    let (what, done) = match what {
+        Some("copy") => ("copied", copies(alloc, block, count)),
+        Some("write") => ("written", writes(alloc, record, count)),
+        Some("read") => ("read", reads(alloc, block, count)),
         _ => return Ok(None),
     };
-    let time = start.elapsed(rt)?;
-    println!(rt; "done: {done} of {} bytes", block.len())?;
-    Ok(Some(time))
+    since(rt, start, what, done)
+}
+
+/// Measures what the words ask for. None where they ask for nothing of this family, or memory is short.
+pub fn answer<R: Clock>(rt: &R, alloc: Global, asked: &str) -> io::Result<Option<Measured>> {
+    match record_and_block(alloc) {
+        Ok((record, block)) => time_with(rt, alloc, asked, &record, block.as_slice()),
+        Err(Memory) => Ok(None),
+    }
 }

@@ -1,11 +1,12 @@
 //! Times of replaying records on a tree.
 
+use crate::measured::{Measured, since};
 use fs_tree::{ROOT, Tree};
 use ivy_base::{Bytes, Key, Kind, Memory, Moment, Op};
 use std::alloc::Global;
 use std::io;
 use std::rt::Clock;
-use std::time::{Duration, Instant};
+use std::time::Instant;
 
 const NOW: Moment = Moment { sec: 1, nsec: 0 };
 
@@ -90,36 +91,37 @@ fn move_all(tree: &mut Tree, alloc: Global, count: u32, depth: u32) -> Result<()
     Ok(())
 }
 
-fn time_create<R: Clock + Print>(
+/// Makes so many directories, and says how many the first one has.
+fn time_create<R: Clock>(
     rt: &R,
     alloc: Global,
     count: u32,
     dirs: u32,
-) -> io::Result<Duration> {
-    let start = Instant::now(rt)?;
-    let tree = create(alloc, count, dirs);
-    let time = start.elapsed(rt)?;
-    if let Ok(tree) = &tree {
-        println!(rt; "in the first directory: {}", tree.subdirs(&key(0)))?;
+) -> io::Result<Option<Measured>> {
+    let start = Instant::now(rt);
+    match create(alloc, count, dirs) {
+        Ok(tree) => since(
+            rt,
+            start,
+            "in the first directory",
+            tree.subdirs(&key(0)) as u64,
+        ),
+        Err(Memory) => Ok(None),
     }
-    Ok(time)
 }
 
-fn time_rename<R: Clock + Print>(
+fn time_rename<R: Clock>(
     rt: &R,
     alloc: Global,
     count: u32,
     depth: u32,
-) -> io::Result<Duration> {
-    let mut time = Duration::ZERO;
-    if let Ok(tree) = chain(alloc, depth) {
-        let mut tree = tree;
-        let start = Instant::now(rt)?;
-        let moved = move_all(&mut tree, alloc, count, depth).is_ok();
-        time = start.elapsed(rt)?;
-        println!(rt; "moved: {moved}")?;
-    }
-    Ok(time)
+) -> io::Result<Option<Measured>> {
+    let Ok(mut tree) = chain(alloc, depth) else {
+        return Ok(None);
+    };
+    let start = Instant::now(rt);
+    let moved = move_all(&mut tree, alloc, count, depth).is_ok();
+    since(rt, start, "all moved", moved as u64)
 }
 
 /// Copies the tree so many times, each copy dropped before the next one is made.
@@ -130,41 +132,34 @@ fn copy_all(tree: &Tree, alloc: Global, times: u32) -> Result<(), Memory> {
     Ok(())
 }
 
-fn time_copy<R: Clock + Print>(
+fn time_copy<R: Clock>(
     rt: &R,
     alloc: Global,
     count: u32,
     times: u32,
-) -> io::Result<Duration> {
-    let mut time = Duration::ZERO;
-    if let Ok(tree) = create(alloc, count, 1) {
-        let start = Instant::now(rt)?;
-        let copied = copy_all(&tree, alloc, times).is_ok();
-        time = start.elapsed(rt)?;
-        println!(rt; "copied: {copied}")?;
-    }
-    Ok(time)
+) -> io::Result<Option<Measured>> {
+    let Ok(tree) = create(alloc, count, 1) else {
+        return Ok(None);
+    };
+    let start = Instant::now(rt);
+    let copied = copy_all(&tree, alloc, times).is_ok();
+    since(rt, start, "all copied", copied as u64)
 }
 
 fn number_from(word: Option<&str>) -> u32 {
     word.and_then(|word| word.parse().ok()).unwrap_or(0)
 }
 
-/// Measures what the words ask for. None where they ask for nothing of this family.
-pub fn answer<R: Clock + Print>(
-    rt: &R,
-    alloc: Global,
-    asked: &str,
-) -> io::Result<Option<Duration>> {
+/// Measures what the words ask for. None where they ask for nothing of this family, or memory is short.
+pub fn answer<R: Clock>(rt: &R, alloc: Global, asked: &str) -> io::Result<Option<Measured>> {
     let mut words = asked.split(' ');
     let what = words.next();
     let count = number_from(words.next());
     let size = number_from(words.next());
-    let time = match what {
-        Some("create") => time_create(rt, alloc, count, size)?,
-        Some("rename") => time_rename(rt, alloc, count, size)?,
-        Some("copy") => time_copy(rt, alloc, count, size)?,
-        _ => return Ok(None),
-    };
-    Ok(Some(time))
+    match what {
+        Some("create") => time_create(rt, alloc, count, size),
+        Some("rename") => time_rename(rt, alloc, count, size),
+        Some("copy") => time_copy(rt, alloc, count, size),
+        _ => Ok(None),
+    }
 }

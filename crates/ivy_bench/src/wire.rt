@@ -1,5 +1,6 @@
 //! Times of reading calls and writing replies, beside the time of copying as many bytes.
 
+use crate::measured::{Measured, since};
 use ivy_base::{Bytes, Kind, Memory, Moment};
 use nfs3_args::read_args;
 use nfs3_replies::{Fattr, Reply, put_reply, room_for};
@@ -7,7 +8,7 @@ use rpc_wire::{Heading, LONGEST_HEAD, ReplyHead, read_call, write_head};
 use std::alloc::Global;
 use std::io;
 use std::rt::Clock;
-use std::time::{Duration, Instant};
+use std::time::Instant;
 use xdr_codec::XdrWrite;
 
 /// The call and its arguments, up to the bytes (RFC 5531, section 9, and RFC 1813, section 3.3.7).
@@ -147,30 +148,43 @@ fn writes(alloc: Global, reply: &Reply, count: u32) -> u64 {
     done
 }
 
-/// Measures what the words ask for. None where they ask for nothing of this family, or memory is short.
-pub fn answer<R: Clock + Print>(
-    rt: &R,
-    alloc: Global,
-    asked: &str,
-) -> io::Result<Option<Duration>> {
-    let mut words = asked.split(' ');
-    let what = words.next();
-    let count = words.next().and_then(|word| word.parse().ok()).unwrap_or(0);
+/// Reads a call so often. None where memory is short for it.
+fn time_reads<R: Clock>(rt: &R, alloc: Global, count: u32) -> io::Result<Option<Measured>> {
     let Ok(message) = call(alloc) else {
         return Ok(None);
     };
+    let start = Instant::now(rt);
+    let done = reads(alloc, &message, count);
+    since(rt, start, "read", done)
+}
+
+/// Writes a reply so often. None where memory is short for it.
+fn time_writes<R: Clock>(rt: &R, alloc: Global, count: u32) -> io::Result<Option<Measured>> {
     let Ok(reply) = reply(alloc) else {
         return Ok(None);
     };
+    let start = Instant::now(rt);
+    let done = writes(alloc, &reply, count);
+    since(rt, start, "written", done)
+}
+
+/// Copies the content so often.
+fn time_copies<R: Clock>(rt: &R, alloc: Global, count: u32) -> io::Result<Option<Measured>> {
     let content = CONTENT;
-    let start = Instant::now(rt)?;
-    let done = match what {
-        Some("copy") => copies(alloc, content.as_slice(), count),
-        Some("read") => reads(alloc, &message, count),
-        Some("write") => writes(alloc, &reply, count),
-        _ => return Ok(None),
-    };
-    let time = start.elapsed(rt)?;
-    println!(rt; "done: {done} of {count}")?;
-    Ok(Some(time))
+    let start = Instant::now(rt);
+    let done = copies(alloc, content.as_slice(), count);
+    since(rt, start, "copied", done)
+}
+
+/// Measures what the words ask for. None where they ask for nothing of this family, or memory is short.
+pub fn answer<R: Clock>(rt: &R, alloc: Global, asked: &str) -> io::Result<Option<Measured>> {
+    let mut words = asked.split(' ');
+    let what = words.next();
+    let count = words.next().and_then(|word| word.parse().ok()).unwrap_or(0);
+    match what {
+        Some("copy") => time_copies(rt, alloc, count),
+        Some("read") => time_reads(rt, alloc, count),
+        Some("write") => time_writes(rt, alloc, count),
+        _ => Ok(None),
+    }
 }
