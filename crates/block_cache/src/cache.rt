@@ -59,7 +59,8 @@ impl BlockCache {
 
     /// The bytes of the block of that name, where it is held. What was used most recently stays so.
     pub fn peek(&self, key: &Key) -> Option<&[u8]>
-        ensures { option_copied result ≡ block_of key.now self.now }
+        ensures found { option_copied result ≡ block_of key.now self.now }
+        ensures named { IfSome result (λ block. key.now ≡ name block.now) }
     {
         let block = self.blocks.peek(&key.0)?;
         Some(block.as_slice())

@@ -1,13 +1,12 @@
 //! Blocks that are at hand without asking.
 
-ghost use Rattle.std.specs.Prelude.{◌≡◌, ◌≤◌, true, IsTrue, OnOk};
-ghost use Rattle.ivy_base.specs.Naming.{name};
-ghost use Rattle.view_refresh.specs.States.{is_loading, refresh_left};
+ghost use Rattle.std.specs.Prelude.{◌≤◌, OnOk};
+ghost use Rattle.view_refresh.specs.States.{refresh_left};
 ghost use Rattle.ivy_session.specs.Taking.{TakesOne, TakesHand};
 
 use block_cache::BlockCache;
 use dht_ids::Judge;
-use ivy_base::{Key, Memory, name_of};
+use ivy_base::Memory;
 use view_refresh::ViewRefresh;
 
 /// Gives the refresh what it wants of what is at hand, as long as it wants a block that is: from what is pending, or else from
@@ -36,18 +35,7 @@ fn take_one<J: Judge>(refresh: &mut ViewRefresh<J>, cache: &mut BlockCache) -> R
     let Some(bytes) = cache.peek(&key) else {
         return Ok(false);
     };
-    if !may_be_given(refresh, &key, bytes) {
-        return Err(Memory);
-    }
     refresh.give(bytes)?;
     let _block = cache.find(&key);
     Ok(true)
-}
-
-/// Whether the block that is wanted under that name may be given. While a snapshot is loaded it is to have its name, as each
-/// block of a cache has; that isn't known here, so it is tested.
-fn may_be_given<J: Judge>(refresh: &ViewRefresh<J>, key: &Key, bytes: &[u8]) -> bool
-    ensures { IsTrue result → is_loading refresh.now ≡ true → key.now ≡ name bytes.now }
-{
-    !refresh.is_loading() || name_of(bytes) == *key
 }

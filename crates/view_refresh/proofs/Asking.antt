@@ -1,5 +1,5 @@
 -- What is to be asked is the next ask of a get.
-use Rattle.std.proofs.Common.{◌≡◌, ℕ, List, [], ◌++◌, Option, Some, None, refl, sym, ◌∙◌, subst}
+use Rattle.std.proofs.Common.{◌≡◌, ℕ, List, Option, Some, None, sym, subst}
 use Rattle.ivy_base.specs.declared.key.Key.{Key}
 use Rattle.ivy_base.specs.Naming.{head_key_of}
 use Rattle.log_model.specs.Vector.{Vector}

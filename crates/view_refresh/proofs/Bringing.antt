@@ -1,4 +1,4 @@
--- What a part of what was brought tells: a block that came right has its name, what failed brought a miss last, and nobody to ask brings nothing.
+-- What a part of what was brought tells: a block that came right has its name, what failed brought a miss last, and what is done brought none last.
 use Rattle.std.proofs.Common.{◌≡◌, ℕ, List, [], ◌∷◌, ◌++◌, Option, Some, None, Result, Ok, Err, refl, sym, ap, ◌∙◌, subst, append_assoc}
 use Rattle.std.proofs.lemmas.List.{map-append}
 use Rattle.ivy_base.specs.declared.key.Key.{Key}
@@ -27,7 +27,6 @@ use Rattle.session_model.specs.Refreshing.Fetches.{wants_heads, no_heads, of_hea
 use Rattle.session_model.specs.Refreshing.FetchesAll.{all, stays, goes_on}
 use Rattle.session_model.specs.Sessions.{Gets}
 use Rattle.session_model.specs.Sessions.Gets.{heads, content}
-use Rattle.log_fetch.specs.Fetching.{block_in}
 
 -- ---- a block that came right
 
@@ -55,15 +54,6 @@ heads_or_block e = cc e
 pub right_name : (judged : Key → List ℕ → Option Judged) (r : ℕ) (entries : List Peer) {want : Want} {asks : List Heard} {brought : Brought} (key : Key) (bytes : List ℕ) → Gets judged r entries want asks brought → brought ≡ BlockOf key (Ok bytes) → name bytes ≡ key
 right_name judged r entries key bytes (heads came get) e = absurd (heads_or_block e)
 right_name judged r entries {asks = asks} key bytes (content {key = other} came get) e = let g = got_ok e in of_result other r entries asks bytes came g.1 get ∙ g.0
-
-same_pair : (a b : Key × List ℕ) → Some a ≡ Some b → a ≡ b
-same_pair a b e = cc e
-
--- a block that is handed out came right
-pub one_kept : (brought : Brought) (key : Key) (bytes : List ℕ) → block_in brought ≡ Some (key, bytes) → brought ≡ BlockOf key (Ok bytes)
-one_kept (HeadsOf owner came) key bytes e = cc e
-one_kept (BlockOf other (Ok given)) key bytes e = ap (λ (x : Key × List ℕ). BlockOf x.0 (Ok x.1)) (same_pair (other, given) (key, bytes) e)
-one_kept (BlockOf other (Err miss)) key bytes e = cc e
 
 -- ---- what failed
 
@@ -129,27 +119,8 @@ nil_or_more (y ∷ ys) x e = cc e
 pub never_missed : {s : Standing} {start : Vector} {owners : List PubKey} {notes : List Note} {chains : List Chain} {end : RefreshEnd} (miss : Miss) → FetchesAll s start owners [] notes chains end → end ≡ FailsBy miss → ⊥
 never_missed miss fetches e = let m = all_missed miss fetches e in nil_or_more m.before m.last m.is
 
-same_first : {X : Type 0} (x y : X) (xs ys : List X) → x ∷ xs ≡ y ∷ ys → x ≡ y
-same_first x y xs ys e = cc e
-
-same_rest : {X : Type 0} (x y : X) (xs ys : List X) → x ∷ xs ≡ y ∷ ys → xs ≡ ys
-same_rest x y xs ys e = cc e
-
-same_last : {X : Type 0} (xs ys : List X) (x y : X) → xs ++ x ∷ [] ≡ ys ++ y ∷ [] → x ≡ y
-same_last [] [] x y e = same_first x y [] [] e
-same_last [] (b ∷ ys) x y e = absurd (nil_or_more ys y (same_rest x b [] (ys ++ y ∷ []) e))
-same_last (a ∷ xs) [] x y e = absurd (nil_or_more xs x (sym (same_rest a y (xs ++ x ∷ []) [] e)))
-same_last (a ∷ xs) (b ∷ ys) x y e = same_last xs ys x y (same_rest a b (xs ++ x ∷ []) (ys ++ y ∷ []) e)
-
 pub brought_more : (parts : List Part) (p : Part) → brought_in (parts ++ p ∷ []) ≡ brought_in parts ++ p.brought ∷ []
 brought_more parts p = map-append (λ (x : Part). x.brought) parts (p ∷ [])
-
--- a block that came right wasn't missed
-pub not_missed : {s : Standing} {start : Vector} {owners : List PubKey} (parts : List Part) (p : Part) {notes : List Note} {chains : List Chain} {end : RefreshEnd} (miss : Miss) (key : Key) (bytes : List ℕ) → p.brought ≡ BlockOf key (Ok bytes)
-    → FetchesAll s start owners (brought_in (parts ++ p ∷ [])) notes chains end → end ≡ FailsBy miss → ⊥
-not_missed parts p miss key bytes right fetches e =
-    let m = all_missed miss fetches e in
-    subst IsMissed (sym (same_last (brought_in parts) m.before p.brought m.last (sym (brought_more parts p) ∙ m.is)) ∙ right) m.missed
 
 -- ---- what didn't fail
 

@@ -1,5 +1,5 @@
 -- What is left of a refresh falls.
-use Rattle.std.proofs.Common.{◌≡◌, ℕ, zero, suc, ◌+◌, ◌-◌, ◌*◌, ◌<◌, ◌≤◌, List, [], ◌∷◌, Option, Some, arith}
+use Rattle.std.proofs.Common.{◌≡◌, ℕ, ◌+◌, ◌-◌, ◌*◌, ◌<◌, ◌≤◌, List, [], ◌∷◌, Some, arith}
 use Rattle.ivy_base.specs.declared.key.Key.{Key}
 use Rattle.snapshot_model.specs.Reading.{Root}
 use Rattle.snapshot_loading.specs.Loading.{Loading, first_key, load_left, most_in, most_of, wanted_of}

@@ -1,7 +1,6 @@
 -- A refresh hears an answer.
-use Rattle.std.proofs.Common.{◌≡◌, ◌≢◌, ◌⊎◌, ⊎_elim, inl, inr, ℕ, ◌+◌, ◌-◌, ◌*◌, ◌<◌, true, false, List, [], ◌∷◌, ◌++◌, Option, Some, None, Result, Ok, Err, IfOk, refl, sym, ap, ◌∙◌, subst}
+use Rattle.std.proofs.Common.{◌≡◌, ◌⊎◌, ⊎_elim, inl, inr, ℕ, ◌-◌, ◌*◌, ◌<◌, List, [], ◌∷◌, ◌++◌, Option, Some, None, Result, Ok, Err, IfOk, refl, sym, ap, ◌∙◌, subst}
 use Rattle.ivy_base.specs.declared.key.Key.{Key}
-use Rattle.ivy_base.specs.declared.memory.Memory.{Memory}
 use Rattle.ivy_base.specs.Naming.{name}
 use Rattle.dht_ids.specs.Asked.{told}
 use Rattle.dht_ids.specs.declared.ask.Answer.{Answer}
@@ -13,23 +12,22 @@ use Rattle.dhash_client.specs.declared.miss.Miss.{Miss}
 use Rattle.dhash_client.specs.GetHead.{Judges}
 use Rattle.fs_tree.specs.declared.basis.Basis.{Basis as Kept}
 use Rattle.agent_model.specs.Standing.{Standing}
-use Rattle.session_model.specs.Brought.{BlockOf, Brought, Content, Part, Want}
+use Rattle.session_model.specs.Brought.{BlockOf, Content, Part, Want}
 use Rattle.session_model.specs.Refreshing.{Needs, counting, start_of}
-use Rattle.session_model.specs.Sessions.{Gets, IsGet}
+use Rattle.session_model.specs.Sessions.{Gets}
 use Rattle.snapshot_loading.specs.Loading.{load_left, wanted_of}
-use Rattle.log_fetch.specs.declared.get.Came.{Came}
 use Rattle.log_fetch.specs.declared.get.Came.TheVariants as came
 use Rattle.log_fetch.specs.declared.get.Get.{Get}
 use Rattle.log_fetch.specs.declared.get.Get.TheVariants as get
 use Rattle.log_fetch.specs.declared.get.Progress.TheVariants as progress
 use Rattle.log_fetch.specs.declared.get.Waiting.{Waiting}
-use Rattle.log_fetch.specs.Fetching.{Fetching, FetchHasHeard, GetGoesOn, GetIsOver, block_in, fetch_awaited, fetch_left, most_asks, most_left}
+use Rattle.log_fetch.specs.Fetching.{Fetching, FetchHasHeard, GetGoesOn, GetIsOver, fetch_awaited, fetch_left, most_asks, most_left}
 use Rattle.log_fetch.specs.Gets.{GetHasHeard, GetIsAfter, HasCame, HearsTo, IsKept, gets_left, get_awaited}
 use Rattle.ask_laws.proofs.AskedGets.{get_next_is_not_whole}
 use Rattle.view_refresh.specs.declared.refresh.Loading.{Loading}
 use Rattle.view_refresh.specs.declared.refresh.State.{State}
 use Rattle.view_refresh.specs.declared.refresh.State.TheVariants as state
-use Rattle.view_refresh.specs.States.{IsForLoad, IsGetOf, IsSound, IsUnderWay, Refreshing, left_in}
+use Rattle.view_refresh.specs.States.{IsForLoad, IsGetOf, IsSound, Refreshing, left_in}
 use Rattle.view_refresh.specs.Behind.{IsFetchingOver, RefreshIsAfter}
 use Rattle.view_refresh.specs.Steps.{AsksFor, GoesOn, IsOver}
 use Rattle.view_refresh.specs.Parts.{FetchHearsNext, HearsNext, LoadTakesNext, in_state}

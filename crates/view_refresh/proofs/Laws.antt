@@ -1,12 +1,12 @@
 -- What holds of every refresh.
-use Rattle.std.proofs.Common.{◌≡◌, ℕ, Bool, true, false, List, Option, Some, None, refl, sym, ap, ◌∙◌}
+use Rattle.std.proofs.Common.{◌≡◌, Bool, true, false, List, Option, Some, None, refl}
 use Rattle.ivy_base.specs.declared.key.Key.{Key}
 use Rattle.ivy_base.specs.declared.key.PubKey.{PubKey}
 use Rattle.dht_ids.specs.declared.ask.Heard.{Heard}
 use Rattle.dhash_client.specs.GetHead.{Judges}
 use Rattle.fs_tree.specs.declared.basis.Basis.{Basis as Kept}
 use Rattle.agent_model.specs.Standing.{Standing}
-use Rattle.session_model.specs.Brought.{Content, Part, brought_in}
+use Rattle.session_model.specs.Brought.{Content, Part}
 use Rattle.session_model.specs.Refreshing.{FailsBy, Needs, RefreshEnd, counting, start_of}
 use Rattle.log_fetch.specs.declared.fetch.State.{State as FetchState}
 use Rattle.log_fetch.specs.declared.fetch.State.TheVariants as fetch
@@ -14,10 +14,10 @@ use Rattle.log_fetch.specs.Fetching.{Fetching, is_failed, is_miss}
 use Rattle.log_fetch.specs.Gathering.{block_wanted, heads_wanted}
 use Rattle.view_refresh.specs.declared.refresh.State.{State}
 use Rattle.view_refresh.specs.declared.refresh.State.TheVariants as state
-use Rattle.view_refresh.specs.States.{Refreshing, IsSound, awaited_in, failed_in, wanted_in}
+use Rattle.view_refresh.specs.States.{Refreshing, IsSound, failed_in}
 use Rattle.view_refresh.specs.Behind.{IsAt, IsFetchingOver}
-use Rattle.view_refresh.specs.Steps.{RefreshStands, RefreshWants, Stands}
-use Rattle.view_refresh.proofs.Fetches.{end_in, fails_by, free_wants, stands}
+use Rattle.view_refresh.specs.Steps.{RefreshStands, Stands}
+use Rattle.view_refresh.proofs.Fetches.{end_in, fails_by, stands}
 use Rattle.view_refresh.proofs.Reaching.{end_for}
 use Rattle.view_refresh.proofs.Standing.{fetch_stands, load_stands}
 

@@ -1,5 +1,5 @@
 -- How a refresh stands by what it was brought: the snapshot's part, and the logs' behind it.
-use Rattle.std.proofs.Common.{◌≡◌, ℕ, false, true, List, [], ◌∷◌, ◌++◌, map, Option, Some, None, refl, sym, ap, ◌∙◌, subst}
+use Rattle.std.proofs.Common.{◌≡◌, List, [], ◌∷◌, ◌++◌, Option, Some, None, sym, ap, ◌∙◌, subst}
 use Rattle.std.proofs.lemmas.List.{append_assoc, map-append}
 use Rattle.ivy_base.specs.declared.key.Key.{Key}
 use Rattle.dht_ids.specs.declared.ask.Heard.{Heard}
@@ -8,7 +8,7 @@ use Rattle.turn_model.specs.Basis.{Basis}
 use Rattle.fs_tree.specs.declared.basis.Basis.{Basis as Kept}
 use Rattle.agent_model.specs.Standing.{Chain, Refresh, Standing}
 use Rattle.session_model.specs.Brought.{Brought, Part, Content, brought_in}
-use Rattle.session_model.specs.Refreshing.{FetchesAll, LoadEnd, LoadWants, Loaded, LoadsFor, Needs, Note, RefreshEnd, Refreshes, counting, start_of}
+use Rattle.session_model.specs.Refreshing.{FetchesAll, LoadEnd, LoadWants, LoadsFor, Needs, Note, RefreshEnd, Refreshes, counting, start_of}
 use Rattle.session_model.specs.Refreshing.Refreshes.{loading, fetching}
 use Rattle.snapshot_loading.specs.Loading.{ComesTo as LoadComesTo, wanted_of}
 use Rattle.log_fetch.specs.Fetching.{Fetching}

@@ -1,12 +1,10 @@
 -- How a refresh comes to a state: with the snapshot, and over what it came to with the logs.
 use Rattle.std.proofs.Common.{◌≡◌, ℕ, ◌+◌, ◌-◌, ◌*◌, ◌≤◌, false, true, List, [], ◌∷◌, ◌++◌, Option, Some, None, Result, Ok, Err, IfOk, refl, sym, ap, ◌∙◌, subst, arith}
-use Rattle.std.specs.Prelude.{◌≢◌}
 use Rattle.std.specs.Option.{option_map}
 use Rattle.std.proofs.lemmas.List.{append-nil}
 use Rattle.ivy_base.specs.declared.key.Key.{Key}
 use Rattle.ivy_base.specs.declared.memory.Memory.{Memory}
 use Rattle.log_model.specs.Vector.{Vector}
-use Rattle.dht_ids.specs.declared.ask.Heard.{Heard}
 use Rattle.dht_ids.specs.declared.peer.Peer.{Peer}
 use Rattle.dhash_client.specs.declared.miss.Miss.{Miss}
 use Rattle.dhash_client.specs.GetHead.{Judges}
@@ -16,7 +14,7 @@ use Rattle.fs_tree.specs.declared.basis.Basis.{Basis as Kept}
 use Rattle.snapshot_model.specs.Reading.{Root}
 use Rattle.agent_model.specs.Standing as agent
 use Rattle.session_model.specs.Brought.{Brought, BlockOf, Part, brought_in}
-use Rattle.session_model.specs.Refreshing.{FailsBy, LoadWants, Loaded, LoadsFor, counting, start_of}
+use Rattle.session_model.specs.Refreshing.{Loaded, LoadsFor, counting, start_of}
 use Rattle.session_model.specs.Refreshing.Loads.{wants}
 use Rattle.session_model.specs.Refreshing.LoadsFor.{none as nothing_to_load, some as snapshot_to_load}
 use Rattle.snapshot_loading.specs.Loading.{ComesTo as LoadComesTo, HasBeenGiven, begun, brought_to, load_left, most_of, wanted_of}
@@ -142,6 +140,12 @@ module _ {J : Type 0} (judges : Judges J) (judge : J) (replicas : ℕ) (entries 
   loaded_is_free l whole comes st =
       free_in_more most_left (left_in {J = J} (state.Loading l)) (AreLoaded l.standing whole) (AreOfLoad l) st (more most_left (most_asks * load_left l.load))
       (λ s parts are. (are.standing, loads_so s parts l are (Loaded whole) comes))
+
+  pub loaded_from : (l : Loading) (k : Standing) (came_to : load.Loading) (whole : Option Basis) → k ≡ l.standing → came_to ≡ l.load → LoadComesTo came_to (Loaded whole) → (given : Result (State J) Memory)
+      → IfOk given (IsFree judges judge replicas entries most_left (AreLoaded k whole)) → IfOk given (IsFree judges judge replicas entries (left_in {J = J} (state.Loading l)) (AreOfLoad l))
+  loaded_from l k came_to whole is same comes (Ok st) free =
+      loaded_is_free l whole (subst (λ (x : load.Loading). LoadComesTo x (Loaded whole)) same comes) st (subst (λ (x : Standing). IsFree judges judge replicas entries most_left (AreLoaded x whole) st) is free)
+  loaded_from l k came_to whole is same comes (Err lacks) free = tt
 
   -- which was given what came of the block that it wanted
   module _ (l : Loading) (came : Result (List ℕ) Miss) (new : load.Loading) (given : HasBeenGiven l.load new came) where

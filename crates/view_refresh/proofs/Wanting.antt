@@ -1,10 +1,10 @@
 -- What a refresh wants next.
-use Rattle.std.proofs.Common.{◌≡◌, ◌⊎◌, ⊎_elim, inl, inr, ℕ, ◌+◌, ◌-◌, ◌*◌, ◌≤◌, Bool, true, false, List, [], ◌∷◌, ◌++◌, map, Option, Some, None, Result, Ok, Err, refl, sym, ap, ◌∙◌, subst, arith}
+use Rattle.std.proofs.Common.{◌≡◌, ◌⊎◌, ⊎_elim, inl, inr, ℕ, ◌≤◌, Bool, true, false, List, [], ◌∷◌, ◌++◌, map, Option, Some, None, Result, Ok, Err, refl, sym, ap, ◌∙◌, subst, arith}
 use Rattle.std.specs.Option.{option_map}
-use Rattle.ivy_base.specs.declared.key.Key.{Key}
 use Rattle.log_model.specs.Vector.{Vector}
 use Rattle.dht_ids.specs.declared.ask.Ask.{Ask}
 use Rattle.dht_ids.specs.declared.ask.Heard.{Heard}
+use Rattle.dht_ids.specs.declared.ask.Want.{Want as Next}
 use Rattle.dht_ids.specs.declared.ask.Want.TheVariants as next
 use Rattle.dht_ids.specs.declared.peer.Peer.{Peer}
 use Rattle.dhash_client.specs.declared.miss.Miss.{Miss}
@@ -13,26 +13,24 @@ use Rattle.turn_model.specs.Basis.{Basis}
 use Rattle.fs_tree.specs.Bases.{basis_of}
 use Rattle.fs_tree.specs.declared.basis.Basis.{Basis as Kept}
 use Rattle.log_records.specs.Batches.{Batch}
-use Rattle.agent_model.specs.Standing.{Chain, Refresh as ModelRefresh, Standing, chain_of}
+use Rattle.agent_model.specs.Standing.{Chain, Standing, chain_of}
 use Rattle.session_model.specs.Brought.{Brought, Part, Want, Content, brought_in}
-use Rattle.session_model.specs.Refreshing.{Done, FailsBy, FetchesAll, Needs, RefreshEnd, Refreshes, counting, start_of}
+use Rattle.session_model.specs.Refreshing.{Done, FailsBy, Needs, RefreshEnd, Refreshes, counting, start_of}
 use Rattle.session_model.specs.Sessions.{Gets}
-use Rattle.snapshot_loading.specs.Loading.{load_left, wanted_of}
+use Rattle.snapshot_loading.specs.Loading.{load_left}
 use Rattle.log_fetch.specs.declared.fetch.Fetched.{Fetched}
 use Rattle.log_fetch.specs.declared.get.Came.{Came}
 use Rattle.log_fetch.specs.declared.get.Progress.TheVariants as progress
 use Rattle.log_fetch.specs.declared.get.Waiting.{Waiting}
-use Rattle.log_fetch.specs.declared.refresh.Refresh.{Refresh}
-use Rattle.log_fetch.specs.Fetching.{AreAll, EndsAs, Fetching, FetchIsAfter, FetchIsWanted, fetch_awaited, fetch_left, is_failed, most_asks, most_left}
+use Rattle.log_fetch.specs.Fetching.{AreAll, EndsAs, Fetching, FetchIsWanted, fetch_awaited, fetch_left, is_failed, most_left}
 use Rattle.log_fetch.specs.Gets.{GetIsAfter, gets_left}
-use Rattle.log_fetch.specs.Standings.{refresh_of}
 use Rattle.view_refresh.specs.declared.refresh.Loading.{Loading}
 use Rattle.view_refresh.specs.declared.refresh.Refreshed.{Refreshed}
 use Rattle.view_refresh.specs.declared.refresh.State.{State}
 use Rattle.view_refresh.specs.declared.refresh.State.TheVariants as state
 use Rattle.view_refresh.specs.States.{IsForLoad, IsSound, IsUnderWay, Refreshing, left_in}
 use Rattle.view_refresh.specs.Behind.{IsFetchingOver, RefreshIsAfter}
-use Rattle.view_refresh.specs.Steps.{AsksFor, Brings, Ends, Fails, HasNoRoute, RefreshIsWanted}
+use Rattle.view_refresh.specs.Steps.{AsksFor, Brings, Ends, Fails, HasNoRoute}
 use Rattle.view_refresh.specs.Parts.{BeginsGet, GivesMiss, WantsNext, in_state, refreshed_over, result_over}
 use Rattle.view_refresh.proofs.Asking.{fetch_asks_next, load_asks_next, next_as}
 use Rattle.view_refresh.proofs.Bringing.{not_done}
@@ -57,6 +55,10 @@ done_or_fails : (miss : Miss) → Done ≡ FailsBy miss → ⊥
 done_or_fails miss e = cc e
 
 module _ {J : Type 0} (judges : Judges J) (r : Refreshing J) where
+  -- what is asked so
+  pub wants_as : (old : State J) (given so : State J × Next Refreshed) → given ≡ so → WantsNext judges r old so → WantsNext judges r old given
+  wants_as old given so is wants = subst (WantsNext judges r old) (sym is) wants
+
   -- ---- a block of the snapshot
 
   module _ (l : Loading) (s : Standing) (parts : List Part) where

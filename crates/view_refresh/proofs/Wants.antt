@@ -1,25 +1,18 @@
 -- The block that is wanted by what was brought is the one that a refresh is to get next.
-use Rattle.std.proofs.Common.{◌≡◌, ℕ, Bool, true, false, List, Option, Some, None, refl, sym, ap, ◌∙◌}
+use Rattle.std.proofs.Common.{◌≡◌, false, List, Some, None, sym, ap, ◌∙◌}
 use Rattle.ivy_base.specs.declared.key.Key.{Key}
-use Rattle.ivy_base.specs.declared.key.PubKey.{PubKey}
 use Rattle.dht_ids.specs.declared.ask.Heard.{Heard}
 use Rattle.dhash_client.specs.GetHead.{Judges}
-use Rattle.fs_tree.specs.declared.basis.Basis.{Basis as Kept}
 use Rattle.agent_model.specs.Standing.{Standing}
 use Rattle.session_model.specs.Brought.{Content, Part, brought_in}
-use Rattle.session_model.specs.Refreshing.{FailsBy, Needs, RefreshEnd, counting, start_of}
+use Rattle.session_model.specs.Refreshing.{Needs, RefreshEnd, counting, start_of}
 use Rattle.session_laws.proofs.OneRefresh.{refresh_is_one}
-use Rattle.log_fetch.specs.declared.fetch.State.{State as FetchState}
-use Rattle.log_fetch.specs.declared.fetch.State.TheVariants as fetch
-use Rattle.log_fetch.specs.Fetching.{Fetching, is_failed, is_miss}
-use Rattle.log_fetch.specs.Gathering.{block_wanted, heads_wanted}
 use Rattle.view_refresh.specs.declared.refresh.State.{State}
 use Rattle.view_refresh.specs.declared.refresh.State.TheVariants as state
 use Rattle.view_refresh.specs.States.{Refreshing, IsSound, awaited_in, failed_in, wanted_in}
-use Rattle.view_refresh.specs.Behind.{IsAt, IsFetchingOver}
-use Rattle.view_refresh.specs.Steps.{RefreshStands, RefreshWants, Stands}
-use Rattle.view_refresh.proofs.Fetches.{end_in, fails_by, free_wants, stands}
-use Rattle.view_refresh.proofs.Reaching.{end_for}
+use Rattle.view_refresh.specs.Behind.{IsAt}
+use Rattle.view_refresh.specs.Steps.{RefreshWants, Stands}
+use Rattle.view_refresh.proofs.Fetches.{end_in, free_wants, stands}
 use Rattle.view_refresh.proofs.Standing.{fetch_stands, load_stands}
 
 -- ---- it wants the block that is wanted

@@ -1,5 +1,5 @@
 -- What a refresh wants, hears and is given, by the definitions of a refresh.
-use Rattle.std.specs.Prelude.{◌≡◌, ◌≢◌, ◌⊎◌, ℕ, Bool, true, false, List, [], ◌∷◌, ◌++◌, Contains, Option, Some, None, Result, Ok, Err, IfSome}
+use Rattle.std.specs.Prelude.{◌≡◌, ◌≢◌, ◌⊎◌, ℕ, Bool, true, false, List, [], ◌∷◌, ◌++◌, Contains, Option, Some, None, Ok, Err, IfSome}
 use Rattle.ivy_base.specs.declared.key.Key.{Key}
 use Rattle.ivy_base.specs.declared.key.PubKey.{PubKey}
 use Rattle.dht_ids.specs.Asked.{told}

@@ -41,10 +41,29 @@ pub struct Refreshed {
 }
 
 /// A snapshot on its way, and the standing for which it is loaded.
-#[derive(Drop)]
 pub(crate) struct Loading {
     pub standing: Standing,
     pub load: Load,
+}
+
+/// One function, so that whatever drops one calls it and isn't proved over all of its parts once more.
+impl Drop for Loading {
+    fn drop(self) {
+        let Loading {
+            standing: _,
+            load: _,
+        } = self;
+    }
+}
+
+impl Loading {
+    /// The standing, and the snapshot that was loaded for it.
+    fn into_parts(self) -> (Standing, Load)
+        ensures { (result.0 ≡ self.standing) × (result.1 ≡ self.load) }
+    {
+        let Loading { standing, load } = self;
+        (standing, load)
+    }
 }
 
 /// How far a refresh is.
@@ -380,7 +399,7 @@ impl<J: Judge> ViewRefresh<J> {
         requires { wanted_of loading.load ≡ None }
         ensures { IfOk result (IsFree J.judges self.now.judge self.now.replicas self.now.entries (most_left + most_asks * load_left loading.load) (AreOfLoad loading)) }
     {
-        let Loading { standing, load } = loading;
+        let (standing, load) = loading.into_parts();
         let basis = loaded(self.alloc, load)?;
         fetch_from(
             self.alloc,
@@ -393,11 +412,15 @@ impl<J: Judge> ViewRefresh<J> {
     }
 }
 
-/// Comes to that state.
+/// Comes to that state, which was taken out of its place before.
 fn come_to<J: Judge>(state: &mut State<J>, next: State<J>)
+    requires { state.old ≡ State.Over }
     ensures { state.new ≡ next }
 {
-    *state = next;
+    match mem::replace(state, next) {
+        State::Over => {}
+        _ => unreachable!(),
+    }
 }
 
 /// The name of the block that is to be got next in that state.

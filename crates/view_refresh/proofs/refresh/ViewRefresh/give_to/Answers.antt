@@ -3,7 +3,6 @@ use Rattle.std.specs.Prelude.{◌≢◌}
 use Rattle.std.proofs.lemmas.Result.{IfOk-weaker}
 use Rattle.ivy_base.specs.Naming.{name}
 use Rattle.view_refresh.specs.declared.refresh.State.{State}
-use Rattle.view_refresh.specs.declared.refresh.State.TheVariants as state
 use Rattle.view_refresh.specs.States.{IsSound, loads_in, wanted_in}
 use Rattle.view_refresh.specs.Parts.{GivesNext}
 use Rattle.view_refresh.proofs.refresh.ViewRefresh.give_to.Goals as goal

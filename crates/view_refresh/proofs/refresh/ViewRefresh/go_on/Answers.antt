@@ -1,10 +1,11 @@
 use Rattle.std.proofs.Common.{IfOk, sym, subst}
 use Rattle.std.proofs.lemmas.Result.{IfOk-weaker}
+use Rattle.dht_ids.specs.declared.ask.Want.TheVariants as next
 use Rattle.view_refresh.specs.declared.refresh.State.{State}
 use Rattle.view_refresh.specs.declared.refresh.State.TheVariants as state
 use Rattle.view_refresh.specs.States.{IsSound}
 use Rattle.view_refresh.specs.Parts.{WantsNext}
-use Rattle.view_refresh.proofs.Wanting.{wants_again}
+use Rattle.view_refresh.proofs.Wanting.{wants_again, wants_as}
 use Rattle.view_refresh.proofs.refresh.ViewRefresh.go_on.Goals as goal
 
 pub begin-requires : goal.begin-requires
@@ -21,7 +22,7 @@ returns-in-Asking g c =
     let r = c.args.self.now in
     let sound = subst (IsSound r.judge r.replicas r.entries) c.in-Asking.is c.requires in
     subst (λ (st : State g.row.J.Denot). WantsNext g.J.Judge.judges r st c.ask.result) (sym c.in-Asking.is)
-    (subst (λ w. WantsNext g.J.Judge.judges r (state.Asking c.in-Asking.loading c.in-Asking.waiting) w) (sym c.ask.ensures) (wants_again g.J.Judge.judges r c.in-Asking.loading c.in-Asking.waiting sound))
+    (wants_as g.J.Judge.judges r (state.Asking c.in-Asking.loading c.in-Asking.waiting) c.ask.result (state.Asking c.in-Asking.loading c.in-Asking.waiting, next.Ask c.in-Asking.waiting.node c.in-Asking.waiting.question) c.ask.ensures (wants_again g.J.Judge.judges r c.in-Asking.loading c.in-Asking.waiting sound))
 
 pub returns-in-Fetching : goal.returns-in-Fetching
 returns-in-Fetching g c =

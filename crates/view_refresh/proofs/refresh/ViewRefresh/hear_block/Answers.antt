@@ -1,7 +1,6 @@
 use Rattle.std.proofs.Common.{sym, ap, ◌∙◌, subst}
 use Rattle.std.proofs.lemmas.Result.{IfOk-weaker}
 use Rattle.log_fetch.specs.declared.get.Came.{Came}
-use Rattle.log_fetch.specs.declared.get.Progress.{Progress}
 use Rattle.log_fetch.specs.declared.get.Progress.TheVariants as progress
 use Rattle.log_fetch.specs.Gets.{HearsTo}
 use Rattle.view_refresh.proofs.Hearing.{hears_comes, hears_waits, is_named}
