@@ -25,16 +25,21 @@ pub fn call(
     if writer.agent.view().is_none() {
         return None;
     }
-    let session = begin(alloc, &Single, table, &mut writer.agent, message)?;
-    drive(
+    let mut session = begin(alloc, &Single, table, &mut writer.agent, message)?;
+    let mut text = String::new(alloc);
+    match drive(
         alloc,
         &Single,
         table,
         &mut writer.agent,
         &mut writer.cache,
-        session,
+        &mut session,
         now,
-    )
+        &mut text,
+    ) {
+        Some(()) => Some(text),
+        None => None,
+    }
 }
 
 /// What a session asks and comes to that only publishes. None is want of memory, or that its agent is in no view.
@@ -42,14 +47,19 @@ pub fn publish(alloc: Global, table: &mut Table, writer: &mut Writer) -> Option<
     if writer.agent.view().is_none() {
         return None;
     }
-    let session = publishing(alloc, &Single, table, &mut writer.agent)?;
-    drive(
+    let mut session = publishing(alloc, &Single, table, &mut writer.agent)?;
+    let mut text = String::new(alloc);
+    match drive(
         alloc,
         &Single,
         table,
         &mut writer.agent,
         &mut writer.cache,
-        session,
+        &mut session,
         NEVER,
-    )
+        &mut text,
+    ) {
+        Some(()) => Some(text),
+        None => None,
+    }
 }

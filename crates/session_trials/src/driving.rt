@@ -11,9 +11,9 @@ use crate::table::Table;
 use crate::words::peers_of;
 use agent_turns::Turns;
 use block_cache::BlockCache;
-use dht_ids::Answer;
+use dht_ids::{Ask, Peer};
 use hss_keys::Hss;
-use ivy_base::{Memory, Moment};
+use ivy_base::Moment;
 use ivy_io::MemKeeper;
 use ivy_session::{Next, Served, Session};
 use log_fetch::{Refresh, Standing};
@@ -82,33 +82,23 @@ fn bare_standing<T: Turns<MemKeeper, Hss>>(
     Some(standing)
 }
 
-/// Goes on with a session to its end, and tells its course. None is want of memory.
+/// Goes on with a session to its end, and adds its course to the text. None is want of memory.
 pub fn drive<T: Turns<MemKeeper, Hss>>(
     alloc: Global,
     turns: &T,
     table: &mut Table,
     pass: &mut T::Pass,
     cache: &mut BlockCache,
-    mut session: Session<HssJudge>,
+    session: &mut Session<HssJudge>,
     now: Moment,
-) -> Option<String>
+    text: &mut String,
+) -> Option<()>
     requires moment { IsMoment now }
-    requires goes_on { GoesOn judges (T.view turns.now pass.old) session }
+    requires goes_on { GoesOn judges (T.view turns.now pass.old) session.old }
 {
-    let mut text = String::new(alloc);
     'steps: for _ in 0..MOST_STEPS {
-        if let Some(served) = step(
-            alloc,
-            turns,
-            table,
-            pass,
-            cache,
-            &mut session,
-            now,
-            &mut text,
-        )? {
-            show_end(alloc, &mut text, &session, &served)?;
-            return Some(text);
+        if let Some(served) = step(alloc, turns, table, pass, cache, session, now, text)? {
+            return show_end(text, session, &served);
         }
     }
     None
@@ -129,24 +119,21 @@ fn step<T: Turns<MemKeeper, Hss>>(
     requires goes_on { GoesOn judges (T.view turns.now pass.old) session.old }
     ensures { result ≡ Some None → GoesOn judges (T.view turns.now pass.new) session.new }
 {
-    match next(cache, session) {
-        Next::Ask(node, question) => {
-            let answer = table.answer(alloc, &node, &question);
-            show_ask(alloc, text, &node, &question, &answer)?;
-            hear(cache, session, answer);
-            return Some(None);
-        }
+    let shown = match next(cache, session) {
+        Next::Ask(node, question) => ask(alloc, table, cache, session, &node, &question, text),
         Next::Turn(refresh) => {
-            show_turn(text)?;
             turn(alloc, turns, pass, session, refresh, now);
-            return Some(None);
+            show_turn(text)
         }
         Next::Settle(acks) => {
-            show_settled(alloc, text, &acks)?;
             turns.settle(pass, &acks);
-            return Some(None);
+            show_settled(text, &acks)
         }
         Next::Done(served) => return Some(Some(served)),
+    };
+    match shown {
+        Some(()) => Some(None),
+        None => None,
     }
 }
 
@@ -158,12 +145,23 @@ fn next(cache: &mut BlockCache, session: &mut Session<HssJudge>) -> Next
     session.next(cache)
 }
 
-/// The session hears what was answered.
-fn hear(cache: &mut BlockCache, session: &mut Session<HssJudge>, answer: Result<Answer, Memory>)
+/// The node is asked, and the session hears what it answers. None is want of memory for what is told.
+fn ask(
+    alloc: Global,
+    table: &mut Table,
+    cache: &mut BlockCache,
+    session: &mut Session<HssJudge>,
+    node: &Peer,
+    question: &Ask,
+    text: &mut String,
+) -> Option<()>
     requires { session_awaited session.old ≢ None }
     ensures { (view : Option View) → MayHear judges view session.old → GoesOn judges view session.new }
 {
+    let answer = table.answer(alloc, node, question);
+    let shown = show_ask(text, node, question, &answer);
     session.heard(cache, answer);
+    shown
 }
 
 /// A turn on what the session is asked, of which it is told what came of it.

@@ -1,12 +1,16 @@
 //! What lines say and ask for.
 
 use crate::calling::{call, publish};
+use crate::fetching::{Fetcher, fetch};
 use crate::showing::show_pending;
 use crate::table::Table;
 use crate::trial::Trial;
-use crate::words::{bytes_of, key_of, keys_of, moment_of, numbers_of};
+use crate::words::{
+    bytes_of, key_of, keys_of, moment_of, numbers_of, owner_of, owners_of, vector_of,
+};
 use crate::writer::Writer;
-use ivy_base::{PubKey, name_of};
+use ivy_base::{PubKey, head_key, name_of};
+use log_fetch::Edge;
 use std::alloc::Global;
 
 /// The answer to a line: nothing where it only says something that is taken.
@@ -16,6 +20,7 @@ pub fn answer(alloc: Global, trial: &mut Trial, line: &str) -> Option<String> {
         ["call", words @ ..] => called(alloc, trial, words),
         ["publish", words @ ..] => published(alloc, trial, words),
         ["pending", words @ ..] => pending(alloc, trial, words),
+        ["fetch"] => fetch(alloc, &mut trial.table, &trial.fetcher),
         [what, words @ ..] => {
             take(alloc, trial, what, words)?;
             Some(String::new(alloc))
@@ -71,6 +76,25 @@ fn take(alloc: Global, trial: &mut Trial, what: &str, words: &[&str]) -> Option<
         "log" => open(alloc, trial, words),
         "enter" => enter(alloc, trial, words),
         "empty" => empty(alloc, trial, words),
+        _ => take_known(alloc, &mut trial.fetcher, what, words),
+    }
+}
+
+/// Takes what the line says of who fetches.
+fn take_known(alloc: Global, fetcher: &mut Fetcher, what: &str, words: &[&str]) -> Option<()> {
+    match what {
+        "hand" => hand(alloc, fetcher, words),
+        "view" => view(alloc, fetcher, words),
+        "own" => own(fetcher, words),
+        "floor" => {
+            fetcher.floor = vector_of(alloc, words)?;
+            Some(())
+        }
+        "held" => {
+            fetcher.held = vector_of(alloc, words)?;
+            Some(())
+        }
+        "edge" => edge(alloc, fetcher, words),
         _ => None,
     }
 }
@@ -137,4 +161,38 @@ fn empty(alloc: Global, trial: &mut Trial, words: &[&str]) -> Option<()> {
     };
     let place = trial.place_of(who.parse().ok()?)?;
     trial.writers.get_mut(place)?.empty_cache(alloc)
+}
+
+fn hand(alloc: Global, fetcher: &mut Fetcher, words: &[&str]) -> Option<()> {
+    let [bytes] = words else {
+        return None;
+    };
+    fetcher.hand.push(bytes_of(alloc, bytes)?).ok()
+}
+
+fn view(alloc: Global, fetcher: &mut Fetcher, words: &[&str]) -> Option<()> {
+    let mut lists = words.split(|word| *word == "former");
+    fetcher.members = owners_of(alloc, lists.next()?)?;
+    fetcher.former = owners_of(alloc, lists.next().unwrap_or(&[]))?;
+    Some(())
+}
+
+fn own(fetcher: &mut Fetcher, words: &[&str]) -> Option<()> {
+    let [own] = words else {
+        return None;
+    };
+    fetcher.own = owner_of(own)?;
+    Some(())
+}
+
+fn edge(alloc: Global, fetcher: &mut Fetcher, words: &[&str]) -> Option<()> {
+    let [owner, cited @ ..] = words else {
+        return None;
+    };
+    let owner = owner_of(owner)?;
+    fetcher.edge = Some(Edge {
+        log: head_key(&owner),
+        vector: vector_of(alloc, cited)?,
+    });
+    Some(())
 }

@@ -1,15 +1,27 @@
-//! A table of nodes, and who writes logs over it.
+//! A table of nodes, who writes logs over it, and who fetches from it.
 
+use crate::fetching::Fetcher;
 use crate::table::Table;
 use crate::writer::Writer;
 use ivy_base::PubKey;
 use std::alloc::Global;
 
-/// A table of nodes, and who writes logs over it, in the order in which they opened them.
-#[derive(Drop)]
+/// A table of nodes, who writes logs over it, in the order in which they opened them, and who fetches from it.
 pub struct Trial {
     pub table: Table,
     pub writers: Vec<Writer>,
+    pub fetcher: Fetcher,
+}
+
+/// One function, so that whatever drops a trial calls it and isn't proved over all of its parts once more.
+impl Drop for Trial {
+    fn drop(self) {
+        let Trial {
+            table: _,
+            writers: _,
+            fetcher: _,
+        } = self;
+    }
 }
 
 impl Trial {
@@ -26,6 +38,7 @@ impl Trial {
         Trial {
             table,
             writers: Vec::new(alloc),
+            fetcher: Fetcher::new(alloc),
         }
     }
 

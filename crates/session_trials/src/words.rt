@@ -5,9 +5,10 @@ ghost use Rattle.log_model.specs.Spelling.{IsMoment};
 
 use dht_ids::{Peer, Peers, node_id};
 use hex::FromHex;
-use ivy_base::{Bytes, Key, Memory, Moment};
+use ivy_base::{Bytes, Key, Memory, Moment, PubKey};
 use lms_core::{Height, Set, Width};
 use std::alloc::Global;
+use version_vectors::{Entry, Vector};
 
 /// A moment's nanoseconds are less.
 const SECOND: u32 = 1_000_000_000;
@@ -74,4 +75,44 @@ pub fn set_of(word: &str) -> Option<Set> {
         _ => return None,
     };
     Some(Set { w, h })
+}
+
+/// The public key that repeats the byte of a word of two hexadecimal digits.
+pub fn owner_of(word: &str) -> Option<PubKey> {
+    let byte = u8::from_str_radix(word, 16).ok()?;
+    Some(PubKey([byte; 60]))
+}
+
+/// The public keys of the words.
+pub fn owners_of(alloc: Global, words: &[&str]) -> Option<Vec<PubKey>> {
+    let mut owners = Vec::new(alloc);
+    for word in words {
+        owners.push(owner_of(word)?).ok()?;
+    }
+    Some(owners)
+}
+
+/// The entry of three words: a log's head key, a number from 1 and a name.
+fn entry_of(words: &[&str]) -> Option<Entry> {
+    let [log, seq, name] = words else {
+        return None;
+    };
+    Some(Entry {
+        log: key_of(log)?,
+        seq: seq.parse().ok()?,
+        name: key_of(name)?,
+    })
+}
+
+/// The vector of words, three for each entry.
+pub fn vector_of(alloc: Global, words: &[&str]) -> Option<Vector> {
+    let mut vector = Vector::empty(alloc);
+    for words in words.chunks(3) {
+        let entry = entry_of(words)?;
+        if entry.seq == 0 {
+            return None;
+        }
+        vector = vector.with(alloc, entry).ok()?;
+    }
+    Some(vector)
 }

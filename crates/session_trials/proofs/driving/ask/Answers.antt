@@ -1,6 +1,6 @@
 use Rattle.session_trials.specs.UnderWay.{judges}
 use Rattle.session_trials.proofs.UnderWay.{heard_under_way}
-use Rattle.session_trials.proofs.driving.hear.Goals as goal
+use Rattle.session_trials.proofs.driving.ask.Goals as goal
 
 pub returns : goal.returns
 returns c = λ view may. record {
