@@ -1,5 +1,8 @@
-//! Runs records' operations on trees, a step for each line of the standard input. An inode has a number up to 11, the
-//! root 0, and a moment is `SECONDS:NANOSECONDS`:
+//! Runs operations of records on trees, and what stands on trees, a step for each line of the standard input. A line `== FAMILY`
+//! begins a family anew, and the lines behind it are of that; at first it is `trees`. `no answer` stands for a line that is none of
+//! its family's, and for want of memory.
+//!
+//! Of `== trees`: an inode has a number up to 11, the root 0, and a moment is `SECONDS:NANOSECONDS`.
 //!
 //! - `new`: a tree of the root alone. `keep`: a copy of the tree is kept. `back`: the tree is as the kept one is
 //! - `MOMENT OPERATION`: does the operation, and tells which directories' entries it changed (`touched`), that it changed
@@ -19,36 +22,97 @@
 //!
 //! Each operation is done by `fs_tree`, by `dir_replay` alone and by `plain_tree`, and `they differ` says that these don't
 //! answer alike about all inodes afterwards; of bytes the first and the last 64 are compared. Empty lines and those that
-//! begin with `#` say what comes; `no answer` stands for a line that is none of these, and for want of memory.
+//! begin with `#` say what comes. The answers of the stored run follow from the rules of the operations; those to generated ones
+//! are of a model of the tree in another language.
 //!
-//! The answers of the stored run follow from the rules of the operations; those to generated ones are of a model of the
-//! tree in another language.
+//! Of `== maps`: maps and copies of them. Maps are numbered from 0 on, and map 0 is empty at first; a key is the 20 bytes of a
+//! number, and a value is a number.
+//!
+//! - `insert MAP KEY VALUE`, `remove MAP KEY`, `get MAP KEY`: the value that the key stood for, or `none`
+//! - `copy MAP`: the number of the copy
+//! - `list MAP`: how many entries there are, and each as `KEY=VALUE`
+//! - `from MAP KEY COUNT`: so many entries at most, of those from the key on
+//!
+//! The answers of the stored run are those of sorted dictionaries in another language.
+//!
+//! Of `== engine`: takes records into a replay engine over the empty tree as they come, and compares its tree with a replay from
+//! nothing.
+//!
+//! - `start`: a new engine
+//! - `append N`: so many records, each behind all others, by a call each
+//! - `row N`: so many records behind all others, by one call; 0 is an empty one
+//! - `read N`: so many empty calls
+//! - `absorb P ..`: by one call, a record for each of these places among those that are held, which ascend; none is an
+//!   empty call
+//! - `undo`: the last call that stands is taken back
+//!
+//! Each answer tells how many records were applied and how many are held, and then `agree` where these are in order and the
+//! tree shows of every inode what their replay from nothing shows, or else the first inode that differs: 0 is the root, and
+//! the others are counted as they were made. Taking a call back must also give the tree that was there before; where none can be
+//! taken back, `undo` has no answer. What a record does depends on those before it: files are made, named, renamed, written, cut
+//! and unnamed by turns. The counts of the stored run are those of a model in another language.
+//!
+//! Of `== snapshots`: makes snapshots of trees and loads them again. Inodes have the numbers of one log's records, from 2 on, and
+//! 0 is the root.
+//!
+//! - `new`: a tree of the root alone
+//! - `inode NUMBER reg|dir|lnk TARGET`, `link DIR NAME NUMBER`, `unlink DIR NAME`, `write NUMBER OFFSET TEXT`: does the operation
+//! - `fill NUMBER OFFSET COUNT VALUE`: writes so many bytes of that value, by operations of 8,192 bytes at most
+//! - `many DIR FIRST COUNT`: makes so many files, and names each by its number
+//! - `cover BLOCK`: from now on snapshots cover what that root block says, which is given by hexadecimal digits
+//! - `snapshot`: makes a snapshot, and tells how many blocks it has and its root's name
+//! - `load`: loads it block by block, and tells what that came to; of a basis the name of the root of a snapshot made anew
+//! - `lack`: loads it without each block in turn, and tells how often that came to what; of bases how many gave the same root
+//! - `spoil`: the same with the first, the middle and the last byte of each block changed in turn
+//! - `forge`: the same, and each such block has its new name, by which those name it that named it before
+//!
+//! A bare line is an answer to an operation. Empty lines and those that begin with `#` say what comes. The roots' names and the
+//! counts of the stored run are those of a program in another language, which spells and reads the blocks by the rules of their
+//! formats.
 #![tactic(auto)]
 
 mod alike;
+mod engine;
+mod families;
 mod generated;
 mod many;
+mod maps;
 mod operations;
+mod snapshots;
 mod telling;
 mod text;
 mod trees;
 mod trial;
 mod words;
 
-use std::io;
-use text::Text;
-use trial::Trial;
+ghost use Rattle.std.specs.Prelude.{◌≡◌, ◌<◌};
 
-fn main(rt: HostRuntime) -> io::Result<()> {
+use families::Trials;
+use ivy_base::Steps;
+use std::io;
+use std::marker::Brand;
+use std::sync::ledger::{Blank, Ledger};
+
+// Answers each line, with one counter of steps for all.
+fn run<L: Ledger>(rt: HostRuntime, blank: Blank) -> io::Result<()>
+    requires name { L.name ≡ blank.name }
+    requires parts { (L.parts ≡ blank.parts) × (0 < L.parts) }
+{
     let alloc = rt.alloc();
-    let Ok(mut trial) = Trial::new(alloc) else {
+    let mut steps = Steps::<L>::new(blank);
+    let Some(mut trials) = Trials::begun(alloc, "trees") else {
         return println!(rt; "no answer");
     };
     for line in rt.lines(alloc) {
         let line = line?;
-        let mut answer = Text::new(alloc);
-        trial.answer(&mut answer, alloc, line.as_str());
-        println!(rt; "{line}{}", answer.whole().unwrap_or(": no answer"))?;
+        match trials.answer(alloc, line.as_str(), &mut steps) {
+            Some(text) => println!(rt; "{text}")?,
+            None => println!(rt; "no answer")?,
+        }
     }
     Ok(())
+}
+
+fn main(rt: HostRuntime) -> io::Result<()> {
+    run::<Brand>(rt, Blank::new(1))
 }

@@ -1,4 +1,0 @@
-use Rattle.engine_trials.proofs.trial.Trial.+row_behind.Given as goal
-
-abbrev pub decreases-row_behind : goal.decreases-row_behind
-decreases-row_behind l = l.count

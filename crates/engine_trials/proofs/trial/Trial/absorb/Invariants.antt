@@ -1,6 +1,0 @@
-use Rattle.log_records.specs.Records.{records_of}
-use Rattle.record_sets.specs.Rows.{IsRow}
-use Rattle.engine_trials.proofs.trial.Trial.absorb.Given as goal
-
-abbrev pub invariant-places : goal.invariant-places
-invariant-places g l = IsRow (records_of l.row.items)
