@@ -26,6 +26,7 @@ use Rattle.session_model.specs.Courses.TakesTurn.{answers, begins_anew, gives_up
 use Rattle.session_model.specs.Refreshing.{Done, Note}
 use Rattle.session_model.specs.Replies.{Asks, said_of}
 use Rattle.session_model.specs.Sessions.{Session, in_publishing_order, publishing}
+use Rattle.session_laws.proofs.OneRefresh.{refresh_is_one}
 use Rattle.world_model.specs.Agents.{Agent, IsTurnIn, Kept, TakesTurn, hss, kept_bytes, own}
 use Rattle.world_model.specs.Keepers.{Keeper, asked_to_save, fails_next}
 use Rattle.world_model.specs.World.{World, Participant, named_bytes, participant}
@@ -45,7 +46,6 @@ use Rattle.world_laws.proofs.WholePublishing.{each_published}
 use Rattle.world_laws.proofs.AnsweredTurnsFit.{all_of, all_owned, lost_fits, more, posts, saved_fits, saved_knows, saving, still_fits, still_knows}
 use Rattle.world_laws.proofs.TurnsKept.{after_of}
 use Rattle.world_laws.proofs.TurnsKnown.{KnowsThen, same_own_log, taken, taken_known, turned_is, writes, written_verified}
-use Rattle.world_laws.proofs.TurnsRefresh.{end_is_one}
 use Rattle.world_laws.proofs.TurnsScene.{is_by, is_found, met_grows}
 use Rattle.world_laws.proofs.TurnsSets.{lost_set, read_set, saved_set}
 use Rattle.world_laws.proofs.TurnsSigning.{turned_to}
@@ -71,7 +71,7 @@ module _ (c : Scene) (r : ℕ) (p : Participant) (keeps : Keeps (c.world, c.stor
   none_asked : c.session.current ≡ []
   none_asked =
       let at : IsRefreshing r c.session = subst (IsAtStage c.world r c.session) done.0 hand.goes_on.stage in
-      let is_done : at.end ≡ Done = end_is_one c.session.standing (brought_in c.session.parts) at.notes notes at.given given at.end Done at.refreshed done.1 in
+      let is_done : at.end ≡ Done = (refresh_is_one c.session.standing (brought_in c.session.parts) at.notes notes at.given given at.end Done at.refreshed done.1).2 in
       subst (IsRefreshingOn r c.session) is_done at.goes_on
 
   -- ---- what is left, whatever became of the agent

@@ -28,6 +28,7 @@ use Rattle.session_model.specs.Sessions.TakesAll.{none as takes_none}
 use Rattle.session_laws.specs.Going.{ComesTo, IsOfWant}
 use Rattle.ask_laws.proofs.AskedGets.{get_entries, gets_are_one}
 use Rattle.ask_laws.proofs.AskedPlans.{Follows, Plan, asking, ended, entry, some_follows}
+use Rattle.session_laws.proofs.OneRefresh.{refresh_is_one}
 use Rattle.world_model.specs.Story.{Began, Story}
 use Rattle.world_model.specs.Steps.{Scene, Steps, StepsOn, ask_told}
 use Rattle.world_model.specs.Steps.Acts.{asks}
@@ -45,7 +46,6 @@ use Rattle.world_laws.proofs.FullPlans.{get_planned}
 use Rattle.world_laws.proofs.NodeFates.{PutsMet}
 use Rattle.world_laws.proofs.SessionLinesSteps.{step_leads}
 use Rattle.world_laws.proofs.TakingOn.{comes_with, taking_keeps}
-use Rattle.world_laws.proofs.TurnsRefresh.{end_is_one}
 
 -- ---- what is said
 
@@ -148,7 +148,7 @@ module _ (r : ℕ) (s : Session) (refreshing : s.stage ≡ Refreshing) (b : Bega
     wants current = (refreshing, notes, given, wanted)
 
     not_failed : (other : List Note) (also : Refresh) (miss : Miss) → Refreshes s.standing (brought_in parts) other also (FailsBy miss) → ⊥
-    not_failed other also miss failed = fails_or_needs miss want (end_is_one s.standing (brought_in parts) other notes also given (FailsBy miss) (Needs want) failed wanted)
+    not_failed other also miss failed = fails_or_needs miss want (refresh_is_one s.standing (brought_in parts) other notes also given (FailsBy miss) (Needs want) failed wanted).2
 
     -- with what came of it
     abbrev pub more_parts : Brought → List Heard → List Part
@@ -197,7 +197,7 @@ module _ (r : ℕ) (s : Session) (refreshing : s.stage ≡ Refreshing) (b : Bega
             on : ((miss : Miss) → FailsBy miss ≡ comes.end → ⊥) → Out here
             on not =
                 let step = got_step came gets (at (more_parts came trail) [])
-                (goes_on (λ other also miss e failed. not miss (end_is_one s.standing (brought_in (more_parts came trail)) other comes.notes also comes.given (FailsBy miss) comes.end failed comes.refreshes))) in
+                (goes_on (λ other also miss e failed. not miss (refresh_is_one s.standing (brought_in (more_parts came trail)) other comes.notes also comes.given (FailsBy miss) comes.end failed comes.refreshes).2)) in
                 after here (asked_scene (at (more_parts came trail) []) (keeping hss_judged r came cache)) step
                 (later came trail _ _ (of_gets gets) (stands_then here (asked_scene (at (more_parts came trail) []) (keeping hss_judged r came cache)) refl stands step))
 
@@ -266,7 +266,7 @@ module _ (r : ℕ) (s : Session) (refreshing : s.stage ≡ Refreshing) (b : Bega
     get_on w st before early stands p is_p current cache all later =
         let hand = (then_so w st before early stands p is_p parts current cache all).1 in
         let now = refreshes_now w st before early stands p is_p parts current cache all in
-        let begun : IsBegun IsAll current = subst (IsRefreshingOn r (at parts current)) (end_is_one s.standing (brought_in parts) now.notes notes now.given given now.end (Needs want) now.refreshed wanted) now.goes_on in
+        let begun : IsBegun IsAll current = subst (IsRefreshingOn r (at parts current)) (refresh_is_one s.standing (brought_in parts) now.notes notes now.given given now.end (Needs want) now.refreshed wanted).2 now.goes_on in
         let peers : List Peer = map peer_of w.nodes in
         let planned = get_planned r s.entries (Contains peers) stands.hand.goes_on.entries want in
         let named : AllByRecursion (λ (h : Heard). Names (Contains peers) h.got) current = all_weaker _ _ current (λ (h : Heard) i. names_made (with_participant w (record p { cache = cache })) peers refl h.got i) hand.goes_on.heard in

@@ -14,6 +14,7 @@ use Rattle.session_model.specs.Sessions.{Cache, Refreshing, Session, Takes, Take
 use Rattle.session_model.specs.Sessions.Takes.{posted, cached}
 use Rattle.session_model.specs.Sessions.TakesAll.{none as takes_none, more as takes_more}
 use Rattle.session_laws.specs.Going.{IsOfWant}
+use Rattle.session_laws.proofs.OneRefresh.{refresh_is_one}
 use Rattle.world_model.specs.Story.{Began, Story}
 use Rattle.world_model.specs.Steps.{Scene}
 use Rattle.world_model.specs.Steps.StepsOn.{none as steps_none}
@@ -25,7 +26,6 @@ use Rattle.world_laws.specs.Laws.RefreshIsOver.{is_done}
 use Rattle.world_laws.proofs.FullGets.{Out, Stands, at, get_on, refreshes_now, refreshing_has_memory, with_parts}
 use Rattle.world_laws.proofs.FullRefreshes.{refreshes_end}
 use Rattle.world_laws.proofs.TakingOn.{brought_then}
-use Rattle.world_laws.proofs.TurnsRefresh.{end_is_one}
 
 -- ---- what is at hand
 
@@ -71,7 +71,7 @@ module _ (r : ℕ) (s : Session) (refreshing : s.stage ≡ Refreshing) (b : Bega
     where
       -- it is what the refresh wants
       one_end : (stand : RefreshEnd) → Refreshes s.standing (brought_in parts) notes given stand → (w : WasThere r (now parts []) cache) → stand ≡ Needs (Content w.key)
-      one_end stand refreshed w = end_is_one s.standing (brought_in parts) notes w.wants.1 given w.wants.2 stand (Needs (Content w.key)) refreshed w.wants.3
+      one_end stand refreshed w = (refresh_is_one s.standing (brought_in parts) notes w.wants.1 given w.wants.2 stand (Needs (Content w.key)) refreshed w.wants.3).2
 
       by_key : (key : Key) → Refreshes s.standing (brought_in parts) notes given (Needs (Content key)) → (in_posts : Option (List ℕ)) → pending_block key s.standing.pending ≡ in_posts → (in_cache : Option (List ℕ)) → block_of key cache ≡ in_cache
           → AtHand (Needs (Content key)) parts [] cache
@@ -114,7 +114,7 @@ module _ (r : ℕ) (s : Session) (refreshing : s.stage ≡ Refreshing) (b : Bega
     }
     drive_on notes given (FailsBy miss) refreshes (nothing none) taken got =
         let on = refreshes_now r s refreshing b w st before early stands p is_p parts current cache (fits (now parts current) cache (takes_none none)) in
-        absurd (subst (IsRefreshingOn r (now parts current)) (end_is_one s.standing (brought_in parts) on.notes notes on.given given on.end (FailsBy miss) on.refreshed refreshes) on.goes_on)
+        absurd (subst (IsRefreshingOn r (now parts current)) (refresh_is_one s.standing (brought_in parts) on.notes notes on.given given on.end (FailsBy miss) on.refreshed refreshes).2 on.goes_on)
     drive_on notes given (Needs want) refreshes (nothing none) taken got =
         get_on r s refreshing b want parts notes given refreshes w st before early stands p is_p current cache (fits (now parts current) cache (takes_none none)) (λ came trail v su of stands_on. got want came trail v su refl of stands_on)
 

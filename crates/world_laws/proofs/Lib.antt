@@ -55,7 +55,7 @@ pub mod OpenSessions
 pub mod SessionLines
 pub mod HeadlineOfPublishing
 pub mod HeadlineOfLines
-pub mod TurnsRefresh
+pub mod OneAsked
 pub mod TurnsFloors
 pub mod TurnsTaken
 mod TurnsBlocks

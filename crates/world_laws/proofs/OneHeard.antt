@@ -29,13 +29,14 @@ use Rattle.session_model.specs.Sessions.Gets.{heads as got_heads, content as got
 use Rattle.session_model.specs.Sessions.Hears.{gets_on, got, puts_on, puts}
 use Rattle.session_model.specs.Sessions.Takes.{posted, cached}
 use Rattle.session_model.specs.Sessions.TakesAll.{none as takes_none, more as takes_more}
+use Rattle.session_laws.proofs.OneRefresh.{refresh_is_one}
 use Rattle.world_model.specs.Agents.{Agent}
 use Rattle.world_model.specs.Fates.{FateOf, counted}
 use Rattle.world_model.specs.Fates.FateOf.{lost, stopped, answers}
 use Rattle.world_model.specs.Nodes.{Node, answered}
 use Rattle.world_model.specs.World.{World, with_node}
+use Rattle.world_laws.proofs.OneAsked.{one_asked, one_xid}
 use Rattle.world_laws.proofs.OneCourse.{one_get_of_block, one_get_of_head, one_put_of_post}
-use Rattle.world_laws.proofs.TurnsRefresh.{end_is_one, notes_are_one, one_asked, one_xid}
 
 -- ---- fates
 
@@ -92,7 +93,7 @@ post_acks a b p q ps qs f g e = cc e
 
 module _ (judged : Key → List ℕ → Option Judged) (r : ℕ) where
   pub one_want : (s : Session) (a b : Want) → Wants judged r s a → Wants judged r s b → a ≡ b
-  one_want s a b f g = want_of a b (end_is_one s.standing (brought_in s.parts) f.1 g.1 f.2 g.2 (Needs a) (Needs b) f.3 g.3)
+  one_want s a b f g = want_of a b (refresh_is_one s.standing (brought_in s.parts) f.1 g.1 f.2 g.2 (Needs a) (Needs b) f.3 g.3).2
 
   -- ---- what is at hand
 
@@ -211,8 +212,8 @@ miss_of a b e = cc e
 
 pub one_failure : (s t u : Session) → Fails s t → Fails s u → t ≡ u
 one_failure s _ _ (fails notes given miss xid asked at refreshed asks_it) (fails others also reason other_xid other is again asks_too) =
-    let missed : miss ≡ reason = miss_of miss reason (end_is_one s.standing (brought_in s.parts) notes others given also (FailsBy miss) (FailsBy reason) refreshed again) in
-    let noted : notes ≡ others = notes_are_one s.standing (brought_in s.parts) notes others given also (FailsBy miss) (FailsBy reason) refreshed again in
+    let missed : miss ≡ reason = miss_of miss reason (refresh_is_one s.standing (brought_in s.parts) notes others given also (FailsBy miss) (FailsBy reason) refreshed again).2 in
+    let noted : notes ≡ others = (refresh_is_one s.standing (brought_in s.parts) notes others given also (FailsBy miss) (FailsBy reason) refreshed again).0 in
     let number : xid ≡ other_xid = one_xid s.standing.view s.message xid other_xid asked other asks_it asks_too in
     let same : asked ≡ other = one_asked s.standing.view s.message xid other_xid asked other asks_it asks_too in
     (λ i. ended s (said_of (number i) (missed_reply (same i) (missed i))) (noted i) (Some (missed i)))

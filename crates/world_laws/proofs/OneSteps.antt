@@ -28,6 +28,7 @@ use Rattle.session_model.specs.Sessions.Hears.{gets_on, got, puts_on, puts}
 use Rattle.session_model.specs.Sessions.Takes.{posted, cached}
 use Rattle.session_model.specs.Sessions.TakesAll.{none as takes_none, more as takes_more}
 use Rattle.session_model.specs.Sessions.TakesSome.{none as some_none, more as some_more}
+use Rattle.session_laws.proofs.OneRefresh.{refresh_is_one}
 use Rattle.world_model.specs.Agents.{Agent, IsTurnIn, Kept, TakesTurn, hss, own}
 use Rattle.world_model.specs.Fates.{FateOf}
 use Rattle.world_model.specs.Fates.FateOf.{lost, stopped, answers as node_answers}
@@ -53,7 +54,6 @@ use Rattle.world_laws.proofs.SecondTurns.{one_view}
 use Rattle.world_laws.proofs.SessionLinesSteps.{step_leads}
 use Rattle.world_laws.proofs.Taking.{HasTaken, takes_some_so}
 use Rattle.world_laws.proofs.TakingOn.{taking_keeps}
-use Rattle.world_laws.proofs.TurnsRefresh.{end_is_one}
 use Rattle.world_laws.proofs.TurnsScene.{met_grows}
 use Rattle.world_laws.proofs.WholePublishing.{step_same}
 
@@ -73,7 +73,7 @@ over_or_refreshing s a over at = cc (sym over ∙ at)
 
 module _ (r : ℕ) (s : Session) where
   asks_or_turns : {node : Peer} {question : Ask} → AsksIt hss_judged r s node question → (notes : List Note) (given : Refresh) → HasRefreshed s notes given → ⊥
-  asks_or_turns (of_get want wants next) notes given done = needs_or_done want (end_is_one s.standing (brought_in s.parts) wants.1 notes wants.2 given (Needs want) Done wants.3 done.1)
+  asks_or_turns (of_get want wants next) notes given done = needs_or_done want (refresh_is_one s.standing (brought_in s.parts) wants.1 notes wants.2 given (Needs want) Done wants.3 done.1).2
   asks_or_turns (of_put said p posts acks at next) notes given done = not_putting s said (p ∷ posts) acks done.0 at
 
   asks_or_settles : {node : Peer} {question : Ask} → AsksIt hss_judged r s node question → (said : Option Said) (acks : List Ack) → s.stage ≡ Publishing said [] acks → ⊥
@@ -114,6 +114,12 @@ module _ (r : ℕ) (p : Participant) (c : Scene) (ready : c.session.stage ≡ Re
   abbrev IsIts : View → Turned → Type 0
   IsIts view turned = IsTurnIn (named_bytes c.world) c.world.now p.agent view (fails_next p.keeper) c.session c.began.knew (known_of c.story p.name) turned
 
+  turned_or_refused : (view look : View) (reply : Reply) (applied : ℕ) (stop : TurnEnd) (after then_so : Agent) (saving keep : Option Kept) (t u : Session) → view ≡ c.session.standing.view → look ≡ c.session.standing.view → IsRefusal stop
+      → Takes view (Answered reply applied) after saving t → Takes look stop then_so keep u → ⊥
+  turned_or_refused view look reply applied stop after then_so saving keep t u one other refusal takes taking =
+      not_both_ways c p reply applied stop after then_so saving keep t u refusal
+      (subst (λ (v : View). Takes v (Answered reply applied) after saving t) one takes) (subst (λ (v : View). Takes v stop then_so keep u) other taking)
+
   module _ (is : IsReady r p c) where
     of_view : (view : View) → p.agent.view ≡ Some view → view ≡ c.session.standing.view
     of_view view in_view = one_view view c.session.standing.view (sym in_view ∙ its_view c r is.hand p is.is_p)
@@ -123,16 +129,10 @@ module _ (r : ℕ) (p : Participant) (c : Scene) (ready : c.session.stage ≡ Re
         → scene_after c p view after saving applied turned t ≡ scene_after c p look then_so keep more then_it u
     turns_alike view look reply also applied more after then_so saving keep t u turned then_it one other takes taking replies answering its too =
         ap (λ (v : View). scene_after c p v after saving applied turned t) one
-        ∙ turns_one c r p is.keeps is.hand is.is_p is.apart reply also applied more after then_so saving keep t u turned then_it
+        ∙ turns_one c p r is.keeps is.hand is.is_p is.apart reply also applied more after then_so saving keep t u turned then_it
         (subst (λ (v : View). Takes v (Answered reply applied) after saving t) one takes) (subst (λ (v : View). Takes v (Answered also more) then_so keep u) other taking) replies answering
         (subst (λ (v : View). IsIts v turned) one its) (subst (λ (v : View). IsIts v then_it) other too)
         ∙ sym (ap (λ (v : View). scene_after c p v then_so keep more then_it u) other)
-
-    turned_or_refused : (view look : View) (reply : Reply) (applied : ℕ) (stop : TurnEnd) (after then_so : Agent) (saving keep : Option Kept) (t u : Session) → view ≡ c.session.standing.view → look ≡ c.session.standing.view → IsRefusal stop
-        → Takes view (Answered reply applied) after saving t → Takes look stop then_so keep u → ⊥
-    turned_or_refused view look reply applied stop after then_so saving keep t u one other refusal takes taking =
-        not_both_ways c r p is.keeps is.hand is.is_p is.apart reply applied stop after then_so saving keep t u refusal
-        (subst (λ (v : View). Takes v (Answered reply applied) after saving t) one takes) (subst (λ (v : View). Takes v stop then_so keep u) other taking)
 
   turn_ready : {view : View} {end : TurnEnd} {after : Agent} {saving : Option Kept} {t : Session} → Takes view end after saving t → IsReady r p c
   turn_ready takes = ready (had_refreshed takes).done.0
@@ -164,15 +164,15 @@ module _ (r : ℕ) (p : Participant) (c : Scene) (ready : c.session.stage ≡ Re
       turns_alike is view look reply also applied more after then_so saving keep t u turned then_it (of_view is view in_view) (of_view is look within) takes taking replies answering (is_turn is.apart) (too is.apart)
   acts_one (turns view reply applied after saving t turned in_view takes replies is_turn) (is_refused look stop then_so keep u within refusal taking) m n =
       let is = turn_ready takes in
-      absurd (turned_or_refused is view look reply applied stop after then_so saving keep t u (of_view is view in_view) (of_view is look within) refusal takes taking)
+      absurd (turned_or_refused view look reply applied stop after then_so saving keep t u (of_view is view in_view) (of_view is look within) refusal takes taking)
   acts_one (turns view reply applied after saving t turned in_view takes replies is_turn) (settles then_so u is) m n = absurd (turns_no_settling takes is)
   acts_one (is_refused view end after saving t in_view refusal takes) (asks node question answer next heard u cache fate hears goes) m n = absurd (asks_no_turn hears takes)
   acts_one (is_refused view end after saving t in_view refusal takes) (turns look reply applied then_so keep u turned within taking replies is_turn) m n =
       let is = turn_ready takes in
-      absurd (turned_or_refused is look view reply applied end then_so after keep saving u t (of_view is look within) (of_view is view in_view) refusal taking takes)
+      absurd (turned_or_refused look view reply applied end then_so after keep saving u t (of_view is look within) (of_view is view in_view) refusal taking takes)
   acts_one (is_refused view end after saving t in_view refusal takes) (is_refused look stop then_so keep u within denial taking) m n =
       let is = turn_ready takes in
-      one_refusal c r p is.keeps is.hand is.is_p is.apart end stop after then_so saving keep t u refusal denial
+      one_refusal c p end stop after then_so saving keep t u refusal denial
       (subst (λ (v : View). Takes v end after saving t) (of_view is view in_view) takes) (subst (λ (v : View). Takes v stop then_so keep u) (of_view is look within) taking)
   acts_one (is_refused view end after saving t in_view refusal takes) (settles then_so u is) m n = absurd (turns_no_settling takes is)
   acts_one (settles after t is) (asks node question answer next heard u cache fate hears goes) m n = absurd (asks_no_settling hears is)

@@ -36,9 +36,9 @@ use Rattle.world_model.specs.Story.{known_of}
 use Rattle.world_model.specs.Steps.{Scene, after_turn, turn_told, world_after}
 use Rattle.world_laws.specs.Keeps.{IsInHand, Keeps}
 use Rattle.world_laws.proofs.Bringing.{in_a_view, its_view}
+use Rattle.world_laws.proofs.OneAsked.{one_asked, one_xid}
 use Rattle.world_laws.proofs.TurnsFloors.{own_number}
 use Rattle.world_laws.proofs.TurnsKnown.{are_candidates, taken_known, turned_is, writes}
-use Rattle.world_laws.proofs.TurnsRefresh.{one_asked, one_xid}
 use Rattle.world_laws.proofs.TurnsTaken.{one_candidates, one_taken}
 
 -- ---- a basis and a set tell what is held
@@ -53,15 +53,15 @@ module _ (P Q : Record → Type 0) (never : (r : Record) → P r → Q r → ⊥
   one_part (x ∷ a) b [] (y ∷ d) same pa qb pc qd = absurd (never x pa.0 (subst Q (sym (cons_head x (a ++ b) y d same)) qd.0))
   one_part (x ∷ a) b (y ∷ c) d same pa qb pc qd = one_part a b c d (cons_tail x (a ++ b) y (c ++ d) same) pa.1 qb pc.1 qd
 
-module _ (view : View) (well : IsView view) (basis : Basis) where
+module _ (basis : Basis) where
   abbrev IsBelow : Record → Type 0
   IsBelow r = r.seq ≤ seq_of basis.front (head_key_of r.owner)
 
   not_both : (r : Record) → IsBelow r → IsAboveTide basis r → ⊥
   not_both r low high = let later = high.later in omega (arith, low, later)
 
-  all_below : (part : List Record) → IsClosed view part → basis.front ≡ front part → AllByRecursion IsBelow part
-  all_below part closed is = each_from IsBelow part (λ r among.
+  all_below : (view : View) → IsView view → (part : List Record) → IsClosed view part → basis.front ≡ front part → AllByRecursion IsBelow part
+  all_below view well part closed is = each_from IsBelow part (λ r among.
       let number = own_number view well r.owner (each (λ (q : Record). Contains view.members q.owner) part r closed.members among) r (good_of view part r closed among) in
       let far = front_dominates part r among (head_key_of r.owner) in
       let same : seq_of basis.front (head_key_of r.owner) ≡ seq_of (front part) (head_key_of r.owner) = ap (λ (v : Vector). seq_of v (head_key_of r.owner)) is in
@@ -69,9 +69,9 @@ module _ (view : View) (well : IsView view) (basis : Basis) where
 
 pub one_holding : (view : View) → IsView view → (set : List Record) (h g : Holding) → h.basis ≡ g.basis → HoldsAll view set h → HoldsAll view set g → h ≡ g
 one_holding view well set h g same holds held =
-    let rest : h.held ≡ g.held = one_part (IsBelow view well h.basis) (IsAboveTide h.basis) (not_both view well h.basis) holds.below h.held held.below g.held (sym holds.whole ∙ held.whole)
-    (all_below view well h.basis holds.below holds.stands.closed holds.stands.front) holds.above
-    (all_below view well h.basis held.below held.stands.closed (ap (λ (b : Basis). b.front) same ∙ held.stands.front)) (subst (λ (b : Basis). AllByRecursion (IsAboveTide b) g.held) (sym same) held.above) in
+    let rest : h.held ≡ g.held = one_part (IsBelow h.basis) (IsAboveTide h.basis) (not_both h.basis) holds.below h.held held.below g.held (sym holds.whole ∙ held.whole)
+    (all_below h.basis view well holds.below holds.stands.closed holds.stands.front) holds.above
+    (all_below h.basis view well held.below held.stands.closed (ap (λ (b : Basis). b.front) same ∙ held.stands.front)) (subst (λ (b : Basis). AllByRecursion (IsAboveTide b) g.held) (sym same) held.above) in
     λ i. record { basis = same i; held = rest i }
 
 -- ---- what becomes of an agent is told by what it takes and writes
@@ -140,89 +140,88 @@ scene_after c p view after saving applied turned t =
 abbrev pub scene_refused : Scene → Participant → Agent → Option Kept → Session → Scene
 scene_refused c p after saving t = record c { world = world_after c.world (after_turn p after saving); session = t; began = record c.began { knew = known_of c.story p.name } }
 
-module _ (c : Scene) (r : ℕ) (p : Participant) (keeps : Keeps (c.world, c.story)) (hand : IsInHand c r) (is_p : participant c.world c.session.by ≡ Some p) (apart : NamesTellApart (named_bytes c.world)) where
+one_given : (s : Session) (notes others : List Note) (given also : Refresh) → HasRefreshed s notes given → HasRefreshed s others also → (notes ≡ others) × (given ≡ also)
+one_given s notes others given also done again = let one = refresh_is_one s.standing (brought_in s.parts) notes others given also Done Done done.1 again.1 in (one.0, one.1)
+
+-- what two turns that were answered have in common
+record SameAnswered (after then_so : Agent) (saving keep : Option Kept) (applied more : ℕ) (turned then_it : Turned) : Type 0 where
+  agents : after ≡ then_so
+  saved : saving ≡ keep
+  work : applied ≡ more
+  turns : turned ≡ then_it
+
+module _ (c : Scene) (p : Participant) where
   abbrev view : View
   view = c.session.standing.view
 
   abbrev IsIts : Turned → Type 0
   IsIts turned = IsTurnIn (named_bytes c.world) c.world.now p.agent c.session.standing.view (fails_next p.keeper) c.session c.began.knew (known_of c.story p.name) turned
 
-  one_given : (notes others : List Note) (given also : Refresh) → HasRefreshed c.session notes given → HasRefreshed c.session others also → (notes ≡ others) × (given ≡ also)
-  one_given notes others given also done again =
-      let one = refresh_is_one c.session.standing (brought_in c.session.parts) notes others given also Done Done done.1 again.1 in
-      (one.0, one.1)
+  module _ (r : ℕ) (keeps : Keeps (c.world, c.story)) (hand : IsInHand c r) (is_p : participant c.world c.session.by ≡ Some p) (apart : NamesTellApart (named_bytes c.world)) where
+    module _ (notes : List Note) (given : Refresh) (xid : ℕ) (asked : Asked) (done : HasRefreshed c.session notes given) (asks : Asks c.session.standing.view c.session.message xid asked)
+        (h g : Holding) (written wrote : List Record) (reply also : Reply)
+        (defined : IsByDefinition hss given p.agent c.session.standing.view (fails_next p.keeper) asked c.world.now h written reply)
+        (definition : IsByDefinition hss given p.agent c.session.standing.view (fails_next p.keeper) asked c.world.now g wrote also)
+        (turned then_it : Turned) (its : IsIts turned) (too : IsIts then_it) where
+      same_taken : its.taken ≡ too.taken
+      same_taken = one_taken view (known_of c.story p.name) too.is_turn.candidates its.taken too.taken
+          (subst (λ (l : List Candidate). IsClosedPart view (IsAtHand (known_of c.story p.name) l) its.taken)
+          (one_candidates (heads_at (brought_in c.session.parts)) (named_bytes c.world) view c.session.standing c.began.knew given.started apart its.is_turn.candidates too.is_turn.candidates
+          (are_candidates c r p keeps hand is_p notes given xid asked reply done asks h written defined turned apart its)
+          (are_candidates c r p keeps hand is_p notes given xid asked also done asks g wrote definition then_it apart too)) its.is_turn.largest) too.is_turn.largest
 
-  module _ (notes : List Note) (given : Refresh) (xid : ℕ) (asked : Asked) (done : HasRefreshed c.session notes given) (asks : Asks c.session.standing.view c.session.message xid asked)
-      (h g : Holding) (written wrote : List Record) (reply also : Reply)
-      (defined : IsByDefinition hss given p.agent c.session.standing.view (fails_next p.keeper) asked c.world.now h written reply)
-      (definition : IsByDefinition hss given p.agent c.session.standing.view (fails_next p.keeper) asked c.world.now g wrote also)
-      (turned then_it : Turned) (its : IsIts turned) (too : IsIts then_it) (basis : h.basis ≡ g.basis) where
-    same_taken : its.taken ≡ too.taken
-    same_taken = one_taken view (known_of c.story p.name) too.is_turn.candidates its.taken too.taken
-        (subst (λ (l : List Candidate). IsClosedPart view (IsAtHand (known_of c.story p.name) l) its.taken)
-        (one_candidates (heads_at (brought_in c.session.parts)) (named_bytes c.world) view c.session.standing c.began.knew given.started apart its.is_turn.candidates too.is_turn.candidates
-        (are_candidates c r p keeps hand is_p notes given xid asked reply done asks h written defined turned apart its)
-        (are_candidates c r p keeps hand is_p notes given xid asked also done asks g wrote definition then_it apart too)) its.is_turn.largest) too.is_turn.largest
+      same_turned : turned ≡ then_it
+      same_turned = turned_is c r p keeps hand is_p notes given xid asked reply done asks h written defined turned apart its
+          ∙ ap (λ (s : List Record). turn_on (inputs p.agent view (fails_next p.keeper)) s asked c.world.now) same_taken
+          ∙ sym (turned_is c r p keeps hand is_p notes given xid asked also done asks g wrote definition then_it apart too)
 
-    same_turned : turned ≡ then_it
-    same_turned = turned_is c r p keeps hand is_p notes given xid asked reply done asks h written defined turned apart its
-        ∙ ap (λ (s : List Record). turn_on (inputs p.agent view (fails_next p.keeper)) s asked c.world.now) same_taken
-        ∙ sym (turned_is c r p keeps hand is_p notes given xid asked also done asks g wrote definition then_it apart too)
+      same_written : written ≡ wrote
+      same_written = append_cancel_left its.taken written wrote
+          (writes c r p keeps hand is_p notes given xid asked reply done asks h written defined turned apart its
+          ∙ ap (λ (s : List Record). (turn_on (inputs_before hss p.agent view) s asked c.world.now).set) same_taken
+          ∙ sym (writes c r p keeps hand is_p notes given xid asked also done asks g wrote definition then_it apart too)
+          ∙ ap (λ (s : List Record). s ++ wrote) (sym same_taken))
 
-    same_written : written ≡ wrote
-    same_written = append_cancel_left its.taken written wrote
-        (writes c r p keeps hand is_p notes given xid asked reply done asks h written defined turned apart its
-        ∙ ap (λ (s : List Record). (turn_on (inputs_before hss p.agent view) s asked c.world.now).set) same_taken
-        ∙ sym (writes c r p keeps hand is_p notes given xid asked also done asks g wrote definition then_it apart too)
-        ∙ ap (λ (s : List Record). s ++ wrote) (sym same_taken))
+      same_held : h.basis ≡ g.basis → h ≡ g
+      same_held basis = one_holding view (in_a_view c keeps apart (hand.sound apart) p is_p (its_view c r hand p is_p)) too.taken h g basis
+          (subst (λ (s : List Record). HoldsAll view s h) same_taken (taken_known c r p keeps hand is_p notes given xid asked reply done asks h written defined turned apart its).holds)
+          (taken_known c r p keeps hand is_p notes given xid asked also done asks g wrote definition then_it apart too).holds
 
-    same_held : h ≡ g
-    same_held = one_holding view (in_a_view c keeps apart (hand.sound apart) p is_p (its_view c r hand p is_p)) too.taken h g basis
-        (subst (λ (s : List Record). HoldsAll view s h) same_taken (taken_known c r p keeps hand is_p notes given xid asked reply done asks h written defined turned apart its).holds)
-        (taken_known c r p keeps hand is_p notes given xid asked also done asks g wrote definition then_it apart too).holds
+    one_answer : (notes : List Note) (given : Refresh) (xid : ℕ) (asked : Asked) → HasRefreshed c.session notes given → Asks c.session.standing.view c.session.message xid asked
+        → (reply also : Reply) (applied more : ℕ) (after then_so : Agent) (saving keep : Option Kept) (turned then_it : Turned) → IsIts turned → IsIts then_it
+        → Turns hss given p.agent view (fails_next p.keeper) asked c.world.now (Answered reply applied) after saving
+        → Turns hss given p.agent view (fails_next p.keeper) asked c.world.now (Answered also more) then_so keep → SameAnswered after then_so saving keep applied more turned then_it
+    one_answer notes given xid asked done asks _ _ _ _ _ _ _ _ turned then_it its too (turn_answers h written reply after saving near over basis_is may becomes defined)
+        (turn_answers g wrote also then_so keep close above base might comes definition) =
+        let basis : h.basis ≡ g.basis = basis_is ∙ sym base in
+        let held : h ≡ g = same_held notes given xid asked done asks h g written wrote reply also defined definition turned then_it its too basis in
+        let news : written ≡ wrote = same_written notes given xid asked done asks h g written wrote reply also defined definition turned then_it its too in
+        let both = one_becoming view p.agent g (fails_next p.keeper) written wrote after then_so saving keep news (subst (λ (x : Holding). Becomes hss view p.agent x (fails_next p.keeper) written after saving) held becomes) comes in
+        record {
+          agents = both.0;
+          saved = both.1;
+          work = λ i. applied_between (going_on p.agent given.basis).held (held i).held + length (news i);
+          turns = same_turned notes given xid asked done asks h g written wrote reply also defined definition turned then_it its too;
+        }
 
-  -- what two turns that were answered have in common
-  record SameAnswered (after then_so : Agent) (saving keep : Option Kept) (applied more : ℕ) (turned then_it : Turned) : Type 0 where
-    agents : after ≡ then_so
-    saved : saving ≡ keep
-    work : applied ≡ more
-    turns : turned ≡ then_it
-
-  one_answer : (notes : List Note) (given : Refresh) (xid : ℕ) (asked : Asked) → HasRefreshed c.session notes given → Asks c.session.standing.view c.session.message xid asked
-      → (reply also : Reply) (applied more : ℕ) (after then_so : Agent) (saving keep : Option Kept) (turned then_it : Turned) → IsIts turned → IsIts then_it
-      → Turns hss given p.agent view (fails_next p.keeper) asked c.world.now (Answered reply applied) after saving
-      → Turns hss given p.agent view (fails_next p.keeper) asked c.world.now (Answered also more) then_so keep → SameAnswered after then_so saving keep applied more turned then_it
-  one_answer notes given xid asked done asks _ _ _ _ _ _ _ _ turned then_it its too (turn_answers h written reply after saving near over basis_is may becomes defined)
-      (turn_answers g wrote also then_so keep close above base might comes definition) =
-      let basis : h.basis ≡ g.basis = basis_is ∙ sym base in
-      let held : h ≡ g = same_held notes given xid asked done asks h g written wrote reply also defined definition turned then_it its too basis in
-      let news : written ≡ wrote = same_written notes given xid asked done asks h g written wrote reply also defined definition turned then_it its too basis in
-      let both = one_becoming view p.agent g (fails_next p.keeper) written wrote after then_so saving keep news (subst (λ (x : Holding). Becomes hss view p.agent x (fails_next p.keeper) written after saving) held becomes) comes in
-      record {
-        agents = both.0;
-        saved = both.1;
-        work = λ i. applied_between (going_on p.agent given.basis).held (held i).held + length (news i);
-        turns = same_turned notes given xid asked done asks h g written wrote reply also defined definition turned then_it its too basis;
-      }
-
-  pub turns_one : (reply also : Reply) (applied more : ℕ) (after then_so : Agent) (saving keep : Option Kept) (t u : Session) (turned then_it : Turned)
-      → TakesTurn c.world.now p.agent view (fails_next p.keeper) c.session (Answered reply applied) after saving t → TakesTurn c.world.now p.agent view (fails_next p.keeper) c.session (Answered also more) then_so keep u
-      → turned.reply ≡ reply → then_it.reply ≡ also → IsIts turned → IsIts then_it
-      → scene_after c p view after saving applied turned t ≡ scene_after c p view then_so keep more then_it u
-  turns_one _ _ _ _ _ _ _ _ _ _ turned then_it (answers notes given xid asked reply applied after saving done asks turn) (answers others brought number ask also more then_so keep again asking turning) replies answering its too =
-      let one = one_given notes others given brought done again in
-      let same_ask : asked ≡ ask = one_asked view c.session.message xid number asked ask asks asking in
-      let same_number : xid ≡ number = one_xid view c.session.message xid number asked ask asks asking in
-      let second : Turns hss given p.agent view (fails_next p.keeper) asked c.world.now (Answered also more) then_so keep =
-      subst (λ (g : Refresh). Turns hss g p.agent view (fails_next p.keeper) asked c.world.now (Answered also more) then_so keep) (sym one.1)
-      (subst (λ (a : Asked). Turns hss brought p.agent view (fails_next p.keeper) a c.world.now (Answered also more) then_so keep) (sym same_ask) turning) in
-      let same = one_answer notes given xid asked done asks reply also applied more after then_so saving keep turned then_it its too turn second in
-      let say : reply ≡ also = sym replies ∙ ap (λ (x : Turned). x.reply) same.turns ∙ answering in
-      λ i. scene_after c p view (same.agents i) (same.saved i) (same.work i) (same.turns i) (answered c.session (said_of (same_number i) (say i)) (one.0 i) (same.agents i).pending)
-  turns_one _ _ _ _ _ _ _ _ _ _ turned then_it (answers notes given xid asked reply applied after saving done asks turn) (begins_anew others brought number ask end then_so keep again asking turning refused few) replies answering its too = absurd refused
-  turns_one _ _ _ _ _ _ _ _ _ _ turned then_it (answers notes given xid asked reply applied after saving done asks turn) (gives_up others brought number ask end then_so keep again asking turning refused many) replies answering its too = absurd refused
-  turns_one _ _ _ _ _ _ _ _ _ _ turned then_it (begins_anew notes given xid asked end after saving done asks turn refused few) takes replies answering its too = absurd refused
-  turns_one _ _ _ _ _ _ _ _ _ _ turned then_it (gives_up notes given xid asked end after saving done asks turn refused many) takes replies answering its too = absurd refused
+    pub turns_one : (reply also : Reply) (applied more : ℕ) (after then_so : Agent) (saving keep : Option Kept) (t u : Session) (turned then_it : Turned)
+        → TakesTurn c.world.now p.agent view (fails_next p.keeper) c.session (Answered reply applied) after saving t → TakesTurn c.world.now p.agent view (fails_next p.keeper) c.session (Answered also more) then_so keep u
+        → turned.reply ≡ reply → then_it.reply ≡ also → IsIts turned → IsIts then_it
+        → scene_after c p view after saving applied turned t ≡ scene_after c p view then_so keep more then_it u
+    turns_one _ _ _ _ _ _ _ _ _ _ turned then_it (answers notes given xid asked reply applied after saving done asks turn) (answers others brought number ask also more then_so keep again asking turning) replies answering its too =
+        let one = one_given c.session notes others given brought done again in
+        let same_ask : asked ≡ ask = one_asked view c.session.message xid number asked ask asks asking in
+        let same_number : xid ≡ number = one_xid view c.session.message xid number asked ask asks asking in
+        let second : Turns hss given p.agent view (fails_next p.keeper) asked c.world.now (Answered also more) then_so keep =
+        subst (λ (g : Refresh). Turns hss g p.agent view (fails_next p.keeper) asked c.world.now (Answered also more) then_so keep) (sym one.1)
+        (subst (λ (a : Asked). Turns hss brought p.agent view (fails_next p.keeper) a c.world.now (Answered also more) then_so keep) (sym same_ask) turning) in
+        let same = one_answer notes given xid asked done asks reply also applied more after then_so saving keep turned then_it its too turn second in
+        let say : reply ≡ also = sym replies ∙ ap (λ (x : Turned). x.reply) same.turns ∙ answering in
+        λ i. scene_after c p view (same.agents i) (same.saved i) (same.work i) (same.turns i) (answered c.session (said_of (same_number i) (say i)) (one.0 i) (same.agents i).pending)
+    turns_one _ _ _ _ _ _ _ _ _ _ turned then_it (answers notes given xid asked reply applied after saving done asks turn) (begins_anew others brought number ask end then_so keep again asking turning refused few) replies answering its too = absurd refused
+    turns_one _ _ _ _ _ _ _ _ _ _ turned then_it (answers notes given xid asked reply applied after saving done asks turn) (gives_up others brought number ask end then_so keep again asking turning refused many) replies answering its too = absurd refused
+    turns_one _ _ _ _ _ _ _ _ _ _ turned then_it (begins_anew notes given xid asked end after saving done asks turn refused few) takes replies answering its too = absurd refused
+    turns_one _ _ _ _ _ _ _ _ _ _ turned then_it (gives_up notes given xid asked end after saving done asks turn refused many) takes replies answering its too = absurd refused
 
   -- ---- refusals
 
@@ -247,29 +246,29 @@ module _ (c : Scene) (r : ℕ) (p : Participant) (keeps : Keeps (c.world, c.stor
       let a = turn_of takes in
       let b = turn_of taking_too in
       not_refused_too a.given p.agent view (fails_next p.keeper) a.asked b.asked c.world.now reply applied stop after then_so saving keep refusal a.turn
-      (subst (λ (g : Refresh). Turns hss g p.agent view (fails_next p.keeper) b.asked c.world.now stop then_so keep) (sym (one_given a.notes b.notes a.given b.given a.done b.done).1) b.turn)
+      (subst (λ (g : Refresh). Turns hss g p.agent view (fails_next p.keeper) b.asked c.world.now stop then_so keep) (sym (one_given c.session a.notes b.notes a.given b.given a.done b.done).1) b.turn)
 
   same_refusal : {end stop : TurnEnd} {after then_so : Agent} {saving keep : Option Kept} → IsRefusal end → IsRefusal stop → IsTurn end after saving → IsTurn stop then_so keep → (end ≡ stop) × (after ≡ then_so) × (saving ≡ keep)
   same_refusal {end} {stop} {after} {then_so} {saving} {keep} refusing denying a b =
       refused_one a.given p.agent view (fails_next p.keeper) a.asked b.asked c.world.now end stop after then_so saving keep refusing denying a.turn
-      (subst (λ (g : Refresh). Turns hss g p.agent view (fails_next p.keeper) b.asked c.world.now stop then_so keep) (sym (one_given a.notes b.notes a.given b.given a.done b.done).1) b.turn)
+      (subst (λ (g : Refresh). Turns hss g p.agent view (fails_next p.keeper) b.asked c.world.now stop then_so keep) (sym (one_given c.session a.notes b.notes a.given b.given a.done b.done).1) b.turn)
 
-  refusals_one : (end stop : TurnEnd) (after then_so : Agent) (saving keep : Option Kept) (t u : Session) → IsRefusal end → IsRefusal stop → (after ≡ then_so) × (saving ≡ keep)
+  refusals_one : (end stop : TurnEnd) (after then_so : Agent) (saving keep : Option Kept) (t u : Session) → IsRefusal end → IsRefusal stop → after ≡ then_so
       → TakesTurn c.world.now p.agent view (fails_next p.keeper) c.session end after saving t → TakesTurn c.world.now p.agent view (fails_next p.keeper) c.session stop then_so keep u → t ≡ u
   refusals_one _ _ _ _ _ _ _ _ refusing denying same (answers notes given xid asked reply applied after saving done asks turn) takes = absurd refusing
   refusals_one _ _ _ _ _ _ _ _ refusing denying same (begins_anew notes given xid asked end after saving done asks turn refused few) (answers others brought number ask also more then_so keep again asking turning) = absurd denying
   refusals_one _ _ _ _ _ _ _ _ refusing denying same (begins_anew notes given xid asked end after saving done asks turn refused few) (begins_anew others brought number ask stop then_so keep again asking turning refusal too) =
-      ap (λ (a : Agent). anew c.session (anew_in hss a view)) same.0
+      ap (λ (a : Agent). anew c.session (anew_in hss a view)) same
   refusals_one _ _ _ _ _ _ _ _ refusing denying same (begins_anew notes given xid asked end after saving done asks turn refused few) (gives_up others brought number ask stop then_so keep again asking turning refusal many) = absurd (omega (arith, few, many))
   refusals_one _ _ _ _ _ _ _ _ refusing denying same (gives_up notes given xid asked end after saving done asks turn refused many) (answers others brought number ask also more then_so keep again asking turning) = absurd denying
   refusals_one _ _ _ _ _ _ _ _ refusing denying same (gives_up notes given xid asked end after saving done asks turn refused many) (begins_anew others brought number ask stop then_so keep again asking turning refusal few) = absurd (omega (arith, few, many))
   refusals_one _ _ _ _ _ _ _ _ refusing denying same (gives_up notes given xid asked end after saving done asks turn refused many) (gives_up others brought number ask stop then_so keep again asking turning refusal too) =
-      λ i. ended c.session (said_no_memory (one_xid view c.session.message xid number asked ask asks asking i)) ((one_given notes others given brought done again).0 i) None
+      λ i. ended c.session (said_no_memory (one_xid view c.session.message xid number asked ask asks asking i)) ((one_given c.session notes others given brought done again).0 i) None
 
   pub one_refusal : (end stop : TurnEnd) (after then_so : Agent) (saving keep : Option Kept) (t u : Session) → IsRefusal end → IsRefusal stop
       → TakesTurn c.world.now p.agent view (fails_next p.keeper) c.session end after saving t → TakesTurn c.world.now p.agent view (fails_next p.keeper) c.session stop then_so keep u
       → scene_refused c p after saving t ≡ scene_refused c p then_so keep u
   one_refusal end stop after then_so saving keep t u refusing denying takes taking_too =
       let same = same_refusal refusing denying (turn_of takes) (turn_of taking_too) in
-      let sessions : t ≡ u = refusals_one end stop after then_so saving keep t u refusing denying (same.1, same.2) takes taking_too in
+      let sessions : t ≡ u = refusals_one end stop after then_so saving keep t u refusing denying same.1 takes taking_too in
       λ i. scene_refused c p (same.1 i) (same.2 i) (sessions i)

@@ -32,10 +32,10 @@ use Rattle.world_laws.specs.Laws.{TurnAt}
 use Rattle.world_laws.proofs.Bringing.{found_named, its_view, refresh_may_turn}
 use Rattle.world_laws.proofs.EachStep.{all_some}
 use Rattle.world_laws.proofs.Frames.{found_placed, same_keys}
+use Rattle.world_laws.proofs.OneAsked.{caller_is_identity}
 use Rattle.world_laws.proofs.SignatureBytes.{sealed_opaque}
 use Rattle.world_laws.proofs.Taking.{HasTaken, takes_some_so}
 use Rattle.world_laws.proofs.TakingOn.{taking_keeps}
-use Rattle.world_laws.proofs.TurnsRefresh.{caller_is_identity}
 
 -- the arguments of a call that is bytes are bytes
 args_octets : (view : View) (message : List ℕ) (xid : ℕ) (asked : Asked) → AreBytes message → Asks view message xid asked → AreOctets (arguments asked.args)

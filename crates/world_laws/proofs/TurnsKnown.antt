@@ -44,10 +44,10 @@ use Rattle.world_model.specs.Steps.{Scene}
 use Rattle.world_laws.specs.Keeps.{IsInHand, IsKeptSo, IsSavedWell, IsSound, IsSoundSession, Keeps}
 use Rattle.world_laws.proofs.Bringing.{agent_sound, found_named, in_a_view, its_key, its_view, knew_before, refresh_may_turn}
 use Rattle.world_laws.proofs.MoreMet.{more_stand, more_verified}
+use Rattle.world_laws.proofs.OneAsked.{caller_is_identity, one_asked}
 use Rattle.world_laws.proofs.SignedHeads.{from_map}
 use Rattle.world_laws.proofs.TurnsBlocks.{stand_met}
 use Rattle.world_laws.proofs.TurnsFloors.{joined_known, joined_second, own_number}
-use Rattle.world_laws.proofs.TurnsRefresh.{caller_is_identity, one_asked}
 use Rattle.world_laws.proofs.TurnsSets.{holds_written}
 use Rattle.world_laws.proofs.TurnsTaken.{IsBrought, brought_under, has_known, of_hand, one_candidates, one_taken, own_log_known}
 

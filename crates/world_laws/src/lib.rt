@@ -24,7 +24,7 @@
 //! line begins can be saved), `proofs/TurnsWorld.antt` (a participant that changes by a turn, whose open sessions stay),
 //! `proofs/TurnsKnown.antt` (what an agent knows after a turn), `proofs/TurnsSets.antt` (the set that a turn leaves),
 //! `proofs/TurnsFloors.antt` (a floor with a front joined into it), `proofs/TurnsTaken.antt` (a turn's candidates are one
-//! list), `proofs/TurnsRefresh.antt` (a refresh ends in one way, whatever names tell), `proofs/AnsweredTurns.antt` and
+//! list), `proofs/OneAsked.antt` (a message asks one thing), `proofs/AnsweredTurns.antt` and
 //! `proofs/RefusedTurns.antt` (turns keep the world), `proofs/SnapBounds.antt` and `proofs/SnapSpelled.antt` (what a closed set
 //! stands for, and what an agent holds, has a spelling as a snapshot).
 //! That something can be done: `proofs/ExistingPlans.antt` (whom a course asks, as that of a put), `proofs/ExistingFates.antt`
