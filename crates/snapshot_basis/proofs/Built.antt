@@ -191,34 +191,6 @@ one_tree t w ps e =
     (names_there u t (parents t w (map numbered ps) ps found a.each) here) in
     (λ k. record { names = names k; inodes = sym a.same k })
 
--- two whole trees with the same inodes, and the same in their directories, are one
-record AreSame (t u : Tree) (xs ys : List (Key × Inode)) : Type 0 where
-  same : xs ≡ ys
-  each : AllByRecursion (λ i. shown i.1.kind (listing t i.0) ≡ shown i.1.kind (listing u i.0)) xs
-
-are_same : (t u : Tree) (xs ys : List (Key × Inode)) → map (item_in t) xs ≡ map (item_in u) ys → AreSame t u xs ys
-are_same t u [] [] e = record { same = refl; each = tt }
-are_same t u [] (y ∷ ys) e = cc
-are_same t u (x ∷ xs) [] e = cc
-are_same t u (x ∷ xs) (y ∷ ys) e =
-    let first : ◌≡◌ {A = Item} (item_in t x) (item_in u y) = cc in
-    let tail : map (item_in t) xs ≡ map (item_in u) ys = cc in
-    let head : x ≡ y = ap (λ (i : Item). i.0) first in
-    let own : contained x.1.kind (listing t x.0) ≡ contained y.1.kind (listing u y.0) = ap (λ (i : Item). i.1) first in
-    let here : contained x.1.kind (listing t x.0) ≡ contained x.1.kind (listing u x.0) = own ∙ ap (λ (j : Key × Inode). contained j.1.kind (listing u j.0)) (sym head) in
-    let rest = are_same t u xs ys tail in
-    record {
-      same = (λ k. head k ∷ rest.same k);
-      each = (sym (shown_contained x.1.kind (listing t x.0)) ∙ ap (shown x.1.kind) here ∙ shown_contained x.1.kind (listing u x.0), rest.each);
-    }
-
-pub same_trees : (t u : Tree) → IsWholeTree t → IsWholeTree u → items_in t ≡ items_in u → t ≡ u
-same_trees t u w v e =
-    let a = are_same t u t.inodes u.inodes e in
-    let b = are_same u t u.inodes t.inodes (sym e) in
-    let names = sorted_same t.names u.names w.in_order.names v.in_order.names (names_there t u w.parents a.each) (names_there u t v.parents b.each) in
-    (λ k. record { names = names k; inodes = a.same k })
-
 -- ---- what the building of the tree wants
 
 body_fits : (kind : Kind) (said : InodeBlock) (blocks : List (List ℕ)) (body : List ℕ) (es : Directory) → said.size ≤ most_bytes kind → HasContents kind said blocks body es → IsBody kind body

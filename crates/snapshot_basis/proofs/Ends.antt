@@ -5,11 +5,10 @@ use Rattle.ivy_base.specs.declared.key.Key.{Key}
 use Rattle.tree_model.specs.Tree.{Tree}
 use Rattle.tree_model.specs.Sound.{IsSound}
 use Rattle.log_model.specs.Rank.{Rank}
-use Rattle.log_model.specs.Vector.{Vector}
 use Rattle.log_model.specs.Spelling.{IsKey}
 use Rattle.turn_model.specs.Basis.{Basis}
 use Rattle.snapshot_model.specs.Blocks.{RootBlock, IsRankSpelled, IsRootBlock, IsVectorSpelled, Says, root_block}
-use Rattle.snapshot_model.specs.Reading.{Part, Root, AnInode, HasBounds, IsBasisSpelled, IsWholeTree, top_of}
+use Rattle.snapshot_model.specs.Reading.{Part, Root, AnInode, AreOf, HasBounds, IsBasisSpelled, IsWholeTree, top_of}
 use Rattle.snapshot_model.proofs.OneBlock.{one_root}
 use Rattle.snapshot_model.proofs.OneNames.{one_said}
 use Rattle.snapshot_model.proofs.SameNames.{listed_fit}
@@ -23,6 +22,7 @@ use Rattle.snapshot_wholes.specs.Laws.{blocks_read}
 use Rattle.snapshot_wholes.proofs.Inodes.{items_are}
 use Rattle.snapshot_wholes.proofs.OneForest.{read_is_forest}
 use Rattle.snapshot_wholes.proofs.Canon.{loaded_is_shown}
+use Rattle.snapshot_wholes.proofs.OneBasis.{snapshot_is_one}
 use Rattle.snapshot_wholes.proofs.Whole.{whole_trees_are_sound}
 use Rattle.tree_building.specs.declared.parts.InodeParts.{InodeParts}
 use Rattle.tree_building.specs.Parts.{IsTreeOf, tree_of}
@@ -37,23 +37,9 @@ use Rattle.snapshot_basis.proofs.Stretches.{inodes_stretch}
 use Rattle.snapshot_basis.proofs.Told.{all_told, all_shown, one_list}
 use Rattle.snapshot_basis.proofs.Trees.{all_have}
 use Rattle.snapshot_basis.proofs.Bounds.{IsBounded, all_bounded, as_many, bottom_few, few_listed, names_bounded}
-use Rattle.snapshot_basis.proofs.Built.{built_has, one_tree, same_trees}
+use Rattle.snapshot_basis.proofs.Built.{built_has, one_tree}
 
--- ---- one basis
-
-abbrev BasisParts : Type 0
-BasisParts = (Vector × Option Rank) × Tree
-
-abbrev basis_with : BasisParts → Basis
-basis_with p = record { front = p.0.0; tide = p.0.1; tree = p.1 }
-
-pub one_basis : (bytes : List ℕ) (blocks : Blocks) (b c : Basis) → IsBasis bytes blocks b → IsBasis bytes blocks c → b ≡ c
-one_basis bytes blocks b c h g =
-    let one : h.said ≡ g.said = one_said one_root h.says g.says in
-    let front : b.front ≡ c.front = sym h.front ∙ ap (λ (r : RootBlock). r.front) one ∙ g.front in
-    let tide : b.tide ≡ c.tide = sym h.tide ∙ ap (λ (r : RootBlock). r.tide) one ∙ g.tide in
-    let tree = same_trees b.tree c.tree ((whole_trees_are_sound b.tree).1 h.sound) ((whole_trees_are_sound c.tree).1 g.sound) (one_list (inodes_in blocks) (items_in b.tree) (items_in c.tree) h.inodes g.inodes) in
-    ap basis_with (λ k. ((front k, tide k), tree k))
+-- ---- no tree
 
 -- the tree can't be built, so there is no such basis
 pub no_tree : (bytes : List ℕ) (blocks : Blocks) (ps : List InodeParts) → AreInodes (inodes_in blocks) (map item_of ps) → (IsSound (tree_of ps) → ⊥) → (b : Basis) → IsBasis bytes blocks b → ⊥
@@ -113,10 +99,9 @@ module _ (bytes : List ℕ) (below : Forest) (fits : Fits (block Root bytes belo
 
   pub are_of : (basis : Option Basis) → IsABasis bytes (flat below) basis → AreOfBasis (map (λ p. p.1) (flat (block Root bytes below nothing))) basis
   are_of (Some b) h =
-      let s = basis_shown b h in (
-        (loaded_is_shown bytes below b fits).1 ((whole_trees_are_sound b.tree).1 h.sound, s.0, s.1),
-        λ c are. let g = (loaded_is_shown bytes below c fits).0 are in one_basis bytes (flat below) c b (basis_told c g.0 g.1 g.2) h,
-      )
+      let s = basis_shown b h in
+      let its : AreOf (map (λ p. p.1) (flat (block Root bytes below nothing))) b = (loaded_is_shown bytes below b fits).1 ((whole_trees_are_sound b.tree).1 h.sound, s.0, s.1) in
+      (its, λ c are. snapshot_is_one (map (λ p. p.1) (flat (block Root bytes below nothing))) b c its are)
   are_of None h = λ b are. let g = (loaded_is_shown bytes below b fits).0 are in h b (basis_told b g.0 g.1 g.2)
 
 -- ---- what was read
