@@ -34,7 +34,7 @@ none_looked [] e = refl
 none_looked (l ∷ looks) e = cc e
 
 -- of a course that nobody is known for
-record Nobody {T : Type 0} (trail : List Heard) (result : Result T Miss) : Type 0 where
+pub record Nobody {T : Type 0} (trail : List Heard) (result : Result T Miss) : Type 0 where
   pub none : trail ≡ []
   pub why : Miss
   pub missed : result ≡ Err why
@@ -42,7 +42,7 @@ record Nobody {T : Type 0} (trail : List Heard) (result : Result T Miss) : Type 
 found_or_none : (key : Key) (owners : List Peer) → outcome key None ≡ Ok owners → ⊥
 found_or_none key owners e = cc e
 
-nobody_asked : {T : Type 0} (key : Key) (question : Ask) (Ends : List Peer → Told → Result T Miss → Type 0) (trail : List Heard) (result : Result T Miss) → IsCourse key question [] Ends trail result → Nobody trail result
+pub nobody_asked : {T : Type 0} (key : Key) (question : Ask) (Ends : List Peer → Told → Result T Miss → Type 0) (trail : List Heard) (result : Result T Miss) → IsCourse key question [] Ends trail result → Nobody trail result
 nobody_asked key question Ends trail result (no_route looks found is looked nobody missed) = record {
   none = is ∙ ap (told_all (ask.Route key)) (none_looked looks (look_nobody looked refl).0);
   why = miss.NoRoute key;
@@ -54,12 +54,12 @@ pub gets_nobody : (judged : Key → List ℕ → Option Judged) (r : ℕ) {want 
 gets_nobody judged r {asks = asks} (heads {owner} came get) = let n = nobody_asked _ _ _ asks came get in (n.none, subst (λ x. IsMissed (HeadsOf owner x)) (sym n.missed) tt)
 gets_nobody judged r {asks = asks} (content {key} came get) = let n = nobody_asked _ _ _ asks came get in (n.none, subst (λ x. IsMissed (BlockOf key x)) (sym n.missed) tt)
 
-nil_middle : {X : Type 0} (xs : List X) (x : X) (more : List X) → (xs ++ x ∷ []) ++ more ≡ [] → ⊥
+pub nil_middle : {X : Type 0} (xs : List X) (x : X) (more : List X) → (xs ++ x ∷ []) ++ more ≡ [] → ⊥
 nil_middle [] x more e = cc e
 nil_middle (y ∷ ys) x more e = cc e
 
 -- what is asked is told
-abbrev TellsOne : Ask → Type 0
+abbrev pub TellsOne : Ask → Type 0
 TellsOne question = (node : Peer) (given : Answer) (trail more : List Heard) → (trail ++ told node question given) ++ more ≡ [] → ⊥
 
 route_told : (key : Key) → TellsOne (ask.Route key)
@@ -68,7 +68,7 @@ route_told key node given trail more e = nil_middle trail _ more e
 get_told : (key : Key) → TellsOne (ask.Get key)
 get_told key node given trail more e = nil_middle trail _ more e
 
-asks_nobody : (key : Key) (own : Ask) (Whole : List Heard → Type 0) (trail : List Heard) (node : Peer) (question : Ask) → TellsOne own → ((asks : List Heard) → Whole asks → asks ≡ []) → AsksNext key own Whole trail node question → ⊥
+pub asks_nobody : (key : Key) (own : Ask) (Whole : List Heard → Type 0) (trail : List Heard) (node : Peer) (question : Ask) → TellsOne own → ((asks : List Heard) → Whole asks → asks ≡ []) → AsksNext key own Whole trail node question → ⊥
 asks_nobody key own Whole trail node question tells none next = by next.is_of
   where
     by : (question ≡ ask.Route key) ⊎ (question ≡ own) → ⊥

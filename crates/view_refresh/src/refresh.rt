@@ -191,7 +191,7 @@ impl<J: Judge> ViewRefresh<J> {
     }
 
     /// What the refresh wants next: an ask, or nothing more, since it has its result. An ask that wasn't yet heard is wanted
-    /// again. The error is want of memory; after it and after the result the refresh is over, and gives that error.
+    /// again. The error is want of memory; after it, and after the result, the refresh isn't used any more.
     pub fn next(&mut self) -> Result<Want<Refreshed>, Memory>
         ensures wanted { IfOk result (RefreshIsWanted J.judges self.old self.new) }
         ensures left { IfOk result (λ _. refresh_left self.new ≤ refresh_left self.old) }
@@ -203,7 +203,8 @@ impl<J: Judge> ViewRefresh<J> {
     }
 
     /// Hears what the node answered that was asked last, and takes what the get brought, where it is over with that: a block
-    /// is handed out with its name. It is called once after each ask. The error is want of memory; then the refresh is over.
+    /// is handed out with its name. It is called once after each ask. The error is want of memory; the refresh isn't used then
+    /// any more.
     pub fn heard(&mut self, answer: Answer) -> Result<Option<(Key, Bytes)>, Memory>
         requires { refresh_awaited self.old ≢ None }
         ensures heard { IfOk result (RefreshHasHeard J.judges self.old self.new answer) }
