@@ -17,7 +17,7 @@
 //! a refresh takes of what is at hand, hears, and comes to), `specs/Ending.antt`, and `specs/InPlace.antt` (stages that are
 //! changed in place). Lemmas, each file on those before it: `proofs/Refreshes.antt` (how a refresh stands, in the words of
 //! sessions), `proofs/Asking.antt` and `proofs/Nobody.antt` (what a put asks, and that nobody is asked where no node is
-//! known), `proofs/Bringing.antt` (what a part that was brought tells), `proofs/Taken.antt` and `proofs/AtHand.antt` (what is
+//! known), `proofs/Bringing.antt` (what is kept of what was brought), `proofs/Taken.antt` and `proofs/AtHand.antt` (what is
 //! at hand), `proofs/Hears.antt`, `proofs/Failing.antt`, `proofs/Advancing.antt`, over them `proofs/Calls.antt`,
 //! `proofs/Puts.antt`, `proofs/Begins.antt`, `proofs/Turns.antt`, and for stages that are changed in place
 //! `proofs/InPlace.antt`, `proofs/Refreshed.antt`, `proofs/TurnsInPlace.antt`, and for the number `proofs/Falling.antt`.
