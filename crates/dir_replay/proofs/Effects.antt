@@ -54,9 +54,8 @@ apply_names_is t order now (op.Cancel seq) of = absurd of
 apply_names_is t order now (op.SetAttrs number change) of = absurd of
 apply_names_is t order now op.End of = absurd of
 
--- ---- made bare
-
-inodes_kept : (t : Tree) (o : Op) → (names_after t o).inodes ≡ t.inodes
+-- an operation of names leaves the inodes
+pub inodes_kept : (t : Tree) (o : Op) → (names_after t o).inodes ≡ t.inodes
 inodes_kept t o = if_kept (is_effective t o) (with_names_changed t o) (changed o)
   where
     if_kept : (b : Bool) (u : Tree) → u.inodes ≡ t.inodes → (cond b u t).inodes ≡ t.inodes
@@ -77,6 +76,8 @@ inodes_kept t o = if_kept (is_effective t o) (with_names_changed t o) (changed o
     changed (op.Cancel seq) = refl
     changed (op.SetAttrs number change) = refl
     changed op.End = refl
+
+-- ---- made bare
 
 bare_touched_at : (now : Moment) (d : Option Key) (t : Tree) → is_sorted key_cmp t.inodes ≡ true → bare (touched_at now d t) ≡ bare t
 bare_touched_at now None t order = refl

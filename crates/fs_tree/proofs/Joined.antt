@@ -16,9 +16,9 @@ use Rattle.tree_model.proofs.Applied.{link_tests, sound_apply}
 use Rattle.tree_model.proofs.Keys.{keys_total}
 use Rattle.dir_replay.specs.declared.touched.Touched.{Touched}
 use Rattle.dir_replay.specs.Bare.{bare}
-use Rattle.dir_replay.specs.Effect.{directories, none_touched, touched_by, names_after, with_names_changed, is_effective, IsOfNames, touched_at}
+use Rattle.dir_replay.specs.Effect.{directories, none_touched, touched_by, names_after, is_effective, IsOfNames, touched_at}
 use Rattle.dir_replay.proofs.Bare.{sound-bare, sound_if_bare, bare-at_inode, is_directory-bare, touched_by-bare}
-use Rattle.dir_replay.proofs.Effects.{apply_names_is, bare-apply}
+use Rattle.dir_replay.proofs.Effects.{apply_names_is, bare-apply, inodes_kept}
 use Rattle.dir_replay.proofs.Sorted.{put_same}
 use Rattle.inode_replay.specs.Contents.{made, changed, touched_inode}
 use Rattle.inode_replay.specs.Kept.{Kept, made_kept, touched_kept}
@@ -38,33 +38,11 @@ inodes-touched now (Some dir) t = by (inode_at t dir)
     by None = refl
     by (Some i) = refl
 
-inodes-names_after : (t : Tree) (o : Op) → (names_after t o).inodes ≡ t.inodes
-inodes-names_after t o = if_kept (is_effective t o) (with_names_changed t o) (kept o)
-  where
-    if_kept : (b : Bool) (u : Tree) → u.inodes ≡ t.inodes → (cond b u t).inodes ≡ t.inodes
-    if_kept true u h = h
-    if_kept false u h = refl
-
-    moved : (dir : Key) (name : List ℕ) (to_dir : Key) (to_name : List ℕ) (e : Option Key) → entry t dir name ≡ e → (with_names_changed t (op.Rename dir name to_dir to_name)).inodes ≡ t.inodes
-    moved dir name to_dir to_name None is = rw (is) refl
-    moved dir name to_dir to_name (Some x) is = rw (is) refl
-
-    kept : (o : Op) → (with_names_changed t o).inodes ≡ t.inodes
-    kept (op.Link dir name number) = refl
-    kept (op.Unlink dir name) = refl
-    kept (op.Rename dir name to_dir to_name) = moved dir name to_dir to_name (entry t dir name) refl
-    kept (op.Inode number kind mode uid gid target) = refl
-    kept (op.Write number offset bytes) = refl
-    kept (op.Prepare dir name verifier) = refl
-    kept (op.Cancel seq) = refl
-    kept (op.SetAttrs number change) = refl
-    kept op.End = refl
-
 inodes-apply : (t : Tree) → is_sorted key_cmp t.inodes ≡ true → (now : Moment) (o : Op) → IsOfNames o → (apply t now o).inodes ≡ touched_content now (touched_by t o).second (touched_content now (touched_by t o).first t.inodes)
 inodes-apply t order now o of =
     ap (λ (u : Tree). u.inodes) (apply_names_is t order now o of)
     ∙ inodes-touched now (touched_by t o).second (touched_at now (touched_by t o).first (names_after t o))
-    ∙ ap (λ l. touched_content now (touched_by t o).second l) (inodes-touched now (touched_by t o).first (names_after t o) ∙ ap (λ l. touched_content now (touched_by t o).first l) (inodes-names_after t o))
+    ∙ ap (λ l. touched_content now (touched_by t o).second l) (inodes-touched now (touched_by t o).first (names_after t o) ∙ ap (λ l. touched_content now (touched_by t o).first l) (inodes_kept t o))
 
 -- ---- both halves
 
