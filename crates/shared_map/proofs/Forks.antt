@@ -1,5 +1,5 @@
 -- A tree at its top: its entries are those of the left side, its own and those of the right side.
-use Rattle.std.proofs.Common.{◌≡◌, ℕ, suc, ◌+◌, ◌^◌, ◌<◌, ◌≤◌, T, true, not, List, [], ◌∷◌, ◌++◌, length, length-append, drop, Some, Result, refl, sym, ap, ◌∙◌, subst, arith}
+use Rattle.std.proofs.Common.{◌≡◌, ◌⊎◌, inl, inr, ℕ, suc, ◌+◌, ◌^◌, ◌<◌, ◌≤◌, T, true, not, List, [], ◌∷◌, ◌++◌, length, length-append, drop, Some, Result, refl, sym, ap, ◌∙◌, subst, arith}
 use Rattle.std.specs.Prelude.{IfOk}
 use Rattle.std.specs.Ordering.{eq_by_cmp, is_le}
 use Rattle.std.specs.Cmp.{IsTotalOrder}
@@ -7,7 +7,7 @@ use Rattle.std.specs.declared.cmp.Ordering.{Ordering}
 use Rattle.std.specs.declared.cmp.Ordering.TheVariants.{Less, Equal, Greater}
 use Rattle.std.specs.FinMap.Entries.{find as value_at, put, where_key, is_sorted}
 use Rattle.shared_map.specs.declared.tree.Fork.{Fork}
-use Rattle.shared_map.specs.Trees.{seen, IsBalanced, IsNear}
+use Rattle.shared_map.specs.Trees.{seen, IsBalanced, IsTree, IsLow, IsCopy, IsNear}
 use Rattle.shared_map.proofs.Sides as sides
 
 pub near_is : {A E : Type 0} {B : Type 0} (r : Result (List (A × B) × ℕ) E) (es fs : List (A × B)) (h i : ℕ) → es ≡ fs → h ≡ i → IfOk r (IsNear es h) → IfOk r (IsNear fs i)
@@ -118,3 +118,39 @@ some_entries f now is = omega (arith, lengths f now is)
 -- as many entries as before have as much room
 pub few_again : {K V : Type 0} (f g : Fork K V) → (seen (Some g)).0 ≡ (seen (Some f)).0 → length f.left.0 + length f.right.0 + 1 < 2 ^ 64 → length g.left.0 + length g.right.0 + 1 < 2 ^ 64
 few_again f g is few = omega (arith, lengths f _ refl, lengths g _ refl, ap length is, few)
+
+-- ---- a node f that was to have one owner, which is itself or a copy: g, that becomes h, and stands where k does then
+
+own_sides : {K V : Type 0} (f g : Fork K V) → (g ≡ f) ⊎ IsCopy f g → (g.left.1 ≡ f.left.1) × (g.right.1 ≡ f.right.1)
+own_sides {K} {V} f g (inl e) = (ap (λ (x : Fork K V). x.left.1) e, ap (λ (x : Fork K V). x.right.1) e)
+own_sides {K} {V} f g (inr c) = (ap (λ (x : List (K × V) × ℕ). x.1) c.0, ap (λ (x : List (K × V) × ℕ). x.1) c.4)
+
+own_seen : {K V : Type 0} (f g : Fork K V) → (g ≡ f) ⊎ IsCopy f g → seen (Some g) ≡ seen (Some f)
+own_seen {K} {V} f g (inl e) = ap (λ (x : Fork K V). seen (Some x)) e
+own_seen {K} {V} f g (inr c) =
+    ap (λ (x : List (K × V) × ℕ). (x.0 ++ (g.key, g.value.value) ∷ g.right.0, g.height)) c.0 ∙ ap (λ (x : K). (f.left.0 ++ (x, g.value.value) ∷ g.right.0, g.height)) c.1
+    ∙ ap (λ (x : V). (f.left.0 ++ (f.key, x) ∷ g.right.0, g.height)) c.2 ∙ ap (λ (x : ℕ). (f.left.0 ++ (f.key, f.value.value) ∷ g.right.0, x)) c.3
+    ∙ ap (λ (x : List (K × V) × ℕ). (f.left.0 ++ (f.key, f.value.value) ∷ x.0, f.height)) c.4
+
+module _ {K V : Type 0} (f g h k : Fork K V) (own : (g ≡ f) ⊎ IsCopy f g) (back : k ≡ h) where
+  -- what is known of g and h is so of f and k
+  pub over_own : (P : List (K × V) × ℕ → List (K × V) × ℕ → Type 0) → P (seen (Some g)) (seen (Some h)) → P (seen (Some f)) (seen (Some k))
+  over_own P p = subst (λ x. P x (seen (Some k))) (own_seen f g own) (subst (λ (x : Fork K V). P (seen (Some g)) (seen (Some x))) (sym back) p)
+
+  module _ (left : (length h.left.0 ≡ length g.left.0) × (h.left.1 ≡ g.left.1)) (right : (length h.right.0 ≡ length g.right.0) × (h.right.1 ≡ g.right.1)) (height : h.height ≡ g.height) where
+    own_length : length (seen (Some h)).0 ≡ length (seen (Some f)).0
+    own_length = omega (arith, lengths h _ refl, lengths g _ refl, left.0, right.0, ap (λ (x : List (K × V) × ℕ). length x.0) (own_seen f g own))
+
+    own_height : h.height ≡ f.height
+    own_height = height ∙ ap (λ (x : List (K × V) × ℕ). x.1) (own_seen f g own)
+
+    pub own_shape : (length (seen (Some k)).0 ≡ length (seen (Some f)).0) × (k.height ≡ f.height)
+    own_shape = subst (λ (x : Fork K V). (length (seen (Some x)).0 ≡ length (seen (Some f)).0) × (x.height ≡ f.height)) (sym back) (own_length, own_height)
+
+    pub own_tree : IsTree f → IsTree k
+    own_tree tree =
+        let sides = own_sides f g own in
+        let low : IsLow (length (seen (Some h)).0) h.height = subst (λ n. IsLow n h.height) (sym own_length) (subst (λ n. IsLow (length (seen (Some f)).0) n) (sym own_height) tree.1) in
+        let level : IsBalanced (Some h) =
+        (omega (arith, tree.0.0, own_height, sides.0, sides.1, left.1, right.1), (omega (arith, tree.0.1.0, sides.0, sides.1, left.1, right.1), omega (arith, tree.0.1.1, sides.0, sides.1, left.1, right.1))) in
+        subst (λ (x : Fork K V). IsTree x) (sym back) (level, low)

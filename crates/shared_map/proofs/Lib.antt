@@ -3,7 +3,9 @@ pub mod Edited
 pub mod Forks
 pub mod Grown
 pub mod Heights
+pub mod Joined
 pub mod Moved
 pub mod Paired
 pub mod Rows
 pub mod Sides
+pub mod Turned

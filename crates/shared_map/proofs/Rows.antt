@@ -1,6 +1,6 @@
 -- Rows that are cut at a length, and put behind one another.
 use Rattle.std.proofs.Common.{◌≡◌, ℕ, zero, suc, ◌≤◌, List, [], ◌∷◌, ◌++◌, length, map, take, true, false, refl, ap, ◌∙◌, append_assoc, arith, Result, Ok, Err}
-use Rattle.std.specs.Prelude.{OnOk}
+use Rattle.std.specs.Prelude.{OnOk, OnErr}
 use Rattle.std.specs.Ordering.{is_gt, is_le}
 use Rattle.std.specs.declared.cmp.Ordering.{Ordering}
 use Rattle.std.specs.declared.cmp.Ordering.TheVariants.{Less, Equal, Greater}
@@ -44,6 +44,14 @@ short_row f items n ys e = omega (arith, length-map items f, ap length e, length
 pub onto_on : {A E : Type 0} {P Q : Type 0} (r : Result A E) → (P → Q) → OnOk r P → OnOk r Q
 onto_on (Ok x) f h = f h
 onto_on (Err e) f h = h
+
+pub err_on : {A E : Type 0} {P Q : Type 0} (r : Result A E) → (P → Q) → OnErr r P → OnErr r Q
+err_on (Ok x) f h = h
+err_on (Err e) f h = f h
+
+-- equal sides, with equal values between them
+pub same_sides : {A B : Type 0} (xs ls ys rs : List (A × B)) (k : A) (v w : B) → ls ≡ xs → w ≡ v → rs ≡ ys → ls ++ (k, w) ∷ rs ≡ xs ++ (k, v) ∷ ys
+same_sides xs ls ys rs k v w l m r = ap (λ z. z ++ (k, w) ∷ rs) l ∙ ap (λ z. xs ++ (k, z) ∷ rs) m ∙ ap (λ z. xs ++ (k, v) ∷ z) r
 
 pub gt_is : (o : Ordering) → is_gt o ≡ true → o ≡ Greater
 gt_is Less h = cc h

@@ -41,11 +41,11 @@ impl<K: MapKey + Drop, V: Drop> Tree<K, V> {
         }
     }
 
-    /// The entries with the value under the key. The error is want of memory.
-    pub fn with(&self, alloc: Global, key: K, value: Arc<V>) -> Result<Tree<K, V>, Memory>
+    /// The entries with the value under the key, both of which are shared. The error is want of memory.
+    pub fn with(&self, alloc: Global, key: &K, value: &Arc<V>) -> Result<Tree<K, V>, Memory>
         requires ordered { T (is_sorted K.order self.now.0) }
         requires few { length self.now.0 + 1 < 2 ^ 64 }
-        ensures { IfOk result (IsNear (put K.order key value.value self.now.0) self.now.1) }
+        ensures { IfOk result (IsNear (put K.order key.now value.now.value self.now.0) self.now.1) }
     {
         let Some(at) = self.top() else {
             return alone(alloc, key, value);
@@ -117,9 +117,13 @@ impl<K: MapKey + Drop, V: Drop> Tree<K, V> {
     }
 }
 
-/// One entry. The error is want of memory.
-pub fn alone<K: Drop, V: Drop>(alloc: Global, key: K, value: Arc<V>) -> Result<Tree<K, V>, Memory>
-    ensures { IfOk result (λ t. t ≡ ((key, value.value) ∷ [], 1)) }
+/// One entry, which is shared. The error is want of memory.
+pub fn alone<K: MapKey + Drop, V: Drop>(
+    alloc: Global,
+    key: &K,
+    value: &Arc<V>,
+) -> Result<Tree<K, V>, Memory>
+    ensures { IfOk result (λ t. t ≡ ((key.now, value.now.value) ∷ [], 1)) }
 {
     joined(alloc, Tree::new(), key, value, Tree::new())
 }
@@ -137,5 +141,5 @@ fn without_top<K: MapKey + Drop, V: Drop>(
         return at.left.copy();
     };
     let right = at.right.without_first(alloc)?;
-    balanced(alloc, at.left.copy()?, key.share()?, value.clone()?, right)
+    balanced(alloc, at.left.copy()?, key, value, right)
 }

@@ -69,7 +69,7 @@ impl<K: MapKey + Drop, V: Drop> Tree<K, V> {
         ensures err { OnErr result ((self.new.0 ≡ self.old.0) × (rest.new ≡ rest.old)) }
     {
         let before = self.shared(&key)?;
-        let tree = self.with(alloc, key, value)?;
+        let tree = self.with(alloc, &key, &value)?;
         rest.attempt(alloc)?;
         *self = tree;
         Ok(before)
@@ -93,7 +93,7 @@ fn put<K: MapKey + Drop, V: Drop, P: Attempt>(
     ensures err { OnErr result ((tree.new ≡ tree.old) × (rest.new ≡ rest.old)) }
 {
     let Some(mut top) = tree.take() else {
-        let leaf = alone(alloc, key.share()?, value.clone()?)?;
+        let leaf = alone(alloc, key, value)?;
         rest.attempt(alloc)?;
         *tree = leaf;
         return Ok(None);

@@ -3,7 +3,7 @@
 //! No memory is taken. What a turn would change and has several owners stays as it is: the node then leans on, within what
 //! a tree may.
 
-ghost use Rattle.std.specs.Prelude.{◌≡◌, ◌+◌, ◌^◌, ◌<◌, ◌≤◌, max, [], ◌∷◌, ◌++◌, length, Some};
+ghost use Rattle.std.specs.Prelude.{◌≡◌, ◌+◌, ◌^◌, ◌<◌, ◌≤◌, max, ◌∷◌, ◌++◌, length, Some};
 ghost use Rattle.shared_map.specs.Trees.{seen, IsBalanced, IsLow, IsTree, IsSettled, DifferByAtMost};
 
 use crate::joining::height_above;
@@ -50,7 +50,7 @@ fn set_height<K: Drop, V: Drop>(at: &mut Fork<K, V>)
     at.height = height_above(&at.left, &at.right);
 }
 
-// Turns a node whose left side is two higher, where the left node has one owner.
+// Turns a node whose left side is two higher, where the nodes that change have one owner.
 fn lower_left<K: Drop, V: Drop>(at: &mut Fork<K, V>)
     requires higher { at.old.left.1 ≡ at.old.right.1 + 2 }
     requires few { length at.old.left.0 + length at.old.right.0 + 1 < 2 ^ 64 }
@@ -61,47 +61,40 @@ fn lower_left<K: Drop, V: Drop>(at: &mut Fork<K, V>)
     let Some(mut top) = at.left.take() else {
         unreachable!()
     };
-    if top.left.height() < top.right.height() {
-        lower_left_twice(at, top);
-        return;
-    }
-    match Arc::get_mut(&mut top) {
-        Some(side) => {
-            turn_right(at, side);
-            at.right = Tree::over(top);
-        }
-        None => at.left = Tree::over(top),
-    }
-}
-
-// Puts that node, of which the right side is higher, on the left, and turns both.
-fn lower_left_twice<K: Drop, V: Drop>(at: &mut Fork<K, V>, mut top: Arc<Fork<K, V>>)
-    requires tree { IsTree top.value }
-    requires higher { top.value.height ≡ at.old.right.1 + 2 }
-    requires leans { top.value.left.1 < top.value.right.1 }
-    requires few { length (seen (Some top.value)).0 + length at.old.right.0 + 1 < 2 ^ 64 }
-    ensures entries { (seen (Some at.new)).0 ≡ (seen (Some top.value)).0 ++ (at.old.key, at.old.value.value) ∷ at.old.right.0 }
-    ensures level { DifferByAtMost 2 at.new.left.1 at.new.right.1 }
-    ensures height { let h = max at.new.left.1 at.new.right.1 in (top.value.height ≤ h + 1) × (h ≤ top.value.height) }
-{
     let Some(side) = Arc::get_mut(&mut top) else {
         at.left = Tree::over(top);
         return;
     };
+    if side.left.height() < side.right.height() {
+        lower_left_twice(at, side);
+        at.left = Tree::over(top);
+    } else {
+        turn_right(at, side);
+        at.right = Tree::over(top);
+    }
+}
+
+// Turns that node, which is taken out of the left side and of which the right side is higher, and then both, where the
+// node between them has one owner. The node that was taken out then is the left side's again.
+fn lower_left_twice<K: Drop, V: Drop>(at: &mut Fork<K, V>, side: &mut Fork<K, V>)
+    requires tree { IsTree side.old }
+    requires higher { side.old.height ≡ at.old.right.1 + 2 }
+    requires leans { side.old.left.1 < side.old.right.1 }
+    requires few { length (seen (Some side.old)).0 + length at.old.right.0 + 1 < 2 ^ 64 }
+    ensures tree { IsTree side.new }
+    ensures entries { (seen (Some side.new)).0 ++ (at.new.key, at.new.value.value) ∷ at.new.right.0 ≡ (seen (Some side.old)).0 ++ (at.old.key, at.old.value.value) ∷ at.old.right.0 }
+    ensures level { DifferByAtMost 2 side.new.height at.new.right.1 }
+    ensures height { let h = max side.new.height at.new.right.1 in (side.old.height ≤ h + 1) × (h ≤ side.old.height) }
+{
     let Some(mut middle) = side.right.take() else {
         unreachable!()
     };
-    match Arc::get_mut(&mut middle) {
-        Some(inner) => {
-            turn_right_twice(at, side, inner);
-            at.left = Tree::over(top);
-            at.right = Tree::over(middle);
-        }
-        None => {
-            side.right = Tree::over(middle);
-            at.left = Tree::over(top);
-        }
-    }
+    let Some(inner) = Arc::get_mut(&mut middle) else {
+        side.right = Tree::over(middle);
+        return;
+    };
+    turn_right_twice(at, side, inner);
+    at.right = Tree::over(middle);
 }
 
 // Lets the node of the left side be the upper one, which gives up its right side for the entry and the right side of
@@ -109,15 +102,15 @@ fn lower_left_twice<K: Drop, V: Drop>(at: &mut Fork<K, V>, mut top: Arc<Fork<K, 
 fn turn_right<K: Drop, V: Drop>(at: &mut Fork<K, V>, side: &mut Fork<K, V>)
     requires level { DifferByAtMost 2 side.old.right.1 at.old.right.1 }
     requires few { length side.old.right.0 + length at.old.right.0 + 1 < 2 ^ 64 }
-    ensures upper { (at.new.left ≡ side.old.left) × (at.new.key ≡ side.old.key) × (at.new.value ≡ side.old.value) × (at.new.right ≡ ([], 0)) }
+    ensures upper { at.new ≡ record { left = side.old.left; key = side.old.key; value = side.old.value; height = at.old.height; right = at.old.left } }
     ensures lower { side.new ≡ record { left = side.old.right; key = at.old.key; value = at.old.value; height = max side.old.right.1 at.old.right.1 + 1; right = at.old.right } }
     ensures tree { IsTree side.new }
 {
     mem::swap(&mut at.key, &mut side.key);
     mem::swap(&mut at.value, &mut side.value);
-    let last = mem::replace(&mut at.right, Tree::new());
-    let middle = mem::replace(&mut side.right, last);
-    at.left = mem::replace(&mut side.left, middle);
+    mem::swap(&mut side.left, &mut side.right);
+    mem::swap(&mut at.right, &mut side.right);
+    mem::swap(&mut at.left, &mut at.right);
     set_height(side);
 }
 
@@ -129,21 +122,21 @@ fn turn_right_twice<K: Drop, V: Drop>(
 )
     requires level { DifferByAtMost 2 side.old.left.1 inner.old.left.1 × DifferByAtMost 2 inner.old.right.1 at.old.right.1 }
     requires few { (length side.old.left.0 + length inner.old.left.0 + 1 < 2 ^ 64) × (length inner.old.right.0 + length at.old.right.0 + 1 < 2 ^ 64) }
-    ensures upper { (at.new.key ≡ inner.old.key) × (at.new.value ≡ inner.old.value) }
+    ensures upper { at.new ≡ record at.old { key = inner.old.key; value = inner.old.value; right = side.old.right } }
     ensures before { side.new ≡ record side.old { height = max side.old.left.1 inner.old.left.1 + 1; right = inner.old.left } }
     ensures behind { inner.new ≡ record { left = inner.old.right; key = at.old.key; value = at.old.value; height = max inner.old.right.1 at.old.right.1 + 1; right = at.old.right } }
     ensures tree { IsTree side.new × IsTree inner.new }
 {
     mem::swap(&mut at.key, &mut inner.key);
     mem::swap(&mut at.value, &mut inner.value);
-    let last = mem::replace(&mut at.right, Tree::new());
-    let behind = mem::replace(&mut inner.right, last);
-    side.right = mem::replace(&mut inner.left, behind);
+    mem::swap(&mut inner.left, &mut inner.right);
+    mem::swap(&mut side.right, &mut inner.right);
+    mem::swap(&mut at.right, &mut inner.right);
     set_height(side);
     set_height(inner);
 }
 
-// Turns a node whose right side is two higher, where the right node has one owner.
+// Turns a node whose right side is two higher, where the nodes that change have one owner.
 fn lower_right<K: Drop, V: Drop>(at: &mut Fork<K, V>)
     requires higher { at.old.right.1 ≡ at.old.left.1 + 2 }
     requires few { length at.old.left.0 + length at.old.right.0 + 1 < 2 ^ 64 }
@@ -154,47 +147,40 @@ fn lower_right<K: Drop, V: Drop>(at: &mut Fork<K, V>)
     let Some(mut top) = at.right.take() else {
         unreachable!()
     };
-    if top.right.height() < top.left.height() {
-        lower_right_twice(at, top);
-        return;
-    }
-    match Arc::get_mut(&mut top) {
-        Some(side) => {
-            turn_left(at, side);
-            at.left = Tree::over(top);
-        }
-        None => at.right = Tree::over(top),
-    }
-}
-
-// Puts that node, of which the left side is higher, on the right, and turns both.
-fn lower_right_twice<K: Drop, V: Drop>(at: &mut Fork<K, V>, mut top: Arc<Fork<K, V>>)
-    requires tree { IsTree top.value }
-    requires higher { top.value.height ≡ at.old.left.1 + 2 }
-    requires leans { top.value.right.1 < top.value.left.1 }
-    requires few { length at.old.left.0 + length (seen (Some top.value)).0 + 1 < 2 ^ 64 }
-    ensures entries { (seen (Some at.new)).0 ≡ at.old.left.0 ++ (at.old.key, at.old.value.value) ∷ (seen (Some top.value)).0 }
-    ensures level { DifferByAtMost 2 at.new.left.1 at.new.right.1 }
-    ensures height { let h = max at.new.left.1 at.new.right.1 in (top.value.height ≤ h + 1) × (h ≤ top.value.height) }
-{
     let Some(side) = Arc::get_mut(&mut top) else {
         at.right = Tree::over(top);
         return;
     };
+    if side.right.height() < side.left.height() {
+        lower_right_twice(at, side);
+        at.right = Tree::over(top);
+    } else {
+        turn_left(at, side);
+        at.left = Tree::over(top);
+    }
+}
+
+// Turns that node, which is taken out of the right side and of which the left side is higher, and then both, where the
+// node between them has one owner. The node that was taken out then is the right side's again.
+fn lower_right_twice<K: Drop, V: Drop>(at: &mut Fork<K, V>, side: &mut Fork<K, V>)
+    requires tree { IsTree side.old }
+    requires higher { side.old.height ≡ at.old.left.1 + 2 }
+    requires leans { side.old.right.1 < side.old.left.1 }
+    requires few { length at.old.left.0 + length (seen (Some side.old)).0 + 1 < 2 ^ 64 }
+    ensures tree { IsTree side.new }
+    ensures entries { at.new.left.0 ++ (at.new.key, at.new.value.value) ∷ (seen (Some side.new)).0 ≡ at.old.left.0 ++ (at.old.key, at.old.value.value) ∷ (seen (Some side.old)).0 }
+    ensures level { DifferByAtMost 2 at.new.left.1 side.new.height }
+    ensures height { let h = max at.new.left.1 side.new.height in (side.old.height ≤ h + 1) × (h ≤ side.old.height) }
+{
     let Some(mut middle) = side.left.take() else {
         unreachable!()
     };
-    match Arc::get_mut(&mut middle) {
-        Some(inner) => {
-            turn_left_twice(at, side, inner);
-            at.right = Tree::over(top);
-            at.left = Tree::over(middle);
-        }
-        None => {
-            side.left = Tree::over(middle);
-            at.right = Tree::over(top);
-        }
-    }
+    let Some(inner) = Arc::get_mut(&mut middle) else {
+        side.left = Tree::over(middle);
+        return;
+    };
+    turn_left_twice(at, side, inner);
+    at.left = Tree::over(middle);
 }
 
 // Lets the node of the right side be the upper one, which gives up its left side for the left side and the entry of
@@ -202,15 +188,15 @@ fn lower_right_twice<K: Drop, V: Drop>(at: &mut Fork<K, V>, mut top: Arc<Fork<K,
 fn turn_left<K: Drop, V: Drop>(at: &mut Fork<K, V>, side: &mut Fork<K, V>)
     requires level { DifferByAtMost 2 at.old.left.1 side.old.left.1 }
     requires few { length at.old.left.0 + length side.old.left.0 + 1 < 2 ^ 64 }
-    ensures upper { (at.new.right ≡ side.old.right) × (at.new.key ≡ side.old.key) × (at.new.value ≡ side.old.value) × (at.new.left ≡ ([], 0)) }
+    ensures upper { at.new ≡ record { left = at.old.right; key = side.old.key; value = side.old.value; height = at.old.height; right = side.old.right } }
     ensures lower { side.new ≡ record { left = at.old.left; key = at.old.key; value = at.old.value; height = max at.old.left.1 side.old.left.1 + 1; right = side.old.left } }
     ensures tree { IsTree side.new }
 {
     mem::swap(&mut at.key, &mut side.key);
     mem::swap(&mut at.value, &mut side.value);
-    let first = mem::replace(&mut at.left, Tree::new());
-    let middle = mem::replace(&mut side.left, first);
-    at.right = mem::replace(&mut side.right, middle);
+    mem::swap(&mut side.left, &mut side.right);
+    mem::swap(&mut at.left, &mut side.left);
+    mem::swap(&mut at.left, &mut at.right);
     set_height(side);
 }
 
@@ -222,16 +208,16 @@ fn turn_left_twice<K: Drop, V: Drop>(
 )
     requires level { DifferByAtMost 2 at.old.left.1 inner.old.left.1 × DifferByAtMost 2 inner.old.right.1 side.old.right.1 }
     requires few { (length at.old.left.0 + length inner.old.left.0 + 1 < 2 ^ 64) × (length inner.old.right.0 + length side.old.right.0 + 1 < 2 ^ 64) }
-    ensures upper { (at.new.key ≡ inner.old.key) × (at.new.value ≡ inner.old.value) }
+    ensures upper { at.new ≡ record at.old { left = side.old.left; key = inner.old.key; value = inner.old.value } }
     ensures before { inner.new ≡ record { left = at.old.left; key = at.old.key; value = at.old.value; height = max at.old.left.1 inner.old.left.1 + 1; right = inner.old.left } }
     ensures behind { side.new ≡ record side.old { left = inner.old.right; height = max inner.old.right.1 side.old.right.1 + 1 } }
     ensures tree { IsTree side.new × IsTree inner.new }
 {
     mem::swap(&mut at.key, &mut inner.key);
     mem::swap(&mut at.value, &mut inner.value);
-    let first = mem::replace(&mut at.left, Tree::new());
-    let before = mem::replace(&mut inner.left, first);
-    side.left = mem::replace(&mut inner.right, before);
+    mem::swap(&mut inner.left, &mut inner.right);
+    mem::swap(&mut side.left, &mut inner.left);
+    mem::swap(&mut at.left, &mut inner.left);
     set_height(side);
     set_height(inner);
 }

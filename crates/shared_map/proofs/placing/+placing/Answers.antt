@@ -1,6 +1,10 @@
 use Rattle.std.proofs.Common.{rules, ◌≡◌, ◌≤◌, ◌∷◌, ◌++◌, Some, sym, ap, ◌∙◌, refl, arith}
 use Rattle.std.specs.declared.cmp.Ordering.TheVariants.{Less, Greater}
-use Rattle.shared_map.proofs.Forks.{shorter, sorted_sides, found_left, found_here, found_right, put_here}
+use Rattle.std.specs.Prelude.{IfOk, OnOk, OnErr}
+use Rattle.std.specs.Option.{option_map}
+use Rattle.std.specs.FinMap.Entries.{find as value_at, put}
+use Rattle.shared_map.specs.Trees.{IsGrown}
+use Rattle.shared_map.proofs.Forks.{shorter, sorted_sides, found_left, found_here, found_right, put_here, over_own}
 use Rattle.shared_map.proofs.Grown.{few_left, few_right, tree_left, tree_right, level_left, level_right, grown_left, grown_right}
 use Rattle.shared_map.proofs.placing.+placing.Goals as goal
 use Rattle.shared_map.proofs.placing.+placing.Goals.{put_at-then-height-at, put_at-else-height-at, put_at-then-height-at-2, put_at-else-height-at-2}
@@ -74,3 +78,24 @@ put_at-returns-after-height-at-2-clause-ok g t c =
           rw w.at-is (grown_right c.args.at.now g.K.MapKey.order c.args.key.now c.args.value.now.value c.put-in-Greater.new.tree g.met.K.MapKey.total c.requires.ordered c.requires.tree.0 high _ _ way c.in_ok-before-in-Greater.ensures.ok.0 w.settle-then-height-at-2.ensures.entries w.settle-then-height-at-2.ensures.settled, c.in_ok-before-in-Greater.ensures.ok.1)
       | put_at-else-height-at-2 w ↦ rw w.at-is (level_right c.args.at.now g.K.MapKey.order c.args.key.now c.args.value.now.value c.put-in-Greater.new.tree g.met.K.MapKey.total c.requires.ordered way c.in_ok-before-in-Greater.ensures.ok.0, c.in_ok-before-in-Greater.ensures.ok.1)
     ]
+
+pub put-over-requires : goal.put-over-requires
+put-over-requires g t c = record { balanced = c.put_over-before.ensures.tree.0; low = c.put_over-before.ensures.tree.1 }
+
+pub put-returns-clause-before : goal.put-returns-clause-before
+put-returns-clause-before g t c = rw (← c.in-Some.ensures.top) c.put_over-before.ensures.before
+
+pub put-returns-clause-ok : goal.put-returns-clause-ok
+put-returns-clause-ok g t c = rw c.over.ensures (rw (← c.in-Some.ensures.top) c.put_over-before.ensures.ok)
+
+pub put-returns-clause-err : goal.put-returns-clause-err
+put-returns-clause-err g t c = rw c.over.ensures (rw (← c.in-Some.ensures.top) c.put_over-before.ensures.err)
+
+pub put_over-returns-clause-before : goal.put_over-returns-clause-before
+put_over-returns-clause-before g t c = over_own c.args.top.now.value c.in_ok-at.at.now c.put_at.new.at (c.make_mut.follows.lender c.put_at.new.at).value c.in_ok-at.ensures.value (c.make_mut.follows.holds c.put_at.new.at (rw c.in_ok-at.was refl)) (λ x y. IfOk c.put_at.result (λ before. option_map (λ v. v.value) before ≡ value_at g.K.MapKey.order c.args.key.now x.0)) c.put_at.ensures.before
+
+pub put_over-returns-clause-ok : goal.put_over-returns-clause-ok
+put_over-returns-clause-ok g t c = over_own c.args.top.now.value c.in_ok-at.at.now c.put_at.new.at (c.make_mut.follows.lender c.put_at.new.at).value c.in_ok-at.ensures.value (c.make_mut.follows.holds c.put_at.new.at (rw c.in_ok-at.was refl)) (λ x y. OnOk c.put_at.result (IsGrown (put g.K.MapKey.order c.args.key.now c.args.value.now.value x.0) x.1 y × g.P.Attempt.makes c.args.rest.now c.put_at.new.rest)) c.put_at.ensures.ok
+
+pub put_over-returns-clause-err : goal.put_over-returns-clause-err
+put_over-returns-clause-err g t c = over_own c.args.top.now.value c.in_ok-at.at.now c.put_at.new.at (c.make_mut.follows.lender c.put_at.new.at).value c.in_ok-at.ensures.value (c.make_mut.follows.holds c.put_at.new.at (rw c.in_ok-at.was refl)) (λ x y. OnErr c.put_at.result ((y ≡ x) × (c.put_at.new.rest ≡ c.args.rest.now))) c.put_at.ensures.err

@@ -42,17 +42,17 @@ pub returns-in_ok-left-in-Less : goal.returns-in_ok-left-in-Less
 returns-in_ok-left-in-Less g t c =
     let lt = sym c.in-Less.ensures in
     near_left c.in-Some.at.now c.args.self.now c.in-Some.ensures.top _ _ c.in_ok-left-in-Less.left c.in_ok-left-in-Less.ensures
-    (put_left c.in-Some.at.now c.args.self.now c.in-Some.ensures.top g.K.MapKey.order g.met.K.MapKey.total c.requires.ordered c.args.key c.args.value.value lt) c.with_left.result c.with_left.ensures
+    (put_left c.in-Some.at.now c.args.self.now c.in-Some.ensures.top g.K.MapKey.order g.met.K.MapKey.total c.requires.ordered c.args.key.now c.args.value.now.value lt) c.with_left.result c.with_left.ensures
 
 pub returns-in-Equal : goal.returns-in-Equal
 returns-in-Equal g t c =
     let eq = sym c.in-Equal.ensures in
     near_is c.with_value.result _ _ _ _
-    (put_here c.in-Some.at.now c.args.self.now c.in-Some.ensures.top g.K.MapKey.order g.met.K.MapKey.total c.requires.ordered c.args.key c.args.value.value eq)
+    (put_here c.in-Some.at.now c.args.self.now c.in-Some.ensures.top g.K.MapKey.order g.met.K.MapKey.total c.requires.ordered c.args.key.now c.args.value.now.value eq)
     (height_is c.in-Some.at.now c.args.self.now c.in-Some.ensures.top) c.with_value.ensures
 
 pub returns-in_ok-right-in-Greater : goal.returns-in_ok-right-in-Greater
 returns-in_ok-right-in-Greater g t c =
     let gt = sym c.in-Greater.ensures in
     near_right c.in-Some.at.now c.args.self.now c.in-Some.ensures.top _ _ c.in_ok-right-in-Greater.right c.in_ok-right-in-Greater.ensures
-    (put_right c.in-Some.at.now c.args.self.now c.in-Some.ensures.top g.K.MapKey.order g.met.K.MapKey.total c.requires.ordered c.args.key c.args.value.value gt) c.with_right.result c.with_right.ensures
+    (put_right c.in-Some.at.now c.args.self.now c.in-Some.ensures.top g.K.MapKey.order g.met.K.MapKey.total c.requires.ordered c.args.key.now c.args.value.now.value gt) c.with_right.result c.with_right.ensures
