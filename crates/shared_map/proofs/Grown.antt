@@ -1,4 +1,4 @@
--- A node of which a side has grown, and how many entries there are where a node is turned twice.
+-- A node of which a side has grown.
 use Rattle.std.proofs.Common.{◌≡◌, ℕ, ◌+◌, ◌^◌, ◌<◌, ◌≤◌, T, List, ◌∷◌, ◌++◌, length, Some, ap, ◌∙◌, refl, arith}
 use Rattle.std.specs.Cmp.{IsTotalOrder}
 use Rattle.std.specs.declared.cmp.Ordering.{Ordering}
@@ -11,20 +11,6 @@ use Rattle.shared_map.proofs.Heights.{low_with_more, settled_grown, settled_grow
 use Rattle.shared_map.proofs.Sides.{length_put, put_length}
 
 module _ {K V : Type 0} (f : Fork K V) where
-  pub few_twice_left : (side middle inner : Fork K V) (n : ℕ) → side ≡ f → seen (Some middle) ≡ side.right → inner ≡ middle → length (seen (Some f)).0 + n + 1 < 2 ^ 64
-      → (length side.left.0 + length inner.left.0 + 1 < 2 ^ 64) × (length inner.right.0 + n + 1 < 2 ^ 64)
-  few_twice_left side middle inner n is top same few =
-      let sides : (length side.left.0 ≡ length f.left.0) × (length side.right.0 ≡ length f.right.0) = (ap (λ (x : Fork K V). length x.left.0) is, ap (λ (x : Fork K V). length x.right.0) is) in
-      let inners : (length inner.left.0 ≡ length middle.left.0) × (length inner.right.0 ≡ length middle.right.0) = (ap (λ (x : Fork K V). length x.left.0) same, ap (λ (x : Fork K V). length x.right.0) same) in
-      (omega (arith, lengths f _ refl, lengths middle _ top, sides, inners, few), omega (arith, lengths f _ refl, lengths middle _ top, sides, inners, few))
-
-  pub few_twice_right : (side middle inner : Fork K V) (n : ℕ) → side ≡ f → seen (Some middle) ≡ side.left → inner ≡ middle → n + length (seen (Some f)).0 + 1 < 2 ^ 64
-      → (n + length inner.left.0 + 1 < 2 ^ 64) × (length inner.right.0 + length side.right.0 + 1 < 2 ^ 64)
-  few_twice_right side middle inner n is top same few =
-      let sides : (length side.left.0 ≡ length f.left.0) × (length side.right.0 ≡ length f.right.0) = (ap (λ (x : Fork K V). length x.left.0) is, ap (λ (x : Fork K V). length x.right.0) is) in
-      let inners : (length inner.left.0 ≡ length middle.left.0) × (length inner.right.0 ≡ length middle.right.0) = (ap (λ (x : Fork K V). length x.left.0) same, ap (λ (x : Fork K V). length x.right.0) same) in
-      (omega (arith, lengths f _ refl, lengths middle _ top, sides, inners, few), omega (arith, lengths f _ refl, lengths middle _ top, sides, inners, few))
-
   module _ (R : K → K → Ordering) (k : K) (v : V) (t : List (K × V) × ℕ) where
     pub few_left : IsGrown (put R k v f.left.0) f.left.1 t → length (seen (Some f)).0 + 1 < 2 ^ 64 → length t.0 + length f.right.0 + 1 < 2 ^ 64
     few_left grown few = omega (arith, lengths f _ refl, ap length grown.0, length_put R k v f.left.0, few)

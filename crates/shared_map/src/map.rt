@@ -97,9 +97,9 @@ impl<K: MapKey + Drop, V: Drop> SharedMap<K, V> {
         self.insert_with(alloc, key, value, &mut Nothing)
     }
 
-    /// The same together with something else, which is done once the way to the entry is ready. The error is want of
-    /// memory, for the entry, for a node on its way or for what is done with it, or that there are as many entries as can
-    /// be counted already. Then nothing has changed, neither in the map nor in what was to be done.
+    /// The same together with something else, which is done too. The error is want of memory, for the entry, for a node on
+    /// its way or for what is done with it, or that there are as many entries as can be counted. Then nothing has changed,
+    /// neither in the map nor in what was to be done.
     pub fn insert_with<P: Attempt>(
         &mut self,
         alloc: Global,
