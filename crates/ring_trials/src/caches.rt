@@ -3,27 +3,32 @@
 ghost use Rattle.std.specs.Prelude.{◌≡◌, is_some};
 ghost use Rattle.block_cache.specs.Blocks.{block_of, moved_to_front};
 
-use crate::words::{Words, put_bytes};
+use crate::line::Line;
 use block_cache::BlockCache;
-use ivy_base::{Bytes, Key, Memory, name_of};
-use std::alloc::{AllocError, Global};
-use std::fmt::Write;
+use ivy_base::{Bytes, Key, name_of};
 
 /// Keeps the block of that number.
-fn keep(cache: &mut BlockCache, alloc: Global, number: u16) -> Result<bool, Memory> {
-    let block = Bytes::copy_of(alloc, &number.to_be_bytes())?;
-    Ok(cache.keep(name_of(block.as_slice()), block))
+fn keep(line: &mut Line<'_>, cache: &mut BlockCache, number: u16) {
+    match Bytes::copy_of(line.alloc, &number.to_be_bytes()) {
+        Ok(block) => line.note(cache.keep(name_of(block.as_slice()), block)),
+        Err(_) => line.fail(),
+    }
 }
 
-/// A cache in which the blocks 0 to 255 were kept, in this order.
-fn full(alloc: Global) -> Result<BlockCache, Memory> {
-    let mut cache = BlockCache::new(alloc)?;
+/// Keeps the blocks 0 to 255, in this order.
+fn keep_all(line: &mut Line<'_>, cache: &mut BlockCache) {
     for number in 0..256 {
-        if !keep(&mut cache, alloc, number)? {
-            return Err(Memory);
-        }
+        keep(line, cache, number);
     }
-    Ok(cache)
+}
+
+/// Begins anew, with a full cache.
+fn fill(line: &mut Line<'_>, cache: &mut Option<BlockCache>) {
+    *cache = BlockCache::new(line.alloc).ok();
+    match cache {
+        Some(cache) => keep_all(line, cache),
+        None => line.fail(),
+    }
 }
 
 /// Whether the block is held, which is then the most recently used: what a caller of `find` learns.
@@ -35,61 +40,36 @@ fn holds(cache: &mut BlockCache, key: &Key) -> bool
 }
 
 /// Writes the block of that name, where it is held.
-fn put_found(out: &mut String, cache: &mut BlockCache, key: &Key) -> Result<(), AllocError> {
+fn put_found(line: &mut Line<'_>, cache: &mut BlockCache, key: &Key) {
     match cache.find(key) {
-        Some(bytes) => put_bytes(out, bytes),
-        None => out.push_str("nothing"),
+        Some(bytes) => line.put_bytes(bytes),
+        None => line.put("nothing"),
     }
-}
-
-/// Keeps the block of that number, and writes so.
-fn put_kept(out: &mut String, cache: &mut BlockCache, alloc: Global, number: u16) -> Option<()> {
-    if keep(cache, alloc, number) != Ok(true) {
-        return None;
-    }
-    out.push_str("kept").ok()
 }
 
 /// Writes what a cache makes of a block.
-fn put_block(
-    out: &mut String,
-    cache: &mut BlockCache,
-    alloc: Global,
-    what: &str,
-    number: u16,
-) -> Option<()> {
+fn put_block(line: &mut Line<'_>, cache: &mut BlockCache, what: &str, number: u16) {
     let key = name_of(&number.to_be_bytes());
     match what {
-        "keep" => put_kept(out, cache, alloc, number),
-        "has" => write!(out, "{}", holds(cache, &key)).ok(),
-        "find" => put_found(out, cache, &key).ok(),
-        _ => None,
+        "keep" => {
+            keep(line, cache, number);
+            line.put("kept");
+        }
+        "has" => line.put_truth(holds(cache, &key)),
+        "find" => put_found(line, cache, &key),
+        _ => line.fail(),
     }
 }
 
-/// Begins anew, with a full cache.
-fn fill(cache: &mut Option<BlockCache>, alloc: Global) -> Result<(), Memory> {
-    *cache = Some(full(alloc)?);
-    Ok(())
-}
-
-/// Fills the cache anew, and writes so.
-fn put_full(cache: &mut Option<BlockCache>, out: &mut String, alloc: Global) -> Option<()> {
-    fill(cache, alloc).ok()?;
-    out.push_str("kept").ok()
-}
-
-/// Writes the answer to a line, `None` for want of memory and where there is none.
-pub fn answer(
-    cache: &mut Option<BlockCache>,
-    out: &mut String,
-    alloc: Global,
-    mut words: Words<'_>,
-) -> Option<()> {
-    let what = words.word()?;
+/// Writes the answer to a line.
+pub fn answer(line: &mut Line<'_>, cache: &mut Option<BlockCache>) {
+    let what = line.word();
     if what == "full" {
-        return put_full(cache, out, alloc);
+        fill(line, cache);
+        return line.put("kept");
     }
-    let number = words.word()?.parse().ok()?;
-    put_block(out, cache.as_mut()?, alloc, what, number)
+    match (cache, line.word().parse()) {
+        (Some(cache), Ok(number)) => put_block(line, cache, what, number),
+        _ => line.fail(),
+    }
 }

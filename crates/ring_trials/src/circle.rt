@@ -1,6 +1,6 @@
 //! Questions about places on the circle.
 
-use crate::words::{Words, put_key};
+use crate::line::Line;
 use dht_ids::{between, distance, finger_start, inside, node_id, order, same};
 use ivy_base::Key;
 use std::cmp::Ordering;
@@ -25,52 +25,49 @@ fn comparison(a: &Key, b: &Key) -> &'static str {
     }
 }
 
-/// Writes the identifier of a node.
-fn put_id(out: &mut String, mut words: Words<'_>) -> Option<()> {
-    let number = words.number()?;
-    put_key(out, &node_id(number)).ok()
+/// Writes where a finger begins.
+fn put_finger(line: &mut Line<'_>) {
+    let node = line.key();
+    let k = line.number();
+    if k == 0 || k > 160 {
+        return line.fail();
+    }
+    line.put_key(&finger_start(&node, k));
 }
 
 /// Writes the distance between two places.
-fn put_distance(out: &mut String, mut words: Words<'_>) -> Option<()> {
-    let a = words.key()?;
-    let b = words.key()?;
-    put_key(out, &distance(&a, &b)).ok()
-}
-
-/// Writes where a finger begins.
-fn put_finger(out: &mut String, mut words: Words<'_>) -> Option<()> {
-    let node = words.key()?;
-    let k = words.number()?;
-    if k == 0 || k > 160 {
-        return None;
-    }
-    put_key(out, &finger_start(&node, k)).ok()
+fn put_distance(line: &mut Line<'_>) {
+    let a = line.key();
+    let b = line.key();
+    line.put_key(&distance(&a, &b));
 }
 
 /// Writes where the second of three places lies on the arc from the first to the third.
-fn put_arc(out: &mut String, mut words: Words<'_>) -> Option<()> {
-    let a = words.key()?;
-    let x = words.key()?;
-    let b = words.key()?;
-    out.push_str(arc(&a, &x, &b)).ok()
+fn put_arc(line: &mut Line<'_>) {
+    let a = line.key();
+    let x = line.key();
+    let b = line.key();
+    line.put(arc(&a, &x, &b));
 }
 
 /// Writes how two places compare.
-fn put_order(out: &mut String, mut words: Words<'_>) -> Option<()> {
-    let a = words.key()?;
-    let b = words.key()?;
-    out.push_str(comparison(&a, &b)).ok()
+fn put_order(line: &mut Line<'_>) {
+    let a = line.key();
+    let b = line.key();
+    line.put(comparison(&a, &b));
 }
 
-/// Writes the answer to a question, `None` for want of memory and where there is none.
-pub fn answer(out: &mut String, mut words: Words<'_>) -> Option<()> {
-    match words.word()? {
-        "id" => put_id(out, words),
-        "distance" => put_distance(out, words),
-        "finger" => put_finger(out, words),
-        "arc" => put_arc(out, words),
-        "order" => put_order(out, words),
-        _ => None,
+/// Writes the answer to a question.
+pub fn answer(line: &mut Line<'_>) {
+    match line.word() {
+        "id" => {
+            let number = line.number();
+            line.put_key(&node_id(number));
+        }
+        "distance" => put_distance(line),
+        "finger" => put_finger(line),
+        "arc" => put_arc(line),
+        "order" => put_order(line),
+        _ => line.fail(),
     }
 }

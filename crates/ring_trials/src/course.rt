@@ -76,56 +76,51 @@ impl Others<'_> {
     }
 }
 
-/// Tells a look-up to go on until it has its result, and notes the nodes that it asks; `None` where it doesn't end.
+/// Tells a look-up to go on until it has its result, and notes the nodes that it asks. The error is want of memory, or
+/// that it doesn't end.
 fn result_of(
     alloc: Global,
     lookup: &mut Lookup,
     asked: &mut Vec<Peer>,
     key: Key,
     others: &Others<'_>,
-) -> Result<Option<Result<Peers, Miss>>, Memory> {
+) -> Result<Result<Peers, Miss>, Memory> {
     for _ in 0..MOST_STEPS {
         match lookup.next()? {
             Want::Ask(node, _) => lookup.heard(others.asked(alloc, asked, node, key)?)?,
-            Want::Done(found) => return Ok(Some(found)),
+            Want::Done(found) => return Ok(found),
         }
     }
-    Ok(None)
+    Err(Memory)
 }
 
-/// Looks a key up from these nodes, and notes the nodes that it asks; `None` where the look-up doesn't end.
+/// Looks a key up from these nodes, and notes the nodes that it asks. The error is want of memory, or that the look-up
+/// doesn't end.
 fn found_from(
     alloc: Global,
     asked: &mut Vec<Peer>,
     key: Key,
     entries: &Peers,
     others: &Others<'_>,
-) -> Result<Option<Result<Peers, Miss>>, Memory> {
+) -> Result<Result<Peers, Miss>, Memory> {
     let mut lookup = Lookup::start(alloc, key, 1, entries)?;
     result_of(alloc, &mut lookup, asked, key, others)
 }
 
-/// Looks a key up; `None` where the look-up doesn't end.
+/// Looks a key up. The error is want of memory, or that the look-up doesn't end.
 pub fn drive(
     alloc: Global,
     key: Key,
     entries: &Peers,
     others: &Others<'_>,
-) -> Result<Option<Course>, Memory> {
+) -> Result<Course, Memory> {
     let mut asked = Vec::new(alloc);
-    match found_from(alloc, &mut asked, key, entries, others)? {
-        Some(found) => Ok(Some(Course { found, asked })),
-        None => Ok(None),
-    }
+    let found = found_from(alloc, &mut asked, key, entries, others)?;
+    Ok(Course { found, asked })
 }
 
-/// Looks a key up from a node of a ring; `None` where the look-up doesn't end.
-pub fn look_up(
-    alloc: Global,
-    nodes: &Nodes,
-    key: Key,
-    entry: Peer,
-) -> Result<Option<Course>, Memory> {
+/// Looks a key up from a node of a ring. The error is want of memory, or that the look-up doesn't end.
+pub fn look_up(alloc: Global, nodes: &Nodes, key: Key, entry: Peer) -> Result<Course, Memory> {
     let entries = Peers::of(vec![in alloc; entry]?);
     drive(alloc, key, &entries, &Others::Ring(nodes))
 }

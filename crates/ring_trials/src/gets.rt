@@ -2,28 +2,11 @@
 
 ghost use Rattle.std.specs.Prelude.{◌<◌};
 
-use crate::words::{
-    Words, peer, push_numbered, put_bytes, put_heads, put_key, put_named_peers, put_peer, put_peers,
-};
+use crate::line::{Line, peer, push_numbered};
 use dhash_client::{GetBlock, GetHead, Miss, PutBlock, PutHead, Want};
 use dht_ids::{Answer, Ask, Heads, Judge, Judged, Peer, Peers, StoreFault};
 use ivy_base::{Bytes, Key, Memory, name_of};
-use std::alloc::{AllocError, Global};
-
-/// What an owner answers.
-#[derive(Drop)]
-enum Owner {
-    Silent,
-    /// It holds nothing.
-    Empty,
-    Gives(Bytes),
-    Stores,
-    /// It holds a newer head.
-    Older,
-    Full,
-    /// Its answers have the form of no answer to a get or a put.
-    Muddled,
-}
+use std::alloc::Global;
 
 /// The number of the node that knows the owners.
 const ENTRY: u32 = 100;
@@ -31,40 +14,47 @@ const ENTRY: u32 = 100;
 /// How often a machine is told to go on.
 const MOST_STEPS: u32 = 30;
 
-/// The owner of a word, whose bytes stand behind a colon.
-fn owner_of(alloc: Global, word: &str) -> Option<Owner> {
-    let mut parts = Words::of(word, ':');
-    match parts.word()? {
-        "silent" => Some(Owner::Silent),
-        "empty" => Some(Owner::Empty),
-        "gives" => Some(Owner::Gives(parts.bytes(alloc)?)),
-        "stores" => Some(Owner::Stores),
-        "older" => Some(Owner::Older),
-        "full" => Some(Owner::Full),
-        "muddled" => Some(Owner::Muddled),
-        _ => None,
+/// What the owner of a word answers that gives the bytes behind a colon.
+fn given(line: &mut Line<'_>, word: &str) -> Answer {
+    let (gives, bytes) = line.parts(word);
+    line.note(gives == "gives");
+    Answer::Found(line.bytes_of(bytes))
+}
+
+/// What the owner of a word answers. An older one holds a newer head, and the answers of a muddled one have the form of
+/// no answer to a get or a put.
+fn owner_of(line: &mut Line<'_>, word: &str) -> Answer {
+    match word {
+        "silent" => Answer::Silent,
+        "empty" => Answer::Nothing,
+        "stores" => Answer::Stored,
+        "older" => Answer::Refused(StoreFault::Older(7)),
+        "full" => Answer::Refused(StoreFault::Full),
+        "muddled" => Answer::Noted,
+        _ => given(line, word),
     }
 }
 
-/// The owners of a key, by number, and those that were asked, in order.
+/// The owners of a word, with commas between; none for `-`.
+fn owners_of(line: &mut Line<'_>, word: &str) -> Vec<Answer> {
+    let mut owners = Vec::new(line.alloc);
+    if word != "-" {
+        for owner in word.split(',') {
+            let owner = owner_of(line, owner);
+            line.note(owners.push(owner).is_ok());
+        }
+    }
+    owners
+}
+
+/// What the owners of a key answer, by their numbers, and those that were asked, in order.
 #[derive(Drop)]
 struct Owners {
-    owners: Vec<Owner>,
+    owners: Vec<Answer>,
     asked: Vec<Peer>,
 }
 
 impl Owners {
-    /// Adds the owners of a word, with commas between; none for `-`.
-    fn push(&mut self, alloc: Global, word: &str) -> Option<()> {
-        if word == "-" {
-            return Some(());
-        }
-        for owner in word.split(',') {
-            self.owners.push(owner_of(alloc, owner)?).ok()?;
-        }
-        Some(())
-    }
-
     /// A silent node and, where there are owners, the one that knows them.
     fn entries(&self, alloc: Global) -> Result<Peers, Memory> {
         let entries = [peer(101), peer(ENTRY)];
@@ -92,26 +82,22 @@ impl Owners {
         })
     }
 
-    /// What the node answers to a get or a put.
-    fn held(&self, alloc: Global, node: Peer) -> Result<Answer, Memory> {
+    /// What the node answers to a get or a put. It counts as asked.
+    fn held(&mut self, alloc: Global, node: Peer) -> Result<Answer, Memory> {
+        self.asked.push(node)?;
         match self.owners.get(node.number as usize) {
-            Some(Owner::Empty) => Ok(Answer::Nothing),
-            Some(Owner::Gives(bytes)) => Ok(Answer::Found(bytes.copy(alloc)?)),
-            Some(Owner::Stores) => Ok(Answer::Stored),
-            Some(Owner::Older) => Ok(Answer::Refused(StoreFault::Older(7))),
-            Some(Owner::Full) => Ok(Answer::Refused(StoreFault::Full)),
-            Some(Owner::Muddled) => Ok(Answer::Noted),
-            _ => Ok(Answer::Silent),
+            Some(owner) => owner.copy(alloc),
+            None => Ok(Answer::Silent),
         }
     }
 
-    /// What the node answers. A node that isn't asked for a route counts as asked.
-    fn answer(&mut self, alloc: Global, node: Peer, ask: &Ask) -> Result<Answer, Memory> {
-        if matches!(ask, Ask::Route(_)) {
-            return self.route(alloc, node);
+    /// What the node answers.
+    fn answer(&mut self, alloc: Global, node: Peer, ask: Ask) -> Result<Answer, Memory> {
+        if matches!(&ask, Ask::Route(_)) {
+            self.route(alloc, node)
+        } else {
+            self.held(alloc, node)
         }
-        self.asked.push(node)?;
-        self.held(alloc, node)
     }
 }
 
@@ -137,197 +123,183 @@ impl Judge for Counts {
 }
 
 /// Writes why there is no result.
-fn put_miss(out: &mut String, miss: &Miss) -> Result<(), AllocError> {
+pub fn put_miss(line: &mut Line<'_>, miss: &Miss) {
     match miss {
         Miss::NoRoute(key) => {
-            out.push_str("no route to ")?;
-            put_key(out, key)
+            line.put("no route to ");
+            line.put_key(key);
         }
         Miss::Missing { key, asked } => {
-            out.push_str("missing ")?;
-            put_key(out, key)?;
-            put_named_peers(out, " at ", asked.as_slice())
+            line.put("missing ");
+            line.put_key(key);
+            line.put(" at ");
+            line.put_peers(asked.as_slice());
         }
         Miss::Damaged { key, node } => {
-            out.push_str("damaged ")?;
-            put_key(out, key)?;
-            out.push_str(" at ")?;
-            put_peer(out, node)
+            line.put("damaged ");
+            line.put_key(key);
+            line.put(" at ");
+            line.put_peer(node);
         }
     }
 }
 
 /// Writes what a put came to.
-fn put_acknowledged(out: &mut String, end: &Result<bool, Miss>) -> Result<(), AllocError> {
+fn put_acknowledged(line: &mut Line<'_>, end: &Result<bool, Miss>) {
     match end {
-        Ok(true) => out.push_str("acknowledged"),
-        Ok(false) => out.push_str("not acknowledged"),
-        Err(miss) => put_miss(out, miss),
+        Ok(true) => line.put("acknowledged"),
+        Ok(false) => line.put("not acknowledged"),
+        Err(miss) => put_miss(line, miss),
     }
 }
 
 /// Writes what a get of a block came to.
-fn put_gotten_block(out: &mut String, end: &Result<Bytes, Miss>) -> Result<(), AllocError> {
+fn put_gotten_block(line: &mut Line<'_>, end: &Result<Bytes, Miss>) {
     match end {
-        Ok(bytes) => put_bytes(out, bytes.as_slice()),
-        Err(miss) => put_miss(out, miss),
+        Ok(bytes) => line.put_bytes(bytes.as_slice()),
+        Err(miss) => put_miss(line, miss),
     }
 }
 
 /// Writes what a get of heads came to.
-fn put_gotten_heads(out: &mut String, end: &Result<Heads, Miss>) -> Result<(), AllocError> {
+fn put_gotten_heads(line: &mut Line<'_>, end: &Result<Heads, Miss>) {
     match end {
-        Ok(heads) => put_heads(out, heads.as_slice()),
-        Err(miss) => put_miss(out, miss),
+        Ok(heads) => line.put_heads(heads.as_slice()),
+        Err(miss) => put_miss(line, miss),
     }
 }
 
-/// Drives a machine to its result, and writes that; false where it goes on, and for want of memory to write in.
+/// Drives a machine to its result, and writes that. The error is want of memory, or that the machine goes on.
 macro_rules! drive {
-    ($out:expr, $machine:expr, $alloc:expr, $owners:expr, $put:expr) => {{
+    ($line:expr, $machine:expr, $owners:expr, $put:expr) => {{
         for _ in 0..MOST_STEPS {
             match $machine.next()? {
-                Want::Ask(node, ask) => $machine.heard($owners.answer($alloc, node, &ask)?)?,
-                Want::Done(result) => return Ok($put($out, &result).is_ok()),
+                Want::Ask(node, ask) => $machine.heard($owners.answer($line.alloc, node, ask)?)?,
+                Want::Done(end) => return Ok($put($line, &end)),
             }
         }
-        Ok(false)
+        Err(Memory)
     }};
 }
 
 fn drive_get_block(
-    out: &mut String,
+    line: &mut Line<'_>,
     machine: &mut GetBlock,
-    alloc: Global,
     owners: &mut Owners,
-) -> Result<bool, Memory> {
-    drive!(out, machine, alloc, owners, put_gotten_block)
+) -> Result<(), Memory> {
+    drive!(line, machine, owners, put_gotten_block)
 }
 
 fn drive_get_head(
-    out: &mut String,
+    line: &mut Line<'_>,
     machine: &mut GetHead<Counts>,
-    alloc: Global,
     owners: &mut Owners,
-) -> Result<bool, Memory> {
-    drive!(out, machine, alloc, owners, put_gotten_heads)
+) -> Result<(), Memory> {
+    drive!(line, machine, owners, put_gotten_heads)
 }
 
 fn drive_put_block(
-    out: &mut String,
+    line: &mut Line<'_>,
     machine: &mut PutBlock,
-    alloc: Global,
     owners: &mut Owners,
-) -> Result<bool, Memory> {
-    drive!(out, machine, alloc, owners, put_acknowledged)
+) -> Result<(), Memory> {
+    drive!(line, machine, owners, put_acknowledged)
 }
 
 fn drive_put_head(
-    out: &mut String,
+    line: &mut Line<'_>,
     machine: &mut PutHead,
-    alloc: Global,
     owners: &mut Owners,
-) -> Result<bool, Memory> {
-    drive!(out, machine, alloc, owners, put_acknowledged)
+) -> Result<(), Memory> {
+    drive!(line, machine, owners, put_acknowledged)
 }
 
 /// Gets the block `block`.
 fn get_block(
-    out: &mut String,
-    alloc: Global,
+    line: &mut Line<'_>,
     replicas: u32,
     entries: &Peers,
     owners: &mut Owners,
-) -> Result<bool, Memory> {
+) -> Result<(), Memory> {
     let key = name_of(b"block".as_slice());
-    let mut machine = GetBlock::start(alloc, key, replicas, entries)?;
-    drive_get_block(out, &mut machine, alloc, owners)
+    let mut machine = GetBlock::start(line.alloc, key, replicas, entries)?;
+    drive_get_block(line, &mut machine, owners)
 }
 
 /// Gets the heads under the name of `owner`.
 fn get_head(
-    out: &mut String,
-    alloc: Global,
+    line: &mut Line<'_>,
     replicas: u32,
     entries: &Peers,
     owners: &mut Owners,
-) -> Result<bool, Memory> {
+) -> Result<(), Memory> {
     let key = name_of(b"owner".as_slice());
-    let mut machine = GetHead::start(alloc, Counts(key), key, replicas, entries)?;
-    drive_get_head(out, &mut machine, alloc, owners)
+    let mut machine = GetHead::start(line.alloc, Counts(key), key, replicas, entries)?;
+    drive_get_head(line, &mut machine, owners)
 }
 
 /// Puts the block `block`.
 fn put_block(
-    out: &mut String,
-    alloc: Global,
+    line: &mut Line<'_>,
     replicas: u32,
     entries: &Peers,
     owners: &mut Owners,
-) -> Result<bool, Memory> {
+) -> Result<(), Memory> {
     let key = name_of(b"block".as_slice());
-    let bytes = Bytes::copy_of(alloc, b"block".as_slice())?;
-    let mut machine = PutBlock::start(alloc, key, bytes, replicas, entries)?;
-    drive_put_block(out, &mut machine, alloc, owners)
+    let bytes = Bytes::copy_of(line.alloc, b"block".as_slice())?;
+    let mut machine = PutBlock::start(line.alloc, key, bytes, replicas, entries)?;
+    drive_put_block(line, &mut machine, owners)
 }
 
 /// Puts the head `head` under the name of `owner`.
 fn put_head(
-    out: &mut String,
-    alloc: Global,
+    line: &mut Line<'_>,
     replicas: u32,
     entries: &Peers,
     owners: &mut Owners,
-) -> Result<bool, Memory> {
+) -> Result<(), Memory> {
     let key = name_of(b"owner".as_slice());
-    let bytes = Bytes::copy_of(alloc, b"head".as_slice())?;
-    let mut machine = PutHead::start(alloc, key, bytes, replicas, entries)?;
-    drive_put_head(out, &mut machine, alloc, owners)
+    let bytes = Bytes::copy_of(line.alloc, b"head".as_slice())?;
+    let mut machine = PutHead::start(line.alloc, key, bytes, replicas, entries)?;
+    drive_put_head(line, &mut machine, owners)
 }
 
-/// Writes what the get or the put that a word names comes to; false where it comes to nothing, and where the word names
-/// none.
+/// Writes what the get or the put that a word names comes to. The error is want of memory, or that a machine goes on.
 fn put_end(
-    out: &mut String,
-    alloc: Global,
+    line: &mut Line<'_>,
     what: &str,
     replicas: u32,
+    entries: &Peers,
     owners: &mut Owners,
-) -> Result<bool, Memory> {
-    let entries = owners.entries(alloc)?;
+) -> Result<(), Memory> {
     match what {
-        "get-block" => get_block(out, alloc, replicas, &entries, owners),
-        "get-head" => get_head(out, alloc, replicas, &entries, owners),
-        "put-block" => put_block(out, alloc, replicas, &entries, owners),
-        "put-head" => put_head(out, alloc, replicas, &entries, owners),
-        _ => Ok(false),
+        "get-block" => get_block(line, replicas, entries, owners),
+        "get-head" => get_head(line, replicas, entries, owners),
+        "put-block" => put_block(line, replicas, entries, owners),
+        _ => put_head(line, replicas, entries, owners),
     }
 }
 
-/// Writes what the get or the put comes to, and the owners that were asked, over the owners of a word.
-fn put_trial(
-    out: &mut String,
-    alloc: Global,
-    what: &str,
-    replicas: u32,
-    word: &str,
-    owners: &mut Owners,
-) -> Option<()> {
-    owners.push(alloc, word)?;
-    if put_end(out, alloc, what, replicas, owners) != Ok(true) {
-        return None;
+/// Writes what the get or the put comes to, and the owners that were asked.
+fn put_trial(line: &mut Line<'_>, what: &str, replicas: u32, owners: &mut Owners) {
+    match owners.entries(line.alloc) {
+        Ok(entries) => {
+            let end = put_end(line, what, replicas, &entries, owners);
+            line.note(end.is_ok());
+        }
+        Err(_) => line.fail(),
     }
-    out.push_str("; asked ").ok()?;
-    put_peers(out, &owners.asked).ok()
+    line.put("; asked ");
+    line.put_peers(&owners.asked);
 }
 
-/// Writes the answer to a line that such a word begins, `None` for want of memory and where there is none.
-pub fn answer(out: &mut String, alloc: Global, what: &str, mut words: Words<'_>) -> Option<()> {
-    let replicas = words.number()?;
-    let word = words.word()?;
+/// Writes the answer to a line that such a word begins.
+pub fn answer(line: &mut Line<'_>, what: &str) {
+    let replicas = line.number();
+    let word = line.word();
     let mut owners = Owners {
-        owners: Vec::new(alloc),
-        asked: Vec::new(alloc),
+        owners: owners_of(line, word),
+        asked: Vec::new(line.alloc),
     };
-    put_trial(out, alloc, what, replicas, word, &mut owners)
+    put_trial(line, what, replicas, &mut owners);
 }

@@ -1,10 +1,9 @@
 //! A mesh of one node, asked by a client that knows no more of it than that it is a mesh.
 
-use crate::words::{Words, peer, put_answer};
+use crate::line::{Line, peer};
 use dht_ids::{Answer, Ask, Mesh, Peer, Peers, StoreFault};
 use ivy_base::{Key, Memory};
 use std::alloc::Global;
-use std::fmt::Write;
 
 /// A mesh of one node, which holds nothing.
 #[derive(Drop)]
@@ -42,30 +41,33 @@ impl Mesh for Lone {
     }
 }
 
-/// Writes the route that a node names, by any mesh.
-fn put_route<M: Mesh>(
-    out: &mut String,
+/// The route that the first of these nodes names, by any mesh.
+fn first_route<M: Mesh>(
     mesh: &mut M,
     alloc: Global,
-    node: &Peer,
+    entries: &Peers,
     key: Key,
-) -> Option<()> {
-    match mesh.ask(alloc, node, &Ask::Route(key)) {
-        Ok(answer) => put_answer(out, &answer).ok(),
-        Err(_) => None,
+) -> Result<Answer, Memory> {
+    match entries.as_slice().first() {
+        Some(node) => mesh.ask(alloc, node, &Ask::Route(key)),
+        None => Ok(Answer::Silent),
     }
 }
 
-/// Writes the route that the first node names, by any mesh.
-fn put_first_route<M: Mesh>(out: &mut String, mesh: &mut M, alloc: Global, key: Key) -> Option<()> {
-    let entries = mesh.entries(alloc).ok()?;
-    put_route(out, mesh, alloc, entries.as_slice().first()?, key)
+/// The route that the first node names, by any mesh.
+fn route<M: Mesh>(mesh: &mut M, alloc: Global, key: Key) -> Result<Answer, Memory> {
+    let entries = mesh.entries(alloc)?;
+    first_route(mesh, alloc, &entries, key)
 }
 
-/// Writes the answer to a line, `None` for want of memory and where there is none.
-pub fn answer(out: &mut String, alloc: Global, mut words: Words<'_>) -> Option<()> {
-    let key = words.key()?;
+/// Writes the answer to a line.
+pub fn answer(line: &mut Line<'_>) {
+    let key = line.key();
     let mut mesh = Lone(peer(0));
-    put_first_route(out, &mut mesh, alloc, key)?;
-    write!(out, " of {}", mesh.replicas()).ok()
+    match route(&mut mesh, line.alloc, key) {
+        Ok(answer) => line.put_answer(&answer),
+        Err(_) => line.fail(),
+    }
+    line.put(" of ");
+    line.put_number(mesh.replicas() as u64);
 }

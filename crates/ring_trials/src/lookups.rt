@@ -76,9 +76,8 @@ fn look_up_key(
     tally: &mut Tally,
 ) -> Result<(), Memory> {
     for entry in ring.live.as_slice() {
-        if let Some(course) = look_up(alloc, &ring.nodes, key, *entry)? {
-            tally.count(is_right(&course, ring, owners), course.asked.len());
-        }
+        let course = look_up(alloc, &ring.nodes, key, *entry)?;
+        tally.count(is_right(&course, ring, owners), course.asked.len());
     }
     Ok(())
 }

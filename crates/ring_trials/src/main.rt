@@ -42,6 +42,7 @@ mod circle;
 mod copies;
 mod course;
 mod gets;
+mod line;
 mod lone;
 mod lookups;
 mod one_node;
@@ -51,7 +52,6 @@ mod stores;
 mod strangers;
 mod table;
 mod trials;
-mod words;
 
 use dht_ids::Peer;
 use std::io;
@@ -70,9 +70,8 @@ fn main(rt: HostRuntime) -> io::Result<()> {
     let mut table = Table::new(rt.alloc());
     for line in rt.lines(rt.alloc()) {
         let line = line?;
-        let mut text = String::new(rt.alloc());
-        match table.answer(&mut text, rt.alloc(), line.as_str()) {
-            Some(()) => println!(rt; "{text}")?,
+        match table.answer(rt.alloc(), line.as_str()) {
+            Some(answer) => println!(rt; "{answer}")?,
             None => println!(rt; "no answer")?,
         }
     }

@@ -3,7 +3,7 @@
 ghost use Rattle.std.specs.Prelude.{◌≤◌};
 ghost use Rattle.chord_core.specs.State.{IsOfRing};
 
-use crate::words::{Words, put_answer};
+use crate::line::Line;
 use chord_core::Node;
 use dht_ids::{Answer, Ask, Peer, Peers};
 use std::alloc::Global;
@@ -21,137 +21,123 @@ fn settled(alloc: Global, me: Peer, replicas: u32, members: &Peers) -> Option<No
 }
 
 /// The node that a line makes.
-fn made(alloc: Global, how: &str, mut words: Words<'_>) -> Option<Node> {
-    let (me, replicas) = (words.peer()?, words.number()?);
-    if replicas == 0 || replicas > 8 {
+fn made(line: &mut Line<'_>, how: &str) -> Option<Node> {
+    let me = line.peer();
+    let replicas = line.number();
+    if !line.is_fine() || replicas == 0 || replicas > 8 {
         return None;
     }
     if how == "alone" {
-        Node::alone(alloc, me, replicas).ok()
+        Node::alone(line.alloc, me, replicas).ok()
     } else {
-        settled(alloc, me, replicas, &words.peers(alloc)?)
+        let members = line.peers();
+        settled(line.alloc, me, replicas, &members)
+    }
+}
+
+/// Begins anew, with the node that a line makes.
+fn make(line: &mut Line<'_>, node: &mut Option<Node>, how: &str) {
+    match made(line, how) {
+        Some(new) => *node = Some(new),
+        None => line.fail(),
     }
 }
 
 /// Has the node hear an answer to Near.
-fn hear_near(node: &mut Node, alloc: Global, mut words: Words<'_>) -> Option<()> {
-    let before = words.peers(alloc)?.as_slice().first().copied();
-    let list = words.peers(alloc)?;
-    node.stabilise(alloc, &Answer::Near { before, list }).ok()
-}
-
-/// Has the node fix a finger.
-fn fix_finger(node: &mut Node, mut words: Words<'_>) -> Option<()> {
-    let k = words.number()?;
-    let owner = words.peer()?;
-    if k == 0 || k > 160 {
-        return None;
+fn hear_near(line: &mut Line<'_>, node: &mut Node) {
+    let before = line.peers().as_slice().first().copied();
+    let list = line.peers();
+    if line.is_fine() {
+        let heard = node.stabilise(line.alloc, &Answer::Near { before, list });
+        line.note(heard.is_ok());
     }
-    node.fix_finger(k, owner);
-    Some(())
 }
 
 /// Has the node hear no answer.
-fn hear_silence(node: &mut Node, alloc: Global) -> Option<()> {
-    node.stabilise(alloc, &Answer::Silent).ok()
+fn hear_silence(line: &mut Line<'_>, node: &mut Node) {
+    let heard = node.stabilise(line.alloc, &Answer::Silent);
+    line.note(heard.is_ok());
 }
 
 /// Has the node hear that another takes itself for its predecessor.
-fn notify(node: &mut Node, mut words: Words<'_>) -> Option<()> {
-    node.notify(words.peer()?);
-    Some(())
-}
-
-/// Has the node forget its predecessor.
-fn forget(node: &mut Node) -> Option<()> {
-    node.forget();
-    Some(())
+fn notify(line: &mut Line<'_>, node: &mut Node) {
+    let peer = line.peer();
+    if line.is_fine() {
+        node.notify(peer);
+    }
 }
 
 /// Has the node take a list.
-fn adopt(node: &mut Node, alloc: Global, mut words: Words<'_>) -> Option<()> {
-    let list = words.peers(alloc)?;
-    node.adopt(alloc, &list).ok()
+fn adopt(line: &mut Line<'_>, node: &mut Node) {
+    let list = line.peers();
+    if line.is_fine() {
+        let adopted = node.adopt(line.alloc, &list);
+        line.note(adopted.is_ok());
+    }
+}
+
+/// Has the node fix a finger.
+fn fix_finger(line: &mut Line<'_>, node: &mut Node) {
+    let k = line.number();
+    let owner = line.peer();
+    if !line.is_fine() || k == 0 || k > 160 {
+        return line.fail();
+    }
+    node.fix_finger(k, owner);
 }
 
 /// Has the node hear or take what the line says.
-fn change(node: &mut Node, alloc: Global, how: &str, words: Words<'_>) -> Option<()> {
+fn change(line: &mut Line<'_>, node: &mut Node, how: &str) {
     match how {
-        "near" => hear_near(node, alloc, words),
-        "silent" => hear_silence(node, alloc),
-        "notify" => notify(node, words),
-        "forget" => forget(node),
-        "adopt" => adopt(node, alloc, words),
-        "finger" => fix_finger(node, words),
-        _ => None,
+        "near" => hear_near(line, node),
+        "silent" => hear_silence(line, node),
+        "notify" => notify(line, node),
+        "forget" => node.forget(),
+        "adopt" => adopt(line, node),
+        "finger" => fix_finger(line, node),
+        _ => line.fail(),
     }
 }
 
 /// Writes what the node answers.
-fn put_answered(out: &mut String, node: &Node, alloc: Global, ask: &Ask) -> Option<()>
+fn put_answered(line: &mut Line<'_>, node: &Node, ask: &Ask)
     requires { IsOfRing ask.now }
 {
-    match node.answer(alloc, ask) {
-        Ok(answer) => put_answer(out, &answer).ok(),
-        Err(_) => None,
+    match node.answer(line.alloc, ask) {
+        Ok(answer) => line.put_answer(&answer),
+        Err(_) => line.fail(),
     }
-}
-
-/// Writes what the node answers to Near.
-fn put_near(out: &mut String, node: &Node, alloc: Global) -> Option<()> {
-    put_answered(out, node, alloc, &Ask::Near)
 }
 
 /// Writes what the node answers to Route.
-fn put_route(out: &mut String, node: &Node, alloc: Global, mut words: Words<'_>) -> Option<()> {
-    let key = words.key()?;
-    put_answered(out, node, alloc, &Ask::Route(key))
-}
-
-/// Begins anew, with the node that a line makes.
-fn make(node: &mut Option<Node>, alloc: Global, how: &str, words: Words<'_>) -> Option<()> {
-    *node = Some(made(alloc, how, words)?);
-    Some(())
+fn put_route(line: &mut Line<'_>, node: &Node) {
+    let key = line.key();
+    put_answered(line, node, &Ask::Route(key));
 }
 
 /// Has the node hear or take what the line says, and writes what it then answers to Near.
-fn put_changed(
-    out: &mut String,
-    node: &mut Node,
-    alloc: Global,
-    how: &str,
-    words: Words<'_>,
-) -> Option<()> {
-    change(node, alloc, how, words)?;
-    put_near(out, node, alloc)
+fn put_changed(line: &mut Line<'_>, node: &mut Node, how: &str) {
+    change(line, node, how);
+    put_answered(line, node, &Ask::Near);
 }
 
-/// Writes what the node answers to a line, where there is a node.
-fn put_known(
-    out: &mut String,
-    node: Option<&mut Node>,
-    alloc: Global,
-    how: &str,
-    words: Words<'_>,
-) -> Option<()> {
-    let node = node?;
+/// Writes what the node answers to a line.
+fn put_known(line: &mut Line<'_>, node: &mut Node, how: &str) {
     match how {
-        "route" => put_route(out, node, alloc, words),
-        "alone" | "settled" => put_near(out, node, alloc),
-        _ => put_changed(out, node, alloc, how, words),
+        "route" => put_route(line, node),
+        "alone" | "settled" => put_answered(line, node, &Ask::Near),
+        _ => put_changed(line, node, how),
     }
 }
 
-/// Writes the answer to a line, `None` for want of memory and where there is none.
-pub fn answer(
-    node: &mut Option<Node>,
-    out: &mut String,
-    alloc: Global,
-    mut words: Words<'_>,
-) -> Option<()> {
-    let how = words.word()?;
+/// Writes the answer to a line.
+pub fn answer(line: &mut Line<'_>, node: &mut Option<Node>) {
+    let how = line.word();
     if matches!(how, "alone" | "settled") {
-        make(node, alloc, how, words)?;
+        make(line, node, how);
     }
-    put_known(out, node.as_mut(), alloc, how, words)
+    match node {
+        Some(node) => put_known(line, node, how),
+        None => line.fail(),
+    }
 }

@@ -3,7 +3,7 @@
 ghost use Rattle.std.specs.Prelude.{◌≤◌};
 ghost use Rattle.chord_core.specs.State.{IsOfRing};
 
-use crate::words::{place, push_numbered};
+use crate::line::{place, push_numbered};
 use chord_core::Node;
 use dht_ids::{Answer, Ask, Peer, Peers, distance, order};
 use ivy_base::{Key, Memory};
@@ -33,6 +33,16 @@ fn ascending(mut peers: Vec<Peer>) -> Peers {
     Peers::of(peers)
 }
 
+/// Adds the nodes of a settled ring of these members.
+fn settle(alloc: Global, nodes: &mut Nodes, live: &Peers, replicas: u32) -> Result<(), Memory>
+    requires { (1 ≤ replicas) × (replicas ≤ 8) }
+{
+    for peer in live.as_slice() {
+        nodes.insert(peer.number, Node::settled(alloc, *peer, replicas, live)?)?;
+    }
+    Ok(())
+}
+
 impl Ring {
     /// A settled ring of these members. R is 1 to 8.
     pub fn settled(alloc: Global, members: Vec<Peer>, replicas: u32) -> Result<Ring, Memory>
@@ -40,9 +50,7 @@ impl Ring {
     {
         let live = ascending(members);
         let mut nodes = BTreeMap::new(alloc);
-        for peer in live.as_slice() {
-            nodes.insert(peer.number, Node::settled(alloc, *peer, replicas, &live)?)?;
-        }
+        settle(alloc, &mut nodes, &live, replicas)?;
         Ok(Ring { live, nodes })
     }
 
@@ -71,10 +79,10 @@ impl Ring {
 
     /// Adds a node that is no member.
     pub fn add(&mut self, alloc: Global, peer: Peer, node: Node) -> Result<(), Memory> {
+        self.nodes.insert(peer.number, node)?;
         let mut live = self.live.as_slice().to_vec(alloc)?;
         live.push(peer)?;
         self.live = ascending(live);
-        self.nodes.insert(peer.number, node)?;
         Ok(())
     }
 

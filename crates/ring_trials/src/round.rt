@@ -3,9 +3,9 @@
 ghost use Rattle.std.specs.Prelude.{◌≤◌};
 
 use crate::course::look_up;
+use crate::line::peer;
 use crate::lookups::key;
 use crate::ring::{Nodes, Ring};
-use crate::words::peer;
 use chord_core::Node;
 use dht_ids::{Answer, Ask, Peer, Peers, finger_start};
 use ivy_base::{Key, Memory};
@@ -34,6 +34,14 @@ fn first_of(nodes: &Nodes, me: Peer) -> Option<Peer> {
     nodes.get(&me.number)?.list().as_slice().first().copied()
 }
 
+/// Has the node hear no answer of the first of its list.
+fn hear_silence(alloc: Global, nodes: &mut Nodes, me: Peer) -> Result<(), Memory> {
+    match nodes.get_mut(&me.number) {
+        Some(node) => node.stabilise(alloc, &Answer::Silent),
+        None => Ok(()),
+    }
+}
+
 /// Has the node drop the stopped entries at the head of its list, and gives the first that lives.
 fn first_live(alloc: Global, nodes: &mut Nodes, me: Peer) -> Result<Option<Peer>, Memory> {
     let Some(node) = nodes.get(&me.number) else {
@@ -46,9 +54,7 @@ fn first_live(alloc: Global, nodes: &mut Nodes, me: Peer) -> Result<Option<Peer>
         if nodes.contains_key(&first.number) {
             return Ok(Some(first));
         }
-        if let Some(node) = nodes.get_mut(&me.number) {
-            node.stabilise(alloc, &Answer::Silent)?;
-        }
+        hear_silence(alloc, nodes, me)?;
     }
     Ok(None)
 }
@@ -85,10 +91,8 @@ fn renew(alloc: Global, nodes: &mut Nodes, me: Peer) -> Result<(), Memory> {
 
 /// The owner of a key, by a look-up from the node.
 fn owner_of(alloc: Global, nodes: &Nodes, key: Key, me: Peer) -> Result<Option<Peer>, Memory> {
-    match look_up(alloc, nodes, key, me)? {
-        Some(course) => Ok(course.owner()),
-        None => Ok(None),
-    }
+    let course = look_up(alloc, nodes, key, me)?;
+    Ok(course.owner())
 }
 
 /// Has the node fix a finger by a look-up from itself.
@@ -138,9 +142,7 @@ fn find_list(alloc: Global, nodes: &Nodes, node: &mut Node, me: Peer) -> Result<
     let Some(entry) = least_number(nodes) else {
         return Ok(());
     };
-    let Some(course) = look_up(alloc, nodes, me.id, peer(entry))? else {
-        return Ok(());
-    };
+    let course = look_up(alloc, nodes, me.id, peer(entry))?;
     match &course.found {
         Ok(owners) => node.adopt(alloc, owners),
         Err(_) => Ok(()),
@@ -175,11 +177,16 @@ fn are_one_route(answer: &Answer, other: &Answer) -> bool {
     }
 }
 
+/// Whether the node answers so to Route.
+fn has_route(alloc: Global, node: &Node, key: Key, answer: &Answer) -> Result<bool, Memory> {
+    let other = node.answer(alloc, &Ask::Route(key))?;
+    Ok(are_one_route(answer, &other))
+}
+
 /// Whether both nodes answer the same to Route.
 fn is_same_route(alloc: Global, node: &Node, other: &Node, key: Key) -> Result<bool, Memory> {
-    let ask = Ask::Route(key);
-    let answer = node.answer(alloc, &ask)?;
-    Ok(are_one_route(&answer, &other.answer(alloc, &ask)?))
+    let answer = node.answer(alloc, &Ask::Route(key))?;
+    has_route(alloc, other, key, &answer)
 }
 
 /// Whether both states of the node have one list and one predecessor, and answer the same for a few keys and for the
@@ -196,12 +203,19 @@ fn is_same(alloc: Global, me: Peer, node: &Node, other: &Node) -> Result<bool, M
     is_same_route(alloc, node, other, me.id)
 }
 
+/// Whether the node is the same in both rings.
+fn is_alike(alloc: Global, me: Peer, nodes: &Nodes, others: &Nodes) -> Result<bool, Memory> {
+    match (nodes.get(&me.number), others.get(&me.number)) {
+        (Some(node), Some(other)) => is_same(alloc, me, node, other),
+        _ => Ok(false),
+    }
+}
+
 /// Whether each live node of the ring is as in another.
 fn is_like(alloc: Global, ring: &Ring, other: &Ring) -> Result<bool, Memory> {
     for me in ring.live.as_slice() {
-        match (ring.nodes.get(&me.number), other.nodes.get(&me.number)) {
-            (Some(node), Some(other)) if is_same(alloc, *me, node, other)? => {}
-            _ => return Ok(false),
+        if !is_alike(alloc, *me, &ring.nodes, &other.nodes)? {
+            return Ok(false);
         }
     }
     Ok(true)

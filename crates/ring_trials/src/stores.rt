@@ -1,10 +1,10 @@
 //! What a store holds and refuses.
 
-use crate::words::{Words, put_bytes, put_posts};
+use crate::line::Line;
 use dht_ids::{Judge, Judged};
-use ivy_base::{Key, name_of};
+use ivy_base::{Bytes, Key, name_of};
 use node_store::{PutFault, Store};
-use std::alloc::{AllocError, Global};
+use std::alloc::Global;
 use std::fmt::Write;
 
 /// A judge to whom the number of a head is its first byte, and a head of the number 0 is none.
@@ -29,64 +29,70 @@ impl Judge for FirstByte {
 }
 
 /// Writes what a put came to.
-fn put_end(out: &mut String, end: Result<(), PutFault>) -> Result<(), AllocError> {
+fn put_end(line: &mut Line<'_>, end: Result<(), PutFault>) {
     match end {
-        Ok(()) => out.push_str("stored"),
-        Err(fault) => write!(out, "{fault}"),
+        Ok(()) => line.put("stored"),
+        Err(fault) => {
+            let written = write!(line.text, "{fault}");
+            line.note(written.is_ok());
+        }
     }
 }
 
 /// Puts a block, and writes what that came to.
-fn put_block(
-    out: &mut String,
-    store: &mut Store,
-    alloc: Global,
-    key: &Key,
-    bytes: &[u8],
-) -> Option<()> {
-    put_end(out, store.put_block(alloc, key, bytes)).ok()
+fn put_block(line: &mut Line<'_>, store: &mut Store, key: &Key, bytes: &[u8]) {
+    if line.is_fine() {
+        let end = store.put_block(line.alloc, key, bytes);
+        put_end(line, end);
+    }
 }
 
 /// Puts a head, and writes what that came to.
-fn put_head(
-    out: &mut String,
-    store: &mut Store,
-    alloc: Global,
-    key: &Key,
-    bytes: &[u8],
-) -> Option<()> {
-    put_end(out, store.put_head(alloc, &FirstByte, key, bytes)).ok()
+fn put_head(line: &mut Line<'_>, store: &mut Store, key: &Key, bytes: &[u8]) {
+    if line.is_fine() {
+        let end = store.put_head(line.alloc, &FirstByte, key, bytes);
+        put_end(line, end);
+    }
 }
 
 /// Writes the bytes that the key holds.
-fn put_held(out: &mut String, store: &Store, key: &Key) -> Result<(), AllocError> {
+fn put_held(line: &mut Line<'_>, store: &Store, key: &Key) {
     match store.get(key) {
-        Some(bytes) => put_bytes(out, bytes),
-        None => out.push_str("nothing"),
+        Some(bytes) => line.put_bytes(bytes),
+        None => line.put("nothing"),
     }
 }
 
 /// Writes all that is held, with how it was put.
-fn put_all(out: &mut String, store: &Store, alloc: Global) -> Option<()> {
-    match store.held(alloc) {
-        Ok(posts) => put_posts(out, posts.as_slice()).ok(),
-        Err(_) => None,
+fn put_all(line: &mut Line<'_>, store: &Store) {
+    match store.held(line.alloc) {
+        Ok(posts) => line.put_posts(posts.as_slice()),
+        Err(_) => line.fail(),
     }
 }
 
 /// So many bytes, each of the same number, as two words say.
-fn row(alloc: Global, mut words: Words<'_>) -> Option<Vec<u8>> {
-    let byte = words.byte()?;
-    let count = words.number()?;
-    vec![in alloc; byte; count as usize].ok()
+fn row(line: &mut Line<'_>) -> Bytes {
+    let byte = line.byte();
+    let count = line.number();
+    match vec![in line.alloc; byte; count as usize] {
+        Ok(row) => Bytes::of(row),
+        Err(_) => {
+            line.fail();
+            Bytes::of(Vec::new(line.alloc))
+        }
+    }
 }
 
 /// Spoils a byte, and writes whether it was there.
-fn spoil(out: &mut String, store: &mut Store, mut words: Words<'_>) -> Option<()> {
-    let key = words.key()?;
-    let offset: u64 = words.word()?.parse().ok()?;
-    let spoilt = store.spoil(&key, offset, words.byte()?);
-    write!(out, "{spoilt}").ok()
+fn spoil(line: &mut Line<'_>, store: &mut Store) {
+    let key = line.key();
+    let offset = line.word().parse::<u64>();
+    let byte = line.byte();
+    match offset {
+        Ok(offset) if line.is_fine() => line.put_truth(store.spoil(&key, offset, byte)),
+        _ => line.fail(),
+    }
 }
 
 /// Begins anew, with no blocks.
@@ -94,84 +100,61 @@ fn empty(store: &mut Store, alloc: Global) {
     *store = Store::new(alloc);
 }
 
-/// Begins anew, and writes all that is held.
-fn put_new(out: &mut String, store: &mut Store, alloc: Global) -> Option<()> {
-    empty(store, alloc);
-    put_all(out, store, alloc)
+/// Puts the block of a key and bytes.
+fn put_words(line: &mut Line<'_>, store: &mut Store) {
+    let key = line.key();
+    let bytes = line.bytes();
+    put_block(line, store, &key, bytes.as_slice());
 }
 
-/// Puts the block of two words, a key and bytes.
-fn put_words(
-    out: &mut String,
-    store: &mut Store,
-    alloc: Global,
-    mut words: Words<'_>,
-) -> Option<()> {
-    let key = words.key()?;
-    let bytes = words.bytes(alloc)?;
-    put_block(out, store, alloc, &key, bytes.as_slice())
+/// Puts the head of a key and bytes.
+fn put_head_words(line: &mut Line<'_>, store: &mut Store) {
+    let key = line.key();
+    let bytes = line.bytes();
+    put_head(line, store, &key, bytes.as_slice());
 }
 
-/// Puts the head of two words, a key and bytes.
-fn put_head_words(
-    out: &mut String,
-    store: &mut Store,
-    alloc: Global,
-    mut words: Words<'_>,
-) -> Option<()> {
-    let key = words.key()?;
-    let bytes = words.bytes(alloc)?;
-    put_head(out, store, alloc, &key, bytes.as_slice())
+/// Puts a row as a block under its name.
+fn put_row(line: &mut Line<'_>, store: &mut Store) {
+    let bytes = row(line);
+    let key = name_of(bytes.as_slice());
+    put_block(line, store, &key, bytes.as_slice());
 }
 
-/// Puts the row of two words as a block under its name.
-fn put_row(out: &mut String, store: &mut Store, alloc: Global, words: Words<'_>) -> Option<()> {
-    let bytes = row(alloc, words)?;
-    put_block(out, store, alloc, &name_of(&bytes), &bytes)
+/// Puts a row as a head under the key before it.
+fn put_head_row(line: &mut Line<'_>, store: &mut Store) {
+    let key = line.key();
+    let bytes = row(line);
+    put_head(line, store, &key, bytes.as_slice());
 }
 
-/// Puts the row of two words as a head under the key of a word before them.
-fn put_head_row(
-    out: &mut String,
-    store: &mut Store,
-    alloc: Global,
-    mut words: Words<'_>,
-) -> Option<()> {
-    let key = words.key()?;
-    let bytes = row(alloc, words)?;
-    put_head(out, store, alloc, &key, &bytes)
+/// Drops the block under a key, and writes what that holds then.
+fn put_dropped(line: &mut Line<'_>, store: &mut Store) {
+    let key = line.key();
+    if line.is_fine() {
+        store.drop_block(&key);
+    }
+    put_held(line, store, &key);
 }
 
-/// Writes the bytes that the key of a word holds.
-fn put_gotten(out: &mut String, store: &Store, mut words: Words<'_>) -> Option<()> {
-    let key = words.key()?;
-    put_held(out, store, &key).ok()
-}
-
-/// Drops the block under the key of a word, and writes what that holds then.
-fn put_dropped(out: &mut String, store: &mut Store, mut words: Words<'_>) -> Option<()> {
-    let key = words.key()?;
-    store.drop_block(&key);
-    put_held(out, store, &key).ok()
-}
-
-/// Writes the answer to a line, `None` for want of memory and where there is none.
-pub fn answer(
-    store: &mut Store,
-    out: &mut String,
-    alloc: Global,
-    mut words: Words<'_>,
-) -> Option<()> {
-    match words.word()? {
-        "new" => put_new(out, store, alloc),
-        "put" => put_words(out, store, alloc, words),
-        "head" => put_head_words(out, store, alloc, words),
-        "put-row" => put_row(out, store, alloc, words),
-        "head-row" => put_head_row(out, store, alloc, words),
-        "get" => put_gotten(out, store, words),
-        "drop" => put_dropped(out, store, words),
-        "spoil" => spoil(out, store, words),
-        "held" => put_all(out, store, alloc),
-        _ => None,
+/// Writes the answer to a line.
+pub fn answer(line: &mut Line<'_>, store: &mut Store) {
+    match line.word() {
+        "new" => {
+            empty(store, line.alloc);
+            put_all(line, store);
+        }
+        "put" => put_words(line, store),
+        "head" => put_head_words(line, store),
+        "put-row" => put_row(line, store),
+        "head-row" => put_head_row(line, store),
+        "get" => {
+            let key = line.key();
+            put_held(line, store, &key);
+        }
+        "drop" => put_dropped(line, store),
+        "spoil" => spoil(line, store),
+        "held" => put_all(line, store),
+        _ => line.fail(),
     }
 }

@@ -1,12 +1,12 @@
 //! Look-ups over nodes that answer without a ring.
 
 use crate::course::{Course, Others, drive};
-use crate::words::{Words, peer, push_numbered, put_key, put_named_peers};
+use crate::gets::put_miss;
+use crate::line::{Line, peer, push_numbered};
 use dhash_client::Miss;
 use dht_ids::{Answer, Peer, Peers, node_id};
 use ivy_base::{Key, Memory};
-use std::alloc::{AllocError, Global};
-use std::fmt::Write;
+use std::alloc::Global;
 
 /// What the nodes answer.
 #[derive(Clone, Copy)]
@@ -73,53 +73,58 @@ impl Strangers {
 }
 
 /// Writes what was found.
-fn put_found(out: &mut String, found: &Result<Peers, Miss>) -> Result<(), AllocError> {
+fn put_found(line: &mut Line<'_>, found: &Result<Peers, Miss>) {
     match found {
-        Ok(owners) => put_named_peers(out, "owners ", owners.as_slice()),
-        Err(Miss::NoRoute(key)) => {
-            out.push_str("no route to ")?;
-            put_key(out, key)
+        Ok(owners) => {
+            line.put("owners ");
+            line.put_peers(owners.as_slice());
         }
-        Err(_) => out.push_str("another miss"),
+        Err(miss) => put_miss(line, miss),
     }
 }
 
 /// Writes what a look-up came to.
-fn put_course(out: &mut String, course: &Course) -> Result<(), AllocError> {
-    put_found(out, &course.found)?;
-    write!(out, ", {} asked, ", course.asked.len())?;
-    out.push_str(if course.asked_twice() {
-        "one twice"
+fn put_course(line: &mut Line<'_>, course: &Course) {
+    put_found(line, &course.found);
+    line.put(", ");
+    line.put_number(course.asked.len() as u64);
+    line.put(if course.asked_twice() {
+        " asked, one twice"
     } else {
-        "none twice"
-    })
+        " asked, none twice"
+    });
 }
 
 /// The strangers of a word.
-fn strangers_of(word: &str) -> Option<Strangers> {
-    match word {
-        "nobody" => Some(Strangers::Nobody),
-        "muddled" => Some(Strangers::Muddled),
-        "echoes" => Some(Strangers::Echoes),
-        "crowd" => Some(Strangers::Crowd),
-        "blank" => Some(Strangers::Blank),
-        _ => None,
+fn strangers_of(line: &mut Line<'_>) -> Strangers {
+    match line.word() {
+        "nobody" => Strangers::Nobody,
+        "muddled" => Strangers::Muddled,
+        "echoes" => Strangers::Echoes,
+        "crowd" => Strangers::Crowd,
+        "blank" => Strangers::Blank,
+        _ => {
+            line.fail();
+            Strangers::Nobody
+        }
     }
 }
 
-/// Writes what a look-up from so many strangers comes to.
-fn put_trial(out: &mut String, alloc: Global, who: Strangers, count: u32, key: Key) -> Option<()> {
-    let entries = peers(alloc, 0, count).ok()?;
-    match drive(alloc, key, &entries, &Others::Strangers(who)) {
-        Ok(Some(course)) => put_course(out, &course).ok(),
-        _ => None,
-    }
+/// What a look-up from so many strangers comes to.
+fn course(alloc: Global, who: Strangers, count: u32, key: Key) -> Result<Course, Memory> {
+    let entries = peers(alloc, 0, count)?;
+    drive(alloc, key, &entries, &Others::Strangers(who))
 }
 
-/// Writes the answer to a line, `None` for want of memory and where there is none.
-pub fn answer(out: &mut String, alloc: Global, mut words: Words<'_>) -> Option<()> {
-    let who = strangers_of(words.word()?)?;
-    let count = words.number()?;
-    let key = node_id(words.number()?);
-    put_trial(out, alloc, who, count, key)
+/// Writes the answer to a line.
+pub fn answer(line: &mut Line<'_>) {
+    let who = strangers_of(line);
+    let count = line.number();
+    let key = node_id(line.number());
+    if line.is_fine() {
+        match course(line.alloc, who, count, key) {
+            Ok(course) => put_course(line, &course),
+            Err(_) => line.fail(),
+        }
+    }
 }

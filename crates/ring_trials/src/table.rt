@@ -1,6 +1,6 @@
 //! What the lines change.
 
-use crate::words::Words;
+use crate::line::Line;
 use crate::{caches, circle, copies, gets, lone, one_node, stores, strangers, trials};
 use block_cache::BlockCache;
 use chord_core::Node;
@@ -25,21 +25,27 @@ impl Table {
         }
     }
 
-    /// Writes the answer to a line, `None` for want of memory and where the line asks nothing.
-    pub fn answer(&mut self, out: &mut String, alloc: Global, line: &str) -> Option<()> {
-        let mut words = Words::of(line, ' ');
-        match words.word()? {
-            "circle" => circle::answer(out, words),
-            "copy" => copies::answer(out, alloc, words),
-            "mesh" => lone::answer(out, alloc, words),
-            "node" => one_node::answer(&mut self.node, out, alloc, words),
-            "strangers" => strangers::answer(out, alloc, words),
-            "store" => stores::answer(&mut self.store, out, alloc, words),
-            "cache" => caches::answer(&mut self.cache, out, alloc, words),
+    /// Writes the answer to a line of that text.
+    fn put_answer(&mut self, line: &mut Line<'_>, text: &str) {
+        match line.word() {
+            "circle" => circle::answer(line),
+            "copy" => copies::answer(line),
+            "mesh" => lone::answer(line),
+            "node" => one_node::answer(line, &mut self.node),
+            "strangers" => strangers::answer(line),
+            "store" => stores::answer(line, &mut self.store),
+            "cache" => caches::answer(line, &mut self.cache),
             what @ ("get-block" | "get-head" | "put-block" | "put-head") => {
-                gets::answer(out, alloc, what, words)
+                gets::answer(line, what);
             }
-            trial => trials::answer(out, alloc, line, trial, words),
+            trial => trials::answer(line, text, trial),
         }
+    }
+
+    /// The answer to a line, `None` for want of memory and where the line asks nothing.
+    pub fn answer(&mut self, alloc: Global, text: &str) -> Option<String> {
+        let mut line = Line::new(alloc, text);
+        self.put_answer(&mut line, text);
+        line.answer()
     }
 }

@@ -2,18 +2,20 @@
 
 ghost use Rattle.std.specs.Prelude.{◌≤◌};
 
+use crate::line::Line;
 use crate::lookups::{Tally, look_up_keys};
 use crate::ring::Ring;
 use crate::round::{is_settled, join, round};
-use crate::words::Words;
 use ivy_base::Memory;
-use std::alloc::{AllocError, Global};
-use std::fmt::Write;
 
 /// Writes what look-ups came to.
-fn put_tally(out: &mut String, tally: Tally) -> Result<(), AllocError> {
-    write!(out, ": {} right, most asks {}", tally.right, tally.most)?;
-    write!(out, ", asks in all {}", tally.asks)
+fn put_tally(line: &mut Line<'_>, tally: Tally) {
+    line.put(": ");
+    line.put_number(tally.right);
+    line.put(" right, most asks ");
+    line.put_number(tally.most as u64);
+    line.put(", asks in all ");
+    line.put_number(tally.asks);
 }
 
 /// What is done with a settled ring.
@@ -28,25 +30,25 @@ enum Trial {
 }
 
 /// The trial that a word names, of the number that stands behind R and of the words after it.
-fn trial_of(word: &str, number: u32, mut words: Words<'_>) -> Option<Trial> {
+fn trial_of(line: &mut Line<'_>, word: &str, number: u32) -> Trial {
     match word {
-        "lookups" => Some(Trial::Lookups {
+        "lookups" => Trial::Lookups {
             keys: number,
             stopped: 0,
-        }),
-        "stopped" => {
-            let stopped = words.number()?;
-            Some(Trial::Lookups {
-                keys: number,
-                stopped,
-            })
+        },
+        "stopped" => Trial::Lookups {
+            keys: number,
+            stopped: line.number(),
+        },
+        "round" => Trial::Round { stopped: number },
+        "join" => Trial::Join {
+            number,
+            passes: line.number(),
+        },
+        _ => {
+            line.fail();
+            Trial::Round { stopped: 0 }
         }
-        "round" => Some(Trial::Round { stopped: number }),
-        "join" => {
-            let passes = words.number()?;
-            Some(Trial::Join { number, passes })
-        }
-        _ => None,
     }
 }
 
@@ -62,36 +64,34 @@ fn is_possible(trial: Trial, size: u32, replicas: u32) -> bool {
 
 /// Writes what look-ups come to in a ring whose nodes 1 to `stopped` stop.
 fn lookups(
-    out: &mut String,
-    alloc: Global,
+    line: &mut Line<'_>,
     ring: &mut Ring,
     replicas: u32,
     keys: u32,
     stopped: u32,
 ) -> Result<(), Memory> {
-    ring.stop(alloc, stopped)?;
-    let tally = look_up_keys(alloc, ring, replicas, keys)?;
-    put_tally(out, tally)?;
+    ring.stop(line.alloc, stopped)?;
+    let tally = look_up_keys(line.alloc, ring, replicas, keys)?;
+    put_tally(line, tally);
     Ok(())
 }
 
 /// Writes how a ring stands after a round with that many passes.
 fn after_round(
-    out: &mut String,
-    alloc: Global,
+    line: &mut Line<'_>,
     ring: &mut Ring,
     replicas: u32,
     passes: u32,
 ) -> Result<(), Memory>
     requires { (1 ≤ replicas) × (replicas ≤ 8) }
 {
-    round(alloc, ring, passes)?;
-    let word = if is_settled(alloc, ring, replicas)? {
+    round(line.alloc, ring, passes)?;
+    let settled = is_settled(line.alloc, ring, replicas)?;
+    line.put(if settled {
         ": settled"
     } else {
         ": not settled"
-    };
-    out.push_str(word)?;
+    });
     Ok(())
 }
 
@@ -105,57 +105,40 @@ fn passes_of(replicas: u32, passes: u32) -> u32 {
 }
 
 /// Writes what the trial comes to in a settled ring.
-fn put_end(
-    out: &mut String,
-    alloc: Global,
-    ring: &mut Ring,
-    replicas: u32,
-    trial: Trial,
-) -> Result<(), Memory>
+fn put_end(line: &mut Line<'_>, ring: &mut Ring, replicas: u32, trial: Trial) -> Result<(), Memory>
     requires { (1 ≤ replicas) × (replicas ≤ 8) }
 {
     match trial {
-        Trial::Lookups { keys, stopped } => lookups(out, alloc, ring, replicas, keys, stopped),
+        Trial::Lookups { keys, stopped } => lookups(line, ring, replicas, keys, stopped),
         Trial::Round { stopped } => {
-            ring.stop(alloc, stopped)?;
-            after_round(out, alloc, ring, replicas, passes_of(replicas, 0))
+            ring.stop(line.alloc, stopped)?;
+            after_round(line, ring, replicas, passes_of(replicas, 0))
         }
         Trial::Join { number, passes } => {
-            join(alloc, ring, number, replicas)?;
-            after_round(out, alloc, ring, replicas, passes_of(replicas, passes))
+            join(line.alloc, ring, number, replicas)?;
+            after_round(line, ring, replicas, passes_of(replicas, passes))
         }
     }
 }
 
 /// Writes what the trial comes to in a settled ring of that many nodes.
-fn put_trial(
-    out: &mut String,
-    alloc: Global,
-    size: u32,
-    replicas: u32,
-    trial: Trial,
-) -> Result<(), Memory>
+fn put_trial(line: &mut Line<'_>, size: u32, replicas: u32, trial: Trial) -> Result<(), Memory>
     requires { (1 ≤ replicas) × (replicas ≤ 8) }
 {
-    let mut ring = Ring::of_size(alloc, size, replicas)?;
-    put_end(out, alloc, &mut ring, replicas, trial)
+    let mut ring = Ring::of_size(line.alloc, size, replicas)?;
+    put_end(line, &mut ring, replicas, trial)
 }
 
-/// Writes the answer to a line, `None` for want of memory and where the line asks nothing.
-pub fn answer(
-    out: &mut String,
-    alloc: Global,
-    line: &str,
-    word: &str,
-    mut words: Words<'_>,
-) -> Option<()> {
-    let size = words.number()?;
-    let replicas = words.number()?;
-    let number = words.number()?;
-    let trial = trial_of(word, number, words)?;
-    if replicas == 0 || replicas > 8 || !is_possible(trial, size, replicas) {
-        return None;
+/// Writes the answer to a line of that text, which such a word begins.
+pub fn answer(line: &mut Line<'_>, text: &str, word: &str) {
+    let size = line.number();
+    let replicas = line.number();
+    let number = line.number();
+    let trial = trial_of(line, word, number);
+    if !line.is_fine() || replicas == 0 || replicas > 8 || !is_possible(trial, size, replicas) {
+        return line.fail();
     }
-    out.push_str(line).ok()?;
-    put_trial(out, alloc, size, replicas, trial).ok()
+    line.put(text);
+    let end = put_trial(line, size, replicas, trial);
+    line.note(end.is_ok());
 }
