@@ -119,18 +119,25 @@ fn step<T: Turns<MemKeeper, Hss>>(
     requires goes_on { GoesOn judges (T.view turns.now pass.old) session.old }
     ensures { result ≡ Some None → GoesOn judges (T.view turns.now pass.new) session.new }
 {
-    let shown = match next(cache, session) {
-        Next::Ask(node, question) => ask(alloc, table, cache, session, &node, &question, text),
+    match next(cache, session) {
+        Next::Ask(node, question) => {
+            let shown = ask(alloc, table, cache, session, &node, &question, text);
+            return went(shown);
+        }
         Next::Turn(refresh) => {
             turn(alloc, turns, pass, session, refresh, now);
-            show_turn(text)
+            return went(show_turn(text));
         }
         Next::Settle(acks) => {
             turns.settle(pass, &acks);
-            show_settled(text, &acks)
+            return went(show_settled(text, &acks));
         }
         Next::Done(served) => return Some(Some(served)),
-    };
+    }
+}
+
+/// A step that went on, where it could be told.
+fn went(shown: Option<()>) -> Option<Option<Served>> {
     match shown {
         Some(()) => Some(None),
         None => None,

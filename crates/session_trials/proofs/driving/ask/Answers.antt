@@ -4,6 +4,6 @@ use Rattle.session_trials.proofs.driving.ask.Goals as goal
 
 pub returns : goal.returns
 returns c = λ view may. record {
-  under_way = heard_under_way judges view c.args.session.now c.heard.new.self may.under_way c.args.cache.now c.heard.new.cache c.args.answer may.waits c.heard.ensures.heard;
+  under_way = heard_under_way judges view c.args.session.now c.heard.new.self may.under_way c.args.cache.now c.heard.new.cache c.answer-answer.result may.waits c.heard.ensures.heard;
   no_turn = c.heard.ensures.turning;
 }

@@ -6,14 +6,14 @@ use Rattle.session_trials.proofs.driving.step.Goals as goal
 pub next-requires : goal.next-requires
 next-requires g c = (g.T.Turns.view c.args.turns.now c.args.pass.now, c.requires.goes_on)
 
-pub ask-requires : goal.ask-requires
-ask-requires g c = (c.in-Ask.ensures (g.T.Turns.view c.args.turns.now c.args.pass.now) c.requires.goes_on).waits
+pub ask-shown-requires : goal.ask-shown-requires
+ask-shown-requires g c = (c.in-Ask.ensures (g.T.Turns.view c.args.turns.now c.args.pass.now) c.requires.goes_on).waits
 
 pub turn-requires-clause-may : goal.turn-requires-clause-may
 turn-requires-clause-may g c = c.in-Turn.ensures (g.T.Turns.view c.args.turns.now c.args.pass.now) c.requires.goes_on
 
 pub returns-in-Ask : goal.returns-in-Ask
-returns-in-Ask g c = λ ended. c.ask.ensures (g.T.Turns.view c.args.turns.now c.args.pass.now) (c.in-Ask.ensures (g.T.Turns.view c.args.turns.now c.args.pass.now) c.requires.goes_on)
+returns-in-Ask g c = λ ended. c.ask-shown.ensures (g.T.Turns.view c.args.turns.now c.args.pass.now) (c.in-Ask.ensures (g.T.Turns.view c.args.turns.now c.args.pass.now) c.requires.goes_on)
 
 pub returns-in-Turn : goal.returns-in-Turn
 returns-in-Turn g c = λ ended. c.turn.ensures
