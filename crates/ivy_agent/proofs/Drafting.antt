@@ -1,6 +1,6 @@
 -- What a draft is made of.
 use Rattle.std.proofs.Common.{◌≡◌, ◌+◌, ◌≤◌, List, [], ◌∷◌, ◌++◌, length, map, Option, Some, None, sym, ap, ◌∙◌, subst, arith}
-use Rattle.std.specs.Prelude.{IfSome, option_map}
+use Rattle.std.specs.Prelude.{IfSome, IsSomeAnd, option_map}
 use Rattle.ivy_base.specs.declared.key.Key.{Key}
 use Rattle.ivy_base.specs.declared.key.PubKey.{PubKey}
 use Rattle.ivy_base.specs.declared.operation.Moment.{Moment}
@@ -73,3 +73,9 @@ module _ {S : Type 0} (signs : Signing S) (k : Kept S) (front : Vector) (now : M
             ∙ ap (λ (t : Option Stamp). with_newest (own_key signs k.signer) t front) (newest ∙ ap newest_stamp mine);
         floor = floor;
       }
+
+  pub is_draft_of : (own : PubKey) (posts : List Post) (o : Option Before) → IsSomeAnd o (λ b. Unit {0}) → own.0 ≡ signs.key k.signer → records_of d.records.items ≡ written_over own now front ops → posts ≡ map record_post (records_of d.records.items)
+      → option_map stamp_of o ≡ newest_stamp (records_of d.records.items) → IfSome o (λ b. (written : List Record) → posts ≡ map record_post written → IsSigned signs k written (stamp_of b) d.next.signer d.next.pending)
+      → d.front ≡ with_newest own (option_map stamp_of o) front → d.next.floor ≡ join k.floor d.front → IsDraft signs k front now ops d
+  is_draft_of own posts None some key records posted newest signed front_is floor = absurd some
+  is_draft_of own posts (Some b) some key records posted newest signed front_is floor = is_draft own posts b key records posted newest signed front_is floor

@@ -29,3 +29,4 @@ pub mod Refused
 pub mod Dropped
 pub mod Restarted
 pub mod Snapped
+pub mod Told

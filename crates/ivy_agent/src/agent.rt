@@ -27,7 +27,7 @@ use crate::keys::is_among;
 use crate::opening::{Opened, hold_nothing, open};
 use crate::saving::{Kept, SaveFault, save};
 use crate::settling::keep_unsettled;
-use crate::standing::{newest_edges, without_held};
+use crate::standing::{fill, standing_without, without_held};
 use crate::taking::{Refusal, turn_on};
 use dht_ids::{Acks, Posts};
 use fs_tree::Tree;
@@ -188,15 +188,19 @@ impl<K: Keeper, S: Signs> Agent<K, S> {
         let Some(view) = &self.kept.view else {
             unreachable!();
         };
-        Ok(Standing {
-            view: view.copy(alloc)?,
-            own: self.kept.signer.owner(),
-            held: self.front.copy(alloc)?,
-            floor: self.kept.floor.copy(alloc)?,
-            edges: newest_edges(alloc, self.engine.records())?,
-            basis: self.to_load,
-            pending: self.kept.pending.copy(alloc)?,
-        })
+        let mut standing = standing_without(alloc, view, self.kept.signer.owner(), self.to_load)?;
+        let filled = fill(
+            alloc,
+            &mut standing,
+            &self.front,
+            &self.kept.floor,
+            self.engine.records(),
+            &self.kept.pending,
+        );
+        match filled {
+            Ok(()) => Ok(standing),
+            Err(Memory) => Err(Memory),
+        }
     }
 
     /// What a refusal is told as. Where memory runs out nothing has changed.

@@ -1,12 +1,12 @@
 //! What is to be saved once records are written.
 
-ghost use Rattle.std.specs.Prelude.{◌≡◌, ◌≢◌, ◌≤◌, ◌+◌, List, length, map, IfOk, OnOk, OnErr};
+ghost use Rattle.std.specs.Prelude.{◌≡◌, ◌≢◌, ◌≤◌, ◌+◌, List, length, map, option_map, IfOk, OnOk, OnErr, IfSome, IsSomeAnd};
 ghost use Rattle.ivy_base.specs.Naming.{head_key_of};
 ghost use Rattle.log_model.specs.Record.{Record as Seen};
 ghost use Rattle.log_model.specs.Spelling.{most_records};
-ghost use Rattle.log_model.specs.Vector.{seq_of};
+ghost use Rattle.log_model.specs.Vector.{join, seq_of};
 ghost use Rattle.log_records.specs.Records.{records_of};
-ghost use Rattle.turn_answers.specs.Newest.{stamp_of};
+ghost use Rattle.turn_answers.specs.Newest.{stamp_of, with_newest};
 ghost use Rattle.agent_model.specs.Agent.{head_post, own_key, record_post};
 ghost use Rattle.ivy_agent.specs.Holders.{signing};
 ghost use Rattle.agent_model.specs.SavedBytes.{kept_bytes};
@@ -17,7 +17,7 @@ use crate::posting::posts_with;
 use crate::saving::{Kept, SaveFault, save};
 use dht_ids::{Post, PostKind, Posts};
 use hss_keys::Signs;
-use ivy_base::{Key, Memory, Moment, Op};
+use ivy_base::{Key, Memory, Moment, Op, PubKey};
 use ivy_io::Keeper;
 use log_heads::seal;
 use log_records::Record;
@@ -65,20 +65,47 @@ pub fn make_draft<S: Signs + Drop>(
     let own = kept.signer.owner();
     let written = write_over(alloc, &own, front, now, ops)?;
     let newest = newest_of(written.records.as_slice(), written.posts.as_slice());
-    let front = front_with(alloc, front, &own, newest)?;
+    match follow(alloc, kept, front, &own, newest, written.posts) {
+        Ok(next) => Ok(Draft {
+            records: written.records,
+            next: next.0,
+            front: next.1,
+        }),
+        Err(Memory) => Err(Memory),
+    }
+}
+
+/// What is kept next, and the front of what is held then, behind written records of which that is the newest, and these are
+/// the posts. The error is want of memory; it also comes where there is no newest, or a block is too long to be counted.
+fn follow<S: Signs + Drop>(
+    alloc: Global,
+    kept: &Kept<S>,
+    front: &Vector,
+    own: &PubKey,
+    newest: Option<Before>,
+    posts: Vec<Post>,
+) -> Result<(Next<S>, Vector), Memory>
+    requires log { kept.now.log ≡ head_key_of (own_key (signing S.key S.remaining S.signature S.next S.saved) kept.now.signer) }
+    requires is_left { S.remaining kept.now.signer ≢ 0 }
+    requires some { IfSome newest (λ b. 1 ≤ b.seq) }
+    requires few { IfSome newest (λ b. b.seq ≤ most_records) }
+    ensures newest { OnOk result (IsSomeAnd newest (λ b. Unit {0})) }
+    ensures signed { IfOk result (λ n. IfSome newest (λ b. (written : List Seen) → posts.items ≡ map record_post written → IsSigned (signing S.key S.remaining S.signature S.next S.saved) kept.now written (stamp_of b) n.0.signer n.0.pending)) }
+    ensures front { IfOk result (λ n. n.1 ≡ with_newest own.now (option_map stamp_of newest) front.now) }
+    ensures floor { IfOk result (λ n. n.0.floor ≡ join kept.now.floor n.1) }
+{
+    let front = front_with(alloc, front, own, newest)?;
     let Some(newest) = newest else {
         return Err(Memory);
     };
-    let (signer, pending) = sign(alloc, kept, written.posts, newest)?;
-    Ok(Draft {
-        records: written.records,
-        next: Next {
-            signer,
-            floor: kept.floor.join(alloc, &front)?,
-            pending,
-        },
-        front,
-    })
+    let floor = kept.floor.join(alloc, &front)?;
+    let (signer, pending) = sign(alloc, kept, posts, newest)?;
+    let next = Next {
+        signer,
+        floor,
+        pending,
+    };
+    Ok((next, front))
 }
 
 /// The key that has signed a head over the newest record, and what is to be published then: these posts of the written records

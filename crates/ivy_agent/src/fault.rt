@@ -4,7 +4,7 @@ use ivy_base::Key;
 use thiserror::Error;
 
 /// Why no agent was made.
-#[derive(Clone, Copy, Debug, PartialEq, Eq, Error)]
+#[derive(Clone, Copy, Debug, Error)]
 pub enum MakeFault {
     /// The key signs nothing more.
     #[error("the key is spent")]
@@ -18,7 +18,7 @@ pub enum MakeFault {
 }
 
 /// Why no agent started again.
-#[derive(Clone, Copy, Debug, PartialEq, Eq, Error)]
+#[derive(Clone, Copy, Debug, Error)]
 pub enum RestartFault {
     /// Nothing was saved.
     #[error("nothing was saved")]
@@ -35,7 +35,7 @@ pub enum RestartFault {
 }
 
 /// Why a view wasn't entered.
-#[derive(Clone, Copy, Debug, PartialEq, Eq, Error)]
+#[derive(Clone, Copy, Debug, Error)]
 pub enum EnterFault {
     /// The agent's log isn't a member's of the view.
     #[error("the agent is no member of the view")]
@@ -53,7 +53,7 @@ pub enum EnterFault {
 }
 
 /// Why there is no new snapshot.
-#[derive(Clone, Copy, Debug, PartialEq, Eq, Error)]
+#[derive(Clone, Copy, Debug, Error)]
 pub enum SnapFault {
     /// The keeper failed, now or before.
     #[error("the keeper failed")]

@@ -1,8 +1,9 @@
 //! Opening a log.
 
-ghost use Rattle.std.specs.Prelude.{◌≡◌, ◌≢◌, [], ◌∷◌, IsTrue, IfOk, OnOk};
+ghost use Rattle.std.specs.Prelude.{◌≡◌, ◌≢◌, [], ◌∷◌, None, IsTrue, IfOk, OnOk};
 ghost use Rattle.dht_ids.specs.declared.post.PostKind.TheVariants.{Log, Head};
 ghost use Rattle.log_model.specs.Chain.{opening};
+ghost use Rattle.log_model.specs.Spelling.{record_block};
 ghost use Rattle.log_records.specs.Records.{record_of};
 ghost use Rattle.turn_model.specs.Basis.{nothing_held};
 ghost use Rattle.replay_engine.specs.Engines.{holding};
@@ -42,26 +43,70 @@ pub fn open<S: Signs + Drop>(alloc: Global, mut signer: S, now: Moment) -> Resul
     requires { S.remaining signer ≢ 0 }
     ensures { IfOk result (IsOpening (signing S.key S.remaining S.signature S.next S.saved) signer now) }
 {
+    match begin(alloc, &mut signer, now) {
+        Ok(Begun {
+            log,
+            floor,
+            pending,
+            engine,
+            front,
+        }) => Ok(Opened {
+            kept: Kept {
+                signer,
+                log,
+                view: None,
+                floor,
+                pending,
+                snapshot: None,
+            },
+            engine,
+            front,
+        }),
+        Err(Memory) => Err(Memory),
+    }
+}
+
+/// What an agent keeps and holds beside its key once its log is opened.
+pub struct Begun {
+    /// The log's head key.
+    pub log: Key,
+    /// The floor: the log's first record.
+    pub floor: Vector,
+    /// That record's block and the head over it.
+    pub pending: Posts,
+    /// What is held: nothing.
+    pub engine: Engine,
+    /// The front of what is held.
+    pub front: Vector,
+}
+
+/// Makes the opening record of the signer's log, and signs a head over it. The error is want of memory.
+fn begin<S: Signs>(alloc: Global, signer: &mut S, now: Moment) -> Result<Begun, Memory>
+    requires { S.remaining signer.old ≢ 0 }
+    ensures { IfOk result (λ b. IsOpening (signing S.key S.remaining S.signature S.next S.saved) signer.old now (record { kept = record { signer = signer.new; log = b.log; view = None; floor = b.floor; pending = b.pending; snapshot = None }; engine = b.engine; front = b.front })) }
+{
     let engine = hold_nothing(alloc)?;
     let own = signer.owner();
     let log = head_key(&own);
-    let block = opening(alloc, own, now).write(alloc)?;
+    let block = first_block(alloc, own, now)?;
     let name = name_of(block.as_slice());
     let floor = floor_of(alloc, log, name)?;
-    let head = seal_first(alloc, &mut signer, name)?;
+    let head = seal_first(alloc, signer, name)?;
     let pending = posts_of(alloc, log, name, block, head)?;
-    Ok(Opened {
-        kept: Kept {
-            signer,
-            log,
-            view: None,
-            floor,
-            pending,
-            snapshot: None,
-        },
+    Ok(Begun {
+        log,
+        floor,
+        pending,
         engine,
         front: Vector::empty(alloc),
     })
+}
+
+/// The block of the first record of the owner's log. The error is want of memory.
+fn first_block(alloc: Global, own: PubKey, now: Moment) -> Result<Bytes, Memory>
+    ensures { IfOk result (λ block. block ≡ record_block (opening own now)) }
+{
+    opening(alloc, own, now).write(alloc)
 }
 
 /// The opening record's block of that name, and the head over it.

@@ -24,7 +24,6 @@ use xdr_codec::XdrWrite;
 const MAGIC: [u8; 4] = *b"IVK1";
 
 /// What is saved of an agent.
-#[derive(Drop)]
 pub struct Kept<S> {
     /// The key that signs the log's heads.
     pub signer: S,
@@ -38,6 +37,20 @@ pub struct Kept<S> {
     pub pending: Posts,
     /// The name of the newest snapshot.
     pub snapshot: Option<Key>,
+}
+
+/// One function, so that whatever drops what is kept calls it and isn't proved over all of its parts once more.
+impl<S: Drop> Drop for Kept<S> {
+    fn drop(self) {
+        let Kept {
+            signer: _,
+            log: _,
+            view: _,
+            floor: _,
+            pending: _,
+            snapshot: _,
+        } = self;
+    }
 }
 
 /// Why nothing was saved.

@@ -12,15 +12,59 @@ ghost use Rattle.log_fetch.specs.Standings.{standing_of};
 ghost use Rattle.ivy_agent.specs.Edges.{newest_edges, put_under, KnowsOthers};
 
 use crate::keys::{is_among, is_same};
+use dht_ids::Posts;
 use ivy_base::{Key, Memory, PubKey, head_key};
 use log_fetch::{Edge, Edges, Standing};
 use log_records::Record;
 use std::alloc::Global;
 use version_vectors::Vector;
+use view_blocks::View;
+
+/// The standing of one with that key in that view, which holds nothing and knows nothing. The error is want of memory.
+pub fn standing_without(
+    alloc: Global,
+    view: &View,
+    own: PubKey,
+    basis: Option<Key>,
+) -> Result<Standing, Memory>
+    ensures view { IfOk result (λ s. s.view ≡ view.now) }
+    ensures own { IfOk result (λ s. s.own ≡ own) }
+    ensures basis { IfOk result (λ s. s.basis ≡ basis) }
+{
+    Ok(Standing {
+        view: view.copy(alloc)?,
+        own,
+        held: Vector::empty(alloc),
+        floor: Vector::empty(alloc),
+        edges: Edges::of(Vec::new(alloc)),
+        basis,
+        pending: Posts::of(Vec::new(alloc)),
+    })
+}
+
+/// Puts into the standing what is held, how far all is known, and what is pending. It owns nothing where it exits. The error is
+/// want of memory.
+pub fn fill(
+    alloc: Global,
+    standing: &mut Standing,
+    front: &Vector,
+    floor: &Vector,
+    records: &[Record],
+    pending: &Posts,
+) -> Result<(), Memory>
+    requires { AllByRecursion KnowsOthers (records_of records.now) }
+    ensures { OnOk result (standing.new ≡ record standing.old { held = front.now; floor = floor.now; edges = newest_edges (records_of records.now); pending = pending.now }) }
+{
+    standing.held = front.copy(alloc)?;
+    standing.floor = floor.copy(alloc)?;
+    standing.edges = newest_edges(alloc, records)?;
+    standing.pending = pending.copy(alloc)?;
+    Ok(())
+}
 
 /// What is known of the newest record of each log, ascending by log, where the records ascend. A log is hashed once. The error
 /// is want of memory.
-pub fn newest_edges(alloc: Global, records: &[Record]) -> Result<Edges, Memory>
+fn newest_edges(alloc: Global, records: &[Record]) -> Result<Edges, Memory>
     requires { AllByRecursion KnowsOthers (records_of records.now) }
     ensures { IfOk result (λ edges. edges ≡ newest_edges (records_of records.now)) }
 {

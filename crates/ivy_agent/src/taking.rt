@@ -75,7 +75,7 @@ pub fn answer_with<K: Keeper, S: Signs + Drop, L: Ledger>(
 }
 
 /// Why a turn isn't taken.
-#[derive(Clone, Copy, Debug, PartialEq, Eq)]
+#[derive(Clone, Copy)]
 pub enum Refusal {
     /// The refresh began with more than is held by now, or the floor's record of a member's log is neither held nor new.
     Behind,

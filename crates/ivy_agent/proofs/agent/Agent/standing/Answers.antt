@@ -1,0 +1,7 @@
+use Rattle.ivy_agent.specs.Holders.{signing}
+use Rattle.ivy_agent.proofs.Told.{told}
+use Rattle.ivy_agent.proofs.agent.Agent.standing.Goals as goal
+
+pub returns-in-Ok : goal.returns-in-Ok
+returns-in-Ok g c = told (signing g.S.Signs.key g.S.Signs.remaining g.S.Signs.signature g.S.Signs.next g.S.Signs.saved) c.self.inside.kept c.self.inside.engine c.self.inside.to_load c.self.inside.has_failed c.self.inside.keeper c.args.self.now c.self.view_is c.self.inside.front c.self.invariant
+    c.in-Some.view c.in-Some.is c.owner.result c.owner.ensures _ c.records.ensures.records c.in_ok-standing.standing _ c.in_ok-standing.ensures.view c.in_ok-standing.ensures.own c.in_ok-standing.ensures.basis c.in-Ok.ensures
