@@ -1,7 +1,8 @@
 -- An agent that drops what it held.
-use Rattle.std.proofs.Common.{◌≡◌, ℕ, ◌≤◌, Bool, [], Option, Some, None, sym, ap, ◌∙◌, subst, arith}
+use Rattle.std.proofs.Common.{◌≡◌, ℕ, ◌≤◌, Bool, List, [], Option, Some, None, sym, ap, ◌∙◌, subst, arith}
 use Rattle.std.specs.Prelude.{IfSome}
 use Rattle.ivy_base.specs.declared.key.Key.{Key}
+use Rattle.wire_model.specs.Xdr.{IsAny}
 use Rattle.log_model.specs.Vector.{Vector}
 use Rattle.log_model.specs.View.{View}
 use Rattle.turn_model.specs.Basis.{Holding, nothing_held}
@@ -10,8 +11,10 @@ use Rattle.replay_engine.specs.Engines.{Engine, holding}
 use Rattle.agent_model.specs.Agent.{Agent, Signing, joined, own_key}
 use Rattle.agent_model.specs.Standing.{Standing, anew_in}
 use Rattle.ivy_agent.specs.Holders.{Holder, IsSound, Stands, StandsIn, agent_of}
+use Rattle.ivy_agent.specs.Entering.{IsTakenIn, kept_in}
 use Rattle.ivy_agent.specs.Turns.{dropping}
 use Rattle.ivy_agent.specs.declared.saving.Kept.{Kept}
+use Rattle.ivy_agent.proofs.Entered.{kept_there}
 use Rattle.ivy_agent.proofs.Going.{none_closed}
 use Rattle.ivy_agent.proofs.Trees.{bounds_at_first}
 
@@ -50,6 +53,17 @@ module _ {S : Type 0} (signs : Signing S) (k : Kept S) (nothing : Engine) (has_f
       agent = record (agent_of k e to_load has_failed) { holding = is i; to_load = None };
       keeper = keeper;
     })
+
+-- one that entered a view holds nothing
+module _ {K S : Type 0} (signs : Signing S) (saves : K → List ℕ → Bool → K → Type 0) (view : View) (before : Holder K S) (k : Kept S) (e : Engine) (to_load : Option Key) (has_failed : Bool) (keeper : K)
+    (is : record { agent = agent_of k e to_load has_failed; keeper = keeper } ≡ before) (front : Vector) (sound : IsSound signs (agent_of k e to_load has_failed) k.log front) (taken : IsTakenIn signs view before.agent) where
+  pub entered_sound : (now : Kept S) (nothing : Engine) (empty : Vector) → now ≡ kept_in view k → holding nothing ≡ nothing_held → empty ≡ [] → IsSound signs (agent_of now nothing None has_failed) now.log empty
+  entered_sound now nothing empty now_is nothing_is empty_is = subst (λ (x : Kept S). IsSound signs (agent_of x nothing None has_failed) x.log empty) (sym now_is) (record {
+    its_log = sound.its_log;
+    its_front = empty_is ∙ sym (ap joined nothing_is);
+    kept = kept_there signs IsAny saves view (agent_of k e to_load has_failed) sound.kept (subst (λ (h : Holder K S). IsTakenIn signs view h.agent) (sym is) taken) tt;
+    stands = stands_with_nothing signs (kept_in view k) nothing has_failed nothing_is view;
+  })
 
 -- what a session is given that begins anew then
 pub dropped_standing : {S : Type 0} (signs : Signing S) (a : Agent S) (s t : Standing) (o : Option View) → IfSome o (λ view. s ≡ anew_in signs a view) → t ≡ record s { held = []; edges = [] } → IfSome o (λ view. t ≡ anew_in signs (dropping a) view)

@@ -84,7 +84,7 @@ module _ {K S : Type 0} (signs : Signing S) (IsWhole : S → Type 0) (saves : K 
       subst (λ (t : Option View × Option Key). HasSaved saves keeper (kept_bytes signs (saved_of (record k { view = t.0; snapshot = t.1 }))) result left) (λ i. (v_is i, s_is i)) told
 
   -- in a view that takes in what the agent knows it may be saved
-  kept_there : (a : Agent S) → IsKept signs IsAny (kept_of a) → IsTakenIn signs view a → IsWhole a.signer → IsKept signs IsWhole (kept_of (entered a view))
+  pub kept_there : (a : Agent S) → IsKept signs IsAny (kept_of a) → IsTakenIn signs view a → IsWhole a.signer → IsKept signs IsWhole (kept_of (entered a view))
   kept_there a h taken whole = record {
     signer = whole;
     some = h.some;

@@ -1,20 +1,28 @@
 -- What a session is told that an agent stands for.
 use Rattle.std.proofs.Common.{◌≡◌, Bool, List, Option, Some, sym, ap, ◌∙◌, subst}
 use Rattle.std.specs.Prelude.{IfSome}
+use Rattle.std.specs.List.{AllByRecursion}
 use Rattle.ivy_base.specs.declared.key.Key.{Key}
 use Rattle.ivy_base.specs.declared.key.PubKey.{PubKey}
 use Rattle.log_model.specs.Record.{Record}
+use Rattle.log_model.specs.Spelling.{HasSpelling}
 use Rattle.log_model.specs.Vector.{Vector}
 use Rattle.log_model.specs.View.{View}
+use Rattle.log_model.proofs.Lists.{each, each_from}
+use Rattle.record_sets.specs.Rows.{IsRow}
 use Rattle.log_fetch.specs.Standings.{standing_of}
 use Rattle.log_fetch.specs.declared.standing.Standing.{Standing}
 use Rattle.replay_engine.specs.Engines.{Engine, holding}
-use Rattle.agent_model.specs.Agent.{Agent, Signing}
+use Rattle.agent_model.specs.Agent.{Signing}
 use Rattle.agent_model.specs.Standing.{standing_in}
-use Rattle.ivy_agent.specs.Edges.{newest_edges}
+use Rattle.ivy_agent.specs.Edges.{KnowsOthers, newest_edges}
 use Rattle.ivy_agent.specs.Holders.{Holder, IsSound, agent_of}
 use Rattle.ivy_agent.specs.declared.saving.Kept.{Kept}
 use Rattle.ivy_agent.proofs.Drafting.{owner_is}
+
+-- a record knows nothing of its own log
+pub know_others : (rs : List Record) → IsRow rs → AllByRecursion KnowsOthers rs
+know_others rs row = each_from KnowsOthers rs (λ r c. (each HasSpelling rs r row.spelled c).of_others)
 
 module _ {K S : Type 0} (signs : Signing S) (k : Kept S) (e : Engine) (to_load : Option Key) (has_failed : Bool) (keeper : K) (before : Holder K S) (is : record { agent = agent_of k e to_load has_failed; keeper = keeper } ≡ before)
     (front : Vector) (sound : IsSound signs (agent_of k e to_load has_failed) k.log front) where

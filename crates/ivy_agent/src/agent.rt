@@ -157,7 +157,6 @@ impl<K: Keeper, S: Signs> Agent<K, S> {
     }
 
     /// Enters a view that takes in what the agent knows. The error is `Keeper` or `Memory`.
-    #[tactic(auto, using(crate::proofs::Trees::bounds_at_first))]
     fn go_in(&mut self, alloc: Global, view: View) -> Result<(), EnterFault>
         requires { IsTakenIn (signing S.key S.remaining S.signature S.next S.saved) view self.old.agent }
         ensures { GoesIn (signing S.key S.remaining S.signature S.next S.saved) S.is_whole K.saves view self.old result self.new }

@@ -22,12 +22,11 @@ use ivy_io::Keeper;
 use log_heads::seal;
 use log_records::Record;
 use std::alloc::Global;
-use std::mem::replace;
+use std::mem::swap;
 use turn_answers::{Before, front_with, newest_of, write_over};
 use version_vectors::Vector;
 
 /// What takes the place of what is kept.
-#[derive(Drop)]
 pub struct Next<S> {
     /// The key, which has signed a head over the last record.
     pub signer: S,
@@ -35,6 +34,17 @@ pub struct Next<S> {
     pub floor: Vector,
     /// The blocks that are still to be published.
     pub pending: Posts,
+}
+
+/// One function, so that whatever drops it calls this and isn't proved over all of its parts once more.
+impl<S: Drop> Drop for Next<S> {
+    fn drop(self) {
+        let Next {
+            signer: _,
+            floor: _,
+            pending: _,
+        } = self;
+    }
 }
 
 /// Records that are to be written, and what is kept and held with them.
@@ -158,7 +168,7 @@ pub fn save_next<K: Keeper, S: Signs + Drop>(
     alloc: Global,
     keeper: &mut K,
     kept: &mut Kept<S>,
-    next: Next<S>,
+    mut next: Next<S>,
 ) -> Result<(), SaveFault>
     requires log { kept.old.log ≡ head_key_of (own_key (signing S.key S.remaining S.signature S.next S.saved) kept.old.signer) }
     requires key { S.key next.signer ≡ S.key kept.old.signer }
@@ -167,22 +177,20 @@ pub fn save_next<K: Keeper, S: Signs + Drop>(
     ensures ok { OnOk result (kept.new ≡ kept_with kept.old next) }
     ensures err { OnErr result (kept.new ≡ kept.old) }
 {
-    let before = put(kept, next);
+    put(kept, &mut next);
     let saved = save(alloc, keeper, kept);
     if saved.is_err() {
-        let _ = put(kept, before);
+        put(kept, &mut next);
     }
     saved
 }
 
-/// Puts what is next in place of what was, and gives that back.
-fn put<S>(kept: &mut Kept<S>, next: Next<S>) -> Next<S>
-    ensures kept { kept.new ≡ kept_with kept.old next }
-    ensures before { result ≡ record { signer = kept.old.signer; floor = kept.old.floor; pending = kept.old.pending } }
+/// Puts what is next in place of what was, and that in its place.
+fn put<S>(kept: &mut Kept<S>, next: &mut Next<S>)
+    ensures kept { kept.new ≡ kept_with kept.old next.old }
+    ensures next { next.new ≡ record { signer = kept.old.signer; floor = kept.old.floor; pending = kept.old.pending } }
 {
-    Next {
-        signer: replace(&mut kept.signer, next.signer),
-        floor: replace(&mut kept.floor, next.floor),
-        pending: replace(&mut kept.pending, next.pending),
-    }
+    swap(&mut kept.signer, &mut next.signer);
+    swap(&mut kept.floor, &mut next.floor);
+    swap(&mut kept.pending, &mut next.pending);
 }

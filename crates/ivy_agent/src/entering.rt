@@ -14,7 +14,7 @@ use hss_keys::Signs;
 use ivy_base::Key;
 use ivy_io::Keeper;
 use std::alloc::Global;
-use std::mem::replace;
+use std::mem::{replace, swap};
 use version_vectors::{Entry, Vector};
 use view_blocks::View;
 
@@ -66,11 +66,11 @@ pub fn save_in<K: Keeper, S: Signs>(
     ensures ok { OnOk result (kept.new ≡ kept_in view kept.old) }
     ensures err { OnErr result (kept.new ≡ kept.old) }
 {
-    let before = replace(&mut kept.view, Some(view));
+    let mut before = replace(&mut kept.view, Some(view));
     let snapshot = kept.snapshot.take();
     let saved = save(alloc, keeper, kept);
     if saved.is_err() {
-        kept.view = before;
+        swap(&mut kept.view, &mut before);
         kept.snapshot = snapshot;
     }
     saved

@@ -44,13 +44,15 @@ pub fn open<S: Signs + Drop>(alloc: Global, mut signer: S, now: Moment) -> Resul
     ensures { IfOk result (IsOpening (signing S.key S.remaining S.signature S.next S.saved) signer now) }
 {
     match begin(alloc, &mut signer, now) {
-        Ok(Begun {
-            log,
-            floor,
-            pending,
-            engine,
-            front,
-        }) => Ok(Opened {
+        Ok(
+            Begun {
+                log,
+                floor,
+                pending,
+                engine,
+                front,
+            },
+        ) => Ok(Opened {
             kept: Kept {
                 signer,
                 log,

@@ -24,7 +24,7 @@ use ivy_io::Keeper;
 use replay_engine::Engine;
 use snapshot_store::{Block, make};
 use std::alloc::Global;
-use std::mem::replace;
+use std::mem::{replace, swap};
 use version_vectors::{Rank, Vector};
 use view_blocks::View;
 
@@ -158,11 +158,11 @@ pub fn save_snapshot<K: Keeper, S: Signs>(
     ensures ok { OnOk result (kept.new ≡ kept_snapped snapshot kept.old) }
     ensures err { OnErr result (kept.new ≡ kept.old) }
 {
-    let pending = replace(&mut kept.pending, snapshot.posts);
+    let mut pending = replace(&mut kept.pending, snapshot.posts);
     let before = replace(&mut kept.snapshot, Some(snapshot.root));
     let saved = save(alloc, keeper, kept);
     if saved.is_err() {
-        kept.pending = pending;
+        swap(&mut kept.pending, &mut pending);
         kept.snapshot = before;
     }
     saved

@@ -75,14 +75,30 @@ fn lose<S: Signs>(
     ensures count { IfOk result (λ lost. lost.turned.applied ≡ applied) }
     ensures floor { IfOk result (λ lost. lost.floor ≡ join kept.now.floor front.now) }
 {
+    Ok(Lost {
+        turned: give_fault(alloc, &kept.pending, front, args, applied)?,
+        floor: kept.floor.join(alloc, front)?,
+    })
+}
+
+/// What is given where a save fails: the reply is let go here alone. The error is want of memory.
+fn give_fault(
+    alloc: Global,
+    posts: &Posts,
+    front: &Vector,
+    args: &Args,
+    applied: u64,
+) -> Result<Turned, Memory>
+    ensures bytes { IfOk result (λ t. t.reply ≡ bytes_of (Refused ServerFault (bare_tail args.now))) }
+    ensures posts { IfOk result (λ t. t.posts ≡ posts.now) }
+    ensures front { IfOk result (λ t. t.front ≡ front.now) }
+    ensures count { IfOk result (λ t. t.applied ≡ applied) }
+{
     let reply = Reply::Refused {
         status: NfsStatus::ServerFault,
         tail: bare_tail(args),
     };
-    Ok(Lost {
-        turned: give(alloc, &reply, &kept.pending, front, applied)?,
-        floor: kept.floor.join(alloc, front)?,
-    })
+    give(alloc, &reply, posts, front, applied)
 }
 
 /// What is given where the last call of the engine took in the records of these operations. The error is want of memory.
