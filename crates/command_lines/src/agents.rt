@@ -86,7 +86,13 @@ pub fn keep(alloc: Global, words: &[&[u8]]) -> Result<Option<Command>, Memory>
     let [log, count, word] = words else {
         return Ok(None);
     };
-    let (Some(log), Some(count), Some(new)) = (name(log), number_u64(count), kept(word)) else {
+    let Some(log) = name(log) else {
+        return Ok(None);
+    };
+    let Some(count) = number_u64(count) else {
+        return Ok(None);
+    };
+    let Some(new) = kept(word) else {
         return Ok(None);
     };
     let log = Bytes::copy_of(alloc, log)?;

@@ -2,6 +2,7 @@
 
 ghost use Rattle.std.specs.Prelude.{◌≡◌, ◌^◌, [], ◌∷◌, true, length, IfOk, map};
 ghost use Rattle.std.specs.List.{list_all};
+ghost use Rattle.script_model.specs.declared.command.KeyWord.TheVariants as key;
 ghost use Rattle.script_model.specs.Words.{is_lower_hex, key_of_name, key_of_parts, itself_of, key_of, parts_at, owner_node, numbered_node, node_of};
 ghost use Rattle.command_lines.specs.Steps.{key_behind};
 
@@ -13,19 +14,40 @@ use ivy_base::{Bytes, Key, Memory};
 use script_model::{KeyWord, NodeWord};
 use std::alloc::Global;
 
+/// The key of a log's head. The error is want of memory.
+fn head_of(alloc: Global, log: &[u8]) -> Result<Option<KeyWord>, Memory>
+    ensures { IfOk result (λ named. named ≡ Some (key.HeadOf log.now)) }
+{
+    let log = Bytes::copy_of(alloc, log)?;
+    Ok(Some(KeyWord::HeadOf { log }))
+}
+
+/// The key of a view. The error is want of memory.
+fn view_of(alloc: Global, view: &[u8]) -> Result<Option<KeyWord>, Memory>
+    ensures { IfOk result (λ named. named ≡ Some (key.ViewOf view.now)) }
+{
+    let view = Bytes::copy_of(alloc, view)?;
+    Ok(Some(KeyWord::ViewOf { view }))
+}
+
+/// The key of a participant's last snapshot. The error is want of memory.
+fn snapshot_of(alloc: Global, log: &[u8]) -> Result<Option<KeyWord>, Memory>
+    ensures { IfOk result (λ named. named ≡ Some (key.SnapshotOf log.now)) }
+{
+    let log = Bytes::copy_of(alloc, log)?;
+    Ok(Some(KeyWord::SnapshotOf { log }))
+}
+
 /// The key of a log's head, of a view, or of a participant's last snapshot, by the word and whose it is. The error is want of memory.
 fn key_of_name(alloc: Global, word: &[u8], whose: &[u8]) -> Result<Option<KeyWord>, Memory>
     ensures { IfOk result (λ key. key ≡ key_of_name word.now whose.now) }
 {
     if word == b"head".as_slice() {
-        let log = Bytes::copy_of(alloc, whose)?;
-        Ok(Some(KeyWord::HeadOf { log }))
+        head_of(alloc, whose)
     } else if word == b"view".as_slice() {
-        let view = Bytes::copy_of(alloc, whose)?;
-        Ok(Some(KeyWord::ViewOf { view }))
+        view_of(alloc, whose)
     } else if word == b"snap".as_slice() {
-        let log = Bytes::copy_of(alloc, whose)?;
-        Ok(Some(KeyWord::SnapshotOf { log }))
+        snapshot_of(alloc, whose)
     } else {
         Ok(None)
     }
@@ -50,7 +72,10 @@ fn key_of_three(
 ) -> Result<Option<KeyWord>, Memory>
     ensures { IfOk result (λ key. key ≡ key_of_parts (word.now ∷ log.now ∷ seq.now ∷ [])) }
 {
-    let (Some(log), Some(seq)) = (name(log), number_u64(seq)) else {
+    let Some(log) = name(log) else {
+        return Ok(None);
+    };
+    let Some(seq) = number_u64(seq) else {
         return Ok(None);
     };
     if word != b"rec".as_slice() {

@@ -1,6 +1,6 @@
 //! The lines of nodes and of their blocks.
 
-ghost use Rattle.std.specs.Prelude.{◌≡◌, IfOk, map};
+ghost use Rattle.std.specs.Prelude.{◌≡◌, IfOk, map, [], ◌∷◌};
 ghost use Rattle.script_model.specs.Lines.{join_of, stop_of, round_of, lose_of, damage_of, holds_of};
 
 use crate::hex_digits::byte;
@@ -14,10 +14,10 @@ use std::alloc::Global;
 pub fn join(words: &[&[u8]]) -> Option<Command>
     ensures { result ≡ join_of (map (λ word. word.now) words.now) }
 {
-    let [number] = words else {
+    let [word] = words else {
         return None;
     };
-    let node = number_u32(number)?;
+    let node = number_u32(word)?;
     Some(Command::Join { node })
 }
 
@@ -56,14 +56,20 @@ pub fn lose(words: &[&[u8]]) -> Option<Command>
     Some(Command::Lose { count })
 }
 
-/// `damage NODE KEY OFFSET BYTE`, of the words behind the first. The error is want of memory.
-pub fn damage(alloc: Global, words: &[&[u8]]) -> Result<Option<Command>, Memory>
-    ensures { IfOk result (λ command. command ≡ damage_of (map (λ word. word.now) words.now)) }
+/// The damage to a block that these words name. The error is want of memory.
+fn damage_of_words(
+    alloc: Global,
+    node_word: &[u8],
+    key_word: &[u8],
+    offset: &[u8],
+    digits: &[u8],
+) -> Result<Option<Command>, Memory>
+    ensures { IfOk result (λ command. command ≡ damage_of (node_word.now ∷ key_word.now ∷ offset.now ∷ digits.now ∷ [])) }
 {
-    let [node_word, key_word, offset, digits] = words else {
+    let Some(offset) = number_u64(offset) else {
         return Ok(None);
     };
-    let (Some(offset), Some(byte)) = (number_u64(offset), byte(digits)) else {
+    let Some(byte) = byte(digits) else {
         return Ok(None);
     };
     let Some(node) = node(alloc, node_word)? else {
@@ -78,6 +84,16 @@ pub fn damage(alloc: Global, words: &[&[u8]]) -> Result<Option<Command>, Memory>
         offset,
         byte,
     }))
+}
+
+/// `damage NODE KEY OFFSET BYTE`, of the words behind the first. The error is want of memory.
+pub fn damage(alloc: Global, words: &[&[u8]]) -> Result<Option<Command>, Memory>
+    ensures { IfOk result (λ command. command ≡ damage_of (map (λ word. word.now) words.now)) }
+{
+    match words {
+        [node, key, offset, digits] => damage_of_words(alloc, node, key, offset, digits),
+        _ => Ok(None),
+    }
 }
 
 /// `holds NODE`, of the words behind the first. The error is want of memory.

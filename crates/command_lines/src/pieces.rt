@@ -8,7 +8,7 @@ ghost use Rattle.command_lines.specs.Steps.{data_of};
 
 use crate::hex_digits::{byte, raw};
 use crate::numbers::{number_u32, number_u64};
-use crate::words::parts;
+use crate::words::{behind, parts};
 use ivy_base::{Bytes, Memory};
 use script_model::{Piece, Pieces};
 use std::alloc::Global;
@@ -172,20 +172,20 @@ fn raw_piece(alloc: Global, digits: &[u8]) -> Result<Option<Piece>, Memory>
 fn data_piece(alloc: Global, word: &[u8]) -> Result<Option<Piece>, Memory>
     ensures { IfOk result (λ piece. piece ≡ data_of word.now) }
 {
-    if word.starts_with(b"u:".as_slice()) {
-        Ok(word_piece(&word[2..]))
-    } else if word.starts_with(b"w:".as_slice()) {
-        Ok(double_word(&word[2..]))
-    } else if word.starts_with(b"s:".as_slice()) {
-        text(alloc, &word[2..])
-    } else if word.starts_with(b"o:".as_slice()) {
-        opaque(alloc, &word[2..])
-    } else if word.starts_with(b"sa:".as_slice()) {
-        Ok(mode(&word[3..]))
-    } else if word.starts_with(b"h:".as_slice()) {
-        Ok(handle(&word[2..]))
-    } else if word.starts_with(b"v:".as_slice()) {
-        Ok(verifier(&word[2..]))
+    if let Some(digits) = behind(word, b"u:".as_slice()) {
+        Ok(word_piece(digits))
+    } else if let Some(digits) = behind(word, b"w:".as_slice()) {
+        Ok(double_word(digits))
+    } else if let Some(string) = behind(word, b"s:".as_slice()) {
+        text(alloc, string)
+    } else if let Some(parts) = behind(word, b"o:".as_slice()) {
+        opaque(alloc, parts)
+    } else if let Some(digits) = behind(word, b"sa:".as_slice()) {
+        Ok(mode(digits))
+    } else if let Some(digits) = behind(word, b"h:".as_slice()) {
+        Ok(handle(digits))
+    } else if let Some(digits) = behind(word, b"v:".as_slice()) {
+        Ok(verifier(digits))
     } else {
         raw_piece(alloc, word)
     }
@@ -197,10 +197,10 @@ fn piece(alloc: Global, word: &[u8]) -> Result<Option<Piece>, Memory>
 {
     if word == b"root".as_slice() {
         Ok(Some(Piece::Root))
-    } else if word.starts_with(b"nfs:".as_slice()) {
-        call(alloc, false, &word[4..])
-    } else if word.starts_with(b"mnt:".as_slice()) {
-        call(alloc, true, &word[4..])
+    } else if let Some(numbers) = behind(word, b"nfs:".as_slice()) {
+        call(alloc, false, numbers)
+    } else if let Some(numbers) = behind(word, b"mnt:".as_slice()) {
+        call(alloc, true, numbers)
     } else {
         data_piece(alloc, word)
     }

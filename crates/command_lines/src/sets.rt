@@ -16,18 +16,29 @@ const LEVEL_LIMIT: usize = 3;
 fn named_set(word: &[u8]) -> Option<Set>
     ensures { result ≡ set_of word.now }
 {
-    let (w, h) = if word == b"w4h5".as_slice() {
-        (Width::W4, Height::H5)
+    if word == b"w4h5".as_slice() {
+        Some(Set {
+            w: Width::W4,
+            h: Height::H5,
+        })
     } else if word == b"w4h10".as_slice() {
-        (Width::W4, Height::H10)
+        Some(Set {
+            w: Width::W4,
+            h: Height::H10,
+        })
     } else if word == b"w8h5".as_slice() {
-        (Width::W8, Height::H5)
+        Some(Set {
+            w: Width::W8,
+            h: Height::H5,
+        })
     } else if word == b"w8h10".as_slice() {
-        (Width::W8, Height::H10)
+        Some(Set {
+            w: Width::W8,
+            h: Height::H10,
+        })
     } else {
-        return None;
-    };
-    Some(Set { w, h })
+        None
+    }
 }
 
 /// The sets that these words name, if each names one. The error is want of memory.

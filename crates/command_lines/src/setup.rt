@@ -18,20 +18,28 @@ pub fn ring(words: &[&[u8]]) -> Option<Command>
     let [nodes, replicas] = words else {
         return None;
     };
-    Some(Command::Ring {
-        nodes: number_u64(nodes)?,
-        replicas: number_u64(replicas)?,
-    })
+    let nodes = number_u64(nodes)?;
+    let replicas = number_u64(replicas)?;
+    Some(Command::Ring { nodes, replicas })
 }
 
-/// `log P ID SEED SETS`, of the words behind the first. The error is want of memory.
-pub fn log(alloc: Global, words: &[&[u8]]) -> Result<Option<Command>, Memory>
-    ensures { IfOk result (λ command. command ≡ log_of (map (λ word. word.now) words.now)) }
+/// The log that these words name. The error is want of memory.
+fn log_of_words(
+    alloc: Global,
+    log: &[u8],
+    id: &[u8],
+    key_seed: &[u8],
+    sets: &[u8],
+) -> Result<Option<Command>, Memory>
+    ensures { IfOk result (λ command. command ≡ log_of (log.now ∷ id.now ∷ key_seed.now ∷ sets.now ∷ [])) }
 {
-    let [log, id, key_seed, sets] = words else {
+    let Some(log) = name(log) else {
         return Ok(None);
     };
-    let (Some(log), Some(id), Some(seed)) = (name(log), identifier(id), seed(key_seed)) else {
+    let Some(id) = identifier(id) else {
+        return Ok(None);
+    };
+    let Some(seed) = seed(key_seed) else {
         return Ok(None);
     };
     let Some(sets) = key_sets(alloc, sets)? else {
@@ -45,6 +53,16 @@ pub fn log(alloc: Global, words: &[&[u8]]) -> Result<Option<Command>, Memory>
         seed,
         sets,
     }))
+}
+
+/// `log P ID SEED SETS`, of the words behind the first. The error is want of memory.
+pub fn log(alloc: Global, words: &[&[u8]]) -> Result<Option<Command>, Memory>
+    ensures { IfOk result (λ command. command ≡ log_of (map (λ word. word.now) words.now)) }
+{
+    match words {
+        [log, id, key_seed, sets] => log_of_words(alloc, log, id, key_seed, sets),
+        _ => Ok(None),
+    }
 }
 
 /// A view of these members that nothing came before. The error is want of memory.
@@ -77,7 +95,10 @@ fn view_with_former(
     let Some(view) = name(view) else {
         return Ok(None);
     };
-    let (Some(members), Some(former)) = (names(alloc, members)?, names(alloc, former)?) else {
+    let Some(members) = names(alloc, members)? else {
+        return Ok(None);
+    };
+    let Some(former) = names(alloc, former)? else {
         return Ok(None);
     };
     let view = Bytes::copy_of(alloc, view)?;
@@ -99,20 +120,29 @@ pub fn view(alloc: Global, words: &[&[u8]]) -> Result<Option<Command>, Memory>
     }
 }
 
+/// The participant's entering of the view. The error is want of memory.
+fn use_of_words(alloc: Global, log: &[u8], view: &[u8]) -> Result<Option<Command>, Memory>
+    ensures { IfOk result (λ command. command ≡ use_of (log.now ∷ view.now ∷ [])) }
+{
+    let Some(log) = name(log) else {
+        return Ok(None);
+    };
+    let Some(view) = name(view) else {
+        return Ok(None);
+    };
+    let log = Bytes::copy_of(alloc, log)?;
+    let view = Bytes::copy_of(alloc, view)?;
+    Ok(Some(Command::Use { log, view }))
+}
+
 /// `use P V`, of the words behind the first. The error is want of memory.
 pub fn enter(alloc: Global, words: &[&[u8]]) -> Result<Option<Command>, Memory>
     ensures { IfOk result (λ command. command ≡ use_of (map (λ word. word.now) words.now)) }
 {
-    let [log, view] = words else {
-        return Ok(None);
-    };
-    let (Some(log), Some(view)) = (name(log), name(view)) else {
-        return Ok(None);
-    };
-    Ok(Some(Command::Use {
-        log: Bytes::copy_of(alloc, log)?,
-        view: Bytes::copy_of(alloc, view)?,
-    }))
+    match words {
+        [log, view] => use_of_words(alloc, log, view),
+        _ => Ok(None),
+    }
 }
 
 /// `at SEC NSEC`, of the words behind the first.

@@ -1,7 +1,7 @@
-//! The parts of a line.
+//! The parts of a line and of a word.
 
-ghost use Rattle.std.specs.Prelude.{◌≡◌, ◌==◌, IfOk, map};
-ghost use Rattle.std.specs.List.{slice_split};
+ghost use Rattle.std.specs.Prelude.{◌≡◌, ◌==◌, nat_eq, true, false, length, drop, IfOk, MatchOption, map};
+ghost use Rattle.std.specs.List.{slice_split, starts_with};
 
 use ivy_base::Memory;
 use std::alloc::Global;
@@ -11,4 +11,15 @@ pub fn parts(alloc: Global, text: &[u8], separator: u8) -> Result<Vec<&[u8]>, Me
     ensures { IfOk result (λ parts. map (λ part. part.now) parts.items ≡ slice_split (λ b. b == separator) text.now) }
 {
     Ok(text.split(|byte| *byte == separator).collect(alloc)?)
+}
+
+/// What stands behind the prefix, if the word begins with it.
+pub fn behind<'a>(word: &'a [u8], prefix: &[u8]) -> Option<&'a [u8]>
+    ensures { MatchOption result (starts_with nat_eq word.now prefix.now ≡ false) (λ rest. (starts_with nat_eq word.now prefix.now ≡ true) × (rest.now ≡ drop (length prefix.now) word.now)) }
+{
+    if word.starts_with(prefix) {
+        Some(&word[prefix.len()..])
+    } else {
+        None
+    }
 }
