@@ -1,49 +1,43 @@
 //! Calls, and the heads of replies.
 
-use crate::words::{number_of, text, word_of};
+use crate::text::Text;
+use crate::words::number_of;
 use rpc_wire::{Call, Caller, Heading, LONGEST_HEAD, ReplyHead, read_call, write_head};
 use std::alloc::Global;
 use xdr_codec::XdrWrite;
 
-/// What is told of bytes as a call.
-pub fn call(alloc: Global, message: &[u8]) -> Option<String> {
+/// Tells the bytes as a call.
+pub fn call(out: &mut Text, message: &[u8]) {
     match read_call(message) {
-        Heading::Good(call) => told(alloc, &call),
-        Heading::Mismatch { xid } => format!(in alloc; "mismatch {xid}").ok(),
-        Heading::NotACall => text(alloc, "none"),
+        Heading::Good(call) => put_call(out, &call),
+        Heading::Mismatch { xid } => out.show("mismatch ", &xid),
+        Heading::NotACall => out.add("none"),
     }
 }
 
-fn told(alloc: Global, call: &Call<'_>) -> Option<String> {
-    let caller = told_caller(alloc, &call.caller)?;
-    let args = word_of(alloc, call.args)?;
-    format!(in alloc;
-        "call {} {} {} {} {caller} {args}",
-        call.xid, call.program, call.version, call.procedure
-    )
-    .ok()
+fn put_call(out: &mut Text, call: &Call<'_>) {
+    out.show("call ", &call.xid);
+    out.show(" ", &call.program);
+    out.show(" ", &call.version);
+    out.show(" ", &call.procedure);
+    put_caller(out, &call.caller);
+    out.bytes(" ", call.args);
 }
 
-/// The caller, where there is one.
-fn told_caller(alloc: Global, caller: &Option<Caller>) -> Option<String> {
+/// Adds the caller, where there is one: the user, the group and the other groups.
+fn put_caller(out: &mut Text, caller: &Option<Caller>) {
     match caller {
-        Some(caller) => told_groups(alloc, caller),
-        None => text(alloc, "-"),
+        Some(caller) => {
+            out.show(" ", &caller.uid);
+            out.show(",", &caller.gid);
+            for place in 0..caller.count as usize {
+                if let Some(gid) = caller.gids.get(place) {
+                    out.show(",", gid);
+                }
+            }
+        }
+        None => out.add(" -"),
     }
-}
-
-/// The caller: the user, the group and the other groups.
-fn told_groups(alloc: Global, caller: &Caller) -> Option<String> {
-    let mut told = format!(in alloc; "{},{}", caller.uid, caller.gid).ok()?;
-    for gid in caller.gids.iter().take(caller.count as usize) {
-        put_group(alloc, &mut told, *gid)?;
-    }
-    Some(told)
-}
-
-fn put_group(alloc: Global, told: &mut String, gid: u32) -> Option<()> {
-    let gid = format!(in alloc; ",{gid}").ok()?;
-    told.push_str(gid.as_str()).ok()
 }
 
 /// The head that the words name.
@@ -72,16 +66,20 @@ fn simple_head(word: &str) -> Option<ReplyHead> {
     })
 }
 
-/// The head of the reply to a call, whose number the first word is.
-pub fn front(alloc: Global, words: &[&str]) -> Option<String> {
+/// Tells the head of the reply to a call, whose number the first word is.
+pub fn front(out: &mut Text, alloc: Global, words: &[&str]) -> Option<()> {
     let (xid, words) = words.split_first()?;
-    written(alloc, number_of(xid)?, &head_of(words)?)
+    put_head(out, alloc, number_of(xid)?, &head_of(words)?);
+    Some(())
 }
 
-/// The bytes of the head.
-fn written(alloc: Global, xid: u32, head: &ReplyHead) -> Option<String> {
-    let mut out = XdrWrite::new(alloc);
-    out.reserve(LONGEST_HEAD).ok()?;
-    write_head(&mut out, xid, head);
-    word_of(alloc, out.into_bytes().as_slice())
+/// Adds the bytes of the head.
+fn put_head(out: &mut Text, alloc: Global, xid: u32, head: &ReplyHead) {
+    let mut written = XdrWrite::new(alloc);
+    if written.reserve(LONGEST_HEAD).is_ok() {
+        write_head(&mut written, xid, head);
+        out.bytes("", written.into_bytes().as_slice());
+    } else {
+        out.lack();
+    }
 }

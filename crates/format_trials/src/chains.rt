@@ -7,8 +7,9 @@ ghost use Rattle.log_records.specs.Records.{records_of};
 ghost use Rattle.log_records.specs.Batches.{owner_of, AreOfOneOwner};
 
 use crate::gather::are_of;
+use crate::text::Text;
 use crate::vectors::vector_of_word;
-use crate::words::{bytes_of, key_of, number_of, owner_of, text};
+use crate::words::{bytes_of, key_of, number_of, owner_of};
 use dht_ids::Judged;
 use ivy_base::{Key, PubKey, head_key};
 use log_records::{Batch, Chain, ChainFault, Edge, Record};
@@ -66,15 +67,16 @@ fn leaves_out(edge: &Option<Edge>, log: &Key) -> bool
     }
 }
 
-/// What a batch says to the chain: `ok` where it is in the batch then.
-fn told(
+/// Tells what a batch says to the chain: `ok` where it is in the batch then.
+fn put_told(
+    out: &mut Text,
     alloc: Global,
     base: &Base,
     head: Judged,
     chain: Vec<Record>,
     owner: PubKey,
     edge: Option<Edge>,
-) -> Option<String>
+) -> Option<()>
     requires owner { AreOfOneOwner (records_of chain.items) }
     requires own { owner_of (records_of chain.items) ≡ owner }
     requires edge { IfSome edge (λ e. stamp_at e.vector (head_key_of owner) ≡ None) }
@@ -84,7 +86,8 @@ fn told(
     let fault = batch.add_chain(alloc, &base.view, head, chain, edge).err();
     let is_same = batch.started().entries() == base.held.entries();
     let chains = batch.into_chains();
-    text(alloc, word_of(fault, is_same, &chains, &head, count))
+    out.add(word_of(fault, is_same, &chains, &head, count));
+    Some(())
 }
 
 /// The word for what a batch says to a chain of so many records, where `is_same` says whether what it is over is as before.
@@ -109,8 +112,8 @@ fn is_chain(chain: &Chain, head: &Judged, count: usize) -> bool {
     chain.head == *head && chain.records.as_slice().len() == count
 }
 
-/// What is told of the chain that the words are.
-pub fn chain(alloc: Global, words: &[&str]) -> Option<String> {
+/// Tells the chain that the words are.
+pub fn chain(out: &mut Text, alloc: Global, words: &[&str]) -> Option<()> {
     let [view, held, floor, edge, owner, seq, name, blocks @ ..] = words else {
         return None;
     };
@@ -120,22 +123,23 @@ pub fn chain(alloc: Global, words: &[&str]) -> Option<String> {
         name: key_of(alloc, name)?,
     };
     let base = base_of(alloc, view, held, floor)?;
-    told_blocks(alloc, &base, head, &owner, edge, blocks)
+    put_blocks(out, alloc, &base, head, &owner, edge, blocks)
 }
 
-/// What is told of the chain of the owner's records that the blocks are, where there is a chain and the edge leaves it out.
-fn told_blocks(
+/// Tells the chain of the owner's records that the blocks are, where there is a chain and the edge leaves it out.
+fn put_blocks(
+    out: &mut Text,
     alloc: Global,
     base: &Base,
     head: Judged,
     owner: &PubKey,
     edge: &str,
     blocks: &[&str],
-) -> Option<String> {
+) -> Option<()> {
     let records = records_of_words(alloc, owner, blocks)?;
     let edge = edge_of_word(alloc, edge)?;
     if are_of(&records, owner) && leaves_out(&edge, &head_key(owner)) {
-        told(alloc, base, head, records, *owner, edge)
+        put_told(out, alloc, base, head, records, *owner, edge)
     } else {
         None
     }

@@ -1,7 +1,7 @@
 //! Streams of messages.
 
-use crate::words::{bytes_of, text, word_of};
-use ivy_base::Bytes;
+use crate::text::Text;
+use crate::words::bytes_of;
 use rpc_wire::{FrameFault, FrameReader};
 use std::alloc::Global;
 
@@ -17,27 +17,39 @@ fn feed(alloc: Global, reader: &mut FrameReader, piece: &[u8]) -> Option<bool> {
     }
 }
 
-/// Appends a message.
-fn put_message(alloc: Global, told: &mut String, message: &Bytes) -> Option<()> {
-    let bytes = message.as_slice();
-    let word = if bytes.len() > MOST {
-        format!(in alloc; "({} bytes)", bytes.len()).ok()?
-    } else {
-        word_of(alloc, bytes)?
-    };
-    told.push_str(word.as_str()).ok()?;
-    told.push_str(" ").ok()
+/// Feeds the pieces.
+fn feed_pieces(alloc: Global, reader: &mut FrameReader, pieces: &[&str]) -> Option<bool> {
+    let mut is_too_long = false;
+    for piece in pieces {
+        is_too_long = feed(alloc, reader, &bytes_of(alloc, piece)?)?;
+    }
+    Some(is_too_long)
 }
 
-/// Appends the messages that wait.
-fn put_messages(alloc: Global, told: &mut String, reader: &mut FrameReader) -> Option<()> {
-    for _n in 0..1000 {
-        let Some(message) = reader.take() else {
-            break;
-        };
-        put_message(alloc, told, &message)?;
+/// Feeds two pieces.
+fn feed_two(alloc: Global, reader: &mut FrameReader, first: &[u8], second: &[u8]) -> Option<bool> {
+    feed(alloc, reader, first)?;
+    feed(alloc, reader, second)
+}
+
+/// Feeds a stream byte by byte.
+fn feed_bytes(alloc: Global, reader: &mut FrameReader, stream: &[u8]) -> Option<bool> {
+    let mut is_too_long = false;
+    for byte in stream {
+        is_too_long = feed(alloc, reader, &[*byte])?;
     }
-    Some(())
+    Some(is_too_long)
+}
+
+/// Adds a message.
+fn put_message(out: &mut Text, message: &[u8]) {
+    if message.len() > MOST {
+        out.show("(", &message.len());
+        out.add(" bytes) ");
+    } else {
+        out.bytes("", message);
+        out.add(" ");
+    }
 }
 
 /// How a stream ends.
@@ -50,50 +62,59 @@ fn end_of(is_whole: bool, is_too_long: bool) -> &'static str {
     }
 }
 
-/// The messages that wait, and how the stream ends.
-fn told(alloc: Global, reader: &mut FrameReader, is_too_long: bool) -> Option<String> {
-    let mut told = String::new(alloc);
-    put_messages(alloc, &mut told, reader)?;
-    told.push_str(end_of(reader.finish().is_ok(), is_too_long))
-        .ok()?;
-    Some(told)
-}
-
-/// What is told of a stream in these pieces.
-pub fn frames(alloc: Global, pieces: &[&str]) -> Option<String> {
-    let mut reader = FrameReader::new(alloc);
-    let mut is_too_long = false;
-    for piece in pieces {
-        is_too_long = feed(alloc, &mut reader, &bytes_of(alloc, piece)?)?;
+/// Adds the messages that wait, and how the stream ends, by what feeding it said.
+fn put_stream(out: &mut Text, reader: &mut FrameReader, is_too_long: Option<bool>) {
+    for _n in 0..1000 {
+        let Some(message) = reader.take() else {
+            break;
+        };
+        put_message(out, message.as_slice());
     }
-    told(alloc, &mut reader, is_too_long)
-}
-
-/// What is told of a stream in two pieces.
-fn in_two(alloc: Global, first: &[u8], second: &[u8]) -> Option<String> {
-    let mut reader = FrameReader::new(alloc);
-    feed(alloc, &mut reader, first)?;
-    let is_too_long = feed(alloc, &mut reader, second)?;
-    told(alloc, &mut reader, is_too_long)
-}
-
-/// What is told of a stream byte by byte.
-fn by_bytes(alloc: Global, stream: &[u8]) -> Option<String> {
-    let mut reader = FrameReader::new(alloc);
-    let mut is_too_long = false;
-    for byte in stream {
-        is_too_long = feed(alloc, &mut reader, &[*byte])?;
+    match is_too_long {
+        Some(is_too_long) => out.add(end_of(reader.finish().is_ok(), is_too_long)),
+        None => out.lack(),
     }
-    told(alloc, &mut reader, is_too_long)
 }
 
-/// What is told of a stream, where it is the same byte by byte and in any two pieces.
-pub fn pieces(alloc: Global, stream: &[u8]) -> Option<String> {
-    let told = by_bytes(alloc, stream)?;
+/// Tells a stream in these pieces.
+pub fn frames(out: &mut Text, alloc: Global, pieces: &[&str]) {
+    let mut reader = FrameReader::new(alloc);
+    let is_too_long = feed_pieces(alloc, &mut reader, pieces);
+    put_stream(out, &mut reader, is_too_long);
+}
+
+/// Tells a stream byte by byte.
+fn by_bytes(out: &mut Text, alloc: Global, stream: &[u8]) {
+    let mut reader = FrameReader::new(alloc);
+    let is_too_long = feed_bytes(alloc, &mut reader, stream);
+    put_stream(out, &mut reader, is_too_long);
+}
+
+/// Whether this is told of the stream in two pieces.
+fn is_told(alloc: Global, first: &[u8], second: &[u8], told: &str) -> Option<bool> {
+    let mut again = Text::new(alloc);
+    let mut reader = FrameReader::new(alloc);
+    let is_too_long = feed_two(alloc, &mut reader, first, second);
+    put_stream(&mut again, &mut reader, is_too_long);
+    again.is(told)
+}
+
+/// Whether this is told of the stream in any two pieces.
+fn is_always_told(alloc: Global, stream: &[u8], told: &str) -> Option<bool> {
     for at in 0..=stream.len() {
-        if in_two(alloc, &stream[..at], &stream[at..])? != told {
-            return text(alloc, "differs");
+        if !is_told(alloc, &stream[..at], &stream[at..], told)? {
+            return Some(false);
         }
     }
-    Some(told)
+    Some(true)
+}
+
+/// Tells a stream, where it is the same byte by byte and in any two pieces.
+pub fn pieces(out: &mut Text, alloc: Global, stream: &[u8]) -> Option<()> {
+    by_bytes(out, alloc, stream);
+    if !is_always_told(alloc, stream, out.whole()?)? {
+        out.clear();
+        out.add("differs");
+    }
+    Some(())
 }

@@ -1,6 +1,7 @@
 //! Items of XDR.
 
-use crate::words::{bytes_of, number_of, text, word_of};
+use crate::text::Text;
+use crate::words::{bytes_of, number_of};
 use std::alloc::Global;
 use xdr_codec::{XdrFault, XdrRead, XdrWrite};
 
@@ -14,128 +15,102 @@ fn name_of(fault: XdrFault) -> &'static str {
     }
 }
 
-/// A number that was read.
-fn told_number(alloc: Global, number: Result<u64, XdrFault>) -> Option<String> {
-    match number {
-        Ok(number) => format!(in alloc; "{number}").ok(),
-        Err(fault) => text(alloc, name_of(fault)),
-    }
-}
-
-/// Bytes that were read.
-fn told_bytes(alloc: Global, bytes: Result<&[u8], XdrFault>) -> Option<String> {
-    match bytes {
-        Ok(bytes) => word_of(alloc, bytes),
-        Err(fault) => text(alloc, name_of(fault)),
-    }
-}
-
 /// Reads an item: `word`, `double`, `boolean`, `rest`, `end`, `fixed:N` or `opaque:MOST`.
-fn read_item(alloc: Global, reader: &mut XdrRead<'_>, item: &str) -> Option<String> {
+fn read_item(out: &mut Text, reader: &mut XdrRead<'_>, item: &str) -> Result<(), XdrFault> {
     match item {
-        "word" => told_number(alloc, reader.u32().map(u64::from)),
-        "double" => told_number(alloc, reader.u64()),
-        "boolean" => told_number(alloc, reader.boolean().map(u64::from)),
-        "rest" => word_of(alloc, reader.rest()),
-        "end" => told_end(alloc, reader),
-        _ => read_bytes(alloc, reader, item),
+        "word" => out.show("", &reader.u32()?),
+        "double" => out.show("", &reader.u64()?),
+        "boolean" => out.add(if reader.boolean()? { "1" } else { "0" }),
+        "rest" => out.bytes("", reader.rest()),
+        "end" => {
+            reader.finish()?;
+            out.add("-");
+        }
+        _ => return read_bytes(out, reader, item),
     }
+    Ok(())
 }
 
 /// Reads `fixed:N` or `opaque:MOST`.
-fn read_bytes(alloc: Global, reader: &mut XdrRead<'_>, item: &str) -> Option<String> {
-    let (kind, count) = item.split_once(':')?;
-    let count = number_of(count)?;
-    match kind {
-        "fixed" => told_bytes(alloc, reader.fixed(count as usize)),
-        "opaque" => told_bytes(alloc, reader.opaque(count)),
-        _ => None,
+fn read_bytes(out: &mut Text, reader: &mut XdrRead<'_>, item: &str) -> Result<(), XdrFault> {
+    let Some((kind, count)) = item.split_once(':') else {
+        out.lack();
+        return Ok(());
+    };
+    match (kind, number_of(count)) {
+        ("fixed", Some(count)) => out.bytes("", reader.fixed(count as usize)?),
+        ("opaque", Some(count)) => out.bytes("", reader.opaque(count)?),
+        _ => out.lack(),
     }
+    Ok(())
 }
 
-/// Whether the bytes end here.
-fn told_end(alloc: Global, reader: &XdrRead<'_>) -> Option<String> {
-    match reader.finish() {
-        Ok(()) => text(alloc, "-"),
-        Err(fault) => text(alloc, name_of(fault)),
-    }
-}
-
-/// What reading the items one behind the other gives.
-pub fn read(alloc: Global, items: &str, bytes: &[u8]) -> Option<String> {
+/// Tells what reading the items one behind the other gives.
+pub fn read(out: &mut Text, items: &str, bytes: &[u8]) {
     let mut reader = XdrRead::new(bytes);
-    let mut told = String::new(alloc);
+    let mut is_first = true;
     for item in items.split(',') {
-        put_item(&mut told, read_item(alloc, &mut reader, item)?.as_str())?;
+        if !is_first {
+            out.add(" ");
+        }
+        is_first = false;
+        if let Err(fault) = read_item(out, &mut reader, item) {
+            out.add(name_of(fault));
+        }
     }
-    Some(told)
-}
-
-/// Appends what is told of an item.
-fn put_item(told: &mut String, word: &str) -> Option<()> {
-    if !told.is_empty() {
-        told.push_str(" ").ok()?;
-    }
-    told.push_str(word).ok()
 }
 
 /// Writes an item: `word:N`, `double:N`, `boolean:N`, `fixed:BYTES` or `opaque:BYTES`.
-fn write_item(alloc: Global, out: &mut XdrWrite, item: &str) -> Option<()> {
+fn write_item(alloc: Global, written: &mut XdrWrite, item: &str) -> Option<()> {
     let (kind, value) = item.split_once(':')?;
+    written.reserve(8).ok()?;
     match kind {
-        "word" => put_word(out, number_of(value)?),
-        "double" => put_double(out, value.parse().ok()?),
-        "boolean" => put_boolean(out, value == "1"),
-        "fixed" => put_fixed(out, &bytes_of(alloc, value)?),
-        "opaque" => put_opaque(out, &bytes_of(alloc, value)?),
-        _ => None,
+        "word" => written.put_u32(number_of(value)?),
+        "double" => written.put_u64(value.parse().ok()?),
+        "boolean" => written.put_bool(value == "1"),
+        "fixed" => return write_fixed(written, &bytes_of(alloc, value)?),
+        "opaque" => return write_opaque(written, &bytes_of(alloc, value)?),
+        _ => return None,
     }
-}
-
-fn put_word(out: &mut XdrWrite, value: u32) -> Option<()> {
-    out.reserve(4).ok()?;
-    out.put_u32(value);
-    Some(())
-}
-
-fn put_double(out: &mut XdrWrite, value: u64) -> Option<()> {
-    out.reserve(8).ok()?;
-    out.put_u64(value);
-    Some(())
-}
-
-fn put_boolean(out: &mut XdrWrite, value: bool) -> Option<()> {
-    out.reserve(4).ok()?;
-    out.put_bool(value);
     Some(())
 }
 
 /// Writes bytes without their count, at most 1,000.
-fn put_fixed(out: &mut XdrWrite, bytes: &[u8]) -> Option<()> {
+fn write_fixed(written: &mut XdrWrite, bytes: &[u8]) -> Option<()> {
     if bytes.len() > 1000 {
         return None;
     }
-    out.reserve(bytes.len() + (4 - bytes.len() % 4) % 4).ok()?;
-    out.put_fixed(bytes);
+    written
+        .reserve(bytes.len() + (4 - bytes.len() % 4) % 4)
+        .ok()?;
+    written.put_fixed(bytes);
     Some(())
 }
 
 /// Writes bytes behind their count, at most 1,000.
-fn put_opaque(out: &mut XdrWrite, bytes: &[u8]) -> Option<()> {
+fn write_opaque(written: &mut XdrWrite, bytes: &[u8]) -> Option<()> {
     if bytes.len() > 1000 {
         return None;
     }
-    out.reserve(4 + (bytes.len() + (4 - bytes.len() % 4) % 4))
+    written
+        .reserve(4 + (bytes.len() + (4 - bytes.len() % 4) % 4))
         .ok()?;
-    out.put_opaque(bytes);
+    written.put_opaque(bytes);
     Some(())
 }
 
-/// The bytes of the items one behind the other.
-pub fn write(alloc: Global, items: &[&str]) -> Option<String> {
-    let mut out = XdrWrite::new(alloc);
+/// Writes the items one behind the other.
+fn write_items(alloc: Global, written: &mut XdrWrite, items: &[&str]) -> Option<()> {
     for item in items {
-        write_item(alloc, &mut out, item)?;
+        write_item(alloc, written, item)?;
     }
-    word_of(alloc, out.into_bytes().as_slice())
+    Some(())
+}
+
+/// Tells the bytes of the items one behind the other.
+pub fn write(out: &mut Text, alloc: Global, items: &[&str]) -> Option<()> {
+    let mut written = XdrWrite::new(alloc);
+    let done = write_items(alloc, &mut written, items);
+    out.bytes("", written.into_bytes().as_slice());
+    done
 }

@@ -35,7 +35,11 @@ pub fn owner(letter: u8) -> PubKey {
 
 /// The letters' owners.
 fn owners(alloc: Global, letters: &str) -> Option<Vec<PubKey>> {
-    letters.bytes().map(owner).collect(alloc).ok()
+    let mut owners = Vec::new(alloc);
+    for letter in letters.bytes() {
+        owners.push(owner(letter)).ok()?;
+    }
+    Some(owners)
 }
 
 /// The view of the members before the dash and the former members behind it, where there is one.

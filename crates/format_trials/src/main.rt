@@ -43,20 +43,24 @@ mod plain;
 mod random;
 mod records;
 mod results;
+mod text;
 mod vectors;
 mod views;
 mod words;
 
 use answers::answer;
 use std::io;
+use text::Text;
 
 fn main(rt: HostRuntime) -> io::Result<()> {
-    for line in rt.lines(rt.alloc()) {
+    let alloc = rt.alloc();
+    for line in rt.lines(alloc) {
         let line = line?;
-        match answer(rt.alloc(), line.as_str()) {
-            Some(text) => println!(rt; "{text}")?,
-            None => println!(rt; "no answer")?,
+        let mut text = Text::new(alloc);
+        if answer(&mut text, alloc, line.as_str()).is_none() {
+            text.lack();
         }
+        println!(rt; "{}", text.whole().unwrap_or("no answer"))?;
     }
     Ok(())
 }

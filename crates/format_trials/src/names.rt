@@ -1,31 +1,32 @@
 //! Names and numbers.
 
-use crate::words::{text, word_of};
+use crate::text::Text;
 use ivy_base::{Bytes, PubKey, head_key, name_of, name_ok, number_of};
 use std::alloc::Global;
 
-/// The name of a block, where that of its copy is the same.
-pub fn name(alloc: Global, bytes: &[u8]) -> Option<String> {
+/// Tells the name of a block, where that of its copy is the same.
+pub fn name(out: &mut Text, alloc: Global, bytes: &[u8]) -> Option<()> {
     let copy = Bytes::copy_of(alloc, bytes).ok()?.copy(alloc).ok()?;
     let name = name_of(bytes);
     if name_of(copy.as_slice()) == name {
-        word_of(alloc, &name.0)
+        out.bytes("", &name.0);
     } else {
-        text(alloc, "differs")
+        out.add("differs");
     }
+    Some(())
 }
 
-/// The owner's head key.
-pub fn key(alloc: Global, owner: &PubKey) -> Option<String> {
-    word_of(alloc, &head_key(owner).0)
+/// Tells the owner's head key.
+pub fn key(out: &mut Text, owner: &PubKey) {
+    out.bytes("", &head_key(owner).0);
 }
 
-/// The number of the inode that the owner's record of that number makes.
-pub fn number(alloc: Global, owner: &PubKey, seq: u32) -> Option<String> {
-    word_of(alloc, &number_of(owner, seq).0)
+/// Tells the number of the inode that the owner's record of that number makes.
+pub fn number(out: &mut Text, owner: &PubKey, seq: u32) {
+    out.bytes("", &number_of(owner, seq).0);
 }
 
-/// Whether a directory may hold the name.
-pub fn entry(alloc: Global, name: &[u8]) -> Option<String> {
-    text(alloc, if name_ok(name) { "yes" } else { "no" })
+/// Tells whether a directory may hold the name.
+pub fn entry(out: &mut Text, name: &[u8]) {
+    out.add(if name_ok(name) { "yes" } else { "no" });
 }

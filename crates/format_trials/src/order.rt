@@ -4,42 +4,56 @@ use crate::gather::{batch_of, part_of};
 use crate::logs::{Log, entry, owner, view_of};
 use crate::plain::{Plain, agrees, plain_part};
 use crate::random::Random;
-use crate::words::{number_of, text};
+use crate::text::Text;
+use crate::words::number_of;
 use ivy_base::{PubKey, head_key};
 use log_records::Record;
 use std::alloc::Global;
 use version_vectors::{Entry, Vector};
 use view_blocks::View;
 
-/// What is told of the part of the logs: its records, or only how many they are.
-fn told(alloc: Global, view: &View, logs: Vec<Log>, is_counted: bool) -> Option<String> {
+/// Tells the part of the logs: its records, or only how many they are.
+fn put_part(
+    out: &mut Text,
+    alloc: Global,
+    view: &View,
+    logs: Vec<Log>,
+    is_counted: bool,
+) -> Option<()> {
     let plain = plain_part(alloc, view, &logs).ok()?;
-    let batch = batch_of(alloc, view, logs)?;
-    let part = part_of(alloc, view, batch).ok()?;
-    told_part(alloc, &plain, &part, is_counted)
+    put_part_of(out, alloc, view, logs, &plain, is_counted)
 }
 
-/// What is told of the part: whether the slow program takes the same records, and the records or their count.
-fn told_part(alloc: Global, plain: &[Plain], part: &[Record], is_counted: bool) -> Option<String> {
-    let word = if agrees(plain, part) {
+/// Tells the part of the logs, and whether the slow program takes the same records.
+fn put_part_of(
+    out: &mut Text,
+    alloc: Global,
+    view: &View,
+    logs: Vec<Log>,
+    plain: &[Plain],
+    is_counted: bool,
+) -> Option<()> {
+    let batch = batch_of(alloc, view, logs)?;
+    let part = part_of(alloc, view, batch).ok()?;
+    out.add(if agrees(plain, &part) {
         "agree"
     } else {
         "differ"
-    };
+    });
     if is_counted {
-        format!(in alloc; "{word} {}", part.len()).ok()
+        out.show(" ", &part.len());
     } else {
-        told_records(alloc, word, part)
+        put_records(out, &part);
     }
+    Some(())
 }
 
-/// The word, and the records in order.
-fn told_records(alloc: Global, word: &str, part: &[Record]) -> Option<String> {
-    let mut told = text(alloc, word)?;
+/// Adds the records in order: their owners' letters and their numbers.
+fn put_records(out: &mut Text, part: &[Record]) {
     for record in part {
-        put_record(alloc, &mut told, record)?;
+        out.show(" ", &char::from(record.owner.0[0]));
+        out.show("", &record.seq);
     }
-    Some(told)
 }
 
 /// The letter that a word begins with, and the rest.
@@ -112,13 +126,6 @@ fn step(alloc: Global, logs: &mut Vec<Log>, word: &str) -> Option<()> {
     write_at(alloc, logs, place, vector)
 }
 
-/// Appends the record: its owner's letter and its number.
-fn put_record(alloc: Global, told: &mut String, record: &Record) -> Option<()> {
-    let letter = record.owner.0[0] as char;
-    let word = format!(in alloc; " {letter}{}", record.seq).ok()?;
-    told.push_str(word.as_str()).ok()
-}
-
 /// The logs that the words write.
 fn written(alloc: Global, words: &[&str]) -> Option<Vec<Log>> {
     let mut logs = Vec::new(alloc);
@@ -128,11 +135,11 @@ fn written(alloc: Global, words: &[&str]) -> Option<Vec<Log>> {
     Some(logs)
 }
 
-/// The part of the logs that the words write, in order, under the view that the first word is.
-pub fn order(alloc: Global, words: &[&str]) -> Option<String> {
+/// Tells the part of the logs that the words write, in order, under the view that the first word is.
+pub fn order(out: &mut Text, alloc: Global, words: &[&str]) -> Option<()> {
     let (members, words) = words.split_first()?;
     let view = view_of(alloc, members)?;
-    told(alloc, &view, written(alloc, words)?, false)
+    put_part(out, alloc, &view, written(alloc, words)?, false)
 }
 
 /// What the one log cites by chance of the other, never less than its newest record does. Its number is 0 for nothing.
@@ -210,13 +217,19 @@ fn by_chance(alloc: Global, seed: u64, letters: &str, count: u32) -> Option<Vec<
     Some(logs)
 }
 
-/// How many records the part has of logs by chance: the words are a seed, the letters of the logs, and how many records
-/// are written.
-pub fn random(alloc: Global, words: &[&str]) -> Option<String> {
+/// Tells how many records the part has of logs by chance: the words are a seed, the letters of the logs, and how many
+/// records are written.
+pub fn random(out: &mut Text, alloc: Global, words: &[&str]) -> Option<()> {
     let [seed, letters, count] = words else {
         return None;
     };
     let (seed, count) = (seed.parse().ok()?, number_of(count)?);
     let view = view_of(alloc, letters)?;
-    told(alloc, &view, by_chance(alloc, seed, letters, count)?, true)
+    put_part(
+        out,
+        alloc,
+        &view,
+        by_chance(alloc, seed, letters, count)?,
+        true,
+    )
 }

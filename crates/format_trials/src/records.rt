@@ -1,16 +1,19 @@
 //! Records and heads.
 
-use crate::words::{text, word_of};
+use crate::text::Text;
 use dht_ids::{Judge, Judged};
 use ivy_base::{Key, PubKey};
 use log_records::{Head, PlainJudge, Record, RecordFault, plain_head};
 use std::alloc::Global;
 
-/// What is told of bytes as a record of the owner's.
-pub fn record(alloc: Global, owner: &PubKey, bytes: &[u8]) -> Option<String> {
+/// Tells the bytes as a record of the owner's.
+pub fn record(out: &mut Text, alloc: Global, owner: &PubKey, bytes: &[u8]) -> Option<()> {
     match Record::read(alloc, bytes, owner) {
-        Ok(record) => told_record(alloc, &record, bytes),
-        Err(fault) => text(alloc, name_of(fault)),
+        Ok(record) => put_record(out, alloc, &record, bytes),
+        Err(fault) => {
+            out.add(name_of(fault));
+            Some(())
+        }
     }
 }
 
@@ -28,44 +31,67 @@ fn is_written(alloc: Global, record: &Record, bytes: &[u8]) -> Option<bool> {
     Some(record.write(alloc).ok()?.as_slice() == bytes)
 }
 
-/// What is told of a record that was read.
-fn told_record(alloc: Global, record: &Record, bytes: &[u8]) -> Option<String> {
+/// Adds a record that was read.
+fn put_record(out: &mut Text, alloc: Global, record: &Record, bytes: &[u8]) -> Option<()> {
     if !is_written(alloc, record, bytes)? {
-        return text(alloc, "differs");
+        out.add("differs");
+    } else if record.vector.len() > 32 {
+        out.add("too many logs");
+    } else {
+        out.bytes("ok ", &record.name(alloc).ok()?.0);
+        out.show(" ", &record.seq);
+        out.show(" ", &record.rank().weight);
     }
-    if record.vector.len() > 32 {
-        return text(alloc, "too many logs");
-    }
-    let name = word_of(alloc, &record.name(alloc).ok()?.0)?;
-    format!(in alloc; "ok {name} {} {}", record.seq, record.rank().weight).ok()
+    Some(())
 }
 
-/// What is told of bytes as a head under the key.
-pub fn head(alloc: Global, key: &Key, bytes: &[u8]) -> Option<String> {
-    let Some(head) = Head::read(bytes) else {
-        return text(alloc, "none");
-    };
+/// Tells the bytes as a head under the key.
+pub fn head(out: &mut Text, alloc: Global, key: &Key, bytes: &[u8]) -> Option<()> {
+    match Head::read(bytes) {
+        Some(head) => put_head(out, alloc, key, &head, bytes),
+        None => {
+            out.add("none");
+            Some(())
+        }
+    }
+}
+
+/// Adds a head that was read.
+fn put_head(out: &mut Text, alloc: Global, key: &Key, head: &Head<'_>, bytes: &[u8]) -> Option<()> {
     if head.write(alloc).ok()?.as_slice() != bytes {
-        return text(alloc, "differs");
+        out.add("differs");
+        return Some(());
     }
     match PlainJudge.judge(key, bytes) {
-        Some(judged) => told_plain(alloc, &head.owner, &judged, bytes),
-        None => told_other(alloc, &head),
+        Some(judged) => put_plain(out, alloc, &head.owner, &judged, bytes),
+        None => {
+            put_other(out, head);
+            Some(())
+        }
     }
 }
 
-/// What is told of a head that the plain judge takes.
-fn told_plain(alloc: Global, owner: &PubKey, judged: &Judged, bytes: &[u8]) -> Option<String> {
+/// Adds a head that the plain judge takes.
+fn put_plain(
+    out: &mut Text,
+    alloc: Global,
+    owner: &PubKey,
+    judged: &Judged,
+    bytes: &[u8],
+) -> Option<()> {
     let block = plain_head(alloc, owner, judged.seq, &judged.name).ok()?;
-    if block.as_slice() != bytes {
-        return text(alloc, "differs");
+    if block.as_slice() == bytes {
+        out.show("plain ", &judged.seq);
+        out.bytes(" ", &judged.name.0);
+    } else {
+        out.add("differs");
     }
-    let name = word_of(alloc, &judged.name.0)?;
-    format!(in alloc; "plain {} {name}", judged.seq).ok()
+    Some(())
 }
 
-/// What is told of a head that it doesn't take.
-fn told_other(alloc: Global, head: &Head<'_>) -> Option<String> {
-    let name = word_of(alloc, &head.name.0)?;
-    format!(in alloc; "signed {} {name} {}", head.seq, head.signature.len()).ok()
+/// Adds a head that it doesn't take.
+fn put_other(out: &mut Text, head: &Head<'_>) {
+    out.show("signed ", &head.seq);
+    out.bytes(" ", &head.name.0);
+    out.show(" ", &head.signature.len());
 }

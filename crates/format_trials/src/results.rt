@@ -3,145 +3,131 @@
 ghost use Rattle.nfs3_replies.specs.Reading.{IsProcedure};
 ghost use Rattle.std.specs.Prelude.{IsTrue};
 
-use crate::words::{text, word_of};
-use ivy_base::{Bytes, Moment};
-use nfs3_args::{
-    Args, ArgsFault, How, MOUNT_PROGRAM, NFS_PROGRAM, Node, SetWhat, read_args, write_args,
-};
-use nfs3_replies::{Fattr, Listed, Reply, Wcc, read_reply, write_reply};
+use crate::text::Text;
+use ivy_base::Bytes;
+use nfs3_args::{Args, ArgsFault, MOUNT_PROGRAM, NFS_PROGRAM, read_args, write_args};
+use nfs3_replies::{Fattr, Listed, Reply, read_reply, write_reply};
 use std::alloc::Global;
 
-/// What is told of bytes that were read, and of those that came of it.
-fn told_again(alloc: Global, written: &[u8], bytes: &[u8]) -> Option<String> {
-    text(alloc, if written == bytes { "ok" } else { "differs" })
+/// Tells whether bytes that were read come again where what was read is written.
+fn put_again(out: &mut Text, written: &[u8], bytes: &[u8]) {
+    out.add(if written == bytes { "ok" } else { "differs" });
 }
 
-/// What is told of bytes that can't be read.
-fn told_fault(alloc: Global, fault: ArgsFault) -> Option<String> {
-    text(
-        alloc,
-        match fault {
-            ArgsFault::Garbage => "garbage",
-            ArgsFault::Memory => "out of memory",
-        },
-    )
+/// Tells bytes that can't be read. They have no values.
+fn put_fault(out: &mut Text, fault: ArgsFault, has_fields: bool) {
+    if has_fields {
+        out.lack();
+    }
+    out.add(match fault {
+        ArgsFault::Garbage => "garbage",
+        ArgsFault::Memory => "out of memory",
+    });
 }
 
-/// What is told of bytes as the arguments of a procedure.
-pub fn args(alloc: Global, program: u32, procedure: u32, bytes: &[u8]) -> Option<String> {
+/// Tells the bytes as the arguments of a procedure, or with `has_fields` the values of those with numbers, ways and
+/// attributes.
+pub fn args(
+    out: &mut Text,
+    alloc: Global,
+    program: u32,
+    procedure: u32,
+    bytes: &[u8],
+    has_fields: bool,
+) {
     match read_args(alloc, program, procedure, bytes) {
-        Ok(args) => args_again(alloc, &args, bytes),
-        Err(fault) => told_fault(alloc, fault),
+        Ok(args) => put_read_args(out, alloc, &args, bytes, has_fields),
+        Err(fault) => put_fault(out, fault, has_fields),
     }
 }
 
-/// What is told of the arguments that were read of the bytes.
-fn args_again(alloc: Global, args: &Args, bytes: &[u8]) -> Option<String> {
-    told_again(alloc, write_args(alloc, args).ok()?.as_slice(), bytes)
+/// Tells the arguments that were read of the bytes.
+fn put_read_args(out: &mut Text, alloc: Global, args: &Args, bytes: &[u8], has_fields: bool) {
+    if has_fields {
+        return put_args(out, args);
+    }
+    match write_args(alloc, args) {
+        Ok(written) => put_again(out, written.as_slice(), bytes),
+        Err(_) => out.lack(),
+    }
 }
 
-/// The values of the arguments that the bytes are, for the procedures with numbers, ways and attributes.
-pub fn args_fields(alloc: Global, program: u32, procedure: u32, bytes: &[u8]) -> Option<String> {
-    told_args(alloc, &read_args(alloc, program, procedure, bytes).ok()?)
+/// Adds handles, names and the like, with blanks between.
+fn put_words(out: &mut Text, first: &Bytes, second: &Bytes) {
+    out.bytes("", first.as_slice());
+    out.bytes(" ", second.as_slice());
 }
 
-fn told_args(alloc: Global, args: &Args) -> Option<String> {
+/// Adds the values of arguments.
+fn put_args(out: &mut Text, args: &Args) {
     match args {
         Args::SetAttr {
             object,
             what,
             guard,
-        } => told_set_attr(alloc, object, what, guard),
+        } => {
+            out.bytes("", object.as_slice());
+            out.debug(" ", what);
+            out.debug(" ", guard);
+        }
         Args::Write {
             file,
             offset,
             count,
             stable,
             bytes,
-        } => told_write(alloc, file, *offset, *count, *stable, bytes),
-        Args::Create { dir, name, how } => told_create(alloc, dir, name, how),
-        Args::MkNod { dir, name, node } => told_node(alloc, dir, name, node),
+        } => put_write(out, file, *offset, *count, *stable, bytes),
+        Args::Create { dir, name, how } => {
+            put_words(out, dir, name);
+            out.debug(" ", how);
+        }
+        Args::MkNod { dir, name, node } => {
+            put_words(out, dir, name);
+            out.debug(" ", node);
+        }
         Args::Rename {
             dir,
             name,
             to_dir,
             to_name,
-        } => told_rename(alloc, dir, name, to_dir, to_name),
+        } => {
+            put_words(out, dir, name);
+            out.add(" ");
+            put_words(out, to_dir, to_name);
+        }
         Args::ReadDirPlus {
             dir,
             cookie,
             verifier,
             dircount,
             maxcount,
-        } => told_list(alloc, dir, *cookie, verifier, *dircount, *maxcount),
-        Args::Mnt { path } => word_of(alloc, path.as_slice()),
-        _ => None,
+        } => put_list(out, dir, *cookie, verifier, *dircount, *maxcount),
+        Args::Mnt { path } => out.bytes("", path.as_slice()),
+        _ => out.lack(),
     }
 }
 
-fn told_set_attr(
-    alloc: Global,
-    object: &Bytes,
-    what: &SetWhat,
-    guard: &Option<Moment>,
-) -> Option<String> {
-    let object = word_of(alloc, object.as_slice())?;
-    format!(in alloc; "{object} {what:?} {guard:?}").ok()
+fn put_write(out: &mut Text, file: &Bytes, offset: u64, count: u32, stable: u32, bytes: &Bytes) {
+    out.bytes("", file.as_slice());
+    out.show(" ", &offset);
+    out.show(" ", &count);
+    out.show(" ", &stable);
+    out.bytes(" ", bytes.as_slice());
 }
 
-fn told_write(
-    alloc: Global,
-    file: &Bytes,
-    offset: u64,
-    count: u32,
-    stable: u32,
-    bytes: &Bytes,
-) -> Option<String> {
-    let file = word_of(alloc, file.as_slice())?;
-    let bytes = word_of(alloc, bytes.as_slice())?;
-    format!(in alloc; "{file} {offset} {count} {stable} {bytes}").ok()
-}
-
-/// A name in a directory.
-fn told_place(alloc: Global, dir: &Bytes, name: &Bytes) -> Option<String> {
-    let dir = word_of(alloc, dir.as_slice())?;
-    let name = word_of(alloc, name.as_slice())?;
-    format!(in alloc; "{dir} {name}").ok()
-}
-
-fn told_create(alloc: Global, dir: &Bytes, name: &Bytes, how: &How) -> Option<String> {
-    let place = told_place(alloc, dir, name)?;
-    format!(in alloc; "{place} {how:?}").ok()
-}
-
-fn told_node(alloc: Global, dir: &Bytes, name: &Bytes, node: &Node) -> Option<String> {
-    let place = told_place(alloc, dir, name)?;
-    format!(in alloc; "{place} {node:?}").ok()
-}
-
-fn told_rename(
-    alloc: Global,
-    dir: &Bytes,
-    name: &Bytes,
-    to_dir: &Bytes,
-    to_name: &Bytes,
-) -> Option<String> {
-    let place = told_place(alloc, dir, name)?;
-    let to_place = told_place(alloc, to_dir, to_name)?;
-    format!(in alloc; "{place} {to_place}").ok()
-}
-
-fn told_list(
-    alloc: Global,
+fn put_list(
+    out: &mut Text,
     dir: &Bytes,
     cookie: u64,
     verifier: &[u8; 8],
     dircount: u32,
     maxcount: u32,
-) -> Option<String> {
-    let dir = word_of(alloc, dir.as_slice())?;
-    let verifier = word_of(alloc, verifier)?;
-    format!(in alloc; "{dir} {cookie} {verifier} {dircount} {maxcount}").ok()
+) {
+    out.bytes("", dir.as_slice());
+    out.show(" ", &cookie);
+    out.bytes(" ", verifier);
+    out.show(" ", &dircount);
+    out.show(" ", &maxcount);
 }
 
 /// Whether there is such a procedure.
@@ -151,128 +137,112 @@ fn is_procedure(program: u32, procedure: u32) -> bool
     program == NFS_PROGRAM && procedure < 22 || program == MOUNT_PROGRAM && procedure < 6
 }
 
-/// What is told of bytes as the result of a procedure.
-pub fn reply(alloc: Global, program: u32, procedure: u32, bytes: &[u8]) -> Option<String> {
+/// Tells the bytes as the result of a procedure, or with `has_fields` the values of those with handles, bytes and pages,
+/// and of refusals.
+pub fn reply(
+    out: &mut Text,
+    alloc: Global,
+    program: u32,
+    procedure: u32,
+    bytes: &[u8],
+    has_fields: bool,
+) {
     if !is_procedure(program, procedure) {
-        return None;
+        return out.lack();
     }
     match read_reply(alloc, program, procedure, bytes) {
-        Ok(reply) => reply_again(alloc, &reply, bytes),
-        Err(fault) => told_fault(alloc, fault),
+        Ok(reply) => put_read_reply(out, alloc, &reply, bytes, has_fields),
+        Err(fault) => put_fault(out, fault, has_fields),
     }
 }
 
-/// What is told of the result that was read of the bytes.
-fn reply_again(alloc: Global, reply: &Reply, bytes: &[u8]) -> Option<String> {
-    told_again(alloc, write_reply(alloc, reply).ok()?.as_slice(), bytes)
-}
-
-/// The values of the result that the bytes are, for the procedures with handles, bytes and pages, and of refusals.
-pub fn reply_fields(alloc: Global, program: u32, procedure: u32, bytes: &[u8]) -> Option<String> {
-    if !is_procedure(program, procedure) {
-        return None;
+/// Tells the result that was read of the bytes.
+fn put_read_reply(out: &mut Text, alloc: Global, reply: &Reply, bytes: &[u8], has_fields: bool) {
+    if has_fields {
+        return put_reply(out, reply);
     }
-    told_reply(alloc, &read_reply(alloc, program, procedure, bytes).ok()?)
+    match write_reply(alloc, reply) {
+        Ok(written) => put_again(out, written.as_slice(), bytes),
+        Err(_) => out.lack(),
+    }
 }
 
-fn told_reply(alloc: Global, reply: &Reply) -> Option<String> {
+/// Adds the values of a result.
+fn put_reply(out: &mut Text, reply: &Reply) {
     match reply {
-        Reply::Refused { status, tail } => format!(in alloc; "{status:?} {tail:?}").ok(),
-        Reply::Attributes { object } => format!(in alloc; "{object:?}").ok(),
+        Reply::Refused { status, tail } => {
+            out.debug("", status);
+            out.debug(" ", tail);
+        }
+        Reply::Attributes { object } => out.debug("", object),
         Reply::Found {
             handle,
             object,
             dir,
-        } => told_found(alloc, handle, object, dir),
+        } => {
+            out.bytes("", handle.as_slice());
+            out.debug(" ", object);
+            out.debug(" ", dir);
+        }
         Reply::Bytes {
             file,
             count,
             eof,
             bytes,
-        } => told_read(alloc, file, *count, *eof, bytes),
+        } => {
+            out.debug("", file);
+            out.show(" ", count);
+            out.show(" ", eof);
+            out.bytes(" ", bytes.as_slice());
+        }
         Reply::Made {
             handle,
             object,
             cache,
-        } => told_made(alloc, handle, object, cache),
+        } => {
+            out.bytes("", handle.as_slice());
+            out.debug(" ", object);
+            out.debug(" ", cache);
+        }
         Reply::Directory {
             dir,
             verifier,
             page,
             eof,
-        } => told_page(alloc, dir, verifier, page.as_slice(), *eof),
+        } => put_page(out, dir, verifier, page.as_slice(), *eof),
         Reply::DirectoryPlus {
             dir,
             verifier,
             page,
             eof,
-        } => told_page(alloc, dir, verifier, page.as_slice(), *eof),
-        _ => None,
+        } => put_page(out, dir, verifier, page.as_slice(), *eof),
+        _ => out.lack(),
     }
 }
 
-fn told_found(
-    alloc: Global,
-    handle: &Bytes,
-    object: &Option<Fattr>,
-    dir: &Option<Fattr>,
-) -> Option<String> {
-    let handle = word_of(alloc, handle.as_slice())?;
-    format!(in alloc; "{handle} {object:?} {dir:?}").ok()
-}
-
-fn told_read(
-    alloc: Global,
-    file: &Option<Fattr>,
-    count: u32,
-    eof: bool,
-    bytes: &Bytes,
-) -> Option<String> {
-    let bytes = word_of(alloc, bytes.as_slice())?;
-    format!(in alloc; "{file:?} {count} {eof} {bytes}").ok()
-}
-
-fn told_made(alloc: Global, handle: &Bytes, object: &Option<Fattr>, cache: &Wcc) -> Option<String> {
-    let handle = word_of(alloc, handle.as_slice())?;
-    format!(in alloc; "{handle} {object:?} {cache:?}").ok()
-}
-
-fn told_page(
-    alloc: Global,
+/// Adds the values of a page, its entries each behind a blank.
+fn put_page(
+    out: &mut Text,
     dir: &Option<Fattr>,
     verifier: &[u8; 8],
     entries: &[Listed],
     eof: bool,
-) -> Option<String> {
-    let verifier = word_of(alloc, verifier)?;
-    let entries = told_entries(alloc, entries)?;
-    format!(in alloc; "{dir:?} {verifier}{entries} {eof}").ok()
-}
-
-/// The values of the entries of a page, each behind a blank.
-fn told_entries(alloc: Global, entries: &[Listed]) -> Option<String> {
-    let mut told = String::new(alloc);
+) {
+    out.debug("", dir);
+    out.bytes(" ", verifier);
     for entry in entries {
-        told.push_str(told_entry(alloc, entry)?.as_str()).ok()?;
+        put_entry(out, entry);
     }
-    Some(told)
+    out.show(" ", &eof);
 }
 
-/// A handle, where there is one.
-fn told_handle(alloc: Global, handle: &Option<Bytes>) -> Option<String> {
-    match handle {
-        Some(handle) => word_of(alloc, handle.as_slice()),
-        None => text(alloc, "none"),
+fn put_entry(out: &mut Text, entry: &Listed) {
+    out.show(" ", &entry.fileid);
+    out.bytes(" ", entry.name.as_slice());
+    out.show(" ", &entry.cookie);
+    out.debug(" ", &entry.attributes);
+    match &entry.handle {
+        Some(handle) => out.bytes(" ", handle.as_slice()),
+        None => out.add(" none"),
     }
-}
-
-fn told_entry(alloc: Global, entry: &Listed) -> Option<String> {
-    let name = word_of(alloc, entry.name.as_slice())?;
-    let handle = told_handle(alloc, &entry.handle)?;
-    let attributes = entry.attributes;
-    format!(in alloc;
-        " {} {name} {} {attributes:?} {handle}",
-        entry.fileid, entry.cookie
-    )
-    .ok()
 }

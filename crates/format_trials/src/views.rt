@@ -1,6 +1,6 @@
 //! Views.
 
-use crate::words::{text, word_of};
+use crate::text::Text;
 use ivy_base::{Key, PubKey};
 use std::alloc::Global;
 use view_blocks::{View, ViewFault};
@@ -16,22 +16,27 @@ fn name_of(fault: ViewFault) -> &'static str {
     }
 }
 
-/// What is told of bytes as a view.
-pub fn view(alloc: Global, bytes: &[u8]) -> Option<String> {
+/// Tells the bytes as a view.
+pub fn view(out: &mut Text, alloc: Global, bytes: &[u8]) -> Option<()> {
     match View::read(alloc, bytes) {
-        Ok(view) => told(alloc, &view, bytes),
-        Err(fault) => text(alloc, name_of(fault)),
+        Ok(view) => put_view(out, alloc, &view, bytes),
+        Err(fault) => {
+            out.add(name_of(fault));
+            Some(())
+        }
     }
 }
 
-/// What is told of a view that has this block: the view that is made of the lists of its copy has it too.
-fn told(alloc: Global, view: &View, bytes: &[u8]) -> Option<String> {
-    if !is_copied(alloc, view, bytes)? {
-        return text(alloc, "differs");
+/// Adds a view that has this block: the view that is made of the lists of its copy has it too.
+fn put_view(out: &mut Text, alloc: Global, view: &View, bytes: &[u8]) -> Option<()> {
+    if is_copied(alloc, view, bytes)? {
+        out.bytes("ok ", &view.name().0);
+        out.show(" ", &view.members().len());
+        out.show(" ", &view.former().len());
+    } else {
+        out.add("differs");
     }
-    let name = word_of(alloc, &view.name().0)?;
-    let (members, former) = (view.members().len(), view.former().len());
-    format!(in alloc; "ok {name} {members} {former}").ok()
+    Some(())
 }
 
 /// Whether the view that is made of the lists of the view's copy has its block and its name.
@@ -54,33 +59,41 @@ fn has_block(alloc: Global, view: &View, name: &Key, bytes: &[u8]) -> Option<boo
 
 /// The public keys that the bytes are, one behind the other.
 fn keys_of(alloc: Global, bytes: &[u8]) -> Option<Vec<PubKey>> {
-    let (keys, _) = bytes.as_chunks::<60>();
-    keys.iter().map(|key| PubKey(*key)).collect(alloc).ok()
+    let mut keys = Vec::new(alloc);
+    let (chunks, _) = bytes.as_chunks::<60>();
+    for chunk in chunks {
+        keys.push(PubKey(*chunk)).ok()?;
+    }
+    Some(keys)
 }
 
-/// What is told of a view of these members and former members.
-pub fn make(alloc: Global, members: &[u8], former: &[u8]) -> Option<String> {
-    made(alloc, &keys_of(alloc, members)?, former)
+/// Tells a view of these members and former members.
+pub fn make(out: &mut Text, alloc: Global, members: &[u8], former: &[u8]) -> Option<()> {
+    make_of(out, alloc, &keys_of(alloc, members)?, former)
 }
 
-/// What is told of the view of these members, and of the former members that the bytes are.
-fn made(alloc: Global, members: &[PubKey], former: &[u8]) -> Option<String> {
+/// Tells the view of these members, and of the former members that the bytes are.
+fn make_of(out: &mut Text, alloc: Global, members: &[PubKey], former: &[u8]) -> Option<()> {
     let former = keys_of(alloc, former)?;
     match View::make(alloc, members, &former) {
-        Ok(view) => view_again(alloc, &view),
-        Err(fault) => text(alloc, name_of(fault)),
+        Ok(made) => view_again(out, alloc, &made),
+        Err(fault) => {
+            out.add(name_of(fault));
+            Some(())
+        }
     }
 }
 
-/// What is told of the view that the view's block is.
-fn view_again(alloc: Global, made: &View) -> Option<String> {
-    view(alloc, made.write(alloc).ok()?.as_slice())
+/// Tells the view that the view's block is.
+fn view_again(out: &mut Text, alloc: Global, made: &View) -> Option<()> {
+    view(out, alloc, made.write(alloc).ok()?.as_slice())
 }
 
-/// Whose log has that head key under the view of that block.
-pub fn log(alloc: Global, key: &Key, bytes: &[u8]) -> Option<String> {
+/// Tells whose log has that head key under the view of that block.
+pub fn log(out: &mut Text, alloc: Global, key: &Key, bytes: &[u8]) -> Option<()> {
     let view = View::read(alloc, bytes).ok()?;
-    text(alloc, role_of(&view, key))
+    out.add(role_of(&view, key));
+    Some(())
 }
 
 fn role_of(view: &View, key: &Key) -> &'static str {

@@ -1,12 +1,7 @@
-//! The words of lines and of answers.
+//! The words of lines.
 
 use ivy_base::{Key, PubKey};
 use std::alloc::Global;
-
-/// A word as an answer.
-pub fn text(alloc: Global, word: &str) -> Option<String> {
-    String::from_str(alloc, word).ok()
-}
 
 /// Appends the bytes so many times.
 fn put_times(bytes: &mut Vec<u8>, piece: &[u8], count: u32) -> Option<()> {
@@ -66,13 +61,4 @@ pub fn owner_of(alloc: Global, word: &str) -> Option<PubKey> {
 /// The number of a word.
 pub fn number_of(word: &str) -> Option<u32> {
     word.parse().ok()
-}
-
-/// Bytes as a word.
-pub fn word_of(alloc: Global, bytes: &[u8]) -> Option<String> {
-    if bytes.is_empty() {
-        text(alloc, "-")
-    } else {
-        hex::encode(alloc, bytes).ok()
-    }
 }
