@@ -9,12 +9,14 @@ use Rattle.ivy_base.specs.Naming.{head_key_of}
 use Rattle.log_model.specs.Record.{Record}
 use Rattle.log_model.specs.Spelling.{most_records}
 use Rattle.log_model.specs.Vector.{Stamp, Vector, join, seq_of}
-use Rattle.log_records.specs.Records.{records_of}
+use Rattle.std.proofs.lemmas.List.{length-map}
+use Rattle.log_records.specs.Records.{record_of, records_of}
 use Rattle.dht_ids.specs.declared.post.Post.{Post}
 use Rattle.turn_answers.specs.Appended.{written_over}
 use Rattle.turn_answers.specs.Newest.{newest_stamp, stamp_of, with_newest}
 use Rattle.turn_answers.specs.declared.written.Before.{Before}
 use Rattle.turn_answers.proofs.Fronts.{newest_is_last, newest_is_reached}
+use Rattle.turn_answers.proofs.Records.{written_are_next}
 use Rattle.agent_model.specs.Agent.{Signing, own_key, record_post}
 use Rattle.ivy_agent.specs.Drafts.{IsDraft, IsSigned}
 use Rattle.ivy_agent.specs.declared.saving.Kept.{Kept}
@@ -79,3 +81,8 @@ module _ {S : Type 0} (signs : Signing S) (k : Kept S) (front : Vector) (now : M
       → d.front ≡ with_newest own (option_map stamp_of o) front → d.next.floor ≡ join k.floor d.front → IsDraft signs k front now ops d
   is_draft_of own posts None some key records posted newest signed front_is floor = absurd some
   is_draft_of own posts (Some b) some key records posted newest signed front_is floor = is_draft own posts b key records posted newest signed front_is floor
+
+-- there is a record for each operation
+pub as_many : {S : Type 0} (signs : Signing S) (k : Kept S) (front : Vector) (now : Moment) (ops : List Op) (d : Draft S) → IsDraft signs k front now ops d → length d.records.items ≡ length ops
+as_many signs k front now ops d is =
+    sym (length-map d.records.items record_of) ∙ ap (λ (l : List Record). length l) (is.records ∙ sym is.written) ∙ (written_are_next (own_key signs k.signer) now front ops).1

@@ -1,5 +1,6 @@
 pub mod Posts
 pub mod Floors
+pub mod Counted
 pub mod Opened
 pub mod First
 pub mod Settled

@@ -27,7 +27,7 @@ use crate::keys::is_among;
 use crate::opening::{Opened, hold_nothing, open};
 use crate::saving::{Kept, SaveFault, save};
 use crate::settling::keep_unsettled;
-use crate::standing::{fill, standing_without, without_held};
+use crate::standing::{fill, let_go, standing_without, without_held};
 use crate::taking::{Refusal, turn_on};
 use dht_ids::{Acks, Posts};
 use fs_tree::Tree;
@@ -198,7 +198,7 @@ impl<K: Keeper, S: Signs> Agent<K, S> {
         );
         match filled {
             Ok(()) => Ok(standing),
-            Err(Memory) => Err(Memory),
+            Err(Memory) => Err(let_go(standing)),
         }
     }
 
@@ -238,10 +238,10 @@ impl<K: Keeper, S: Signs> Agent<K, S> {
         ensures standing { IfOk result (λ s. IfSome self.old.agent.view (λ view. standing_of s ≡ anew_in (signing S.key S.remaining S.signature S.next S.saved) (dropping self.old.agent) view)) }
         ensures err { OnErr result (self.new ≡ self.old) }
     {
-        let before = self.anew(alloc)?;
         let Ok(nothing) = hold_nothing(alloc) else {
             return Err(Memory);
         };
+        let before = self.anew(alloc)?;
         let standing = without_held(alloc, before);
         self.engine = nothing;
         self.front = Vector::empty(alloc);

@@ -36,6 +36,22 @@ pub fn give(
     })
 }
 
+/// What is given where this is the reply, which is let go here alone. The error is that of [`give`].
+pub fn give_reply(
+    alloc: Global,
+    reply: Reply,
+    posts: &Posts,
+    front: &Vector,
+    applied: u64,
+) -> Result<Turned, Memory>
+    ensures bytes { IfOk result (λ t. t.reply ≡ bytes_of reply) }
+    ensures posts { IfOk result (λ t. t.posts ≡ posts.now) }
+    ensures front { IfOk result (λ t. t.front ≡ front.now) }
+    ensures count { IfOk result (λ t. t.applied ≡ applied) }
+{
+    give(alloc, &reply, posts, front, applied)
+}
+
 /// Answers without writing: what is held, which has that front, is joined into the floor. The error is want of memory, and then
 /// what is kept is what it was.
 pub fn reply<S: Signs>(
@@ -43,13 +59,18 @@ pub fn reply<S: Signs>(
     kept: &mut Kept<S>,
     front: &Vector,
     applied: u64,
-    reply: &Reply,
+    reply: Reply,
 ) -> Result<Turned, Memory>
     ensures kept { OnOk result (kept.new ≡ kept_to kept.old front.now) }
-    ensures given { IfOk result (Gives reply.now kept.new front.now applied) }
+    ensures given { IfOk result (Gives reply kept.new front.now applied) }
     ensures err { OnErr result (kept.new ≡ kept.old) }
 {
-    let turned = give(alloc, reply, &kept.pending, front, applied)?;
-    kept.floor = kept.floor.join(alloc, front)?;
-    Ok(turned)
+    let turned = give_reply(alloc, reply, &kept.pending, front, applied)?;
+    match kept.floor.join(alloc, front) {
+        Ok(floor) => {
+            kept.floor = floor;
+            Ok(turned)
+        }
+        Err(Memory) => Err(Memory),
+    }
 }

@@ -104,18 +104,40 @@ fn follow<S: Signs + Drop>(
     ensures front { IfOk result (λ n. n.1 ≡ with_newest own.now (option_map stamp_of newest) front.now) }
     ensures floor { IfOk result (λ n. n.0.floor ≡ join kept.now.floor n.1) }
 {
-    let front = front_with(alloc, front, own, newest)?;
-    let Some(newest) = newest else {
+    let Some(last) = newest else {
         return Err(Memory);
     };
-    let floor = kept.floor.join(alloc, &front)?;
-    let (signer, pending) = sign(alloc, kept, posts, newest)?;
-    let next = Next {
-        signer,
-        floor,
-        pending,
-    };
-    Ok((next, front))
+    let (front, floor) = fronts_with(alloc, kept, front, own, newest)?;
+    match sign(alloc, kept, posts, last) {
+        Ok(signed) => {
+            let next = Next {
+                signer: signed.0,
+                floor,
+                pending: signed.1,
+            };
+            Ok((next, front))
+        }
+        Err(Memory) => Err(Memory),
+    }
+}
+
+/// The front with the newest record, and the floor with all that is in that front. The error is want of memory.
+fn fronts_with<S: Signs>(
+    alloc: Global,
+    kept: &Kept<S>,
+    front: &Vector,
+    own: &PubKey,
+    newest: Option<Before>,
+) -> Result<(Vector, Vector), Memory>
+    requires { IfSome newest (λ b. 1 ≤ b.seq) }
+    ensures front { IfOk result (λ f. f.0 ≡ with_newest own.now (option_map stamp_of newest) front.now) }
+    ensures floor { IfOk result (λ f. f.1 ≡ join kept.now.floor f.0) }
+{
+    let front = front_with(alloc, front, own, newest)?;
+    match kept.floor.join(alloc, &front) {
+        Ok(floor) => Ok((front, floor)),
+        Err(Memory) => Err(Memory),
+    }
 }
 
 /// The key that has signed a head over the newest record, and what is to be published then: these posts of the written records

@@ -1,8 +1,10 @@
 //! What a turn goes on from.
 
-ghost use Rattle.std.specs.Prelude.{◌≡◌, ◌&&◌, Some, None, IfOk, is_some, option_map, if◌then◌else◌};
+ghost use Rattle.std.specs.Prelude.{◌≡◌, ◌&&◌, [], Some, None, IfOk, is_some, option_map, if◌then◌else◌};
 ghost use Rattle.agent_model.specs.Standing.{dominates};
 ghost use Rattle.fs_tree.specs.Bases.{basis_of};
+ghost use Rattle.replay_engine.specs.Engines.{holding};
+ghost use Rattle.version_vectors.specs.Vectors.{IsVector};
 ghost use Rattle.ivy_agent.specs.Grounds.{IsGround, taken_basis};
 
 use fs_tree::Basis;
@@ -49,13 +51,25 @@ fn over_basis(
     if !is_taken(to_load, floor, &basis.front) {
         return Ok(None);
     }
+    match ground_over(alloc, basis) {
+        Ok(ground) => Ok(Some(ground)),
+        Err(Memory) => Err(Memory),
+    }
+}
+
+/// That basis with nothing above it. The error is want of memory.
+fn ground_over(alloc: Global, basis: Basis) -> Result<Ground, Memory>
+    ensures engine { IfOk result (λ g. holding g.engine ≡ record { basis = basis_of basis; held = [] }) }
+    ensures front { IfOk result (λ g. g.front ≡ basis.front) }
+    ensures fits { IsVector basis.front }
+{
     // That it is a vector.
     let _ = basis.front.len();
-    let front = basis.front.copy(alloc)?;
-    Ok(Some(Ground {
-        engine: Engine::over(alloc, basis)?,
-        front,
-    }))
+    let engine = Engine::over(alloc, basis)?;
+    match engine.basis_front().copy(alloc) {
+        Ok(front) => Ok(Ground { engine, front }),
+        Err(Memory) => Err(Memory),
+    }
 }
 
 /// Whether the basis of that front is gone on from.

@@ -12,19 +12,24 @@ use ivy_base::{Key, PubKey};
 pub fn is_same(a: &Key, b: &Key) -> bool
     ensures { result ≡ same_key a.now b.now }
 {
-    a == b
+    *a == *b
 }
 
 /// Whether the public keys are one.
 fn is_same_owner(a: &PubKey, b: &PubKey) -> bool
     ensures { result ≡ eq_by_cmp owner_cmp a.now b.now }
 {
-    a == b
+    *a == *b
 }
 
 /// Whether the public key is among these.
 pub fn is_among(keys: &[PubKey], own: &PubKey) -> bool
     ensures { result ≡ list_any (eq_by_cmp owner_cmp own.now) keys.now }
 {
-    keys.iter().any(|key| is_same_owner(own, key))
+    'keys: for key in keys {
+        if is_same_owner(own, key) {
+            return true;
+        }
+    }
+    false
 }

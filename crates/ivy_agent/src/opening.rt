@@ -1,6 +1,7 @@
 //! Opening a log.
 
-ghost use Rattle.std.specs.Prelude.{◌≡◌, ◌≢◌, [], ◌∷◌, None, IsTrue, IfOk, OnOk};
+ghost use Rattle.std.specs.Prelude.{◌≡◌, ◌≢◌, [], ◌∷◌, None, IfOk, OnOk};
+ghost use Rattle.ivy_base.specs.Naming.{name};
 ghost use Rattle.dht_ids.specs.declared.post.PostKind.TheVariants.{Log, Head};
 ghost use Rattle.log_model.specs.Chain.{opening};
 ghost use Rattle.log_model.specs.Spelling.{record_block};
@@ -12,6 +13,7 @@ ghost use Rattle.agent_model.specs.SavedBytes.{AreOpaque};
 ghost use Rattle.ivy_agent.specs.Holders.{signing};
 ghost use Rattle.ivy_agent.specs.Making.{IsOpening};
 
+use crate::posting::are_counted;
 use crate::saving::Kept;
 use dht_ids::{Post, PostKind, Posts};
 use fs_tree::{Basis, Tree};
@@ -87,14 +89,11 @@ fn begin<S: Signs>(alloc: Global, signer: &mut S, now: Moment) -> Result<Begun, 
     requires { S.remaining signer.old ≢ 0 }
     ensures { IfOk result (λ b. IsOpening (signing S.key S.remaining S.signature S.next S.saved) signer.old now (record { kept = record { signer = signer.new; log = b.log; view = None; floor = b.floor; pending = b.pending; snapshot = None }; engine = b.engine; front = b.front })) }
 {
-    let engine = hold_nothing(alloc)?;
     let own = signer.owner();
     let log = head_key(&own);
-    let block = first_block(alloc, own, now)?;
-    let name = name_of(block.as_slice());
+    let (name, pending) = first_posts(alloc, signer, own, log, now)?;
     let floor = floor_of(alloc, log, name)?;
-    let head = seal_first(alloc, signer, name)?;
-    let pending = posts_of(alloc, log, name, block, head)?;
+    let engine = hold_nothing(alloc)?;
     Ok(Begun {
         log,
         floor,
@@ -104,6 +103,32 @@ fn begin<S: Signs>(alloc: Global, signer: &mut S, now: Moment) -> Result<Begun, 
     })
 }
 
+/// The name of the first record of the owner's log, and what is to be published: its block and the head over it, which is signed.
+/// The error is want of memory.
+fn first_posts<S: Signs>(
+    alloc: Global,
+    signer: &mut S,
+    own: PubKey,
+    log: Key,
+    now: Moment,
+) -> Result<(Key, Posts), Memory>
+    requires { S.remaining signer.old ≢ 0 }
+    ensures name { IfOk result (λ p. p.0 ≡ name (record_block (opening own now))) }
+    ensures posts { IfOk result (λ p. p.1 ≡ record { key = p.0; bytes = record_block (opening own now); kind = Log } ∷ record { key = log; bytes = sealed (signing S.key S.remaining S.signature S.next S.saved) signer.old (record { seq = 1; name = p.0 }); kind = Head } ∷ []) }
+    ensures block { OnOk result (AreOpaque (record_block (opening own now))) }
+    ensures head { IfOk result (λ p. AreOpaque (sealed (signing S.key S.remaining S.signature S.next S.saved) signer.old (record { seq = 1; name = p.0 }))) }
+    ensures next { OnOk result (signer.new ≡ S.next signer.old) }
+    ensures key { S.key signer.new ≡ S.key signer.old }
+{
+    let block = first_block(alloc, own, now)?;
+    let name = name_of(block.as_slice());
+    let head = seal_first(alloc, signer, name)?;
+    match posts_of(alloc, log, name, block, head) {
+        Ok(posts) => Ok((name, posts)),
+        Err(Memory) => Err(Memory),
+    }
+}
+
 /// The block of the first record of the owner's log. The error is want of memory.
 fn first_block(alloc: Global, own: PubKey, now: Moment) -> Result<Bytes, Memory>
     ensures { IfOk result (λ block. block ≡ record_block (opening own now)) }
@@ -111,16 +136,28 @@ fn first_block(alloc: Global, own: PubKey, now: Moment) -> Result<Bytes, Memory>
     opening(alloc, own, now).write(alloc)
 }
 
-/// The opening record's block of that name, and the head over it.
+/// The opening record's block of that name, and the head over it. The error is want of memory; it also comes where no word counts
+/// the bytes of one.
 fn posts_of(alloc: Global, log: Key, name: Key, block: Bytes, head: Bytes) -> Result<Posts, Memory>
     ensures posts { IfOk result (λ posts. posts ≡ record { key = name; bytes = block; kind = Log } ∷ record { key = log; bytes = head; kind = Head } ∷ []) }
     ensures block { OnOk result (AreOpaque block) }
     ensures head { OnOk result (AreOpaque head) }
 {
     let posts = vec![in alloc;
-        post_of(name, block, PostKind::Log)?,
-        post_of(log, head, PostKind::Head)?,
+        Post {
+            key: name,
+            bytes: block,
+            kind: PostKind::Log,
+        },
+        Post {
+            key: log,
+            bytes: head,
+            kind: PostKind::Head,
+        },
     ]?;
+    if !are_counted(posts.as_slice()) {
+        return Err(Memory);
+    }
     Ok(Posts::of(posts))
 }
 
@@ -169,22 +206,4 @@ fn seal_first<S: Signs>(alloc: Global, signer: &mut S, name: Key) -> Result<Byte
         Ok(head) => head.write(alloc),
         Err(_) => Err(Memory),
     }
-}
-
-/// The post of that block. The error comes where the block has 2^32 bytes or more, which no word counts.
-fn post_of(key: Key, bytes: Bytes, kind: PostKind) -> Result<Post, Memory>
-    ensures post { IfOk result (λ post. post ≡ record { key = key; bytes = bytes; kind = kind }) }
-    ensures opaque { OnOk result (AreOpaque bytes) }
-{
-    if !is_counted(bytes.as_slice()) {
-        return Err(Memory);
-    }
-    Ok(Post { key, bytes, kind })
-}
-
-/// Whether a word counts the bytes.
-fn is_counted(bytes: &[u8]) -> bool
-    ensures { IsTrue result → AreOpaque bytes.now }
-{
-    bytes.len() <= u32::MAX as usize
 }

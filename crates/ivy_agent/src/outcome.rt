@@ -21,7 +21,7 @@ use crate::writing::{Done, write};
 use hss_keys::Signs;
 use ivy_base::{Memory, Moment, Steps};
 use ivy_io::Keeper;
-use log_fetch::{Asked, Turned};
+use log_fetch::Asked;
 use nfs_model::Reply;
 use nfs3_writes::Ops;
 use replay_engine::Engine;
@@ -112,27 +112,12 @@ fn reply_on<S: Signs>(
     ensures given { IfOk result (λ done. Gives given kept.new front applied done.turned) }
     ensures err { OnErr result (kept.new ≡ kept.old) }
 {
-    let turned = give_reply(alloc, kept, &front, applied, given)?;
+    let turned = reply(alloc, kept, &front, applied, given)?;
     Ok(Done {
         turned,
         front,
         has_failed,
     })
-}
-
-/// Answers with this reply, which is let go here alone. The error is that of [`reply`].
-fn give_reply<S: Signs>(
-    alloc: Global,
-    kept: &mut Kept<S>,
-    front: &Vector,
-    applied: u64,
-    given: Reply,
-) -> Result<Turned, Memory>
-    ensures kept { OnOk result (kept.new ≡ kept_to kept.old front.now) }
-    ensures given { IfOk result (Gives given kept.new front.now applied) }
-    ensures err { OnErr result (kept.new ≡ kept.old) }
-{
-    reply(alloc, kept, front, applied, &given)
 }
 
 /// Answers the call on what is held, whose front is given. The error is want of memory, or that of [`write_on`]; then the

@@ -14,7 +14,7 @@ use std::alloc::Global;
 pub fn posts_with(
     alloc: Global,
     pending: &Posts,
-    written: Vec<Post>,
+    mut written: Vec<Post>,
     head: Post,
 ) -> Result<Posts, Memory>
     ensures posts { IfOk result (λ posts. posts ≡ filter (λ p. not (is_head p.kind)) pending.now ++ written.items ++ head ∷ []) }
@@ -22,25 +22,39 @@ pub fn posts_with(
     ensures written { OnOk result (All (λ p. AreOpaque p.bytes) written.items) }
     ensures head { OnOk result (AreOpaque head.bytes) }
 {
-    if !are_counted(written.as_slice()) || !is_counted(&head) {
-        return Err(Memory);
-    }
-    join_posts(pending.copy(alloc)?.into_vec(), written, head)
+    written.push(head)?;
+    let mut posts = pending.copy(alloc)?.into_vec();
+    drop_heads(&mut posts);
+    join_posts(posts, written)
 }
 
-/// The first posts without a head, then the written ones, then the head. The error is want of memory; it also comes where no
-/// word counts them.
-fn join_posts(mut posts: Vec<Post>, mut written: Vec<Post>, head: Post) -> Result<Posts, Memory>
-    ensures posts { IfOk result (λ all. all ≡ filter (λ p. not (is_head p.kind)) posts.items ++ written.items ++ head ∷ []) }
+/// The first posts, then the others. The error is want of memory; it also comes where a word counts neither all of them nor the
+/// bytes of one of the others.
+pub fn join_posts(mut posts: Vec<Post>, mut more: Vec<Post>) -> Result<Posts, Memory>
+    ensures posts { IfOk result (λ all. all ≡ posts.items ++ more.items) }
     ensures few { IfOk result (λ all. length all < 2 ^ 32) }
+    ensures more { OnOk result (All (λ p. AreOpaque p.bytes) more.items) }
 {
-    drop_heads(&mut posts);
-    posts.append(&mut written)?;
-    posts.push(head)?;
+    match put_behind(&mut posts, &mut more) {
+        Ok(()) => Ok(Posts::of(posts)),
+        Err(Memory) => Err(Memory),
+    }
+}
+
+/// Puts the others behind the posts. It owns nothing where it exits. The error is that of [`join_posts`].
+fn put_behind(posts: &mut Vec<Post>, more: &mut Vec<Post>) -> Result<(), Memory>
+    ensures posts { OnOk result (posts.new.items ≡ posts.old.items ++ more.old.items) }
+    ensures few { OnOk result (length posts.new.items < 2 ^ 32) }
+    ensures more { OnOk result (All (λ p. AreOpaque p.bytes) more.old.items) }
+{
+    if !are_counted(more.as_slice()) {
+        return Err(Memory);
+    }
+    posts.append(more)?;
     if posts.len() > u32::MAX as usize {
         return Err(Memory);
     }
-    Ok(Posts::of(posts))
+    Ok(())
 }
 
 /// Leaves the posts that aren't heads. It takes no memory.

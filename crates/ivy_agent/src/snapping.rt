@@ -15,7 +15,7 @@ ghost use Rattle.ivy_agent.specs.Holders.{signing};
 ghost use Rattle.ivy_agent.specs.Saves.{saved_of, HasSaved, IsWholeAfter};
 ghost use Rattle.ivy_agent.specs.Snapping.{IsSnapshot, kept_snapped, posts_of_new};
 
-use crate::posting::are_counted;
+use crate::posting::join_posts;
 use crate::saving::{Kept, SaveFault, save};
 use dht_ids::{Post, PostKind, Posts};
 use hss_keys::Signs;
@@ -84,16 +84,8 @@ fn with_blocks(alloc: Global, pending: &Posts, blocks: Vec<Block>) -> Result<Pos
     ensures few { IfOk result (λ posts. length posts < 2 ^ 32) }
     ensures new { OnOk result (All (λ p. AreOpaque p.bytes) (posts_of_new pending.now blocks.items)) }
 {
-    let mut new = new_posts(alloc, pending.as_slice(), blocks)?;
-    if !are_counted(new.as_slice()) {
-        return Err(Memory);
-    }
-    let mut posts = pending.copy(alloc)?.into_vec();
-    posts.append(&mut new)?;
-    if posts.len() > u32::MAX as usize {
-        return Err(Memory);
-    }
-    Ok(Posts::of(posts))
+    let new = new_posts(alloc, pending.as_slice(), blocks)?;
+    join_posts(pending.copy(alloc)?.into_vec(), new)
 }
 
 /// The posts of the blocks that aren't pending. The error is want of memory.
@@ -113,7 +105,12 @@ fn new_posts(alloc: Global, pending: &[Post], blocks: Vec<Block>) -> Result<Vec<
 fn is_pending(pending: &[Post], block: &[u8]) -> bool
     ensures { result ≡ is_pending_block pending.now block.now }
 {
-    pending.iter().any(|post| is_of_block(post, block))
+    'pending: for post in pending {
+        if is_of_block(post, block) {
+            return true;
+        }
+    }
+    false
 }
 
 /// Whether the post is that block's.

@@ -55,11 +55,29 @@ pub fn fill(
     requires { AllByRecursion KnowsOthers (records_of records.now) }
     ensures { OnOk result (standing.new ≡ record standing.old { held = front.now; floor = floor.now; edges = newest_edges (records_of records.now); pending = pending.now }) }
 {
-    standing.held = front.copy(alloc)?;
-    standing.floor = floor.copy(alloc)?;
+    fill_fronts(alloc, standing, front, floor)?;
     standing.edges = newest_edges(alloc, records)?;
     standing.pending = pending.copy(alloc)?;
     Ok(())
+}
+
+/// Puts into the standing what is held, and how far all is known. The error is want of memory.
+fn fill_fronts(
+    alloc: Global,
+    standing: &mut Standing,
+    front: &Vector,
+    floor: &Vector,
+) -> Result<(), Memory>
+    ensures { OnOk result (standing.new ≡ record standing.old { held = front.now; floor = floor.now }) }
+{
+    standing.held = front.copy(alloc)?;
+    standing.floor = floor.copy(alloc)?;
+    Ok(())
+}
+
+/// What is told where memory ran out for a standing, which is let go here alone.
+pub fn let_go(_: Standing) -> Memory {
+    Memory
 }
 
 /// What is known of the newest record of each log, ascending by log, where the records ascend. A log is hashed once. The error
@@ -104,7 +122,12 @@ fn put_under(alloc: Global, edges: &mut Vec<Edge>, held: &Record) -> Result<(), 
 fn has_log(edges: &[Edge], log: &Key) -> bool
     ensures { result ≡ list_any (λ e. same_key log.now e.log) edges.now }
 {
-    edges.iter().any(|edge| is_same(log, &edge.log))
+    'edges: for edge in edges {
+        if is_same(log, &edge.log) {
+            return true;
+        }
+    }
+    false
 }
 
 /// How many edges stand before the first one of a later log.

@@ -13,7 +13,7 @@ ghost use Rattle.nfs_model.specs.Results.{result as bytes_of};
 ghost use Rattle.turn_model.specs.Basis.{kept_tree};
 ghost use Rattle.turn_model.specs.Turn.{bare_tail};
 ghost use Rattle.turn_answers.specs.Appended.{written_over};
-ghost use Rattle.replay_engine.specs.Engines.{holding, undone};
+ghost use Rattle.replay_engine.specs.Engines.{holding, taken_in, undone};
 ghost use Rattle.agent_model.specs.Agent.{joined, own_key};
 ghost use Rattle.agent_model.specs.SavedBytes.{kept_bytes};
 ghost use Rattle.ivy_agent.specs.Holders.{signing};
@@ -24,7 +24,7 @@ ghost use Rattle.ivy_agent.specs.Drafts.{IsDraft, kept_with};
 ghost use Rattle.ivy_agent.specs.Outcomes.{Gives, kept_to};
 ghost use Rattle.ivy_agent.specs.Writing.{HasWritten, StandsAs, WritesDraft, lost_reply};
 
-use crate::answering::give;
+use crate::answering::give_reply;
 use crate::drafts::{Draft, Next, make_draft, save_next};
 use crate::saving::{Kept, SaveFault};
 use dht_ids::Posts;
@@ -32,6 +32,7 @@ use hss_keys::Signs;
 use ivy_base::{Memory, Moment, Op, Steps};
 use ivy_io::Keeper;
 use log_fetch::{Asked, Turned};
+use log_records::Record;
 use nfs_model::{Args, NfsStatus, Reply};
 use nfs3_objects::bare_tail;
 use nfs3_writes::{Ops, finish};
@@ -52,12 +53,33 @@ pub struct Done {
 }
 
 /// What stands where the save fails.
-#[derive(Drop)]
 pub struct Lost {
     /// What is given.
     pub turned: Turned,
     /// The floor.
     pub floor: Vector,
+}
+
+/// One function, so that whatever drops it calls this and isn't proved over all of its parts once more.
+impl Drop for Lost {
+    fn drop(self) {
+        let Lost {
+            turned: _,
+            floor: _,
+        } = self;
+    }
+}
+
+impl Lost {
+    /// Puts the floor in its place, and is what is given.
+    fn stand<S>(self, kept: &mut Kept<S>) -> Turned
+        ensures given { result ≡ self.turned }
+        ensures kept { kept.new ≡ record kept.old { floor = self.floor } }
+    {
+        let Lost { turned, floor } = self;
+        kept.floor = floor;
+        turned
+    }
 }
 
 /// What stands where the save fails: the call is answered with `ServerFault`, and what is held goes into the floor. The error
@@ -75,13 +97,14 @@ fn lose<S: Signs>(
     ensures count { IfOk result (λ lost. lost.turned.applied ≡ applied) }
     ensures floor { IfOk result (λ lost. lost.floor ≡ join kept.now.floor front.now) }
 {
-    Ok(Lost {
-        turned: give_fault(alloc, &kept.pending, front, args, applied)?,
-        floor: kept.floor.join(alloc, front)?,
-    })
+    let floor = kept.floor.join(alloc, front)?;
+    match give_fault(alloc, &kept.pending, front, args, applied) {
+        Ok(turned) => Ok(Lost { turned, floor }),
+        Err(Memory) => Err(Memory),
+    }
 }
 
-/// What is given where a save fails: the reply is let go here alone. The error is want of memory.
+/// What is given where a save fails. The error is want of memory.
 fn give_fault(
     alloc: Global,
     posts: &Posts,
@@ -98,7 +121,7 @@ fn give_fault(
         status: NfsStatus::ServerFault,
         tail: bare_tail(args),
     };
-    give(alloc, &reply, posts, front, applied)
+    give_reply(alloc, reply, posts, front, applied)
 }
 
 /// What is given where the last call of the engine took in the records of these operations. The error is want of memory.
@@ -131,7 +154,7 @@ fn show<S: Signs>(
         &asked.args,
         ops.as_slice(),
     )?;
-    give(alloc, &reply, posts, front, applied)
+    give_reply(alloc, reply, posts, front, applied)
 }
 
 /// Has the keeper save what is next, where the last call of the engine took in the records of these operations, and gives what
@@ -176,6 +199,51 @@ fn conclude<K: Keeper, S: Signs + Drop>(
     }
 }
 
+/// Takes the records into the engine, and has the keeper save what is next with them; gives what a turn gives then. After an
+/// error the engine is taken back, and what is kept is what it was.
+fn try_to_write<K: Keeper, S: Signs + Drop, L: Ledger>(
+    alloc: Global,
+    keeper: &mut K,
+    kept: &mut Kept<S>,
+    engine: &mut Engine,
+    asked: &Asked,
+    ops: &Ops,
+    records: Vec<Record>,
+    next: Next<S>,
+    front: &Vector,
+    applied: u64,
+    steps: &mut Steps<L>,
+) -> Result<Turned, SaveFault>
+    requires log { kept.old.log ≡ head_key_of (own_key (signing S.key S.remaining S.signature S.next S.saved) kept.old.signer) }
+    requires key { S.key next.signer ≡ S.key kept.old.signer }
+    requires view { IsSomeAnd kept.old.view (λ view. Unit {0}) }
+    requires some { engine.old.before ≢ [] }
+    requires row { IsRow (records_of records.items) }
+    requires behind { AreBehind engine.old.held (records_of records.items) }
+    ensures saved { HasSaved K.saves keeper.old (kept_bytes (signing S.key S.remaining S.signature S.next S.saved) (saved_of (kept_with kept.old next))) result keeper.new }
+    ensures whole { IsWholeAfter (S.is_whole next.signer) result }
+    ensures count { IfOk result (λ t. t.applied ≡ applied) }
+    ensures steps { IsWholeAfter (steps.new ≡ steps.old + length records.items) result }
+    ensures ok { OnOk result (kept.new ≡ kept_with kept.old next) }
+    ensures taken { OnOk result (engine.new ≡ taken_in engine.old (records_of records.items)) }
+    ensures given { IfOk result (λ t. IfSome kept.old.view (λ view. Gives (finish (kept_tree (holding (undone engine.new))) (kept_tree (holding engine.new)) view (asked_of asked.now).caller asked.now.args ops.now) (kept_with kept.old next) front.now applied t)) }
+    ensures err { OnErr result (kept.new ≡ kept.old) }
+    ensures engine { OnErr result (StandsAs engine.old engine.new) }
+{
+    let Ok(_) = engine.append(alloc, records, steps) else {
+        return Err(SaveFault::Memory);
+    };
+    match conclude(
+        alloc, keeper, kept, engine, asked, ops, next, front, applied,
+    ) {
+        Ok(turned) => Ok(turned),
+        Err(fault) => {
+            engine.undo();
+            Err(fault)
+        }
+    }
+}
+
 /// Takes the draft's records into the engine, and has the keeper save what is kept with them; where that fails, the engine is
 /// taken back, and what stands then is put in place. The error is want of memory, and then the engine holds what it did, and
 /// all else is as it was.
@@ -208,36 +276,30 @@ fn commit<K: Keeper, S: Signs + Drop, L: Ledger>(
     ensures count { IfOk result (λ done. done.turned.applied ≡ applied) }
     ensures steps { OnOk result (steps.new ≡ steps.old + length draft.records.items) }
 {
-    engine.append(alloc, draft.records, steps)?;
-    match conclude(
+    match try_to_write(
         alloc,
         keeper,
         kept,
         engine,
         asked,
         ops,
+        draft.records,
         draft.next,
         &draft.front,
         applied,
+        steps,
     ) {
         Ok(turned) => Ok(Done {
             turned,
             front: draft.front,
             has_failed: false,
         }),
-        Err(SaveFault::Keeper) => {
-            engine.undo();
-            kept.floor = lost.floor;
-            Ok(Done {
-                turned: lost.turned,
-                front,
-                has_failed: true,
-            })
-        }
-        Err(SaveFault::Memory) => {
-            engine.undo();
-            Err(Memory)
-        }
+        Err(SaveFault::Keeper) => Ok(Done {
+            turned: lost.stand(kept),
+            front,
+            has_failed: true,
+        }),
+        Err(SaveFault::Memory) => Err(Memory),
     }
 }
 
@@ -269,16 +331,27 @@ fn prepare<S: Signs + Drop>(
     ensures given { IfOk result (λ p. Gives (lost_reply (asked_of asked.now)) (kept_to kept.now front.now) front.now p.applied p.lost.turned) }
     ensures count { IfOk result (λ p. p.applied ≡ applied + length p.draft.records.items) }
 {
+    let applied = applied_with(applied, ops)?;
+    let lost = lose(alloc, kept, front, &asked.args, applied)?;
     let ops = ops.copy(alloc)?.into_vec();
-    let draft = make_draft(alloc, kept, front, now, ops)?;
-    let Some(applied) = applied.checked_add(draft.records.len() as u64) else {
-        return Err(Memory);
-    };
-    Ok(Prepared {
-        lost: lose(alloc, kept, front, &asked.args, applied)?,
-        draft,
-        applied,
-    })
+    match make_draft(alloc, kept, front, now, ops) {
+        Ok(draft) => Ok(Prepared {
+            draft,
+            lost,
+            applied,
+        }),
+        Err(Memory) => Err(Memory),
+    }
+}
+
+/// How many records are applied with one for each operation. The error comes where no word counts them.
+fn applied_with(applied: u64, ops: &Ops) -> Result<u64, Memory>
+    ensures { IfOk result (λ all. all ≡ applied + length ops.now) }
+{
+    match applied.checked_add(ops.as_slice().len() as u64) {
+        Some(all) => Ok(all),
+        None => Err(Memory),
+    }
 }
 
 /// Writes the operations over the front of what is held: their records are held, and what is kept with them is saved; or the

@@ -10,5 +10,5 @@ sign-requires-clause-some g c = subst (λ (o : Option Before). IfSome o (λ b. 1
 pub sign-requires-clause-few : goal.sign-requires-clause-few
 sign-requires-clause-few g c = subst (λ (o : Option Before). IfSome o (λ b. b.seq ≤ most_records)) c.in-Some.is c.requires.few
 
-pub returns-clause-signed : goal.returns-clause-signed
-returns-clause-signed g c = rw c.in-Some.is c.in_ok-signer.ensures
+pub returns-in-Ok-clause-signed : goal.returns-in-Ok-clause-signed
+returns-in-Ok-clause-signed g c = rw c.in-Some.is c.in-Ok.ensures
