@@ -26,10 +26,5 @@ fn is_same_owner(a: &PubKey, b: &PubKey) -> bool
 pub fn is_among(keys: &[PubKey], own: &PubKey) -> bool
     ensures { result ≡ list_any (eq_by_cmp owner_cmp own.now) keys.now }
 {
-    'keys: for key in keys {
-        if is_same_owner(own, key) {
-            return true;
-        }
-    }
-    false
+    keys.iter().any(|key| is_same_owner(own, key))
 }

@@ -28,29 +28,13 @@ fn is_acknowledged(post: &Post, acks: &[Ack]) -> bool
 fn has_key(acks: &[Ack], key: &Key) -> bool
     ensures { result ≡ list_any (λ ack. same_key ack.key key.now) acks.now }
 {
-    'acks: for ack in acks {
-        if is_same(&ack.key, key) {
-            return true;
-        }
-    }
-    false
+    acks.iter().any(|ack| is_same(&ack.key, key))
 }
 
 /// Whether an acknowledgement has that key and that name.
 fn has_name(acks: &[Ack], key: &Key, name: &Key) -> bool
     ensures { result ≡ list_any (λ ack. same_key ack.key key.now && same_key ack.name name.now) acks.now }
 {
-    'acks: for ack in acks {
-        if is_for(ack, key, name) {
-            return true;
-        }
-    }
-    false
-}
-
-/// Whether the acknowledgement has that key and that name.
-fn is_for(ack: &Ack, key: &Key, name: &Key) -> bool
-    ensures { result ≡ (same_key ack.now.key key.now && same_key ack.now.name name.now) }
-{
-    is_same(&ack.key, key) && is_same(&ack.name, name)
+    acks.iter()
+        .any(|ack| is_same(&ack.key, key) && is_same(&ack.name, name))
 }

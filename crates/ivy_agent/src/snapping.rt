@@ -105,12 +105,7 @@ fn new_posts(alloc: Global, pending: &[Post], blocks: Vec<Block>) -> Result<Vec<
 fn is_pending(pending: &[Post], block: &[u8]) -> bool
     ensures { result ≡ is_pending_block pending.now block.now }
 {
-    'pending: for post in pending {
-        if is_of_block(post, block) {
-            return true;
-        }
-    }
-    false
+    pending.iter().any(|post| is_of_block(post, block))
 }
 
 /// Whether the post is that block's.

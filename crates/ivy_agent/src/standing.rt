@@ -122,12 +122,7 @@ fn put_under(alloc: Global, edges: &mut Vec<Edge>, held: &Record) -> Result<(), 
 fn has_log(edges: &[Edge], log: &Key) -> bool
     ensures { result ≡ list_any (λ e. same_key log.now e.log) edges.now }
 {
-    'edges: for edge in edges {
-        if is_same(log, &edge.log) {
-            return true;
-        }
-    }
-    false
+    edges.iter().any(|edge| is_same(log, &edge.log))
 }
 
 /// How many edges stand before the first one of a later log.
