@@ -1,16 +1,12 @@
 -- A session whose turn is awaited, and one that is over: stages that are changed in place.
-use Rattle.std.proofs.Common.{◌≡◌, ◌≢◌, inl, inr, ℕ, ◌+◌, ◌<◌, ◌≤◌, true, false, List, [], Some, None, Result, Ok, Err, IfOk, IfSome, refl, sym, ap, ◌∙◌, subst}
-use Rattle.std.specs.Result.{result_ok}
-use Rattle.ivy_base.specs.declared.memory.Memory.{Memory}
+use Rattle.std.proofs.Common.{◌≡◌, ◌≢◌, ℕ, true, false, List, Some, None, Result, Ok, Err, IfSome, refl, sym, ap, ◌∙◌, subst}
 use Rattle.dhash_client.specs.GetHead.{Judges}
 use Rattle.session_model.specs.Sessions.{Cache}
 use Rattle.log_fetch.specs.declared.standing.Standing.{Standing}
 use Rattle.log_fetch.specs.declared.turned.Turned.{Turned}
 use Rattle.log_fetch.specs.declared.turned.TurnFault.{TurnFault}
 use Rattle.log_fetch.specs.declared.turned.TurnFault.TheVariants as fault
-use Rattle.log_fetch.specs.Standings.{standing_of}
-use Rattle.view_refresh.specs.States.{Refreshing as RefreshState, has_failed, most_refresh, refresh_awaited, refresh_left}
-use Rattle.view_refresh.specs.Behind.{RefreshIsAfter}
+use Rattle.view_refresh.specs.States.{Refreshing as RefreshState}
 use Rattle.post_publishing.specs.Publishing.{PublishingState, publishing_begun}
 use Rattle.ivy_session.specs.declared.served.Call.{Call}
 use Rattle.ivy_session.specs.declared.served.Served.{Served}
@@ -83,17 +79,6 @@ module _ {J : Type 0} (judges : Judges J) (st : SessionState J) (at : Stage J) (
   end_anew between given mid told now h e is =
       subst (λ (x : Stage J). IsTurned judges (With at) (record mid { stage = x }) (Err (fault.Behind given))) (sym (is ∙ ap (λ (x : Served). stage.Over x) e))
       (at_its_turn (record mid { stage = stage.Over (lacking c) }) (Err (fault.Behind given)) (lacks_anew judges (With between) c given mid h))
-
--- ---- the refresh with which it begins anew
-
-module _ {J : Type 0} (judges : Judges J) (old new : SessionState J) (given : Standing) where
-  pub no_more_starts : 2 ≤ old.starts → new ≡ old → BeginsAnew judges old new given None
-  no_more_starts many same = inr (many, same)
-
-  pub starts_anew : old.starts < 2 → new ≡ record old { starts = old.starts + 1; notes = [] } → (r : Result (RefreshState J) Memory) → IfOk r (λ refresh. (refresh.judge ≡ old.judge) × (refresh.replicas ≡ old.replicas) × (refresh.entries ≡ old.entries))
-      → IfOk r (RefreshIsAfter judges (standing_of given) [] []) → IfOk r (λ refresh. refresh_awaited refresh ≡ None) → IfOk r (λ refresh. has_failed refresh ≡ false) → IfOk r (λ refresh. refresh_left refresh < most_refresh) → BeginsAnew judges old new given (result_ok r)
-  starts_anew few is (Ok r) by started free unfailed left = ((few, is), record { judge = by.0; replicas = by.1; entries = by.2; started = started; free = free; unfailed = unfailed; left = left })
-  starts_anew few is (Err lacks) by started free unfailed left = inl (few, is)
 
 -- ---- it is over
 

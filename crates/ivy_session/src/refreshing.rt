@@ -1,11 +1,10 @@
 //! The refresh of a session: how it begins, what it wants, and what it hears.
 
-ghost use Rattle.std.specs.Prelude.{◌≡◌, ◌≢◌, ◌<◌, ◌≤◌, false, List, None, IfOk, IfSome, OnOk, OnErr};
-ghost use Rattle.ivy_base.specs.Naming.{name};
-ghost use Rattle.block_cache.specs.Blocks.{kept};
+ghost use Rattle.std.specs.Prelude.{◌≡◌, ◌≢◌, ◌<◌, ◌≤◌, false, List, [], None, IfOk, IfSome, OnOk, OnErr};
 ghost use Rattle.std.specs.List.{AllByRecursion};
 ghost use Rattle.agent_model.specs.SavedBytes.{HasItsName};
-ghost use Rattle.view_refresh.specs.States.{refresh_awaited, refresh_left};
+ghost use Rattle.view_refresh.specs.States.{has_failed, most_refresh, refresh_awaited, refresh_left};
+ghost use Rattle.view_refresh.specs.Behind.{RefreshIsAfter};
 ghost use Rattle.log_fetch.specs.Standings.{standing_of};
 ghost use Rattle.ivy_session.specs.States.{BeginsAs, awaited_at, begun, is_turning, reply_or_none};
 ghost use Rattle.ivy_session.specs.Taking.{Advances, IsFailure, RefreshHears, kept_back};
@@ -37,13 +36,19 @@ pub(crate) fn first_stage<J: Judge>(
     ensures free { IfOk result (λ stage. awaited_at stage ≡ None) }
     ensures turning { IfOk result (λ stage. is_turning stage ≡ false) }
 {
-    match read_message(alloc, &standing.view, message)? {
-        Reading::Alone(reply) => Ok(Stage::Over(told(reply))),
-        Reading::Asks { xid, asked } => {
+    match read_message(alloc, &standing.view, message) {
+        Ok(Reading::Alone(reply)) => {
+            drop(standing);
+            Ok(Stage::Over(told(reply)))
+        }
+        Ok(Reading::Asks { xid, asked }) => {
+            let refresh = refresh_for(alloc, judge, replicas, entries, standing);
             let call = call_of(alloc, xid, asked)?;
-            let entries = entries.copy(alloc)?;
-            let refresh = ViewRefresh::start(alloc, judge, replicas, entries, standing)?;
-            Ok(Stage::Refreshing(call, refresh))
+            Ok(Stage::Refreshing(call, refresh?))
+        }
+        Err(Memory) => {
+            drop(standing);
+            Err(Memory)
         }
     }
 }
@@ -63,11 +68,37 @@ fn call_of(alloc: Global, xid: u32, asked: Asked) -> Result<Call, Memory>
     ensures xid { IfOk result (λ call. call.xid ≡ xid) }
     ensures asked { IfOk result (λ call. call.asked ≡ asked) }
 {
-    Ok(Call {
-        xid,
-        asked,
-        room: ReplyRoom::take(alloc)?,
-    })
+    match ReplyRoom::take(alloc) {
+        Ok(room) => Ok(Call { xid, asked, room }),
+        Err(Memory) => {
+            drop(asked);
+            Err(Memory)
+        }
+    }
+}
+
+/// The refresh for that standing. The error is want of memory.
+pub(crate) fn refresh_for<J: Judge>(
+    alloc: Global,
+    judge: J,
+    replicas: u32,
+    entries: &Peers,
+    standing: Standing,
+) -> Result<ViewRefresh<J>, Memory>
+    requires { standing.basis ≢ None → AllByRecursion HasItsName standing.pending }
+    ensures by { IfOk result (λ refresh. (refresh.judge ≡ judge) × (refresh.replicas ≡ replicas) × (refresh.entries ≡ entries.now)) }
+    ensures started { IfOk result (RefreshIsAfter J.judges (standing_of standing) [] []) }
+    ensures free { IfOk result (λ refresh. refresh_awaited refresh ≡ None) }
+    ensures unfailed { IfOk result (λ refresh. has_failed refresh ≡ false) }
+    ensures left { IfOk result (λ refresh. refresh_left refresh < most_refresh) }
+{
+    match entries.copy(alloc) {
+        Ok(entries) => ViewRefresh::start(alloc, judge, replicas, entries, standing),
+        Err(Memory) => {
+            drop(standing);
+            Err(Memory)
+        }
+    }
 }
 
 /// What the refresh wants once it took what is at hand. The error is want of memory; the refresh isn't used after it.
@@ -98,22 +129,14 @@ pub(crate) fn hear<J: Judge>(
     Ok(refresh.failed())
 }
 
-/// Keeps the block that was given back, where one was. The error is want of memory.
+/// Keeps the block that was given back, where one was, under its name. The error is want of memory.
 fn keep_back(cache: &mut BlockCache, block: Option<(Key, Bytes)>) -> Result<(), Memory>
     ensures kept { OnOk result (cache.new ≡ kept_back block cache.old) }
     ensures same { OnErr result (cache.new ≡ cache.old) }
 {
-    match block {
-        Some((_, bytes)) => keep(cache, bytes),
-        None => Ok(()),
-    }
-}
-
-/// Keeps the block under its name. The error is want of memory.
-fn keep(cache: &mut BlockCache, bytes: Bytes) -> Result<(), Memory>
-    ensures kept { OnOk result (cache.new ≡ kept (name bytes) bytes cache.old) }
-    ensures same { OnErr result (cache.new ≡ cache.old) }
-{
+    let Some((_, bytes)) = block else {
+        return Ok(());
+    };
     let key = name_of(bytes.as_slice());
     if cache.keep(key, bytes) {
         Ok(())
@@ -138,11 +161,7 @@ fn miss_in(refreshed: Refreshed) -> Option<(Miss, Notes)>
 {
     let Refreshed { result, notes } = refreshed;
     match result {
-        Ok(refresh) => {
-            drop(refresh);
-            drop(notes);
-            None
-        }
+        Ok(_) => None,
         Err(miss) => Some((miss, notes)),
     }
 }

@@ -19,20 +19,43 @@ pub enum Served {
 }
 
 /// A call that asks for a turn, and room for its reply.
-#[derive(Drop)]
 pub(crate) struct Call {
     pub xid: u32,
     pub asked: Asked,
     pub room: ReplyRoom,
 }
 
+/// One function, so that whatever drops a call calls it and isn't proved over all that may be asked once more.
+impl Drop for Call {
+    fn drop(self) {
+        let Call {
+            xid: _,
+            asked,
+            room: _,
+        } = self;
+        drop(asked);
+    }
+}
+
+impl Call {
+    /// The room for its reply, which is told without what was asked.
+    fn into_room(self) -> ReplyRoom {
+        let Call {
+            xid: _,
+            asked,
+            room,
+        } = self;
+        drop(asked);
+        room
+    }
+}
+
 /// Tells that memory is wanting. It takes none.
 pub(crate) fn no_memory(call: Call) -> Served
     ensures { result ≡ lacking call }
 {
-    let Call { xid, asked, room } = call;
-    drop(asked);
-    Served::Reply(room.system_error(xid))
+    let xid = call.xid;
+    Served::Reply(call.into_room().system_error(xid))
 }
 
 /// Tells what the call's turn gave, from its status on. It takes no memory.
@@ -40,7 +63,6 @@ pub(crate) fn reply_of(call: Call, bytes: &[u8]) -> Served
     requires { length bytes.now ≤ 32772 }
     ensures { result ≡ replying call bytes.now }
 {
-    let Call { xid, asked, room } = call;
-    drop(asked);
-    Served::Reply(room.success(xid, bytes))
+    let xid = call.xid;
+    Served::Reply(call.into_room().success(xid, bytes))
 }

@@ -13,11 +13,9 @@ ghost use Rattle.ivy_session.specs.InPlace.{EndsRefresh, FailureAt, PutHeard, Pu
 ghost use Rattle.session_model.specs.Sessions.{Cache};
 ghost use Rattle.wire_model.specs.Rpc.{SystemError, reply};
 ghost use Rattle.agent_model.specs.SavedBytes.{HasItsName};
-ghost use Rattle.view_refresh.specs.States.{has_failed, most_refresh, refresh_awaited, refresh_left};
-ghost use Rattle.view_refresh.specs.Behind.{RefreshIsAfter};
 ghost use Rattle.post_publishing.specs.Publishing.{publishing_awaited, publishing_begun, puts_left};
 
-use crate::refreshing::{advance, failure, first_stage, hear};
+use crate::refreshing::{advance, failure, first_stage, hear, refresh_for};
 use crate::served::{Call, Served, no_memory, reply_of};
 use block_cache::BlockCache;
 use call_messages::missed;
@@ -84,8 +82,9 @@ impl<J: Judge> Drop for Session<J> {
             starts: _,
             notes: _,
             is_cut: _,
-            stage: _,
+            stage,
         } = self;
+        drop(stage);
     }
 }
 
@@ -144,7 +143,7 @@ impl<J: Judge> Session<J> {
         ensures free { IfOk result (λ st. session_awaited st ≡ None) }
         ensures turning { IfOk result (λ st. is_turning st.stage ≡ false) }
     {
-        let publishing = Publishing::start(alloc, replicas, entries.copy(alloc)?, pending)?;
+        let publishing = publishing_of(alloc, replicas, &entries, pending)?;
         Ok(Session {
             alloc,
             judge,
@@ -366,27 +365,13 @@ impl<J: Judge> Session<J> {
     {
         let call = take_call(&mut self.stage);
         let told = reply_of(call, turned.reply.as_slice());
-        match self.publishing_of(&turned.posts) {
+        match publishing_of(self.alloc, self.replicas, &self.entries, &turned.posts) {
             Ok(publishing) => go_to(&mut self.stage, Stage::Publishing(told, publishing)),
             Err(Memory) => {
                 self.is_cut = true;
                 go_to(&mut self.stage, Stage::Over(told));
             }
         }
-    }
-
-    /// What publishes these posts. The error is want of memory.
-    fn publishing_of(&self, posts: &Posts) -> Result<Publishing, Memory>
-        ensures begun { IfOk result (λ publishing. publishing ≡ publishing_begun self.now.replicas self.now.entries posts.now) }
-        ensures left { IfOk result (λ publishing. puts_left publishing ≤ most_puts) }
-    {
-        are_few(posts.as_slice());
-        Publishing::start(
-            self.alloc,
-            self.replicas,
-            self.entries.copy(self.alloc)?,
-            posts,
-        )
     }
 
     /// Begins anew from that standing, where it didn't so twice before.
@@ -415,7 +400,13 @@ impl<J: Judge> Session<J> {
             drop(standing);
             return None;
         }
-        let refresh = self.refresh_for(standing);
+        let refresh = refresh_for(
+            self.alloc,
+            self.judge,
+            self.replicas,
+            &self.entries,
+            standing,
+        );
         self.renew();
         refresh.ok()
     }
@@ -428,24 +419,20 @@ impl<J: Judge> Session<J> {
         self.starts += 1;
         self.notes = Notes::of(Vec::new(self.alloc));
     }
+}
 
-    /// The refresh for that standing. The error is want of memory.
-    fn refresh_for(&self, standing: Standing) -> Result<ViewRefresh<J>, Memory>
-        requires { standing.basis ≡ None }
-        ensures by { IfOk result (λ refresh. (refresh.judge ≡ self.now.judge) × (refresh.replicas ≡ self.now.replicas) × (refresh.entries ≡ self.now.entries)) }
-        ensures started { IfOk result (RefreshIsAfter J.judges (standing_of standing) [] []) }
-        ensures free { IfOk result (λ refresh. refresh_awaited refresh ≡ None) }
-        ensures unfailed { IfOk result (λ refresh. has_failed refresh ≡ false) }
-        ensures left { IfOk result (λ refresh. refresh_left refresh < most_refresh) }
-    {
-        ViewRefresh::start(
-            self.alloc,
-            self.judge,
-            self.replicas,
-            self.entries.copy(self.alloc)?,
-            standing,
-        )
-    }
+/// What publishes these posts. The error is want of memory.
+fn publishing_of(
+    alloc: Global,
+    replicas: u32,
+    entries: &Peers,
+    posts: &Posts,
+) -> Result<Publishing, Memory>
+    ensures begun { IfOk result (λ publishing. publishing ≡ publishing_begun replicas entries.now posts.now) }
+    ensures left { IfOk result (λ publishing. puts_left publishing ≤ most_puts) }
+{
+    are_few(posts.as_slice());
+    Publishing::start(alloc, replicas, entries.copy(alloc)?, posts)
 }
 
 /// Says that posts in memory are few enough to be counted. It does nothing.

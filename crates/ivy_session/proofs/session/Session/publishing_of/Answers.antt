@@ -1,5 +1,0 @@
-use Rattle.ivy_session.proofs.Falling.{begun_puts}
-use Rattle.ivy_session.proofs.session.Session.publishing_of.Goals as goal
-
-pub returns-clause-left : goal.returns-clause-left
-returns-clause-left g c = begun_puts c.self.inside.replicas c.in_ok-copy.field-0 c.args.posts.now c.start.result (rw (← c.as_slice.ensures) c.are_few.ensures) c.start.ensures
