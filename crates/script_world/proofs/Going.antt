@@ -1,7 +1,9 @@
 -- A session that goes on in worlds that have these parts.
-use Rattle.std.proofs.Common.{◌≡◌, ⊎_elim, ℕ, List, set, get_or, refl, sym, ap, ◌∙◌, subst, Some, None}
+use Rattle.std.proofs.Common.{◌≡◌, ⊎_elim, ℕ, List, [], set, get_or, refl, sym, ap, ◌∙◌, subst, Option, Some, None}
+use Rattle.std.specs.Prelude.{OnErr, OnOk, Result, Ok, Err}
 use Rattle.std.specs.List.{position}
 use Rattle.std.specs.Str.{bytes_eq}
+use Rattle.ivy_base.specs.declared.memory.Memory.{Memory}
 use Rattle.log_heads.specs.Signed.{hss_judged}
 use Rattle.ring_nodes.specs.NodesState.{NodesState, with_nodes}
 use Rattle.ring_nodes.proofs.Places.{none_found}
@@ -124,3 +126,14 @@ module _ (s : PartsState) (name : List ℕ) (old : CallState) where
 
         pub runs_kept : HasSceneIn s name old → AreKept s.replicas s.participants → AreKept after.replicas after.participants
         runs_kept (c, r, scene) kept = let to = runs c r scene.way (shown_so c r scene) in kept_so c to.1 r scene to.3 (runs_by to.2) kept
+
+-- ---- steps that went, or for which memory was wanting, after which nobody is left
+
+module _ {Went : Type 0} (kept later : List ParticipantState) (went : Result (Unit {0}) Memory) where
+  pub then_so : (result : Result (Unit {0}) Memory) (So : List ParticipantState → Type 0) → result ≡ went → OnOk went Went → OnOk result (later ≡ kept) → (Went → So kept) → OnOk result (So later)
+  then_so (Ok done) So same its is so = subst So (sym is) (so (subst (λ (r : Result (Unit {0}) Memory). OnOk r Went) (sym same) its))
+  then_so (Err fault) So same its is so = tt
+
+  pub then_kept : (result : Result (Unit {0}) Memory) (r : Option ℕ) (before : List ParticipantState) → AreKept r before → result ≡ went → OnOk went Went → OnOk result (later ≡ kept) → OnErr result (later ≡ []) → (Went → AreKept r kept) → AreKept r later
+  then_kept (Ok done) r before was same its is nobody so = subst (AreKept r) (sym is) (so (subst (λ (o : Result (Unit {0}) Memory). OnOk o Went) (sym same) its))
+  then_kept (Err fault) r before was same its is nobody so = subst (AreKept r) (sym nobody) (record { apart = tt; few = was.few; nobody = λ none. refl })

@@ -1,10 +1,11 @@
 -- A view that a line makes.
-use Rattle.std.proofs.Common.{◌≡◌, ◌≢◌, ◌≤◌, ◌<◌, ◌⊎◌, inl, inr, ℕ, Bool, true, false, ◌||◌, List, [], ◌∷◌, ◌++◌, length, map, fold, refl, sym, ap, ◌∙◌, subst, Option, Some, None, Result}
-use Rattle.std.specs.Prelude.{find, is_some, nat_lt, option_map}
+use Rattle.std.proofs.Common.{◌≡◌, ◌≢◌, ◌≤◌, ◌<◌, ◌⊎◌, inl, inr, ℕ, Bool, true, false, ◌||◌, List, [], ◌∷◌, ◌++◌, length, map, refl, sym, ap, ◌∙◌, subst, Option, Some, None, Result}
+use Rattle.std.specs.Prelude.{find, is_some, nat_lt, option_map, IfOk, Ok, Err}
 use Rattle.std.specs.Str.{bytes_eq}
 use Rattle.std.proofs.lemmas.Bool.{le-ltb, lt-ltb}
 use Rattle.ivy_base.specs.declared.key.Key.{Key}
 use Rattle.ivy_base.specs.declared.key.PubKey.{PubKey}
+use Rattle.ivy_base.specs.declared.memory.Memory.{Memory}
 use Rattle.log_model.specs.View.{View, have_own_head_keys, view_block, view_name}
 use Rattle.dht_ids.specs.declared.ask.Ask.TheVariants as ask
 use Rattle.dht_ids.specs.declared.judge.Judged.{Judged}
@@ -19,9 +20,11 @@ use Rattle.met_blocks.specs.MetState.{AreMet, MetState}
 use Rattle.ring_nodes.specs.Looking.{PutsSo}
 use Rattle.ring_nodes.specs.NodesState.{IsNodesOf, NodesState, with_nodes}
 use Rattle.script_participants.specs.ParticipantState.{HasParticipants, ParticipantState, state_of}
-use Rattle.script_views.specs.Made.{view_of_keys}
+use Rattle.script_views.specs.Made.{IsMade, view_of_keys}
+use Rattle.script_views.specs.declared.making.Made.{Made}
+use Rattle.script_views.specs.declared.making.Made.TheVariants as made
 use Rattle.script_world.specs.PartsState.{AreKept, GoesOn, HasParts, PartsState}
-use Rattle.script_world.specs.Views.{PutsView}
+use Rattle.script_world.specs.Views.{MakesOf, PutsView}
 
 -- ---- the keys of logs
 
@@ -120,6 +123,18 @@ module _ (judged : Key → List ℕ → Option Judged) (w : Played) (s : PartsSt
                 (told (Goes next []) (makes ms fs r made its.0 unknown apart small (has.replicas ∙ ring) made_is its.1)),
             its.2,
           )
+
+-- what comes of the keys of logs that are there
+pub made_of : (s : PartsState) (name : List ℕ) (members former : List (List ℕ)) (ms fs : List PubKey) (result : Result Made Memory) → ((w : World) → HasParts w s → keys_of w members ≡ Some ms) → ((w : World) → HasParts w s → keys_of w former ≡ Some fs)
+    → ((w : World) → HasParts w s → is_some (view_named w name) ≡ false) → IfOk result (λ (m : Made). IsMade ms fs m) → IfOk result (λ (m : Made). MakesOf name members former s m)
+made_of s name members former ms fs (Ok m) of_members of_former free is = by m is
+  where
+    by : (m : Made) → IsMade ms fs m → MakesOf name members former s m
+    by made.Refused its = λ w has judged. same_heads judged w s has name members former ms fs (of_members w.0 has) (of_former w.0 has) its
+    by made.TooMany its = λ w has judged. too_many judged w s has name members former ms fs (of_members w.0 has) (of_former w.0 has) (free w.0 has) its.0 its.1
+    by (made.View view) its = λ w has judged r after output ring puts nothing.
+        view_goes judged w s has name members former ms fs (of_members w.0 has) (of_former w.0 has) (free w.0 has) its.0 r view after output ring its.1 its.2 its.3 puts nothing
+made_of s name members former ms fs (Err fault) of_members of_former free is = tt
 
 -- ---- its block is met and put
 

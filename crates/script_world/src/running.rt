@@ -1,6 +1,6 @@
 //! Sessions of participants: how they begin, go on and end.
 
-ghost use Rattle.std.specs.Prelude.{◌≡◌, ◌<◌, IfOk, OnOk};
+ghost use Rattle.std.specs.Prelude.{◌≡◌, ◌<◌, [], IfOk, OnErr, OnOk};
 ghost use Rattle.world_model.specs.Calls.{sending_of};
 ghost use Rattle.world_model.specs.Logs.{Played, to_publish};
 ghost use Rattle.world_model.specs.World.{Participant as Seen, World};
@@ -13,7 +13,6 @@ use script_participants::Participants;
 use session_steps::OpenCall;
 use std::alloc::Global;
 use std::marker::Brand;
-use std::mem;
 use std::sync::ledger::{Blank, Ledger};
 
 impl Parts {
@@ -88,10 +87,8 @@ impl Parts {
             unreachable!();
         };
         let mut steps = Steps::<L>::new(blank);
-        // Where memory is wanting a call tells no longer who its participant is: nobody is left then.
-        let mut participants = mem::replace(&mut self.participants, Participants::new(alloc));
-        let who = participants.at(place);
-        call.step_on(
+        let who = self.participants.at(place);
+        let went = call.step_on(
             alloc,
             &mut self.nodes,
             who,
@@ -99,9 +96,8 @@ impl Parts {
             self.moment,
             count,
             &mut steps,
-        )?;
-        self.participants = participants;
-        Ok(())
+        );
+        end_steps(alloc, &mut self.participants, went)
     }
 
     /// [`Parts::run_out`], with the steps of turns counted in the ledger of the blank.
@@ -121,19 +117,16 @@ impl Parts {
             unreachable!();
         };
         let mut steps = Steps::<L>::new(blank);
-        // Where memory is wanting a call tells no longer who its participant is: nobody is left then.
-        let mut participants = mem::replace(&mut self.participants, Participants::new(alloc));
-        let who = participants.at(place);
-        call.run_out(
+        let who = self.participants.at(place);
+        let went = call.run_out(
             alloc,
             &mut self.nodes,
             who,
             &mut self.met,
             self.moment,
             &mut steps,
-        )?;
-        self.participants = participants;
-        Ok(())
+        );
+        end_steps(alloc, &mut self.participants, went)
     }
 
     /// A participant publishes all that its agent has pending. The error is want of memory.
@@ -167,5 +160,24 @@ impl Parts {
             self.replies.push(given)?;
         }
         Ok(())
+    }
+}
+
+/// What the steps of a session came to. Where memory was wanting a call tells no longer who its participant is: nobody is left then.
+fn end_steps(
+    alloc: Global,
+    participants: &mut Participants,
+    went: Result<(), Memory>,
+) -> Result<(), Memory>
+    ensures same { result ≡ went }
+    ensures kept { OnOk result (participants.new ≡ participants.old) }
+    ensures nobody { OnErr result (participants.new ≡ []) }
+{
+    match went {
+        Ok(()) => Ok(()),
+        Err(memory) => {
+            *participants = Participants::new(alloc);
+            Err(memory)
+        }
     }
 }

@@ -1,6 +1,6 @@
 //! Lines that set a world up.
 
-ghost use Rattle.std.specs.Prelude.{◌≡◌, ◌==◌, ◌&&◌, ◌||◌, not, nat_le, is_some, IfOk};
+ghost use Rattle.std.specs.Prelude.{◌≡◌, ◌==◌, ◌&&◌, ◌||◌, not, nat_le, codes, is_some, IfOk};
 ghost use Rattle.script_driver.specs.Machine.{outcome_told};
 ghost use Rattle.world_model.specs.Logs.{Played, failed_text};
 ghost use Rattle.script_world.specs.Ends.{use_outcome};
@@ -93,16 +93,15 @@ fn taken_of(alloc: Global, log: &[u8], end: EnterEnd) -> Result<Taken, Memory>
     match end {
         EnterEnd::Entered => Ok(Taken::Went(Vec::new(alloc))),
         EnterEnd::Refused => Ok(Taken::Refused),
-        EnterEnd::Failed => Ok(Taken::Went(failed(alloc, b"use".as_slice(), log)?)),
+        EnterEnd::Failed => Ok(Taken::Went(failed(alloc, log)?)),
     }
 }
 
-/// What is shown where a line of that word failed for the participant of that name. The error is want of memory.
-fn failed(alloc: Global, word: &[u8], name: &[u8]) -> Result<Vec<u8>, Memory>
-    ensures { IfOk result (λ text. text.items ≡ failed_text word.now name.now) }
+/// What is shown where the line `use` failed for the participant of that name. The error is want of memory.
+fn failed(alloc: Global, name: &[u8]) -> Result<Vec<u8>, Memory>
+    ensures { IfOk result (λ text. text.items ≡ failed_text (codes "use") name.now) }
 {
-    let mut text = word.to_vec(alloc)?;
-    text.extend_from_slice(b" ".as_slice())?;
+    let mut text = b"use ".as_slice().to_vec(alloc)?;
     text.extend_from_slice(name)?;
     text.extend_from_slice(b" failed\n".as_slice())?;
     Ok(text)

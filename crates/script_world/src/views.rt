@@ -1,6 +1,6 @@
 //! Views that lines make.
 
-ghost use Rattle.std.specs.Prelude.{◌≡◌, ◌≢◌, [], IfOk};
+ghost use Rattle.std.specs.Prelude.{◌≡◌, ◌≢◌, ◌++◌, [], ◌∷◌, IfOk, OnOk};
 
 use crate::parts::{NamedView, Parts};
 use dht_ids::Judge;
@@ -13,7 +13,7 @@ use view_blocks::View;
 impl Parts {
     ghost use Rattle.world_model.specs.Logs.{ViewLine, keys_of};
     ghost use Rattle.script_world.specs.PartsState.{PlaysIn};
-    ghost use Rattle.script_world.specs.Views.{PutsView};
+    ghost use Rattle.script_world.specs.Views.{MakesOf, PutsView};
 
     /// The line `view`: makes a view of that name, of the members' and the former members' logs. Its block is met, and put at
     /// its owners; that the put was acknowledged is told by the story alone. A line names a member at least. The error is want
@@ -33,16 +33,7 @@ impl Parts {
         let Some(replicas) = self.replicas else {
             return Ok(Taken::Refused);
         };
-        if self.view_named(name.as_slice()).is_some() {
-            return Ok(Taken::Refused);
-        }
-        let Some(members) = self.participants.keys_of(alloc, members)? else {
-            return Ok(Taken::Refused);
-        };
-        let Some(former) = self.participants.keys_of(alloc, former)? else {
-            return Ok(Taken::Refused);
-        };
-        match make_view(alloc, members, former)? {
+        match self.view_of(alloc, name.as_slice(), members, former)? {
             Made::Refused => Ok(Taken::Refused),
             Made::TooMany => Ok(Taken::Exceeded),
             Made::View(view) => {
@@ -50,6 +41,29 @@ impl Parts {
                 Ok(Taken::Went(Vec::new(alloc)))
             }
         }
+    }
+
+    /// The view that a line makes; it is refused where a view has that name, or a log isn't there. The error is want of memory.
+    fn view_of(
+        &self,
+        alloc: Global,
+        name: &[u8],
+        members: &[Bytes],
+        former: &[Bytes],
+    ) -> Result<Made, Memory>
+        requires { members.now ≢ [] }
+        ensures { IfOk result (MakesOf name.now members.now former.now self.now) }
+    {
+        if self.view_named(name).is_some() {
+            return Ok(Made::Refused);
+        }
+        let Some(members) = self.participants.keys_of(alloc, members)? else {
+            return Ok(Made::Refused);
+        };
+        let Some(former) = self.participants.keys_of(alloc, former)? else {
+            return Ok(Made::Refused);
+        };
+        make_view(alloc, members, former)
     }
 
     /// A view comes behind the others; its block is met, and put at its owners. The error is want of memory, or 2^64 asks.
@@ -65,9 +79,17 @@ impl Parts {
     {
         let block = view.write(alloc)?;
         let key = view.name();
+        push_view(&mut self.views, name, view)?;
         self.met.meet(alloc, block.as_slice())?;
-        self.views.push(NamedView { name, view })?;
         let _came = self.nodes.put_block(alloc, judge, replicas, key, block)?;
         Ok(())
     }
+}
+
+/// Puts a view behind the others. The error is want of memory.
+fn push_view(views: &mut Vec<NamedView>, name: Bytes, view: View) -> Result<(), Memory>
+    ensures { OnOk result (views.new.items ≡ views.old.items ++ record { name = name; view = view } ∷ []) }
+{
+    views.push(NamedView { name, view })?;
+    Ok(())
 }

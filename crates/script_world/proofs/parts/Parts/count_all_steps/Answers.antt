@@ -1,36 +1,32 @@
-use Rattle.std.proofs.Common.{◌≡◌, List, set, get_or, sym, ap, ◌∙◌, subst}
+use Rattle.std.proofs.Common.{List, set, sym, ◌∙◌, subst}
+use Rattle.std.specs.Prelude.{OnOk}
 use Rattle.script_participants.specs.ParticipantState.{ParticipantState}
 use Rattle.script_world.specs.contracts.parts.Parts.{the_view}
-use Rattle.script_world.specs.PartsState.{AreKept, PartsState}
+use Rattle.script_world.specs.PartsState.{PartsState}
 use Rattle.script_world.specs.Running.{HasSceneIn, RunsOutIn}
-use Rattle.script_world.proofs.Going.{not_nobody, runs_kept, runs_lead, some_scene}
+use Rattle.script_world.proofs.Going.{not_nobody, runs_kept, runs_lead, some_scene, then_kept, then_so}
 use Rattle.script_world.proofs.parts.Parts.count_all_steps.Goals as goal
 
 pub unreachable-requires : goal.unreachable-requires
 unreachable-requires g c = not_nobody _ c.args.name.now c.args.call.now (subst (λ (s : PartsState). HasSceneIn s c.args.name.now c.args.call.now) (sym c.self.view_is) c.requires.scene) (sym c.place_of.ensures ∙ c.in_default.is)
 
-pub run_out-requires : goal.run_out-requires
-run_out-requires g c =
-    let same : c.replace-participants.result ≡ c.self.inside.participants = c.replace-participants.ensures.value in
-    let who : ParticipantState = c.at-who.result.now in
-    some_scene _ c.args.name.now c.args.call.now c.in-Some.place who (sym c.place_of.ensures ∙ c.in-Some.is) (c.at-who.ensures.value ∙ ap (λ (ps : List ParticipantState). get_or ps c.in-Some.place who) same)
+pub run_out-went-requires : goal.run_out-went-requires
+run_out-went-requires g c =
+    some_scene (the_view c.self.inside) c.args.name.now c.args.call.now c.in-Some.place c.at-who.result.now (sym c.place_of.ensures ∙ c.in-Some.is) c.at-who.ensures.value
     (subst (λ (s : PartsState). HasSceneIn s c.args.name.now c.args.call.now) (sym c.self.view_is) c.requires.scene)
 
-pub invariant_of-self-2 : goal.invariant_of-self-2
-invariant_of-self-2 g c =
-    let same : c.replace-participants.result ≡ c.self.inside.participants = c.replace-participants.ensures.value in
-    let who : ParticipantState = c.at-who.result.now in
-    subst (λ (ps : List ParticipantState). AreKept c.self.inside.replicas (set ps c.in-Some.place c.run_out.new.who)) (sym same)
-    (runs_kept _ c.args.name.now c.args.call.now c.in-Some.place who (sym c.place_of.ensures ∙ c.in-Some.is) (c.at-who.ensures.value ∙ ap (λ (ps : List ParticipantState). get_or ps c.in-Some.place who) same)
-    c.run_out.new.self c.run_out.new.nodes c.run_out.new.who c.run_out.new.met c.in_ok-run_out.ensures (subst (λ (s : PartsState). HasSceneIn s c.args.name.now c.args.call.now) (sym c.self.view_is) c.requires.scene) c.self.invariant)
+pub invariant_of-self : goal.invariant_of-self
+invariant_of-self g c =
+    then_kept (set c.self.inside.participants c.in-Some.place c.run_out-went.new.who) c.end_steps.new.participants c.run_out-went.result c.end_steps.result c.self.inside.replicas c.self.inside.participants c.self.invariant c.end_steps.ensures.same
+    c.run_out-went.ensures c.end_steps.ensures.kept c.end_steps.ensures.nobody
+    (λ went. runs_kept (the_view c.self.inside) c.args.name.now c.args.call.now c.in-Some.place c.at-who.result.now (sym c.place_of.ensures ∙ c.in-Some.is) c.at-who.ensures.value
+    c.run_out-went.new.self c.run_out-went.new.nodes c.run_out-went.new.who c.run_out-went.new.met went (subst (λ (s : PartsState). HasSceneIn s c.args.name.now c.args.call.now) (sym c.self.view_is) c.requires.scene) c.self.invariant)
 
 pub returns : goal.returns
 returns g c =
-    let same : c.replace-participants.result ≡ c.self.inside.participants = c.replace-participants.ensures.value in
-    let who : ParticipantState = c.at-who.result.now in
-    subst
-    (λ (s : PartsState). RunsOutIn c.args.name.now s c.args.call.now (record (the_view c.self.inside) { nodes = c.run_out.new.nodes; participants = set c.replace-participants.result c.in-Some.place c.run_out.new.who; met = c.run_out.new.met }) c.run_out.new.self)
-    c.self.view_is
-    (subst (λ (ps : List ParticipantState). RunsOutIn c.args.name.now (the_view c.self.inside) c.args.call.now (record (the_view c.self.inside) { nodes = c.run_out.new.nodes; participants = set ps c.in-Some.place c.run_out.new.who; met = c.run_out.new.met }) c.run_out.new.self) (sym same)
-    (runs_lead _ c.args.name.now c.args.call.now c.in-Some.place who (sym c.place_of.ensures ∙ c.in-Some.is) (c.at-who.ensures.value ∙ ap (λ (ps : List ParticipantState). get_or ps c.in-Some.place who) same)
-    c.run_out.new.self c.run_out.new.nodes c.run_out.new.who c.run_out.new.met c.in_ok-run_out.ensures (subst (λ (s : PartsState). HasSceneIn s c.args.name.now c.args.call.now) (sym c.self.view_is) c.requires.scene) c.self.invariant.apart))
+    subst (λ (s : PartsState). OnOk c.end_steps.result (RunsOutIn c.args.name.now s c.args.call.now (record (the_view c.self.inside) { nodes = c.run_out-went.new.nodes; participants = c.end_steps.new.participants; met = c.run_out-went.new.met }) c.run_out-went.new.self)) c.self.view_is
+    (then_so (set c.self.inside.participants c.in-Some.place c.run_out-went.new.who) c.end_steps.new.participants c.run_out-went.result c.end_steps.result
+    (λ (ps : List ParticipantState). RunsOutIn c.args.name.now (the_view c.self.inside) c.args.call.now (record (the_view c.self.inside) { nodes = c.run_out-went.new.nodes; participants = ps; met = c.run_out-went.new.met }) c.run_out-went.new.self)
+    c.end_steps.ensures.same c.run_out-went.ensures c.end_steps.ensures.kept
+    (λ went. runs_lead (the_view c.self.inside) c.args.name.now c.args.call.now c.in-Some.place c.at-who.result.now (sym c.place_of.ensures ∙ c.in-Some.is) c.at-who.ensures.value
+    c.run_out-went.new.self c.run_out-went.new.nodes c.run_out-went.new.who c.run_out-went.new.met went (subst (λ (s : PartsState). HasSceneIn s c.args.name.now c.args.call.now) (sym c.self.view_is) c.requires.scene) c.self.invariant.apart))
