@@ -1,6 +1,6 @@
 //! Lines of calls.
 
-ghost use Rattle.std.specs.Prelude.{◌≡◌, position, IfOk};
+ghost use Rattle.std.specs.Prelude.{◌≡◌, ◌++◌, [], ◌∷◌, position, IfOk, OnOk};
 ghost use Rattle.std.specs.Str.{bytes_eq};
 ghost use Rattle.log_heads.specs.Signed.{hss_judged};
 ghost use Rattle.world_model.specs.Calls.{AsLine, FinishLine, OpenLine, StepLine, is_step_count, sending_of};
@@ -9,7 +9,7 @@ ghost use Rattle.script_world.specs.Running.{HasSceneIn};
 ghost use Rattle.script_machine.specs.Ends.{EndsIn};
 ghost use Rattle.script_machine.specs.WorldState.{HasWorld, LineDoes};
 
-use crate::world::{OpenSession, World};
+use crate::machine::{OpenSession, ScriptMachine};
 use ivy_base::{Bytes, Memory};
 use script_driver::Taken;
 use script_model::Piece;
@@ -19,9 +19,14 @@ use std::alloc::Global;
 /// The most steps of a line.
 const MOST_STEPS: u64 = 1_000_000;
 
-impl World {
+impl ScriptMachine {
     /// The line `as`: one whole call. The error is want of memory.
-    pub fn call(&mut self, alloc: Global, log: &[u8], pieces: &[Piece]) -> Result<Taken, Memory>
+    pub(crate) fn call(
+        &mut self,
+        alloc: Global,
+        log: &[u8],
+        pieces: &[Piece],
+    ) -> Result<Taken, Memory>
         requires { HasWorld self.old }
         ensures { IfOk result (λ taken. LineDoes (λ w outcome. AsLine hss_judged w (sending_of w.0 log.now pieces.now) outcome) self.old taken self.new) }
     {
@@ -33,15 +38,15 @@ impl World {
     }
 
     /// The line `open`: a session begins, of that name. The error is want of memory.
-    pub fn open(
+    pub(crate) fn open(
         &mut self,
         alloc: Global,
-        name: Bytes,
-        log: Bytes,
+        name: &Bytes,
+        log: &Bytes,
         pieces: &[Piece],
     ) -> Result<Taken, Memory>
         requires { HasWorld self.old }
-        ensures { IfOk result (λ taken. LineDoes (λ w outcome. OpenLine hss_judged w name (sending_of w.0 log pieces.now) outcome) self.old taken self.new) }
+        ensures { IfOk result (λ taken. LineDoes (λ w outcome. OpenLine hss_judged w name.now (sending_of w.0 log.now pieces.now) outcome) self.old taken self.new) }
     {
         if self.place_of(name.as_slice()).is_some() {
             return Ok(Taken::Refused);
@@ -49,16 +54,12 @@ impl World {
         let Some(call) = self.parts.begin_call(alloc, log.as_slice(), pieces)? else {
             return Ok(Taken::Refused);
         };
-        self.sessions.push(OpenSession {
-            name,
-            by: log,
-            call,
-        })?;
+        push_session(&mut self.sessions, alloc, name, log, call)?;
         Ok(Taken::Went(Vec::new(alloc)))
     }
 
     /// The line `step`: a session that is open goes so many steps, 1 to 1,000,000. The error is want of memory.
-    pub fn step(&mut self, alloc: Global, name: &[u8], count: u64) -> Result<Taken, Memory>
+    pub(crate) fn step(&mut self, alloc: Global, name: &[u8], count: u64) -> Result<Taken, Memory>
         requires { HasWorld self.old }
         ensures { IfOk result (λ taken. LineDoes (λ w outcome. StepLine hss_judged w name.now count (session_named w.0 name.now) outcome) self.old taken self.new) }
     {
@@ -75,7 +76,7 @@ impl World {
     }
 
     /// The line `end` of a session: it goes to its end, and is no longer open. The error is want of memory.
-    pub fn finish(&mut self, alloc: Global, name: &[u8]) -> Result<Taken, Memory>
+    pub(crate) fn finish(&mut self, alloc: Global, name: &[u8]) -> Result<Taken, Memory>
         requires { HasWorld self.old }
         ensures { IfOk result (λ taken. LineDoes (λ w outcome. FinishLine hss_judged w name.now (session_named w.0 name.now) outcome) self.old taken self.new) }
     {
@@ -102,6 +103,22 @@ fn is_step_count(count: u64) -> bool
     ensures { result ≡ is_step_count count }
 {
     count > 0 && count <= MOST_STEPS
+}
+
+/// A session of that name and participant comes behind the open ones. The error is want of memory.
+fn push_session(
+    sessions: &mut Vec<OpenSession>,
+    alloc: Global,
+    name: &Bytes,
+    by: &Bytes,
+    call: OpenCall,
+) -> Result<(), Memory>
+    ensures { OnOk result (sessions.new.items ≡ sessions.old.items ++ record { name = name.now; by = by.now; call = call } ∷ []) }
+{
+    let name = name.copy(alloc)?;
+    let by = by.copy(alloc)?;
+    sessions.push(OpenSession { name, by, call })?;
+    Ok(())
 }
 
 /// A participant's session goes to its end, and leaves to later lines what its reply gives. The result is what is shown of it.

@@ -7,8 +7,9 @@
 //! agent, and a session in code may be many); its step is `PromisedStep` of `stage_laws`, the step of all lines with what is promised
 //! of each (the headline, and that calm scripts are served), but that those that make a snapshot are refused for now; and
 //! [`ScriptMachine::new`] may be the world in which a script begins.
-//! Within, each function of a world is a line of a script, which does in each world that it may be, and that keeps what it should,
-//! what the definitions say (`LineDoes`); each error is want of memory, after which the world is of no more use.
+//! Within, the lines that sessions go on or end by are functions of the machine, and the others those of its parts. Each does in each
+//! world that the machine may be, and that keeps what it should, what the definitions say (`LineDoes`); each error is want of memory,
+//! after which the machine is of no more use.
 //! Definitions: `specs/WorldState.antt`, `specs/Ends.antt`, `specs/Limits.antt`, and `world_model`'s.
 //! Lemmas: `proofs/Taking.antt` (what a line does, from what its command does), `proofs/Opened.antt` (the open sessions of a world and
 //! of the code's), `proofs/Hands.antt` (sessions that are in hand), `proofs/Lines.antt` (lines of calls), `proofs/Joined.antt` (lines
@@ -19,9 +20,8 @@
 #![tactic(auto)]
 
 mod calls;
+mod commands;
 mod machine;
-mod others;
 mod participants;
-mod world;
 
 pub use machine::ScriptMachine;

@@ -9,38 +9,43 @@ ghost use Rattle.world_model.specs.World.{participant};
 ghost use Rattle.script_machine.specs.Ends.{left_open, shows_nothing};
 ghost use Rattle.script_machine.specs.WorldState.{HasWorld, LineDoes};
 
-use crate::world::World;
+use crate::machine::ScriptMachine;
 use hash_signature_model::Set;
 use ivy_base::{Bytes, Memory};
 use script_driver::Taken;
 use std::alloc::Global;
 
-impl World {
+impl ScriptMachine {
     /// The line `log`: a participant of that name comes, whose agent opens the log of the key that these give, and publishes all
     /// that it has to. The error is want of memory.
-    pub fn begin_log(
+    pub(crate) fn begin_log(
         &mut self,
         alloc: Global,
-        name: Bytes,
+        name: &Bytes,
         id: &[u8; 16],
         seed: &[u8; 32],
         sets: &[Set],
     ) -> Result<Taken, Memory>
         requires world { HasWorld self.old }
         requires levels { AreLevels sets.now }
-        ensures { IfOk result (λ taken. LineDoes (λ w outcome. LogLine hss_judged w name id.now seed.now sets.now outcome) self.old taken self.new) }
+        ensures { IfOk result (λ taken. LineDoes (λ w outcome. LogLine hss_judged w name.now id.now seed.now sets.now outcome) self.old taken self.new) }
     {
         let newcomer = name.copy(alloc)?;
-        if !self.parts.begin_log(alloc, name, id, seed, sets)? {
+        if !self.parts.begin_log(alloc, newcomer, id, seed, sets)? {
             return Ok(Taken::Refused);
         }
-        self.parts.publish(alloc, newcomer.as_slice())?;
+        self.parts.publish(alloc, name.as_slice())?;
         Ok(Taken::Went(Vec::new(alloc)))
     }
 
     /// The line `use`: a participant enters a view, and its sessions are gone then; where its keeper fails that is shown. The error
     /// is want of memory.
-    pub fn use_view(&mut self, alloc: Global, log: &[u8], view: &[u8]) -> Result<Taken, Memory>
+    pub(crate) fn use_view(
+        &mut self,
+        alloc: Global,
+        log: &[u8],
+        view: &[u8],
+    ) -> Result<Taken, Memory>
         ensures { IfOk result (λ taken. LineDoes (λ w outcome. outcome ≡ use_line w log.now view.now) self.old taken self.new) }
     {
         let taken = self.parts.use_view(alloc, log, view)?;
@@ -50,7 +55,7 @@ impl World {
 
     /// The line `restart`: a participant's agent starts again from what its keeper saved, and its sessions are gone then. The error
     /// is want of memory.
-    pub fn restart(&mut self, alloc: Global, log: &[u8]) -> Result<Taken, Memory>
+    pub(crate) fn restart(&mut self, alloc: Global, log: &[u8]) -> Result<Taken, Memory>
         ensures { IfOk result (λ taken. LineDoes (λ w outcome. RestartLine w (participant w.0 log.now) outcome) self.old taken self.new) }
     {
         let taken = self.parts.restart(alloc, log)?;

@@ -1,12 +1,12 @@
 use Rattle.std.proofs.Common.{◌≡◌, ℕ, List, get_or, Some, sym, ap, ◌∙◌, subst}
 use Rattle.std.specs.List.{position}
 use Rattle.std.specs.Str.{bytes_eq}
-use Rattle.script_machine.specs.contracts.world.World.{the_view}
+use Rattle.script_machine.specs.contracts.machine.ScriptMachine.{the_view}
 use Rattle.script_world.specs.Running.{HasSceneIn}
 use Rattle.script_machine.specs.Ends.{EndsIn}
 use Rattle.script_machine.specs.WorldState.{HasWorld, OpenState, ShowsWorld, WorldState}
 use Rattle.script_machine.proofs.Lines.{ends_one, has_scene, none_ends}
-use Rattle.script_machine.proofs.world.World.finish.Goals as goal
+use Rattle.script_machine.proofs.machine.ScriptMachine.finish.Goals as goal
 
 pub returns-in_default : goal.returns-in_default
 returns-in_default c = λ w shows keeps.

@@ -1,10 +1,10 @@
 use Rattle.std.proofs.Common.{◌≡◌, subst}
 use Rattle.world_model.specs.Logs.{RestartLine}
 use Rattle.world_model.specs.World.{participant}
-use Rattle.script_machine.specs.contracts.world.World.{the_view}
+use Rattle.script_machine.specs.contracts.machine.ScriptMachine.{the_view}
 use Rattle.script_machine.specs.WorldState.{LineDoes, WorldState}
 use Rattle.script_machine.proofs.Joined.{restart_taken}
-use Rattle.script_machine.proofs.world.World.restart.Goals as goal
+use Rattle.script_machine.proofs.machine.ScriptMachine.restart.Goals as goal
 
 pub returns : goal.returns
 returns c =

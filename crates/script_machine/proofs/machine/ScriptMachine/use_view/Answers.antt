@@ -1,9 +1,9 @@
 use Rattle.std.proofs.Common.{◌≡◌, subst}
 use Rattle.world_model.specs.Logs.{use_line}
-use Rattle.script_machine.specs.contracts.world.World.{the_view}
+use Rattle.script_machine.specs.contracts.machine.ScriptMachine.{the_view}
 use Rattle.script_machine.specs.WorldState.{LineDoes, WorldState}
 use Rattle.script_machine.proofs.Joined.{use_taken}
-use Rattle.script_machine.proofs.world.World.use_view.Goals as goal
+use Rattle.script_machine.proofs.machine.ScriptMachine.use_view.Goals as goal
 
 pub returns : goal.returns
 returns c =

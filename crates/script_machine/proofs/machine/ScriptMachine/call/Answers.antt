@@ -1,9 +1,9 @@
 use Rattle.std.proofs.Common.{sym, subst}
-use Rattle.script_machine.specs.contracts.world.World.{the_view}
+use Rattle.script_machine.specs.contracts.machine.ScriptMachine.{the_view}
 use Rattle.script_machine.specs.WorldState.{HasWorld, ShowsWorld, WorldState}
 use Rattle.script_machine.proofs.Hands.{begun_scene, begun_so, may_call}
 use Rattle.script_machine.proofs.Lines.{calls_whole, sends_none}
-use Rattle.script_machine.proofs.world.World.call.Goals as goal
+use Rattle.script_machine.proofs.machine.ScriptMachine.call.Goals as goal
 
 pub begin_call-requires : goal.begin_call-requires
 begin_call-requires c = may_call (the_view c.self.inside) (subst HasWorld (sym c.self.view_is) c.requires)

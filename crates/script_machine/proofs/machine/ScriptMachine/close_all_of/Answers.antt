@@ -3,7 +3,7 @@ use Rattle.std.specs.Prelude.{not}
 use Rattle.std.specs.Str.{bytes_eq}
 use Rattle.std.proofs.lemmas.Fn.{filter_same}
 use Rattle.script_machine.specs.WorldState.{OpenState, WorldState}
-use Rattle.script_machine.proofs.world.World.close_all_of.Goals as goal
+use Rattle.script_machine.proofs.machine.ScriptMachine.close_all_of.Goals as goal
 
 pub returns-clause-sessions : goal.returns-clause-sessions
 returns-clause-sessions c =

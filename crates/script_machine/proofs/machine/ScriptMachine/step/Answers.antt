@@ -2,7 +2,7 @@ use Rattle.std.proofs.Common.{◌≡◌, ℕ, List, set, get_or, Some, sym, ap, 
 use Rattle.std.specs.List.{position}
 use Rattle.std.specs.Str.{bytes_eq}
 use Rattle.script_driver.specs.Run.{Goes}
-use Rattle.script_machine.specs.contracts.world.World.{the_view}
+use Rattle.script_machine.specs.contracts.machine.ScriptMachine.{the_view}
 use Rattle.world_model.specs.Calls.{StepLine}
 use Rattle.world_model.specs.Logs.{Played}
 use Rattle.world_model.specs.World.{session_named}
@@ -10,7 +10,7 @@ use Rattle.log_heads.specs.Signed.{hss_judged}
 use Rattle.script_world.specs.Running.{HasSceneIn, StepsOnIn}
 use Rattle.script_machine.specs.WorldState.{HasWorld, OpenState, ShowsWorld, WorldState}
 use Rattle.script_machine.proofs.Lines.{far_steps, has_scene, none_steps, steps_one}
-use Rattle.script_machine.proofs.world.World.step.Goals as goal
+use Rattle.script_machine.proofs.machine.ScriptMachine.step.Goals as goal
 
 pub returns-in_default : goal.returns-in_default
 returns-in_default c = λ w shows keeps.
