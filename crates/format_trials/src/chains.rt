@@ -7,54 +7,42 @@ ghost use Rattle.log_records.specs.Records.{records_of};
 ghost use Rattle.log_records.specs.Batches.{owner_of, AreOfOneOwner};
 
 use crate::gather::are_of;
+use crate::held::Held;
+use crate::line::Line;
 use crate::text::Text;
-use crate::vectors::vector_of_word;
-use crate::words::{bytes_of, key_of, number_of, owner_of};
+use crate::vectors::{next_vector, vector_of_word};
 use dht_ids::Judged;
 use ivy_base::{Key, PubKey, head_key};
 use log_records::{Batch, Chain, ChainFault, Edge, Record};
-use std::alloc::Global;
 use version_vectors::Vector;
 use view_blocks::View;
 
-/// Under what a chain is tested: the view, what is held, and the floor.
-#[derive(Drop)]
-struct Base {
-    view: View,
-    held: Vector,
-    floor: Vector,
-}
-
-/// The view of a word.
-fn view_of_word(alloc: Global, word: &str) -> Option<View> {
-    View::read(alloc, &bytes_of(alloc, word)?).ok()
-}
-
-/// The edge of a word, of which `none` has none. There is no answer where it is no vector.
-fn edge_of_word(alloc: Global, word: &str) -> Option<Option<Edge>> {
+/// The edge that the next word is, of which `none` has none.
+fn next_edge(line: &mut Line<'_>) -> Option<Edge> {
+    let word = line.word();
     if word == "none" {
-        return Some(None);
+        return None;
     }
-    let vector = vector_of_word(alloc, word)?;
-    Some(Some(Edge { vector }))
+    let vector = vector_of_word(line, word);
+    Some(Edge { vector })
 }
 
-/// The base of these words.
-fn base_of(alloc: Global, view: &str, held: &str, floor: &str) -> Option<Base> {
-    let held = vector_of_word(alloc, held)?;
-    let floor = vector_of_word(alloc, floor)?;
-    let view = view_of_word(alloc, view)?;
-    Some(Base { view, held, floor })
+/// Adds the owner's record that the next word is.
+fn add_record(line: &mut Line<'_>, records: &mut Vec<Record>, owner: &PubKey) {
+    let block = line.bytes();
+    match Record::read(line.text.alloc, &block, owner) {
+        Ok(record) => line.text.push(records, record),
+        Err(_) => line.fail(),
+    }
 }
 
-/// The owner's records of these blocks.
-fn records_of_words(alloc: Global, owner: &PubKey, blocks: &[&str]) -> Option<Vec<Record>> {
-    let mut records = Vec::new(alloc);
-    for block in blocks {
-        let block = bytes_of(alloc, block)?;
-        records.push(Record::read(alloc, &block, owner).ok()?).ok()?;
+/// The owner's records that the words left are.
+fn records_of_words(line: &mut Line<'_>, owner: &PubKey) -> Vec<Record> {
+    let mut records = Vec::new(line.text.alloc);
+    for _n in 0..line.words_left() {
+        add_record(line, &mut records, owner);
     }
-    Some(records)
+    records
 }
 
 /// Whether the edge, where it is known, leaves that log out.
@@ -67,27 +55,41 @@ fn leaves_out(edge: &Option<Edge>, log: &Key) -> bool
     }
 }
 
-/// Tells what a batch says to the chain: `ok` where it is in the batch then.
+/// Tells what a batch over what is held says to the chain: `ok` where it is in the batch then.
 fn put_told(
     out: &mut Text,
-    alloc: Global,
-    base: &Base,
+    view: &View,
+    held: &Vector,
+    floor: &Vector,
     head: Judged,
     chain: Vec<Record>,
     owner: PubKey,
     edge: Option<Edge>,
-) -> Option<()>
+)
     requires owner { AreOfOneOwner (records_of chain.items) }
     requires own { owner_of (records_of chain.items) ≡ owner }
     requires edge { IfSome edge (λ e. stamp_at e.vector (head_key_of owner) ≡ None) }
 {
+    let Ok(mut batch) = Batch::over(out.alloc, held, floor) else {
+        return out.lack();
+    };
     let count = chain.len();
-    let mut batch = Batch::over(alloc, &base.held, &base.floor).ok()?;
-    let fault = batch.add_chain(alloc, &base.view, head, chain, edge).err();
-    let is_same = batch.started().entries() == base.held.entries();
+    let fault = batch.add_chain(out.alloc, view, head, chain, edge).err();
+    put_batch(out, held, batch, fault, &head, count);
+}
+
+/// Adds what a batch said to the chain of so many records with that head.
+fn put_batch(
+    out: &mut Text,
+    held: &Vector,
+    batch: Batch,
+    fault: Option<ChainFault>,
+    head: &Judged,
+    count: usize,
+) {
+    let is_same = batch.started().entries() == held.entries();
     let chains = batch.into_chains();
-    out.add(word_of(fault, is_same, &chains, &head, count));
-    Some(())
+    out.add(word_of(fault, is_same, &chains, head, count));
 }
 
 /// The word for what a batch says to a chain of so many records, where `is_same` says whether what it is over is as before.
@@ -112,35 +114,38 @@ fn is_chain(chain: &Chain, head: &Judged, count: usize) -> bool {
     chain.head == *head && chain.records.as_slice().len() == count
 }
 
-/// Tells the chain that the words are.
-pub fn chain(out: &mut Text, alloc: Global, words: &[&str]) -> Option<()> {
-    let [view, held, floor, edge, owner, seq, name, blocks @ ..] = words else {
-        return None;
-    };
-    let owner = owner_of(alloc, owner)?;
-    let head = Judged {
-        seq: number_of(seq)?,
-        name: key_of(alloc, name)?,
-    };
-    let base = base_of(alloc, view, held, floor)?;
-    put_blocks(out, alloc, &base, head, &owner, edge, blocks)
+/// Tells the chain that the words are, where there is one and the edge leaves it out.
+pub fn chain(line: &mut Line<'_>) {
+    let view = line.bytes();
+    match View::read(line.text.alloc, &view) {
+        Ok(view) => chain_under(line, &Held { value: view }.value),
+        Err(_) => line.fail(),
+    }
 }
 
-/// Tells the chain of the owner's records that the blocks are, where there is a chain and the edge leaves it out.
-fn put_blocks(
-    out: &mut Text,
-    alloc: Global,
-    base: &Base,
-    head: Judged,
-    owner: &PubKey,
-    edge: &str,
-    blocks: &[&str],
-) -> Option<()> {
-    let records = records_of_words(alloc, owner, blocks)?;
-    let edge = edge_of_word(alloc, edge)?;
-    if are_of(&records, owner) && leaves_out(&edge, &head_key(owner)) {
-        put_told(out, alloc, base, head, records, *owner, edge)
+/// Tells the chain that the words are, under the view.
+fn chain_under(line: &mut Line<'_>, view: &View) {
+    let held = next_vector(line);
+    let floor = next_vector(line);
+    let edge = next_edge(line);
+    let owner = line.owner();
+    let head = Judged {
+        seq: line.number(),
+        name: line.key(),
+    };
+    let chain = records_of_words(line, &owner);
+    if are_of(&chain, &owner) && leaves_out(&edge, &head_key(&owner)) {
+        put_told(
+            &mut line.text,
+            view,
+            &held,
+            &floor,
+            head,
+            chain,
+            owner,
+            edge,
+        );
     } else {
-        None
+        line.fail();
     }
 }

@@ -2,12 +2,14 @@
 
 ghost use Rattle.std.specs.Prelude.{◌≡◌};
 
+use crate::records::named;
+use crate::text::Text;
 use dht_ids::Judged;
-use ivy_base::{Key, Memory, Moment, Op, PubKey, head_key};
+use ivy_base::{Key, Moment, Op, PubKey, head_key};
 use log_records::Record;
 use std::alloc::Global;
 use version_vectors::{Entry, Vector};
-use view_blocks::View;
+use view_blocks::{View, ViewFault};
 
 /// When each record was made.
 const MOMENT: Moment = Moment { sec: 5, nsec: 0 };
@@ -34,20 +36,20 @@ pub fn owner(letter: u8) -> PubKey {
 }
 
 /// The letters' owners.
-fn owners(alloc: Global, letters: &str) -> Option<Vec<PubKey>> {
-    let mut owners = Vec::new(alloc);
-    for letter in letters.bytes() {
-        owners.push(owner(letter)).ok()?;
+fn owners(out: &mut Text, letters: &str) -> Vec<PubKey> {
+    let mut owners = Vec::new(out.alloc);
+    for letter in letters.as_bytes() {
+        out.push(&mut owners, owner(*letter));
     }
-    Some(owners)
+    owners
 }
 
 /// The view of the members before the dash and the former members behind it, where there is one.
-pub fn view_of(alloc: Global, letters: &str) -> Option<View> {
-    let mut lists = letters.split('-');
-    let members = owners(alloc, lists.next()?)?;
-    let former = owners(alloc, lists.next().unwrap_or(""))?;
-    View::make(alloc, &members, &former).ok()
+pub fn view_of(out: &mut Text, letters: &str) -> Result<View, ViewFault> {
+    let (members, former) = letters.split_once('-').unwrap_or((letters, ""));
+    let members = owners(out, members);
+    let former = owners(out, former);
+    View::make(out.alloc, &members, &former)
 }
 
 impl Log {
@@ -64,10 +66,10 @@ impl Log {
         }
     }
 
-    /// Writes the next record: the first one opens the log, and each other one cancels it. The error is want of memory.
-    pub fn write(&mut self, alloc: Global, vector: Vector) -> Result<(), Memory> {
+    /// The next record: the first one opens the log, and each other one cancels it.
+    fn next(&self, vector: Vector) -> Record {
         let seq = self.newest.seq.saturating_add(1);
-        let record = Record {
+        Record {
             owner: self.owner,
             seq,
             prev: self.newest.name,
@@ -78,21 +80,28 @@ impl Log {
             } else {
                 Op::Cancel { seq: 1 }
             },
+        }
+    }
+
+    /// Writes the next record.
+    pub fn write(&mut self, out: &mut Text, vector: Vector) {
+        let record = self.next(vector);
+        self.newest = Judged {
+            seq: record.seq,
+            name: named(out, &record),
         };
-        let name = record.name(alloc)?;
-        self.newest = Judged { seq, name };
-        self.records.push(record)?;
-        Ok(())
+        out.push(&mut self.records, record);
     }
 
     /// Loses the newest record.
     pub fn lose(&mut self) {
-        if let Some(last) = self.records.pop() {
+        if let Some(last) = self.records.last() {
             self.newest = Judged {
                 seq: last.seq.saturating_sub(1),
                 name: last.prev,
             };
         }
+        self.records.truncate(self.newest.seq as usize);
     }
 
     /// The name of the record of that number; there may be none.

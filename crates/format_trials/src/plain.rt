@@ -2,14 +2,14 @@
 //! and again, until none is left that may.
 
 use crate::logs::Log;
-use ivy_base::{Key, Memory, PubKey};
+use crate::records::named;
+use crate::text::Text;
+use ivy_base::{Key, PubKey};
 use log_records::Record;
-use std::alloc::Global;
 use version_vectors::{Entry, Vector};
 use view_blocks::View;
 
 /// A record, and whether it was taken.
-#[derive(Drop)]
 pub struct Plain {
     owner: PubKey,
     own: Entry,
@@ -18,7 +18,34 @@ pub struct Plain {
     taken: bool,
 }
 
+impl Drop for Plain {
+    fn drop(self) {
+        let Plain {
+            owner: _,
+            own: _,
+            prev: _,
+            vector: _,
+            taken: _,
+        } = self;
+    }
+}
+
 impl Plain {
+    /// The record of that log, which wasn't taken.
+    fn of(out: &mut Text, log: &Key, record: &Record) -> Plain {
+        Plain {
+            owner: record.owner,
+            own: Entry {
+                log: *log,
+                seq: record.seq,
+                name: named(out, record),
+            },
+            prev: record.prev,
+            vector: out.vector(record.vector.copy(out.alloc)),
+            taken: false,
+        }
+    }
+
     /// How far the record knows a log.
     fn reach(&self, log: &Key) -> u32 {
         if *log == self.own.log {
@@ -106,22 +133,12 @@ impl Plain {
     }
 }
 
-/// The records of a log.
-fn plain_log(alloc: Global, all: &mut Vec<Plain>, log: &Log) -> Result<(), Memory> {
+/// Adds the records of a log.
+fn add_log(out: &mut Text, all: &mut Vec<Plain>, log: &Log) {
     for record in log.records.iter() {
-        all.push(Plain {
-            owner: record.owner,
-            own: Entry {
-                log: log.key,
-                seq: record.seq,
-                name: record.name(alloc)?,
-            },
-            prev: record.prev,
-            vector: record.vector.copy(alloc)?,
-            taken: false,
-        })?;
+        let plain = Plain::of(out, &log.key, record);
+        out.push(all, plain);
     }
-    Ok(())
 }
 
 /// Takes what may follow, in one pass.
@@ -135,15 +152,15 @@ fn pass(view: &View, all: &mut [Plain]) {
 }
 
 /// All records of the logs, of which those of the largest closed part are taken.
-pub fn plain_part(alloc: Global, view: &View, logs: &[Log]) -> Result<Vec<Plain>, Memory> {
-    let mut all = Vec::new(alloc);
+pub fn plain_part(out: &mut Text, view: &View, logs: &[Log]) -> Vec<Plain> {
+    let mut all = Vec::new(out.alloc);
     for log in logs {
-        plain_log(alloc, &mut all, log)?;
+        add_log(out, &mut all, log);
     }
     for _pass in 0..all.len() {
         pass(view, all.as_mut_slice());
     }
-    Ok(all)
+    all
 }
 
 /// How many were taken.

@@ -3,16 +3,12 @@
 ghost use Rattle.nfs3_replies.specs.Reading.{IsProcedure};
 ghost use Rattle.std.specs.Prelude.{IsTrue};
 
+use crate::held::Held;
+use crate::line::Line;
 use crate::text::Text;
 use ivy_base::Bytes;
 use nfs3_args::{Args, ArgsFault, MOUNT_PROGRAM, NFS_PROGRAM, read_args, write_args};
 use nfs3_replies::{Fattr, Listed, Reply, read_reply, write_reply};
-use std::alloc::Global;
-
-/// Tells whether bytes that were read come again where what was read is written.
-fn put_again(out: &mut Text, written: &[u8], bytes: &[u8]) {
-    out.add(if written == bytes { "ok" } else { "differs" });
-}
 
 /// Tells bytes that can't be read. They have no values.
 fn put_fault(out: &mut Text, fault: ArgsFault, has_fields: bool) {
@@ -27,35 +23,30 @@ fn put_fault(out: &mut Text, fault: ArgsFault, has_fields: bool) {
 
 /// Tells the bytes as the arguments of a procedure, or with `has_fields` the values of those with numbers, ways and
 /// attributes.
-pub fn args(
-    out: &mut Text,
-    alloc: Global,
-    program: u32,
-    procedure: u32,
-    bytes: &[u8],
-    has_fields: bool,
-) {
-    match read_args(alloc, program, procedure, bytes) {
-        Ok(args) => put_read_args(out, alloc, &args, bytes, has_fields),
+pub fn args(line: &mut Line<'_>, bytes: &[u8], has_fields: bool) {
+    let program = line.number();
+    let procedure = line.number();
+    let out = &mut line.text;
+    match read_args(out.alloc, program, procedure, bytes) {
+        Ok(args) => put_read_args(out, &Held { value: args }.value, bytes, has_fields),
         Err(fault) => put_fault(out, fault, has_fields),
     }
 }
 
 /// Tells the arguments that were read of the bytes.
-fn put_read_args(out: &mut Text, alloc: Global, args: &Args, bytes: &[u8], has_fields: bool) {
+fn put_read_args(out: &mut Text, args: &Args, bytes: &[u8], has_fields: bool) {
     if has_fields {
-        return put_args(out, args);
-    }
-    match write_args(alloc, args) {
-        Ok(written) => put_again(out, written.as_slice(), bytes),
-        Err(_) => out.lack(),
+        put_args(out, args);
+    } else {
+        out.add("ok");
+        out.compare(write_args(out.alloc, args), bytes);
     }
 }
 
 /// Adds handles, names and the like, with blanks between.
 fn put_words(out: &mut Text, first: &Bytes, second: &Bytes) {
-    out.bytes("", first.as_slice());
-    out.bytes(" ", second.as_slice());
+    out.word(first.as_slice());
+    out.next_word(second.as_slice());
 }
 
 /// Adds the values of arguments.
@@ -66,7 +57,7 @@ fn put_args(out: &mut Text, args: &Args) {
             what,
             guard,
         } => {
-            out.bytes("", object.as_slice());
+            out.word(object.as_slice());
             out.debug(" ", what);
             out.debug(" ", guard);
         }
@@ -102,17 +93,17 @@ fn put_args(out: &mut Text, args: &Args) {
             dircount,
             maxcount,
         } => put_list(out, dir, *cookie, verifier, *dircount, *maxcount),
-        Args::Mnt { path } => out.bytes("", path.as_slice()),
+        Args::Mnt { path } => out.word(path.as_slice()),
         _ => out.lack(),
     }
 }
 
 fn put_write(out: &mut Text, file: &Bytes, offset: u64, count: u32, stable: u32, bytes: &Bytes) {
-    out.bytes("", file.as_slice());
-    out.show(" ", &offset);
-    out.show(" ", &count);
-    out.show(" ", &stable);
-    out.bytes(" ", bytes.as_slice());
+    out.word(file.as_slice());
+    out.next_number(offset);
+    out.next_number(u64::from(count));
+    out.next_number(u64::from(stable));
+    out.next_word(bytes.as_slice());
 }
 
 fn put_list(
@@ -123,11 +114,11 @@ fn put_list(
     dircount: u32,
     maxcount: u32,
 ) {
-    out.bytes("", dir.as_slice());
-    out.show(" ", &cookie);
-    out.bytes(" ", verifier);
-    out.show(" ", &dircount);
-    out.show(" ", &maxcount);
+    out.word(dir.as_slice());
+    out.next_number(cookie);
+    out.next_word(verifier);
+    out.next_number(u64::from(dircount));
+    out.next_number(u64::from(maxcount));
 }
 
 /// Whether there is such a procedure.
@@ -139,31 +130,26 @@ fn is_procedure(program: u32, procedure: u32) -> bool
 
 /// Tells the bytes as the result of a procedure, or with `has_fields` the values of those with handles, bytes and pages,
 /// and of refusals.
-pub fn reply(
-    out: &mut Text,
-    alloc: Global,
-    program: u32,
-    procedure: u32,
-    bytes: &[u8],
-    has_fields: bool,
-) {
+pub fn reply(line: &mut Line<'_>, bytes: &[u8], has_fields: bool) {
+    let program = line.number();
+    let procedure = line.number();
+    let out = &mut line.text;
     if !is_procedure(program, procedure) {
         return out.lack();
     }
-    match read_reply(alloc, program, procedure, bytes) {
-        Ok(reply) => put_read_reply(out, alloc, &reply, bytes, has_fields),
+    match read_reply(out.alloc, program, procedure, bytes) {
+        Ok(reply) => put_read_reply(out, &reply, bytes, has_fields),
         Err(fault) => put_fault(out, fault, has_fields),
     }
 }
 
 /// Tells the result that was read of the bytes.
-fn put_read_reply(out: &mut Text, alloc: Global, reply: &Reply, bytes: &[u8], has_fields: bool) {
+fn put_read_reply(out: &mut Text, reply: &Reply, bytes: &[u8], has_fields: bool) {
     if has_fields {
-        return put_reply(out, reply);
-    }
-    match write_reply(alloc, reply) {
-        Ok(written) => put_again(out, written.as_slice(), bytes),
-        Err(_) => out.lack(),
+        put_reply(out, reply);
+    } else {
+        out.add("ok");
+        out.compare(write_reply(out.alloc, reply), bytes);
     }
 }
 
@@ -180,7 +166,7 @@ fn put_reply(out: &mut Text, reply: &Reply) {
             object,
             dir,
         } => {
-            out.bytes("", handle.as_slice());
+            out.word(handle.as_slice());
             out.debug(" ", object);
             out.debug(" ", dir);
         }
@@ -191,16 +177,16 @@ fn put_reply(out: &mut Text, reply: &Reply) {
             bytes,
         } => {
             out.debug("", file);
-            out.show(" ", count);
+            out.next_number(u64::from(*count));
             out.show(" ", eof);
-            out.bytes(" ", bytes.as_slice());
+            out.next_word(bytes.as_slice());
         }
         Reply::Made {
             handle,
             object,
             cache,
         } => {
-            out.bytes("", handle.as_slice());
+            out.word(handle.as_slice());
             out.debug(" ", object);
             out.debug(" ", cache);
         }
@@ -229,7 +215,7 @@ fn put_page(
     eof: bool,
 ) {
     out.debug("", dir);
-    out.bytes(" ", verifier);
+    out.next_word(verifier);
     for entry in entries {
         put_entry(out, entry);
     }
@@ -237,12 +223,12 @@ fn put_page(
 }
 
 fn put_entry(out: &mut Text, entry: &Listed) {
-    out.show(" ", &entry.fileid);
-    out.bytes(" ", entry.name.as_slice());
-    out.show(" ", &entry.cookie);
+    out.next_number(entry.fileid);
+    out.next_word(entry.name.as_slice());
+    out.next_number(entry.cookie);
     out.debug(" ", &entry.attributes);
     match &entry.handle {
-        Some(handle) => out.bytes(" ", handle.as_slice()),
+        Some(handle) => out.next_word(handle.as_slice()),
         None => out.add(" none"),
     }
 }

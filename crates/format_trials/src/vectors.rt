@@ -1,139 +1,151 @@
 //! Version vectors.
 
+use crate::line::Line;
 use crate::text::Text;
-use crate::words;
-use ivy_base::Key;
-use std::alloc::Global;
+use ivy_base::Bytes;
 use version_vectors::{Entry, Vector, VectorFault};
 use xdr_codec::{XdrRead, XdrWrite};
 
 /// The most entries that a vector of a line has.
 const MOST: u32 = 64;
 
-/// The vector that the bytes are.
-pub fn vector_of(alloc: Global, bytes: &[u8]) -> Option<Vector> {
+/// The vector that the bytes are. It is an empty one where they are none.
+pub fn vector_of(out: &mut Text, bytes: &[u8]) -> Vector {
     let mut reader = XdrRead::new(bytes);
-    let vector = Vector::read(alloc, &mut reader, MOST).ok()?;
-    if reader.finish().is_ok() {
-        Some(vector)
-    } else {
-        None
+    let read = Vector::read(out.alloc, &mut reader, MOST);
+    out.note(reader.finish().is_ok());
+    match read {
+        Ok(vector) => vector,
+        Err(_) => {
+            out.lack();
+            Vector::empty(out.alloc)
+        }
     }
 }
 
 /// The vector of a word.
-pub fn vector_of_word(alloc: Global, word: &str) -> Option<Vector> {
-    vector_of(alloc, &words::bytes_of(alloc, word)?)
+pub fn vector_of_word(line: &mut Line<'_>, word: &str) -> Vector {
+    let bytes = line.bytes_of(word);
+    vector_of(&mut line.text, &bytes)
 }
 
-/// The bytes of a vector.
-fn bytes_of(alloc: Global, vector: &Vector) -> Option<Vec<u8>> {
-    if vector.len() > 1000 {
-        return None;
+/// The vector that the next word is.
+pub fn next_vector(line: &mut Line<'_>) -> Vector {
+    let word = line.word();
+    vector_of_word(line, word)
+}
+
+/// The bytes of a vector of at most 1,000 entries.
+fn bytes_of(out: &mut Text, vector: &Vector) -> Bytes {
+    let mut written = XdrWrite::new(out.alloc);
+    if vector.len() <= 1000 && written.reserve(vector.written_len()).is_ok() {
+        vector.write(&mut written);
+    } else {
+        out.lack();
     }
-    let mut written = XdrWrite::new(alloc);
-    written.reserve(vector.written_len()).ok()?;
-    vector.write(&mut written);
-    Some(written.into_bytes().into_vec())
+    written.into_bytes()
 }
 
 /// Adds the vector.
-fn put_vector(out: &mut Text, alloc: Global, vector: &Vector) -> Option<()> {
-    out.bytes("", &bytes_of(alloc, vector)?);
-    Some(())
+fn put_vector(out: &mut Text, vector: &Vector) {
+    let bytes = bytes_of(out, vector);
+    out.word(bytes.as_slice());
 }
 
 /// Tells the vector of at most so many entries at the front of the bytes.
-pub fn vector(out: &mut Text, alloc: Global, most: u32, bytes: &[u8]) -> Option<()> {
+pub fn vector(line: &mut Line<'_>, bytes: &[u8]) {
+    let most = line.number();
     let mut reader = XdrRead::new(bytes);
-    match Vector::read(alloc, &mut reader, most) {
-        Ok(vector) => put_front(out, alloc, &vector, bytes, reader.rest())?,
-        Err(VectorFault::Malformed) => out.add("malformed"),
-        Err(VectorFault::Memory) => out.add("out of memory"),
-    }
-    Some(())
-}
-
-/// The bytes of the vector's copy.
-fn bytes_of_copy(alloc: Global, vector: &Vector) -> Option<Vec<u8>> {
-    bytes_of(alloc, &vector.copy(alloc).ok()?)
-}
-
-/// Whether the vector's copy is what stands before the rest in the bytes.
-fn is_front(alloc: Global, vector: &Vector, bytes: &[u8], rest: &[u8]) -> Option<bool> {
-    match bytes.strip_prefix(bytes_of_copy(alloc, vector)?.as_slice()) {
-        Some(behind) => Some(behind == rest),
-        None => Some(false),
+    match Vector::read(line.text.alloc, &mut reader, most) {
+        Ok(vector) => put_front(&mut line.text, &vector, bytes, reader.rest()),
+        Err(VectorFault::Malformed) => line.text.add("malformed"),
+        Err(VectorFault::Memory) => line.text.add("out of memory"),
     }
 }
 
-/// Adds the vector that was read in front of these bytes.
-fn put_front(
-    out: &mut Text,
-    alloc: Global,
-    vector: &Vector,
-    bytes: &[u8],
-    rest: &[u8],
-) -> Option<()> {
-    if vector.len() <= 1000 && is_front(alloc, vector, bytes, rest)? {
-        out.show("ok ", &vector.len());
-        out.show(" ", &vector.weight());
-        out.bytes(" ", rest);
-    } else {
-        out.add("differs");
+/// Whether the bytes are these and the rest.
+fn are_joined(bytes: &[u8], front: &[u8], rest: &[u8]) -> bool {
+    match bytes.strip_prefix(front) {
+        Some(behind) => behind == rest,
+        None => false,
     }
-    Some(())
+}
+
+/// Adds the vector that was read in front of these bytes, where its copy is what stands before the rest in them.
+fn put_front(out: &mut Text, vector: &Vector, bytes: &[u8], rest: &[u8]) {
+    if vector.len() > 1000 {
+        return out.differ_unless(false);
+    }
+    out.count("ok ", vector.len() as u64);
+    out.next_number(vector.weight());
+    out.next_word(rest);
+    let copy = out.vector(vector.copy(out.alloc));
+    let front = bytes_of(out, &copy);
+    out.differ_unless(are_joined(bytes, front.as_slice(), rest));
 }
 
 /// Tells the two vectors together, where it is the same in both orders.
-pub fn join(out: &mut Text, alloc: Global, a: &Vector, b: &Vector) -> Option<()> {
-    let joined = a.join(alloc, b).ok()?;
-    put_joined(out, alloc, &joined, b, a)
+pub fn join(line: &mut Line<'_>, b: &Vector) {
+    let a = next_vector(line);
+    put_joined(&mut line.text, &a, b);
 }
 
-/// Adds the vector, where it is the join of these.
-fn put_joined(
-    out: &mut Text,
-    alloc: Global,
-    joined: &Vector,
-    a: &Vector,
-    b: &Vector,
-) -> Option<()> {
-    let other = a.join(alloc, b).ok()?;
-    if joined.entries() == other.entries() {
-        put_vector(out, alloc, joined)
-    } else {
-        out.add("differs");
-        Some(())
-    }
+/// Adds the two vectors together.
+fn put_joined(out: &mut Text, a: &Vector, b: &Vector) {
+    let joined = out.vector(a.join(out.alloc, b));
+    let other = out.vector(b.join(out.alloc, a));
+    put_vector(out, &joined);
+    out.differ_unless(joined.entries() == other.entries());
 }
 
-/// Tells whether the one vector goes at least as far as the other.
-pub fn dominates(out: &mut Text, a: &Vector, b: &Vector) {
-    out.add(if a.dominates(b) { "yes" } else { "no" });
+/// Tells whether the vector that the next word is goes at least as far as the other.
+pub fn dominates(line: &mut Line<'_>, other: &Vector) {
+    let vector = next_vector(line);
+    let holds = vector.dominates(other);
+    line.text.add(if holds { "yes" } else { "no" });
 }
 
-/// Tells the vector with that entry. There is none where the number is 0.
-pub fn with(out: &mut Text, alloc: Global, vector: &Vector, entry: Entry) -> Option<()> {
+/// The vector with that entry. There is none where the number is 0.
+pub fn vector_with(out: &mut Text, vector: &Vector, entry: Entry) -> Vector {
     if entry.seq == 0 {
-        return None;
+        out.lack();
+        return Vector::empty(out.alloc);
     }
-    put_vector(out, alloc, &vector.with(alloc, entry).ok()?)
+    out.vector(vector.with(out.alloc, entry))
 }
 
-/// Tells the vector without that log.
-pub fn without(out: &mut Text, alloc: Global, vector: &Vector, log: &Key) -> Option<()> {
-    put_vector(out, alloc, &vector.without(alloc, log).ok()?)
+/// Tells the vector with the entry that the next words are.
+pub fn with(line: &mut Line<'_>, vector: &Vector) {
+    let entry = Entry {
+        log: line.key(),
+        seq: line.number(),
+        name: line.key(),
+    };
+    let out = &mut line.text;
+    let vector = vector_with(out, vector, entry);
+    put_vector(out, &vector);
 }
 
-/// Tells the log's entry.
-pub fn get(out: &mut Text, vector: &Vector, log: &Key) {
-    match vector.get(log) {
-        Some(entry) if entry.seq == vector.seq_of(log) => {
-            out.show("", &entry.seq);
-            out.bytes(" ", &entry.name.0);
-        }
-        Some(_) => out.add("differs"),
-        None => out.add("none"),
+/// Tells the vector without the log that the next word is.
+pub fn without(line: &mut Line<'_>, vector: &Vector) {
+    let log = line.key();
+    let out = &mut line.text;
+    let vector = out.vector(vector.without(out.alloc, &log));
+    put_vector(out, &vector);
+}
+
+/// Tells the entry of the log that the next word is.
+pub fn get(line: &mut Line<'_>, vector: &Vector) {
+    let log = line.key();
+    match vector.get(&log) {
+        Some(entry) => put_entry(&mut line.text, &entry, vector.seq_of(&log)),
+        None => line.text.add("none"),
     }
+}
+
+/// Adds the number and the name of an entry, where that is its number.
+fn put_entry(out: &mut Text, entry: &Entry, seq: u32) {
+    out.number(u64::from(entry.seq));
+    out.next_word(&entry.name.0);
+    out.differ_unless(entry.seq == seq);
 }

@@ -1,8 +1,9 @@
 //! Views.
 
+use crate::held::Held;
+use crate::line::Line;
 use crate::text::Text;
 use ivy_base::{Key, PubKey};
-use std::alloc::Global;
 use view_blocks::{View, ViewFault};
 
 fn name_of(fault: ViewFault) -> &'static str {
@@ -17,83 +18,79 @@ fn name_of(fault: ViewFault) -> &'static str {
 }
 
 /// Tells the bytes as a view.
-pub fn view(out: &mut Text, alloc: Global, bytes: &[u8]) -> Option<()> {
-    match View::read(alloc, bytes) {
-        Ok(view) => put_view(out, alloc, &view, bytes),
-        Err(fault) => {
-            out.add(name_of(fault));
-            Some(())
-        }
+pub fn view(out: &mut Text, bytes: &[u8]) {
+    match View::read(out.alloc, bytes) {
+        Ok(view) => put_view(out, &Held { value: view }.value, bytes),
+        Err(fault) => out.add(name_of(fault)),
     }
 }
 
 /// Adds a view that has this block: the view that is made of the lists of its copy has it too.
-fn put_view(out: &mut Text, alloc: Global, view: &View, bytes: &[u8]) -> Option<()> {
-    if is_copied(alloc, view, bytes)? {
-        out.bytes("ok ", &view.name().0);
-        out.show(" ", &view.members().len());
-        out.show(" ", &view.former().len());
-    } else {
-        out.add("differs");
+fn put_view(out: &mut Text, view: &View, bytes: &[u8]) {
+    out.bytes("ok ", &view.name().0);
+    out.next_number(view.members().len() as u64);
+    out.next_number(view.former().len() as u64);
+    match view.copy(out.alloc) {
+        Ok(copy) => compare_lists(out, &Held { value: copy }.value, &view.name(), bytes),
+        Err(_) => out.lack(),
     }
-    Some(())
 }
 
-/// Whether the view that is made of the lists of the view's copy has its block and its name.
-fn is_copied(alloc: Global, view: &View, bytes: &[u8]) -> Option<bool> {
-    let copy = view.copy(alloc).ok()?;
-    is_made(alloc, &copy, &view.name(), bytes)
+/// Tells `differs` unless the view that is made of the view's lists has this name and this block.
+fn compare_lists(out: &mut Text, view: &View, name: &Key, bytes: &[u8]) {
+    match View::make(out.alloc, view.members(), view.former()) {
+        Ok(made) => compare_block(out, &Held { value: made }.value, name, bytes),
+        Err(_) => out.lack(),
+    }
 }
 
-/// Whether the view that is made of the view's lists has this name and this block.
-fn is_made(alloc: Global, view: &View, name: &Key, bytes: &[u8]) -> Option<bool> {
-    let made = View::make(alloc, view.members(), view.former()).ok()?;
-    has_block(alloc, &made, name, bytes)
-}
-
-/// Whether the view has this name and this block.
-fn has_block(alloc: Global, view: &View, name: &Key, bytes: &[u8]) -> Option<bool> {
-    let block = view.write(alloc).ok()?;
-    Some(block.as_slice() == bytes && view.name() == *name)
+/// Tells `differs` unless the view has this name and this block.
+fn compare_block(out: &mut Text, view: &View, name: &Key, bytes: &[u8]) {
+    out.differ_unless(view.name() == *name);
+    out.compare(view.write(out.alloc), bytes);
 }
 
 /// The public keys that the bytes are, one behind the other.
-fn keys_of(alloc: Global, bytes: &[u8]) -> Option<Vec<PubKey>> {
-    let mut keys = Vec::new(alloc);
+fn keys_of(out: &mut Text, bytes: &[u8]) -> Vec<PubKey> {
+    let mut keys = Vec::new(out.alloc);
     let (chunks, _) = bytes.as_chunks::<60>();
     for chunk in chunks {
-        keys.push(PubKey(*chunk)).ok()?;
+        out.push(&mut keys, PubKey(*chunk));
     }
-    Some(keys)
+    keys
 }
 
 /// Tells a view of these members and former members.
-pub fn make(out: &mut Text, alloc: Global, members: &[u8], former: &[u8]) -> Option<()> {
-    make_of(out, alloc, &keys_of(alloc, members)?, former)
+pub fn make(line: &mut Line<'_>, former: &[u8]) {
+    let members = line.bytes();
+    let members = keys_of(&mut line.text, &members);
+    put_made(&mut line.text, &members, former);
 }
 
 /// Tells the view of these members, and of the former members that the bytes are.
-fn make_of(out: &mut Text, alloc: Global, members: &[PubKey], former: &[u8]) -> Option<()> {
-    let former = keys_of(alloc, former)?;
-    match View::make(alloc, members, &former) {
-        Ok(made) => view_again(out, alloc, &made),
-        Err(fault) => {
-            out.add(name_of(fault));
-            Some(())
-        }
+fn put_made(out: &mut Text, members: &[PubKey], former: &[u8]) {
+    let former = keys_of(out, former);
+    match View::make(out.alloc, members, &former) {
+        Ok(made) => put_again(out, &Held { value: made }.value),
+        Err(fault) => out.add(name_of(fault)),
     }
 }
 
 /// Tells the view that the view's block is.
-fn view_again(out: &mut Text, alloc: Global, made: &View) -> Option<()> {
-    view(out, alloc, made.write(alloc).ok()?.as_slice())
+fn put_again(out: &mut Text, made: &View) {
+    match made.write(out.alloc) {
+        Ok(block) => view(out, block.as_slice()),
+        Err(_) => out.lack(),
+    }
 }
 
 /// Tells whose log has that head key under the view of that block.
-pub fn log(out: &mut Text, alloc: Global, key: &Key, bytes: &[u8]) -> Option<()> {
-    let view = View::read(alloc, bytes).ok()?;
-    out.add(role_of(&view, key));
-    Some(())
+pub fn log(line: &mut Line<'_>, bytes: &[u8]) {
+    let key = line.key();
+    match View::read(line.text.alloc, bytes) {
+        Ok(view) => line.text.add(role_of(&Held { value: view }.value, &key)),
+        Err(_) => line.fail(),
+    }
 }
 
 fn role_of(view: &View, key: &Key) -> &'static str {
