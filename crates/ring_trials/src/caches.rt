@@ -23,9 +23,9 @@ fn keep_all(line: &mut Line<'_>, cache: &mut BlockCache) {
 }
 
 /// Begins anew, with a full cache.
-fn fill(line: &mut Line<'_>, cache: &mut Option<BlockCache>) {
-    *cache = BlockCache::new(line.alloc).ok();
-    match cache {
+fn fill(line: &mut Line<'_>, held: &mut Option<BlockCache>) {
+    *held = BlockCache::new(line.alloc).ok();
+    match held {
         Some(cache) => keep_all(line, cache),
         None => line.fail(),
     }
@@ -39,16 +39,13 @@ fn holds(cache: &mut BlockCache, key: &Key) -> bool
     cache.find(key).is_some()
 }
 
-/// Writes the block of that name, where it is held.
-fn put_found(line: &mut Line<'_>, cache: &mut BlockCache, key: &Key) {
-    match cache.find(key) {
-        Some(bytes) => line.put_bytes(bytes),
-        None => line.put("nothing"),
-    }
-}
-
 /// Writes what a cache makes of a block.
-fn put_block(line: &mut Line<'_>, cache: &mut BlockCache, what: &str, number: u16) {
+fn put_block(line: &mut Line<'_>, cache: &mut BlockCache, what: &str) {
+    let number: u32 = line.read();
+    if number > 65_535 {
+        return line.fail();
+    }
+    let number = number as u16;
     let key = name_of(&number.to_be_bytes());
     match what {
         "keep" => {
@@ -56,20 +53,21 @@ fn put_block(line: &mut Line<'_>, cache: &mut BlockCache, what: &str, number: u1
             line.put("kept");
         }
         "has" => line.put_truth(holds(cache, &key)),
-        "find" => put_found(line, cache, &key),
+        "find" => line.put_found(cache.find(&key)),
         _ => line.fail(),
     }
 }
 
 /// Writes the answer to a line.
-pub fn answer(line: &mut Line<'_>, cache: &mut Option<BlockCache>) {
-    let what = line.word();
-    if what == "full" {
-        fill(line, cache);
-        return line.put("kept");
-    }
-    match (cache, line.word().parse()) {
-        (Some(cache), Ok(number)) => put_block(line, cache, what, number),
-        _ => line.fail(),
+pub fn answer(line: &mut Line<'_>, held: &mut Option<BlockCache>) {
+    match line.word() {
+        "full" => {
+            fill(line, held);
+            line.put("kept");
+        }
+        what => match held {
+            Some(cache) => put_block(line, cache, what),
+            None => line.fail(),
+        },
     }
 }

@@ -25,49 +25,42 @@ fn comparison(a: &Key, b: &Key) -> &'static str {
     }
 }
 
-/// Writes where a finger begins.
-fn put_finger(line: &mut Line<'_>) {
-    let node = line.key();
-    let k = line.number();
+/// Writes where a finger of a node at that place begins.
+fn put_finger(line: &mut Line<'_>, node: Key) {
+    let k: u32 = line.read();
     if k == 0 || k > 160 {
         return line.fail();
     }
     line.put_key(&finger_start(&node, k));
 }
 
-/// Writes the distance between two places.
-fn put_distance(line: &mut Line<'_>) {
-    let a = line.key();
-    let b = line.key();
-    line.put_key(&distance(&a, &b));
-}
-
-/// Writes where the second of three places lies on the arc from the first to the third.
-fn put_arc(line: &mut Line<'_>) {
-    let a = line.key();
-    let x = line.key();
-    let b = line.key();
-    line.put(arc(&a, &x, &b));
-}
-
-/// Writes how two places compare.
-fn put_order(line: &mut Line<'_>) {
-    let a = line.key();
-    let b = line.key();
-    line.put(comparison(&a, &b));
-}
-
 /// Writes the answer to a question.
 pub fn answer(line: &mut Line<'_>) {
     match line.word() {
         "id" => {
-            let number = line.number();
+            let number: u32 = line.read();
             line.put_key(&node_id(number));
         }
-        "distance" => put_distance(line),
-        "finger" => put_finger(line),
-        "arc" => put_arc(line),
-        "order" => put_order(line),
+        "distance" => {
+            let a: Key = line.read();
+            let b: Key = line.read();
+            line.put_key(&distance(&a, &b));
+        }
+        "finger" => {
+            let node: Key = line.read();
+            put_finger(line, node);
+        }
+        "arc" => {
+            let a: Key = line.read();
+            let x: Key = line.read();
+            let b: Key = line.read();
+            line.put(arc(&a, &x, &b));
+        }
+        "order" => {
+            let a: Key = line.read();
+            let b: Key = line.read();
+            line.put(comparison(&a, &b));
+        }
         _ => line.fail(),
     }
 }

@@ -41,33 +41,26 @@ impl Mesh for Lone {
     }
 }
 
-/// The route that the first of these nodes names, by any mesh.
-fn first_route<M: Mesh>(
-    mesh: &mut M,
-    alloc: Global,
-    entries: &Peers,
-    key: Key,
-) -> Result<Answer, Memory> {
-    match entries.as_slice().first() {
-        Some(node) => mesh.ask(alloc, node, &Ask::Route(key)),
-        None => Ok(Answer::Silent),
+/// Writes the routes that these nodes name, by any mesh, and how many nodes own a key.
+fn put_routes<M: Mesh>(line: &mut Line<'_>, mesh: &mut M, entries: &[Peer], key: Key) {
+    for node in entries {
+        let answer = mesh.ask(line.alloc, node, &Ask::Route(key));
+        line.put_made(answer);
     }
+    line.put(" of ");
+    line.put_number(mesh.replicas() as u64);
 }
 
-/// The route that the first node names, by any mesh.
-fn route<M: Mesh>(mesh: &mut M, alloc: Global, key: Key) -> Result<Answer, Memory> {
-    let entries = mesh.entries(alloc)?;
-    first_route(mesh, alloc, &entries, key)
+/// Writes the routes that all nodes name, by any mesh, and how many nodes own a key.
+fn put_mesh<M: Mesh>(line: &mut Line<'_>, mesh: &mut M, key: Key) {
+    match mesh.entries(line.alloc) {
+        Ok(entries) => put_routes(line, mesh, entries.as_slice(), key),
+        Err(_) => line.fail(),
+    }
 }
 
 /// Writes the answer to a line.
 pub fn answer(line: &mut Line<'_>) {
-    let key = line.key();
-    let mut mesh = Lone(peer(0));
-    match route(&mut mesh, line.alloc, key) {
-        Ok(answer) => line.put_answer(&answer),
-        Err(_) => line.fail(),
-    }
-    line.put(" of ");
-    line.put_number(mesh.replicas() as u64);
+    let key: Key = line.read();
+    put_mesh(line, &mut Lone(peer(0)), key);
 }

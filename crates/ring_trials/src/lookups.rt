@@ -1,34 +1,26 @@
 //! Trials of look-ups.
 
 use crate::course::{Course, look_up};
+use crate::line::Line;
 use crate::ring::Ring;
 use dht_ids::{Peer, node_id};
-use ivy_base::{Key, Memory};
-use std::alloc::Global;
+use ivy_base::Key;
 
 /// The keys are the identifiers that nodes of the numbers from this one on would have.
 const FIRST_KEY: u32 = 1_000_000;
 
 /// What look-ups came to.
 #[derive(Clone, Copy)]
-pub struct Tally {
+struct Tally {
     /// How many gave the owners and asked no node twice.
-    pub right: u64,
+    right: u64,
     /// The most asks that one made.
-    pub most: usize,
+    most: usize,
     /// The asks of all.
-    pub asks: u64,
+    asks: u64,
 }
 
 impl Tally {
-    fn new() -> Tally {
-        Tally {
-            right: 0,
-            most: 0,
-            asks: 0,
-        }
-    }
-
     fn count(&mut self, right: bool, asks: usize) {
         if right {
             self.right = self.right.saturating_add(1);
@@ -45,17 +37,16 @@ pub fn key(number: u32) -> Key {
 
 /// Whether those of the nodes that live begin with the owners.
 fn are_first_live(found: &[Peer], ring: &Ring, owners: &[Peer]) -> bool {
-    let mut owners = owners.iter();
-    let mut owner = owners.next();
+    let mut count = 0;
     for peer in found {
-        if owner.is_some() && ring.nodes.contains_key(&peer.number) {
-            if owner != Some(peer) {
+        if count < owners.len() && ring.nodes.contains_key(&peer.number) {
+            if owners[count] != *peer {
                 return false;
             }
-            owner = owners.next();
+            count += 1;
         }
     }
-    owner.is_none()
+    count == owners.len()
 }
 
 /// Whether the look-up found the owners, perhaps with stopped nodes among them and others behind them, and asked no
@@ -68,27 +59,35 @@ fn is_right(course: &Course, ring: &Ring, owners: &[Peer]) -> bool {
 }
 
 /// Looks a key up from each live node.
-fn look_up_key(
-    alloc: Global,
-    ring: &Ring,
-    key: Key,
-    owners: &[Peer],
-    tally: &mut Tally,
-) -> Result<(), Memory> {
+fn look_up_key(line: &mut Line<'_>, ring: &Ring, key: Key, owners: &[Peer], tally: &mut Tally) {
     for entry in ring.live.as_slice() {
-        let course = look_up(alloc, &ring.nodes, key, *entry)?;
+        let course = look_up(line, &ring.nodes, key, *entry);
         tally.count(is_right(&course, ring, owners), course.asked.len());
     }
-    Ok(())
 }
 
 /// Looks so many keys up in a ring, each from each live node.
-pub fn look_up_keys(alloc: Global, ring: &Ring, replicas: u32, keys: u32) -> Result<Tally, Memory> {
-    let mut tally = Tally::new();
+fn look_up_keys(line: &mut Line<'_>, ring: &Ring, replicas: u32, keys: u32) -> Tally {
+    let mut tally = Tally {
+        right: 0,
+        most: 0,
+        asks: 0,
+    };
     for number in 0..keys {
         let key = key(number);
-        let owners = ring.owners(alloc, key, replicas)?;
-        look_up_key(alloc, ring, key, &owners, &mut tally)?;
+        let owners = ring.owners(line, key, replicas);
+        look_up_key(line, ring, key, &owners, &mut tally);
     }
-    Ok(tally)
+    tally
+}
+
+/// Writes what such look-ups come to.
+pub fn put_lookups(line: &mut Line<'_>, ring: &Ring, replicas: u32, keys: u32) {
+    let tally = look_up_keys(line, ring, replicas, keys);
+    line.put(": ");
+    line.put_number(tally.right);
+    line.put(" right, most asks ");
+    line.put_number(tally.most as u64);
+    line.put(", asks in all ");
+    line.put_number(tally.asks);
 }

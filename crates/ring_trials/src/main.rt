@@ -21,8 +21,8 @@
 //! - `node alone P R`, `node settled P R MEMBERS`: a node, at the place of its number as all others here; `node near
 //!   BEFORE LIST`, `node silent`, `node adopt LIST`, `node notify P`, `node forget`, `node finger K P`: what it hears or
 //!   takes, and what it then answers to Near; `node route KEY`: what it answers to Route
-//! - `strangers WHO N KEY`: a look-up of the identifier of the node KEY from the nodes below N, which `nobody`,
-//!   `muddled`, `echoes`, `crowd` or `blank` answer
+//! - `strangers WHO N KEY`: a look-up of the identifier of the node KEY from the nodes below N, which `muddled`, `echoes`,
+//!   `crowd` or `blank` answer, and for any other word, as `nobody`, none
 //! - `get-block R OWNERS`, `get-head R OWNERS`, `put-block R OWNERS`, `put-head R OWNERS`: of the block `block`, and of
 //!   the head of `owner`, where the owners answer as listed (`silent`, `empty`, `gives:BYTES`, `stores`, `older`,
 //!   `full`, `muddled`), and are asked of a node that is listed behind a silent one
@@ -51,7 +51,9 @@ mod round;
 mod stores;
 mod strangers;
 mod table;
+mod told;
 mod trials;
+mod words;
 
 use dht_ids::Peer;
 use std::io;
@@ -70,12 +72,10 @@ fn main(rt: HostRuntime) -> io::Result<()> {
     let mut table = Table::new(rt.alloc());
     for line in rt.lines(rt.alloc()) {
         let line = line?;
-        let answer = table.answer(rt.alloc(), line.as_str());
-        let text = match &answer {
-            Some(answer) => answer.as_str(),
-            None => "no answer",
-        };
-        println!(rt; "{text}")?;
+        match table.answer(rt.alloc(), line.as_str()) {
+            Some(answer) => println!(rt; "{answer}")?,
+            None => println!(rt; "no answer")?,
+        }
     }
     Ok(())
 }

@@ -1,140 +1,117 @@
 //! What one node makes of what it hears, and what it answers.
 
 ghost use Rattle.std.specs.Prelude.{◌≤◌};
-ghost use Rattle.chord_core.specs.State.{IsOfRing};
+ghost use Rattle.chord_core.specs.State.{IsOfNear, IsOfRing};
 
 use crate::line::Line;
+use crate::words::near;
 use chord_core::Node;
 use dht_ids::{Answer, Ask, Peer, Peers};
-use std::alloc::Global;
+use ivy_base::Key;
 
-/// The node of a settled ring of the members.
-fn settled(alloc: Global, me: Peer, replicas: u32, members: &Peers) -> Option<Node>
+/// The node of a settled ring of the members, where it is one of them.
+fn settled(line: &mut Line<'_>, me: Peer, replicas: u32, members: &Peers) -> Option<Node>
     requires { (1 ≤ replicas) × (replicas ≤ 8) }
 {
     for member in members.as_slice() {
         if *member == me {
-            return Node::settled(alloc, *member, replicas, members).ok();
+            return Node::settled(line.alloc, *member, replicas, members).ok();
         }
     }
     None
 }
 
-/// The node that a line makes.
-fn made(line: &mut Line<'_>, how: &str) -> Option<Node> {
-    let me = line.peer();
-    let replicas = line.number();
-    if !line.is_fine() || replicas == 0 || replicas > 8 {
+/// The node that a line makes, alone or among members.
+fn made(line: &mut Line<'_>, is_alone: bool) -> Option<Node> {
+    let me: Peer = line.read();
+    let replicas: u32 = line.read();
+    if replicas == 0 || replicas > 8 {
         return None;
     }
-    if how == "alone" {
+    if is_alone {
         Node::alone(line.alloc, me, replicas).ok()
     } else {
-        let members = line.peers();
-        settled(line.alloc, me, replicas, &members)
+        let members = Peers::of(line.list());
+        settled(line, me, replicas, &members)
     }
 }
 
 /// Begins anew, with the node that a line makes.
-fn make(line: &mut Line<'_>, node: &mut Option<Node>, how: &str) {
-    match made(line, how) {
-        Some(new) => *node = Some(new),
-        None => line.fail(),
-    }
+fn make(line: &mut Line<'_>, node: &mut Option<Node>, is_alone: bool) {
+    *node = made(line, is_alone);
 }
 
-/// Has the node hear an answer to Near.
-fn hear_near(line: &mut Line<'_>, node: &mut Node) {
-    let before = line.peers().as_slice().first().copied();
-    let list = line.peers();
-    if line.is_fine() {
-        let heard = node.stabilise(line.alloc, &Answer::Near { before, list });
-        line.note(heard.is_ok());
-    }
-}
-
-/// Has the node hear no answer.
-fn hear_silence(line: &mut Line<'_>, node: &mut Node) {
-    let heard = node.stabilise(line.alloc, &Answer::Silent);
-    line.note(heard.is_ok());
-}
-
-/// Has the node hear that another takes itself for its predecessor.
-fn notify(line: &mut Line<'_>, node: &mut Node) {
-    let peer = line.peer();
-    if line.is_fine() {
-        node.notify(peer);
-    }
-}
-
-/// Has the node take a list.
-fn adopt(line: &mut Line<'_>, node: &mut Node) {
-    let list = line.peers();
-    if line.is_fine() {
-        let adopted = node.adopt(line.alloc, &list);
-        line.note(adopted.is_ok());
-    }
+/// Has the node hear what the first of its list answers to Near.
+fn hear(line: &mut Line<'_>, node: &mut Node, heard: &Answer)
+    requires { IsOfNear heard.now }
+{
+    let renewed = node.stabilise(line.alloc, heard);
+    line.done(renewed);
 }
 
 /// Has the node fix a finger.
 fn fix_finger(line: &mut Line<'_>, node: &mut Node) {
-    let k = line.number();
-    let owner = line.peer();
-    if !line.is_fine() || k == 0 || k > 160 {
+    let k: u32 = line.read();
+    let owner: Peer = line.read();
+    if k == 0 || k > 160 {
         return line.fail();
     }
     node.fix_finger(k, owner);
 }
 
-/// Has the node hear or take what the line says.
+/// Has the node hear or take what the line says. Nothing where it was made by the line.
 fn change(line: &mut Line<'_>, node: &mut Node, how: &str) {
     match how {
-        "near" => hear_near(line, node),
-        "silent" => hear_silence(line, node),
-        "notify" => notify(line, node),
+        "alone" | "settled" => (),
+        "near" => {
+            let heard = near(line);
+            hear(line, node, &heard);
+        }
+        "silent" => hear(line, node, &Answer::Silent),
+        "notify" => {
+            let peer: Peer = line.read();
+            node.notify(peer);
+        }
         "forget" => node.forget(),
-        "adopt" => adopt(line, node),
+        "adopt" => {
+            let list = Peers::of(line.list());
+            let adopted = node.adopt(line.alloc, &list);
+            line.done(adopted);
+        }
         "finger" => fix_finger(line, node),
         _ => line.fail(),
     }
 }
 
 /// Writes what the node answers.
-fn put_answered(line: &mut Line<'_>, node: &Node, ask: &Ask)
-    requires { IsOfRing ask.now }
+pub fn put_answered(line: &mut Line<'_>, node: &Node, ask: Ask)
+    requires { IsOfRing ask }
 {
-    match node.answer(line.alloc, ask) {
-        Ok(answer) => line.put_answer(&answer),
-        Err(_) => line.fail(),
-    }
+    let answer = node.answer(line.alloc, &ask);
+    line.put_made(answer);
 }
 
-/// Writes what the node answers to Route.
-fn put_route(line: &mut Line<'_>, node: &Node) {
-    let key = line.key();
-    put_answered(line, node, &Ask::Route(key));
-}
-
-/// Has the node hear or take what the line says, and writes what it then answers to Near.
-fn put_changed(line: &mut Line<'_>, node: &mut Node, how: &str) {
-    change(line, node, how);
-    put_answered(line, node, &Ask::Near);
-}
-
-/// Writes what the node answers to a line.
+/// Writes what the node answers to Route, or what it answers to Near after what the line says.
 fn put_known(line: &mut Line<'_>, node: &mut Node, how: &str) {
     match how {
-        "route" => put_route(line, node),
-        "alone" | "settled" => put_answered(line, node, &Ask::Near),
-        _ => put_changed(line, node, how),
+        "route" => {
+            let key: Key = line.read();
+            put_answered(line, node, Ask::Route(key));
+        }
+        _ => {
+            change(line, node, how);
+            put_answered(line, node, Ask::Near);
+        }
     }
 }
 
 /// Writes the answer to a line.
 pub fn answer(line: &mut Line<'_>, node: &mut Option<Node>) {
     let how = line.word();
-    if matches!(how, "alone" | "settled") {
-        make(line, node, how);
+    match how {
+        "alone" => make(line, node, true),
+        "settled" => make(line, node, false),
+        _ => (),
     }
     match node {
         Some(node) => put_known(line, node, how),

@@ -1,28 +1,32 @@
 //! Rounds of maintenance, and whether a ring is settled after them.
 
 ghost use Rattle.std.specs.Prelude.{◌≤◌};
+ghost use Rattle.chord_core.specs.State.{IsOfNear};
 
 use crate::course::look_up;
-use crate::line::peer;
+use crate::line::{Line, peer};
 use crate::lookups::key;
+use crate::one_node::put_answered;
 use crate::ring::{Nodes, Ring};
 use chord_core::Node;
-use dht_ids::{Answer, Ask, Peer, Peers, finger_start};
-use ivy_base::{Key, Memory};
-use std::alloc::Global;
+use dht_ids::{Answer, Ask, Peer, finger_start, node_id};
+use ivy_base::Key;
 
 /// How many keys the nodes are asked for the routes to.
 const ROUTES: u32 = 20;
 
-/// Whether the node's predecessor is stopped.
-fn follows_stopped(nodes: &Nodes, me: Peer) -> Option<bool> {
-    let before = nodes.get(&me.number)?.before()?;
-    Some(!nodes.contains_key(&before.number))
+/// The most entries of a node's list.
+const MOST_ENTRIES: u32 = 16;
+
+/// The node's predecessor.
+fn before_of(nodes: &Nodes, me: Peer) -> Option<Peer> {
+    nodes.get(&me.number)?.before()
 }
 
 /// Has the node forget its predecessor where that is stopped.
 fn forget_stopped(nodes: &mut Nodes, me: Peer) {
-    if follows_stopped(nodes, me) == Some(true)
+    if let Some(before) = before_of(nodes, me)
+        && !nodes.contains_key(&before.number)
         && let Some(node) = nodes.get_mut(&me.number)
     {
         node.forget();
@@ -34,40 +38,35 @@ fn first_of(nodes: &Nodes, me: Peer) -> Option<Peer> {
     nodes.get(&me.number)?.list().as_slice().first().copied()
 }
 
-/// Has the node hear no answer of the first of its list.
-fn hear_silence(alloc: Global, nodes: &mut Nodes, me: Peer) -> Result<(), Memory> {
-    match nodes.get_mut(&me.number) {
-        Some(node) => node.stabilise(alloc, &Answer::Silent),
-        None => Ok(()),
+/// Has the node hear what the first of its list answers to Near.
+fn hear(line: &mut Line<'_>, nodes: &mut Nodes, me: Peer, heard: &Answer)
+    requires { IsOfNear heard.now }
+{
+    if let Some(node) = nodes.get_mut(&me.number) {
+        let renewed = node.stabilise(line.alloc, heard);
+        line.done(renewed);
     }
 }
 
-/// Has the node drop the stopped entries at the head of its list, and gives the first that lives.
-fn first_live(alloc: Global, nodes: &mut Nodes, me: Peer) -> Result<Option<Peer>, Memory> {
-    let Some(node) = nodes.get(&me.number) else {
-        return Ok(None);
-    };
-    for _ in 0..node.list().as_slice().len() {
-        let Some(first) = first_of(nodes, me) else {
-            return Ok(None);
-        };
-        if nodes.contains_key(&first.number) {
-            return Ok(Some(first));
+/// Has the node drop the stopped entries at the head of its list.
+fn drop_stopped(line: &mut Line<'_>, nodes: &mut Nodes, me: Peer) {
+    for _ in 0..MOST_ENTRIES {
+        if let Some(first) = first_of(nodes, me)
+            && !nodes.contains_key(&first.number)
+        {
+            hear(line, nodes, me, &Answer::Silent);
         }
-        hear_silence(alloc, nodes, me)?;
     }
-    Ok(None)
 }
 
 /// Has the node renew its list by what another answers.
-fn hear_from(alloc: Global, nodes: &mut Nodes, me: Peer, asked: Peer) -> Result<(), Memory> {
+fn hear_from(line: &mut Line<'_>, nodes: &mut Nodes, me: Peer, asked: Peer) {
     let Some(asked) = nodes.get(&asked.number) else {
-        return Ok(());
+        return;
     };
-    let heard = asked.answer(alloc, &Ask::Near)?;
-    match nodes.get_mut(&me.number) {
-        Some(node) => node.stabilise(alloc, &heard),
-        None => Ok(()),
+    match asked.answer(line.alloc, &Ask::Near) {
+        Ok(heard) => hear(line, nodes, me, &heard),
+        Err(_) => line.fail(),
     }
 }
 
@@ -81,151 +80,108 @@ fn notify_first(nodes: &mut Nodes, me: Peer) {
 }
 
 /// What a node does in a pass: it renews its list by its first live entry, and notifies the first of the new list.
-fn renew(alloc: Global, nodes: &mut Nodes, me: Peer) -> Result<(), Memory> {
-    if let Some(first) = first_live(alloc, nodes, me)? {
-        hear_from(alloc, nodes, me, first)?;
+fn renew(line: &mut Line<'_>, nodes: &mut Nodes, me: Peer) {
+    drop_stopped(line, nodes, me);
+    if let Some(first) = first_of(nodes, me) {
+        hear_from(line, nodes, me, first);
         notify_first(nodes, me);
     }
-    Ok(())
 }
 
 /// The owner of a key, by a look-up from the node.
-fn owner_of(alloc: Global, nodes: &Nodes, key: Key, me: Peer) -> Result<Option<Peer>, Memory> {
-    let course = look_up(alloc, nodes, key, me)?;
-    Ok(course.owner())
+fn owner_of(line: &mut Line<'_>, nodes: &Nodes, key: Key, me: Peer) -> Option<Peer> {
+    look_up(line, nodes, key, me).owner()
 }
 
 /// Has the node fix a finger by a look-up from itself.
-fn fix_finger(alloc: Global, nodes: &mut Nodes, me: Peer, k: u32) -> Result<(), Memory>
+fn fix_finger(line: &mut Line<'_>, nodes: &mut Nodes, me: Peer, k: u32)
     requires { (1 ≤ k) × (k ≤ 160) }
 {
-    let Some(owner) = owner_of(alloc, nodes, finger_start(&me.id, k), me)? else {
-        return Ok(());
-    };
-    if let Some(node) = nodes.get_mut(&me.number) {
+    if let Some(owner) = owner_of(line, nodes, finger_start(&me.id, k), me)
+        && let Some(node) = nodes.get_mut(&me.number)
+    {
         node.fix_finger(k, owner);
     }
-    Ok(())
 }
 
 /// Has the node fix its fingers by look-ups from itself.
-fn fix_fingers(alloc: Global, nodes: &mut Nodes, me: Peer) -> Result<(), Memory> {
+fn fix_fingers(line: &mut Line<'_>, nodes: &mut Nodes, me: Peer) {
     for k in 1..161 {
-        fix_finger(alloc, nodes, me, k)?;
+        fix_finger(line, nodes, me, k);
     }
-    Ok(())
 }
 
 /// Does a round of maintenance with that many passes.
-pub fn round(alloc: Global, ring: &mut Ring, passes: u32) -> Result<(), Memory> {
+pub fn round(line: &mut Line<'_>, ring: &mut Ring, passes: u32) {
     for me in ring.live.as_slice() {
         forget_stopped(&mut ring.nodes, *me);
     }
     for _ in 0..passes {
         for me in ring.live.as_slice() {
-            renew(alloc, &mut ring.nodes, *me)?;
+            renew(line, &mut ring.nodes, *me);
         }
     }
     for me in ring.live.as_slice() {
-        fix_fingers(alloc, &mut ring.nodes, *me)?;
+        fix_fingers(line, &mut ring.nodes, *me);
     }
-    Ok(())
 }
 
-/// The least of the numbers.
-fn least_number(nodes: &Nodes) -> Option<u32> {
-    nodes.keys().next().copied()
-}
-
-/// Has a node that knows no other find its first list, by a look-up from the live node of the least number.
-fn find_list(alloc: Global, nodes: &Nodes, node: &mut Node, me: Peer) -> Result<(), Memory> {
-    let Some(entry) = least_number(nodes) else {
-        return Ok(());
-    };
-    let course = look_up(alloc, nodes, me.id, peer(entry))?;
-    match &course.found {
-        Ok(owners) => node.adopt(alloc, owners),
-        Err(_) => Ok(()),
+/// Has a node that knows no other find its first list, by a look-up from the node 0, which never stops.
+fn find_list(line: &mut Line<'_>, nodes: &Nodes, node: &mut Node, me: Peer) {
+    let course = look_up(line, nodes, me.id, peer(0));
+    if let Ok(owners) = &course.found {
+        let adopted = node.adopt(line.alloc, owners);
+        line.done(adopted);
     }
 }
 
 /// Has the node of that number join.
-pub fn join(alloc: Global, ring: &mut Ring, number: u32, replicas: u32) -> Result<(), Memory>
+pub fn join(line: &mut Line<'_>, ring: &mut Ring, number: u32, replicas: u32)
     requires { (1 ≤ replicas) × (replicas ≤ 8) }
 {
     let me = peer(number);
-    let mut node = Node::alone(alloc, me, replicas)?;
-    find_list(alloc, &ring.nodes, &mut node, me)?;
-    ring.add(alloc, me, node)
-}
-
-/// Whether the answer is a route to these nodes.
-fn is_route(answer: &Answer, nodes: &Peers, last: &Peers) -> bool {
-    match answer {
-        Answer::Route { nearer, owners } => {
-            nearer.as_slice() == nodes.as_slice() && owners.as_slice() == last.as_slice()
+    match Node::alone(line.alloc, me, replicas) {
+        Ok(mut node) => {
+            find_list(line, &ring.nodes, &mut node, me);
+            ring.add(line, me, node);
         }
-        _ => false,
+        Err(_) => line.fail(),
     }
 }
 
-/// Whether both are one route.
-fn are_one_route(answer: &Answer, other: &Answer) -> bool {
-    match other {
-        Answer::Route { nearer, owners } => is_route(answer, nearer, owners),
-        _ => false,
-    }
-}
-
-/// Whether the node answers so to Route.
-fn has_route(alloc: Global, node: &Node, key: Key, answer: &Answer) -> Result<bool, Memory> {
-    let other = node.answer(alloc, &Ask::Route(key))?;
-    Ok(are_one_route(answer, &other))
-}
-
-/// Whether both nodes answer the same to Route.
-fn is_same_route(alloc: Global, node: &Node, other: &Node, key: Key) -> Result<bool, Memory> {
-    let answer = node.answer(alloc, &Ask::Route(key))?;
-    has_route(alloc, other, key, &answer)
-}
-
-/// Whether both states of the node have one list and one predecessor, and answer the same for a few keys and for the
-/// node's own identifier, for which a node names all that it knows.
-fn is_same(alloc: Global, me: Peer, node: &Node, other: &Node) -> Result<bool, Memory> {
-    if node.list().as_slice() != other.list().as_slice() || node.before() != other.before() {
-        return Ok(false);
-    }
+/// Tells what the node answers to Near, and to Route for a few keys and for its own identifier, for which a node names all
+/// that it knows.
+fn tell_node(told: &mut Line<'_>, node: &Node, id: Key) {
+    put_answered(told, node, Ask::Near);
     for number in 0..ROUTES {
-        if !is_same_route(alloc, node, other, key(number))? {
-            return Ok(false);
-        }
+        put_answered(told, node, Ask::Route(key(number)));
     }
-    is_same_route(alloc, node, other, me.id)
+    put_answered(told, node, Ask::Route(id));
 }
 
-/// Whether the node is the same in both rings.
-fn is_alike(alloc: Global, me: Peer, nodes: &Nodes, others: &Nodes) -> Result<bool, Memory> {
-    match (nodes.get(&me.number), others.get(&me.number)) {
-        (Some(node), Some(other)) => is_same(alloc, me, node, other),
-        _ => Ok(false),
+/// Tells what each node of the ring answers.
+fn tell(told: &mut Line<'_>, ring: &Ring) {
+    for (number, node) in ring.nodes.iter() {
+        tell_node(told, node, node_id(*number));
     }
 }
 
-/// Whether each live node of the ring is as in another.
-fn is_like(alloc: Global, ring: &Ring, other: &Ring) -> Result<bool, Memory> {
-    for me in ring.live.as_slice() {
-        if !is_alike(alloc, *me, &ring.nodes, &other.nodes)? {
-            return Ok(false);
-        }
-    }
-    Ok(true)
+/// Whether the nodes of both rings answer the same.
+fn are_alike(line: &mut Line<'_>, ring: &Ring, other: &Ring) -> bool {
+    let mut told = Line::new(line.alloc, "");
+    tell(&mut told, ring);
+    line.follow(&told);
+    let mut others = Line::new(line.alloc, "");
+    tell(&mut others, other);
+    line.follow(&others);
+    told.text.as_str() == others.text.as_str()
 }
 
 /// Whether each node is as in a settled ring of the live members.
-pub fn is_settled(alloc: Global, ring: &Ring, replicas: u32) -> Result<bool, Memory>
+pub fn is_settled(line: &mut Line<'_>, ring: &Ring, replicas: u32) -> bool
     requires { (1 ≤ replicas) × (replicas ≤ 8) }
 {
-    let members = ring.live.as_slice().to_vec(alloc)?;
-    let settled = Ring::settled(alloc, members, replicas)?;
-    is_like(alloc, ring, &settled)
+    let members = line.peers_of(ring.live.as_slice());
+    let settled = Ring::settled(line, members, replicas);
+    are_alike(line, ring, &settled)
 }

@@ -34,47 +34,27 @@ fn put_end(line: &mut Line<'_>, end: Result<(), PutFault>) {
         Ok(()) => line.put("stored"),
         Err(fault) => {
             let written = write!(line.text, "{fault}");
-            line.note(written.is_ok());
+            line.done(written);
         }
     }
 }
 
 /// Puts a block, and writes what that came to.
-fn put_block(line: &mut Line<'_>, store: &mut Store, key: &Key, bytes: &[u8]) {
-    if line.is_fine() {
-        let end = store.put_block(line.alloc, key, bytes);
-        put_end(line, end);
-    }
+fn put_block(line: &mut Line<'_>, store: &mut Store, key: Key, bytes: Bytes) {
+    let end = store.put_block(line.alloc, &key, bytes.as_slice());
+    put_end(line, end);
 }
 
 /// Puts a head, and writes what that came to.
-fn put_head(line: &mut Line<'_>, store: &mut Store, key: &Key, bytes: &[u8]) {
-    if line.is_fine() {
-        let end = store.put_head(line.alloc, &FirstByte, key, bytes);
-        put_end(line, end);
-    }
-}
-
-/// Writes the bytes that the key holds.
-fn put_held(line: &mut Line<'_>, store: &Store, key: &Key) {
-    match store.get(key) {
-        Some(bytes) => line.put_bytes(bytes),
-        None => line.put("nothing"),
-    }
-}
-
-/// Writes all that is held, with how it was put.
-fn put_all(line: &mut Line<'_>, store: &Store) {
-    match store.held(line.alloc) {
-        Ok(posts) => line.put_posts(posts.as_slice()),
-        Err(_) => line.fail(),
-    }
+fn put_head(line: &mut Line<'_>, store: &mut Store, key: Key, bytes: Bytes) {
+    let end = store.put_head(line.alloc, &FirstByte, &key, bytes.as_slice());
+    put_end(line, end);
 }
 
 /// So many bytes, each of the same number, as two words say.
 fn row(line: &mut Line<'_>) -> Bytes {
-    let byte = line.byte();
-    let count = line.number();
+    let byte: u8 = line.read();
+    let count: u32 = line.read();
     match vec![in line.alloc; byte; count as usize] {
         Ok(row) => Bytes::of(row),
         Err(_) => {
@@ -84,15 +64,49 @@ fn row(line: &mut Line<'_>) -> Bytes {
     }
 }
 
-/// Spoils a byte, and writes whether it was there.
-fn spoil(line: &mut Line<'_>, store: &mut Store) {
-    let key = line.key();
-    let offset = line.word().parse::<u64>();
-    let byte = line.byte();
-    match offset {
-        Ok(offset) if line.is_fine() => line.put_truth(store.spoil(&key, offset, byte)),
+/// Puts a row as a block under its name.
+fn put_row(line: &mut Line<'_>, store: &mut Store) {
+    let bytes = row(line);
+    put_block(line, store, name_of(bytes.as_slice()), bytes);
+}
+
+/// Spoils a byte of the block under a key, and writes whether it was there.
+fn spoil(line: &mut Line<'_>, store: &mut Store, key: Key) {
+    let offset: u32 = line.read();
+    let byte: u8 = line.read();
+    line.put_truth(store.spoil(&key, offset as u64, byte));
+}
+
+/// Writes what comes of a line that has a key.
+fn put_at(line: &mut Line<'_>, store: &mut Store, what: &str) {
+    let key: Key = line.read();
+    match what {
+        "put" => {
+            let bytes: Bytes = line.read();
+            put_block(line, store, key, bytes);
+        }
+        "head" => {
+            let bytes: Bytes = line.read();
+            put_head(line, store, key, bytes);
+        }
+        "head-row" => {
+            let bytes = row(line);
+            put_head(line, store, key, bytes);
+        }
+        "get" => line.put_found(store.get(&key)),
+        "drop" => {
+            store.drop_block(&key);
+            line.put_found(store.get(&key));
+        }
+        "spoil" => spoil(line, store, key),
         _ => line.fail(),
     }
+}
+
+/// Writes all that is held, with how it was put.
+fn put_all(line: &mut Line<'_>, store: &Store) {
+    let held = store.held(line.alloc);
+    line.put_made(held);
 }
 
 /// Begins anew, with no blocks.
@@ -100,61 +114,16 @@ fn empty(store: &mut Store, alloc: Global) {
     *store = Store::new(alloc);
 }
 
-/// Puts the block of a key and bytes.
-fn put_words(line: &mut Line<'_>, store: &mut Store) {
-    let key = line.key();
-    let bytes = line.bytes();
-    put_block(line, store, &key, bytes.as_slice());
-}
-
-/// Puts the head of a key and bytes.
-fn put_head_words(line: &mut Line<'_>, store: &mut Store) {
-    let key = line.key();
-    let bytes = line.bytes();
-    put_head(line, store, &key, bytes.as_slice());
-}
-
-/// Puts a row as a block under its name.
-fn put_row(line: &mut Line<'_>, store: &mut Store) {
-    let bytes = row(line);
-    let key = name_of(bytes.as_slice());
-    put_block(line, store, &key, bytes.as_slice());
-}
-
-/// Puts a row as a head under the key before it.
-fn put_head_row(line: &mut Line<'_>, store: &mut Store) {
-    let key = line.key();
-    let bytes = row(line);
-    put_head(line, store, &key, bytes.as_slice());
-}
-
-/// Drops the block under a key, and writes what that holds then.
-fn put_dropped(line: &mut Line<'_>, store: &mut Store) {
-    let key = line.key();
-    if line.is_fine() {
-        store.drop_block(&key);
-    }
-    put_held(line, store, &key);
-}
-
 /// Writes the answer to a line.
 pub fn answer(line: &mut Line<'_>, store: &mut Store) {
-    match line.word() {
+    let what = line.word();
+    match what {
         "new" => {
             empty(store, line.alloc);
             put_all(line, store);
         }
-        "put" => put_words(line, store),
-        "head" => put_head_words(line, store),
-        "put-row" => put_row(line, store),
-        "head-row" => put_head_row(line, store),
-        "get" => {
-            let key = line.key();
-            put_held(line, store, &key);
-        }
-        "drop" => put_dropped(line, store),
-        "spoil" => spoil(line, store),
         "held" => put_all(line, store),
-        _ => line.fail(),
+        "put-row" => put_row(line, store),
+        _ => put_at(line, store, what),
     }
 }

@@ -8,11 +8,20 @@ use node_store::Store;
 use std::alloc::Global;
 
 /// The node, the store and the cache that the lines change.
-#[derive(Drop)]
 pub struct Table {
     node: Option<Node>,
     store: Store,
     cache: Option<BlockCache>,
+}
+
+impl Drop for Table {
+    fn drop(self) {
+        let Table {
+            node: _,
+            store: _,
+            cache: _,
+        } = self;
+    }
 }
 
 impl Table {
