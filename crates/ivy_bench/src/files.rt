@@ -1,14 +1,11 @@
 //! Times of writing a regular file in pieces of 8,192 bytes.
 
-use crate::measured::{Measured, since};
-use fs_tree::Tree;
-use ivy_base::{Bytes, Key, Kind, Memory, Moment, Op};
+use crate::measured::{Measured, Task, repeat_all};
+use crate::replay::Replay;
+use crate::words::Words;
+use ivy_base::{Bytes, Key, Kind, Op};
 use std::alloc::Global;
-use std::io;
 use std::rt::Clock;
-use std::time::Instant;
-
-const NOW: Moment = Moment { sec: 1, nsec: 0 };
 
 const FILE: Key = Key([9; 20]);
 
@@ -17,31 +14,6 @@ const PIECE: u64 = 8192;
 
 /// How many pieces the longest file has.
 const MOST_PIECES: u64 = 2048;
-
-/// A tree with an empty file.
-fn empty_file(alloc: Global) -> Result<Tree, Memory> {
-    let mut tree = Tree::empty(alloc)?;
-    let inode = Op::Inode {
-        ino: FILE,
-        kind: Kind::Reg,
-        mode: 0o644,
-        uid: 0,
-        gid: 0,
-        target: Bytes::of(Vec::new(alloc)),
-    };
-    tree.apply(alloc, NOW, &inode)?;
-    Ok(tree)
-}
-
-/// Writes one piece of the file.
-fn write_piece(tree: &mut Tree, alloc: Global, piece: u64, bytes: &[u8]) -> Result<(), Memory> {
-    let op = Op::Write {
-        ino: FILE,
-        offset: piece % MOST_PIECES * PIECE,
-        bytes: Bytes::copy_of(alloc, &bytes[..bytes.len().min(PIECE as usize)])?,
-    };
-    tree.apply(alloc, NOW, &op)
-}
 
 /// The piece that is written behind this one: the next one, or one in an order that seems to have no pattern and comes to
 /// each of 2,048 once (a linear congruence of full period).
@@ -54,41 +26,63 @@ fn next_piece(piece: u64, shuffled: bool) -> u64 {
     }
 }
 
-/// Writes so many pieces, one behind the other or shuffled.
-fn write_all(tree: &mut Tree, alloc: Global, count: u32, shuffled: bool) -> Result<(), Memory> {
-    let bytes = [7; 8192];
-    let mut piece: u64 = 0;
-    for _n in 0..count {
-        write_piece(tree, alloc, piece, &bytes)?;
-        piece = next_piece(piece, shuffled);
+/// A file, and the piece that is written next, one behind the other or shuffled.
+struct Pieces {
+    replay: Replay,
+    piece: u64,
+    shuffled: bool,
+}
+
+impl Drop for Pieces {
+    fn drop(self) {
+        let Pieces {
+            replay: _,
+            piece: _,
+            shuffled: _,
+        } = self;
     }
-    Ok(())
+}
+
+/// Writes one piece of the file.
+fn write_piece(replay: &mut Replay, alloc: Global, piece: u64, bytes: &[u8]) -> bool {
+    match Bytes::copy_of(alloc, &bytes[..bytes.len().min(PIECE as usize)]) {
+        Ok(bytes) => replay.apply(Op::Write {
+            ino: FILE,
+            offset: piece % MOST_PIECES * PIECE,
+            bytes,
+        }),
+        Err(_) => false,
+    }
+}
+
+impl Task for Pieces {
+    fn turn(&mut self, alloc: Global) -> bool {
+        let bytes = [7; 8192];
+        let written = write_piece(&mut self.replay, alloc, self.piece, &bytes);
+        self.piece = next_piece(self.piece, self.shuffled);
+        written
+    }
 }
 
 /// Writes so many pieces into an empty file, and says whether all were written. None where memory is short for that file.
-fn time_writes<R: Clock>(
-    rt: &R,
-    alloc: Global,
-    count: u32,
-    shuffled: bool,
-) -> io::Result<Option<Measured>> {
-    let Ok(mut tree) = empty_file(alloc) else {
-        return Ok(None);
+fn time_writes<R: Clock>(rt: &R, alloc: Global, count: u32, shuffled: bool) -> Option<Measured> {
+    let mut replay = Replay::new(alloc)?;
+    replay.make(FILE, Kind::Reg);
+    let mut pieces = Pieces {
+        replay,
+        piece: 0,
+        shuffled,
     };
-    let start = Instant::now(rt);
-    let written = write_all(&mut tree, alloc, count, shuffled).is_ok();
-    since(rt, start, "all written", written as u64)
+    repeat_all(rt, alloc, "all written", count, &mut pieces)
 }
 
 /// Measures what the words ask for. None where they ask for nothing of this family.
-pub fn answer<R: Clock>(rt: &R, alloc: Global, asked: &str) -> io::Result<Option<Measured>> {
-    let Some((order, count)) = asked.split_once(' ') else {
-        return Ok(None);
-    };
-    let shuffled = match order {
-        "ordered" => false,
-        "shuffled" => true,
-        _ => return Ok(None),
-    };
-    time_writes(rt, alloc, count.parse().unwrap_or(0), shuffled)
+pub fn answer<R: Clock>(rt: &R, alloc: Global, words: &mut Words<'_>) -> Option<Measured> {
+    let order = words.word();
+    let count = words.number();
+    match order {
+        "ordered" => time_writes(rt, alloc, count, false),
+        "shuffled" => time_writes(rt, alloc, count, true),
+        _ => None,
+    }
 }

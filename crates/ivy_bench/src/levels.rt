@@ -1,14 +1,13 @@
 //! Times of signing and verifying with signatures of several levels.
 
-use crate::measured::{Measured, since};
+use crate::measured::{Measured, Task, repeat};
 use crate::sets::set_of;
+use crate::words::Words;
 use hss_keys::Hss;
-use ivy_base::Memory;
+use ivy_base::{Memory, PubKey};
 use lms_core::Set;
 use std::alloc::Global;
-use std::io;
 use std::rt::Clock;
-use std::time::Instant;
 
 const ID: [u8; 16] = [1; 16];
 
@@ -27,14 +26,6 @@ fn sets_of(alloc: Global, word: &str) -> Result<Vec<Set>, Memory> {
     Ok(sets)
 }
 
-/// A key of the sets of those names, of which there are one to three.
-fn key_named(alloc: Global, sets: &str) -> Option<Hss> {
-    match sets_of(alloc, sets) {
-        Ok(sets) => key_of(alloc, sets.as_slice()),
-        Err(Memory) => None,
-    }
-}
-
 /// A key of those sets, of which there are one to three.
 fn key_of(alloc: Global, sets: &[Set]) -> Option<Hss> {
     if sets.is_empty() || sets.len() > 3 {
@@ -43,40 +34,42 @@ fn key_of(alloc: Global, sets: &[Set]) -> Option<Hss> {
     Hss::grow(alloc, &ID, &SEED, sets).ok()
 }
 
-/// Signs that often, and says how often it went well.
-fn time_sign<R: Clock>(
-    rt: &R,
-    alloc: Global,
-    key: &mut Hss,
-    count: u32,
-) -> io::Result<Option<Measured>> {
-    let start = Instant::now(rt);
-    let mut signed = 0u64;
-    for _n in 0..count {
-        let signature = key.sign(alloc, &MESSAGE[..]);
-        signed = signed.saturating_add(signature.is_ok() as u64);
+/// A signature by a key.
+#[derive(Drop)]
+struct Signatures(Hss);
+
+impl Task for Signatures {
+    fn turn(&mut self, alloc: Global) -> bool {
+        self.0.sign(alloc, &MESSAGE[..]).is_ok()
     }
-    since(rt, start, "signed", signed)
 }
 
-/// Checks one signature that often, and says how often it was accepted. None where there is none.
-fn time_verify<R: Clock>(
-    rt: &R,
-    alloc: Global,
-    key: &mut Hss,
-    count: u32,
-) -> io::Result<Option<Measured>> {
-    let owner = key.owner();
-    let Ok(signature) = key.sign(alloc, &MESSAGE[..]) else {
-        return Ok(None);
-    };
-    let start = Instant::now(rt);
-    let mut accepted = 0u64;
-    for _n in 0..count {
-        let answer = Hss::verify(&owner, &MESSAGE[..], signature.as_slice());
-        accepted = accepted.saturating_add(answer.is_ok() as u64);
+/// A check of a signature by that owner.
+#[derive(Clone, Copy)]
+struct Checks<'a> {
+    owner: PubKey,
+    signature: &'a [u8],
+}
+
+impl Task for Checks<'_> {
+    fn turn(&mut self, _alloc: Global) -> bool {
+        Hss::verify(&self.owner, &MESSAGE[..], self.signature).is_ok()
     }
-    since(rt, start, "accepted", accepted)
+}
+
+/// Checks one signature by a key that often. None where there is none.
+fn time_verify<R: Clock>(rt: &R, alloc: Global, key: &mut Hss, count: u32) -> Option<Measured> {
+    let owner = key.owner();
+    match key.sign(alloc, &MESSAGE[..]) {
+        Ok(signature) => {
+            let mut checks = Checks {
+                owner,
+                signature: signature.as_slice(),
+            };
+            repeat(rt, alloc, "accepted", count, &mut checks)
+        }
+        Err(_) => None,
+    }
 }
 
 /// Measures what is asked for by a key of those sets. None where that is nothing of this family, or there is no such key.
@@ -84,24 +77,24 @@ fn time_with<R: Clock>(
     rt: &R,
     alloc: Global,
     what: &str,
-    sets: &str,
+    sets: &[Set],
     count: u32,
-) -> io::Result<Option<Measured>> {
-    let Some(mut key) = key_named(alloc, sets) else {
-        return Ok(None);
-    };
+) -> Option<Measured> {
+    let mut key = Signatures(key_of(alloc, sets)?);
     match what {
-        "sign" => time_sign(rt, alloc, &mut key, count),
-        "verify" => time_verify(rt, alloc, &mut key, count),
-        _ => Ok(None),
+        "sign" => repeat(rt, alloc, "signed", count, &mut key),
+        "verify" => time_verify(rt, alloc, &mut key.0, count),
+        _ => None,
     }
 }
 
 /// Measures what the words ask for. None where they ask for nothing of this family, or memory is short.
-pub fn answer<R: Clock>(rt: &R, alloc: Global, asked: &str) -> io::Result<Option<Measured>> {
-    let mut words = asked.split(' ');
-    let what = words.next().unwrap_or("");
-    let sets = words.next().unwrap_or("");
-    let count = words.next().and_then(|word| word.parse().ok()).unwrap_or(1);
-    time_with(rt, alloc, what, sets, count)
+pub fn answer<R: Clock>(rt: &R, alloc: Global, words: &mut Words<'_>) -> Option<Measured> {
+    let what = words.word();
+    let sets = words.word();
+    let count = words.number();
+    match sets_of(alloc, sets) {
+        Ok(sets) => time_with(rt, alloc, what, sets.as_slice(), count),
+        Err(Memory) => None,
+    }
 }

@@ -5,7 +5,7 @@ use ivy_base::{Key, Memory, Moment, Op, PubKey, head_key};
 use log_records::Record;
 use std::alloc::Global;
 use version_vectors::{Entry, Vector};
-use view_blocks::{View, ViewFault};
+use view_blocks::View;
 
 const MOMENT: Moment = Moment { sec: 5, nsec: 0 };
 
@@ -22,22 +22,24 @@ pub struct Log {
     pub records: Vec<Record>,
 }
 
-/// The owners of that many logs, ascending by their bytes.
-fn owners(alloc: Global, count: u8) -> Result<Vec<PubKey>, Memory> {
-    let mut owners = Vec::new(alloc);
-    for i in 0..count {
-        owners.push(PubKey([i.saturating_add(1); 60]))?;
-    }
-    Ok(owners)
+/// The owner of the log of that number. By their bytes they ascend.
+fn owner(number: u8) -> PubKey {
+    PubKey([number.saturating_add(1); 60])
 }
 
-/// The view of the owners of that many logs.
-pub fn view_of(alloc: Global, count: u8) -> Result<View, ViewFault> {
-    View::make(alloc, &owners(alloc, count)?, &[])
+/// The view of the owners of that many logs. None where memory is short, or there are no logs.
+pub fn view_of(alloc: Global, count: u8) -> Option<View> {
+    let mut owners = Vec::new(alloc);
+    for number in 0..count {
+        let Ok(()) = owners.push(owner(number)) else {
+            return None;
+        };
+    }
+    View::make(alloc, &owners, &[]).ok()
 }
 
 /// The owner's log with no records.
-pub fn empty_log(alloc: Global, owner: PubKey) -> Log {
+fn empty_log(alloc: Global, owner: PubKey) -> Log {
     Log {
         owner,
         key: head_key(&owner),
@@ -52,18 +54,18 @@ pub fn empty_log(alloc: Global, owner: PubKey) -> Log {
 /// That many logs with no records.
 fn empty_logs(alloc: Global, count: u8) -> Result<Vec<Log>, Memory> {
     let mut logs = Vec::new(alloc);
-    for owner in owners(alloc, count)? {
-        logs.push(empty_log(alloc, owner))?;
+    for number in 0..count {
+        logs.push(empty_log(alloc, owner(number)))?;
     }
     Ok(logs)
 }
 
-/// The newest records of the logs but for that one's.
-fn others(alloc: Global, logs: &[Log], key: &Key) -> Result<Vector, Memory> {
+/// What the log's next record cites: the newest records of the other logs, where it cites and isn't the first.
+fn cited(alloc: Global, logs: &[Log], citing: &Log, cites: bool) -> Result<Vector, Memory> {
     let mut vector = Vector::empty(alloc);
     for log in logs {
         let Judged { seq, name } = log.newest;
-        if seq > 0 && log.key != *key {
+        if cites && citing.newest.seq > 0 && seq > 0 && log.key != citing.key {
             let log = log.key;
             vector = vector.with(alloc, Entry { log, seq, name })?;
         }
@@ -71,17 +73,8 @@ fn others(alloc: Global, logs: &[Log], key: &Key) -> Result<Vector, Memory> {
     Ok(vector)
 }
 
-/// What the log's next record cites.
-fn cited(alloc: Global, logs: &[Log], log: &Log, cites: bool) -> Result<Vector, Memory> {
-    if cites && log.newest.seq > 0 {
-        others(alloc, logs, &log.key)
-    } else {
-        Ok(Vector::empty(alloc))
-    }
-}
-
 /// Writes the log's next record: the first one opens the log, and each other one cancels it. The error is want of memory.
-pub fn write(alloc: Global, log: &mut Log, vector: Vector) -> Result<(), Memory> {
+fn write(alloc: Global, log: &mut Log, vector: Vector) -> Result<(), Memory> {
     let seq = log.newest.seq.saturating_add(1);
     let record = Record {
         owner: log.owner,

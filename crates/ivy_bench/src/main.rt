@@ -37,8 +37,8 @@
 //! - `wire read N`: N times a call of WRITE read, with its caller, and its arguments read
 //! - `wire write N`: N times a reply to READ written into a message of its own, with its head
 //!
-//! `nothing measured` stands for a line that asks for none of these, or for more than there is memory for. The stored run
-//! has such lines alone, since times differ from run to run.
+//! `nothing measured` stands for a line that asks for none of these, or for more than there is memory for, and where the clock
+//! can't be read. The stored run has such lines alone, since times differ from run to run.
 #![tactic(auto)]
 
 mod files;
@@ -48,38 +48,39 @@ mod logs;
 mod measured;
 mod order;
 mod records;
+mod replay;
 mod sets;
 mod signatures;
 mod trees;
 mod wire;
+mod words;
 
 use measured::Measured;
 use std::alloc::Global;
 use std::io;
 use std::rt::Clock;
 use std::thread::Threads;
+use words::Words;
 
 /// Measures what the line asks for. None where nothing is measured.
-fn answer<R: Clock + Threads>(rt: &R, alloc: Global, line: &str) -> io::Result<Option<Measured>> {
-    let Some((family, asked)) = line.split_once(' ') else {
-        return Ok(None);
-    };
-    match family {
-        "signatures" => signatures::answer(rt, alloc, asked),
-        "levels" => levels::answer(rt, alloc, asked),
-        "records" => records::answer(rt, alloc, asked),
-        "trees" => trees::answer(rt, alloc, asked),
-        "files" => files::answer(rt, alloc, asked),
-        "order" => order::answer(rt, alloc, asked),
-        "wire" => wire::answer(rt, alloc, asked),
-        _ => Ok(None),
+fn answer<R: Clock + Threads>(rt: &R, alloc: Global, line: &str) -> Option<Measured> {
+    let mut words = Words::of(line);
+    match words.word() {
+        "signatures" => signatures::answer(rt, alloc, &mut words),
+        "levels" => levels::answer(rt, alloc, &mut words),
+        "records" => records::answer(rt, alloc, &mut words),
+        "trees" => trees::answer(rt, alloc, &mut words),
+        "files" => files::answer(rt, alloc, &mut words),
+        "order" => order::answer(rt, alloc, &mut words),
+        "wire" => wire::answer(rt, alloc, &mut words),
+        _ => None,
     }
 }
 
 fn main(rt: HostRuntime) -> io::Result<()> {
     for line in rt.lines(rt.alloc()) {
         let line = line?;
-        match answer(&rt, rt.alloc(), line.as_str())? {
+        match answer(&rt, rt.alloc(), line.as_str()) {
             Some(Measured { time, what, count }) => {
                 println!(rt; "{line}: {} us, {what} {count}", time.as_micros())?
             }

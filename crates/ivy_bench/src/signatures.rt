@@ -1,11 +1,11 @@
 //! Times of growing, signing and verifying with one tree, beside the time of hashes of one block.
 
-use crate::measured::{Measured, since};
+use crate::measured::{Measured, Task, repeat, since};
 use crate::sets::set_of;
+use crate::words::Words;
 use lms_core::{Set, Tree, verify};
 use sha2::{Digest, Sha256};
 use std::alloc::Global;
-use std::io;
 use std::rt::Clock;
 use std::thread::Threads;
 use std::time::Instant;
@@ -17,7 +17,7 @@ const SEED: [u8; 32] = [2; 32];
 const MESSAGE: [u8; 32] = [3; 32];
 
 /// A chain of hashes of one block; gives the last byte of its end.
-fn time_hashes<R: Clock>(rt: &R, count: u32) -> io::Result<Option<Measured>> {
+fn time_hashes<R: Clock>(rt: &R, count: u32) -> Option<Measured> {
     let start = Instant::now(rt);
     let mut value = [0u8; 32];
     for _n in 0..count {
@@ -29,30 +29,21 @@ fn time_hashes<R: Clock>(rt: &R, count: u32) -> io::Result<Option<Measured>> {
     since(rt, start, "the chain ends in", value[31] as u64)
 }
 
-fn time_grow<R: Clock>(rt: &R, alloc: Global, set: Set) -> io::Result<Option<Measured>> {
+fn time_grow<R: Clock>(rt: &R, alloc: Global, set: Set) -> Option<Measured> {
     let start = Instant::now(rt);
     let grown = Tree::grow(alloc, set, &ID, &SEED).is_ok();
     since(rt, start, "grown", grown as u64)
 }
 
-fn time_joined<R: Clock + Threads>(
-    rt: &R,
-    alloc: Global,
-    set: Set,
-) -> io::Result<Option<Measured>> {
+fn time_joined<R: Clock + Threads>(rt: &R, alloc: Global, set: Set) -> Option<Measured> {
     let start = Instant::now(rt);
     let grown = Tree::grow_joined(rt, alloc, set, &ID, &SEED).is_ok();
     since(rt, start, "grown", grown as u64)
 }
 
-fn time_sign<R: Clock>(
-    rt: &R,
-    alloc: Global,
-    set: Set,
-    count: u32,
-) -> io::Result<Option<Measured>> {
+fn time_sign<R: Clock>(rt: &R, alloc: Global, set: Set, count: u32) -> Option<Measured> {
     let Ok(tree) = Tree::grow(alloc, set, &ID, &SEED) else {
-        return Ok(None);
+        return None;
     };
     let start = Instant::now(rt);
     let mut signed = 0u64;
@@ -63,72 +54,53 @@ fn time_sign<R: Clock>(
     since(rt, start, "signed", signed)
 }
 
-/// Checks the signature that often, and says how often it was accepted.
-fn time_checks<R: Clock>(
-    rt: &R,
-    public: &[u8],
-    signature: &[u8],
-    count: u32,
-) -> io::Result<Option<Measured>> {
-    let start = Instant::now(rt);
-    let mut accepted = 0u64;
-    for _n in 0..count {
-        let answer = verify(public, &MESSAGE[..], signature);
-        accepted = accepted.saturating_add(answer.is_ok() as u64);
-    }
-    since(rt, start, "accepted", accepted)
+/// A check of a signature.
+#[derive(Clone, Copy)]
+struct Checks<'a> {
+    public: &'a [u8],
+    signature: &'a [u8],
 }
 
-fn time_verify<R: Clock>(
-    rt: &R,
-    alloc: Global,
-    set: Set,
-    count: u32,
-) -> io::Result<Option<Measured>> {
+impl Task for Checks<'_> {
+    fn turn(&mut self, _alloc: Global) -> bool {
+        verify(self.public, &MESSAGE[..], self.signature).is_ok()
+    }
+}
+
+fn time_verify<R: Clock>(rt: &R, alloc: Global, set: Set, count: u32) -> Option<Measured> {
     let Ok(tree) = Tree::grow(alloc, set, &ID, &SEED) else {
-        return Ok(None);
+        return None;
     };
+    let public = tree.public();
     match tree.sign_leaf(alloc, 7 % set.h.leaf_count(), &MESSAGE[..]) {
-        Ok(signature) => time_checks(rt, &tree.public()[..], signature.as_slice(), count),
-        Err(_) => Ok(None),
+        Ok(signature) => {
+            let mut checks = Checks {
+                public: &public[..],
+                signature: signature.as_slice(),
+            };
+            repeat(rt, alloc, "accepted", count, &mut checks)
+        }
+        Err(_) => None,
     }
 }
 
-/// Measures what is asked for by trees of that set. None where that is nothing of this family, or memory is short.
-fn time_with<R: Clock + Threads>(
+/// Measures what the words ask for. None where they ask for nothing of this family, or memory is short.
+pub fn answer<R: Clock + Threads>(
     rt: &R,
     alloc: Global,
-    what: &str,
-    set: Set,
-    count: u32,
-) -> io::Result<Option<Measured>> {
+    words: &mut Words<'_>,
+) -> Option<Measured> {
+    let what = words.word();
+    if what == "hash" {
+        return time_hashes(rt, words.number());
+    }
+    let set = set_of(words.word())?;
+    let count = words.number();
     match what {
         "grow" => time_grow(rt, alloc, set),
         "joined" => time_joined(rt, alloc, set),
         "sign" => time_sign(rt, alloc, set, count),
         "verify" => time_verify(rt, alloc, set, count),
-        _ => Ok(None),
-    }
-}
-
-/// Measures what the words ask for. None where they ask for nothing of this family.
-pub fn answer<R: Clock + Threads>(
-    rt: &R,
-    alloc: Global,
-    asked: &str,
-) -> io::Result<Option<Measured>> {
-    let mut words = asked.split(' ');
-    let what = words.next().unwrap_or("");
-    let second = words.next().unwrap_or("");
-    if what == "hash" {
-        return match second.parse() {
-            Ok(count) => time_hashes(rt, count),
-            Err(_) => Ok(None),
-        };
-    }
-    let count = words.next().and_then(|word| word.parse().ok()).unwrap_or(1);
-    match set_of(second) {
-        Some(set) => time_with(rt, alloc, what, set, count),
-        None => Ok(None),
+        _ => None,
     }
 }

@@ -1,14 +1,13 @@
 //! Times of replaying records on a tree.
 
-use crate::measured::{Measured, since};
+use crate::measured::{Measured, Task, repeat_all, since};
+use crate::replay::Replay;
+use crate::words::Words;
 use fs_tree::{ROOT, Tree};
-use ivy_base::{Bytes, Key, Kind, Memory, Moment, Op};
+use ivy_base::{Bytes, Key, Kind, Memory, Op};
 use std::alloc::Global;
-use std::io;
 use std::rt::Clock;
 use std::time::Instant;
-
-const NOW: Moment = Moment { sec: 1, nsec: 0 };
 
 // Numbers that lie far from each other in the order of keys where the counted ones are near.
 fn key(number: u32) -> Key {
@@ -21,145 +20,139 @@ fn name_of(alloc: Global, number: u32) -> Result<Bytes, Memory> {
 }
 
 /// Makes the directory of that number, and names it in another.
-fn make(tree: &mut Tree, alloc: Global, dir: Key, number: u32) -> Result<(), Memory> {
-    let inode = Op::Inode {
-        ino: key(number),
-        kind: Kind::Dir,
-        mode: 0o755,
-        uid: 0,
-        gid: 0,
-        target: Bytes::of(Vec::new(alloc)),
-    };
-    let link = Op::Link {
-        dir,
-        name: name_of(alloc, number)?,
-        ino: key(number),
-    };
-    tree.apply(alloc, NOW, &inode)?;
-    tree.apply(alloc, NOW, &link)
+fn make(replay: &mut Replay, dir: Key, number: u32) {
+    let ino = key(number);
+    replay.make(ino, Kind::Dir);
+    match name_of(replay.alloc, number) {
+        Ok(name) => {
+            replay.apply(Op::Link { dir, name, ino });
+        }
+        Err(_) => replay.is_whole = false,
+    }
 }
 
 /// Makes so many directories, in turn in those of the first numbers.
-fn create(alloc: Global, count: u32, dirs: u32) -> Result<Tree, Memory> {
+fn create(replay: &mut Replay, count: u32, dirs: u32) {
     let dirs = dirs.max(1);
-    let mut tree = Tree::empty(alloc)?;
     for number in 0..dirs {
-        make(&mut tree, alloc, ROOT, number)?;
+        make(replay, ROOT, number);
     }
     for n in 0..count {
-        make(&mut tree, alloc, key(n % dirs), dirs.wrapping_add(n))?;
+        make(replay, key(n % dirs), dirs.wrapping_add(n));
     }
-    Ok(tree)
 }
 
-/// A chain of directories, each named in the one before it, from number 0 on: in the last, of number `depth`, are the
+/// Makes a chain of directories, each named in the one before it, from number 0 on: in the last, of number `depth`, are the
 /// two after it, in the first of these is the next, and in that the one after it.
-fn chain(alloc: Global, depth: u32) -> Result<Tree, Memory> {
-    let mut tree = Tree::empty(alloc)?;
+fn chain(replay: &mut Replay, depth: u32) {
     let mut above = ROOT;
     for number in 0..=depth {
-        make(&mut tree, alloc, above, number)?;
+        make(replay, above, number);
         above = key(number);
     }
     let first = depth.wrapping_add(1);
-    make(&mut tree, alloc, above, first)?;
-    make(&mut tree, alloc, above, depth.wrapping_add(2))?;
-    make(&mut tree, alloc, key(first), depth.wrapping_add(3))?;
-    make(
-        &mut tree,
-        alloc,
-        key(depth.wrapping_add(3)),
-        depth.wrapping_add(4),
-    )?;
-    Ok(tree)
+    let third = depth.wrapping_add(3);
+    make(replay, above, first);
+    make(replay, above, depth.wrapping_add(2));
+    make(replay, key(first), third);
+    make(replay, key(third), depth.wrapping_add(4));
 }
 
-/// Moves the directory of a chain to and fro so many times.
-fn move_all(tree: &mut Tree, alloc: Global, count: u32, depth: u32) -> Result<(), Memory> {
-    let mut dir = key(depth.wrapping_add(1));
-    let mut to_dir = key(depth.wrapping_add(2));
-    for _n in 0..count {
-        let op = Op::Rename {
-            dir,
-            name: name_of(alloc, depth.wrapping_add(3))?,
-            to_dir,
-            to_name: name_of(alloc, depth.wrapping_add(3))?,
-        };
-        tree.apply(alloc, NOW, &op)?;
-        (dir, to_dir) = (to_dir, dir);
+/// A chain whose directory of that number is moved to and fro.
+struct Moves {
+    replay: Replay,
+    number: u32,
+    dir: Key,
+    to_dir: Key,
+}
+
+impl Drop for Moves {
+    fn drop(self) {
+        let Moves {
+            replay: _,
+            number: _,
+            dir: _,
+            to_dir: _,
+        } = self;
     }
-    Ok(())
+}
+
+impl Moves {
+    /// Moves the directory, under that name.
+    fn rename(&mut self, name: Bytes, to_name: Bytes) -> bool {
+        let dir = self.dir;
+        let to_dir = self.to_dir;
+        self.dir = to_dir;
+        self.to_dir = dir;
+        self.replay.apply(Op::Rename {
+            dir,
+            name,
+            to_dir,
+            to_name,
+        })
+    }
+}
+
+impl Task for Moves {
+    fn turn(&mut self, alloc: Global) -> bool {
+        let Ok(name) = name_of(alloc, self.number) else {
+            return false;
+        };
+        match name.copy(alloc) {
+            Ok(to_name) => self.rename(name, to_name),
+            Err(_) => false,
+        }
+    }
+}
+
+/// Copies of a tree, each dropped before the next one is made.
+#[derive(Clone, Copy)]
+struct TreeCopies<'a>(&'a Tree);
+
+impl Task for TreeCopies<'_> {
+    fn turn(&mut self, alloc: Global) -> bool {
+        self.0.copy(alloc).is_ok()
+    }
 }
 
 /// Makes so many directories, and says how many the first one has.
-fn time_create<R: Clock>(
-    rt: &R,
-    alloc: Global,
-    count: u32,
-    dirs: u32,
-) -> io::Result<Option<Measured>> {
+fn time_create<R: Clock>(rt: &R, alloc: Global, count: u32, dirs: u32) -> Option<Measured> {
+    let mut replay = Replay::new(alloc)?;
     let start = Instant::now(rt);
-    match create(alloc, count, dirs) {
-        Ok(tree) => since(
-            rt,
-            start,
-            "in the first directory",
-            tree.subdirs(&key(0)) as u64,
-        ),
-        Err(Memory) => Ok(None),
-    }
+    create(&mut replay, count, dirs);
+    let made = replay.tree.subdirs(&key(0));
+    replay.whole(since(rt, start, "in the first directory", made))
 }
 
-fn time_rename<R: Clock>(
-    rt: &R,
-    alloc: Global,
-    count: u32,
-    depth: u32,
-) -> io::Result<Option<Measured>> {
-    let Ok(mut tree) = chain(alloc, depth) else {
-        return Ok(None);
+fn time_rename<R: Clock>(rt: &R, alloc: Global, count: u32, depth: u32) -> Option<Measured> {
+    let mut replay = Replay::new(alloc)?;
+    chain(&mut replay, depth);
+    let mut moves = Moves {
+        replay,
+        number: depth.wrapping_add(3),
+        dir: key(depth.wrapping_add(1)),
+        to_dir: key(depth.wrapping_add(2)),
     };
-    let start = Instant::now(rt);
-    let moved = move_all(&mut tree, alloc, count, depth).is_ok();
-    since(rt, start, "all moved", moved as u64)
+    repeat_all(rt, alloc, "all moved", count, &mut moves)
 }
 
-/// Copies the tree so many times, each copy dropped before the next one is made.
-fn copy_all(tree: &Tree, alloc: Global, times: u32) -> Result<(), Memory> {
-    for _n in 0..times {
-        let _copy = tree.copy(alloc)?;
-    }
-    Ok(())
-}
-
-fn time_copy<R: Clock>(
-    rt: &R,
-    alloc: Global,
-    count: u32,
-    times: u32,
-) -> io::Result<Option<Measured>> {
-    let Ok(tree) = create(alloc, count, 1) else {
-        return Ok(None);
-    };
-    let start = Instant::now(rt);
-    let copied = copy_all(&tree, alloc, times).is_ok();
-    since(rt, start, "all copied", copied as u64)
-}
-
-fn number_from(word: Option<&str>) -> u32 {
-    word.and_then(|word| word.parse().ok()).unwrap_or(0)
+fn time_copy<R: Clock>(rt: &R, alloc: Global, count: u32, times: u32) -> Option<Measured> {
+    let mut replay = Replay::new(alloc)?;
+    create(&mut replay, count, 1);
+    let mut copies = TreeCopies(&replay.tree);
+    let copied = repeat_all(rt, alloc, "all copied", times, &mut copies);
+    replay.whole(copied)
 }
 
 /// Measures what the words ask for. None where they ask for nothing of this family, or memory is short.
-pub fn answer<R: Clock>(rt: &R, alloc: Global, asked: &str) -> io::Result<Option<Measured>> {
-    let mut words = asked.split(' ');
-    let what = words.next();
-    let count = number_from(words.next());
-    let size = number_from(words.next());
+pub fn answer<R: Clock>(rt: &R, alloc: Global, words: &mut Words<'_>) -> Option<Measured> {
+    let what = words.word();
+    let count = words.number();
+    let size = words.number();
     match what {
-        Some("create") => time_create(rt, alloc, count, size),
-        Some("rename") => time_rename(rt, alloc, count, size),
-        Some("copy") => time_copy(rt, alloc, count, size),
-        _ => Ok(None),
+        "create" => time_create(rt, alloc, count, size),
+        "rename" => time_rename(rt, alloc, count, size),
+        "copy" => time_copy(rt, alloc, count, size),
+        _ => None,
     }
 }

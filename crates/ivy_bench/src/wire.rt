@@ -1,14 +1,13 @@
 //! Times of reading calls and writing replies, beside the time of copying as many bytes.
 
-use crate::measured::{Measured, since};
+use crate::measured::{Copies, Measured, Task, repeat};
+use crate::words::Words;
 use ivy_base::{Bytes, Kind, Memory, Moment};
 use nfs3_args::read_args;
 use nfs3_replies::{Fattr, Reply, put_reply, room_for};
 use rpc_wire::{Heading, LONGEST_HEAD, ReplyHead, read_call, write_head};
 use std::alloc::Global;
-use std::io;
 use std::rt::Clock;
-use std::time::Instant;
 use xdr_codec::XdrWrite;
 
 /// The call and its arguments, up to the bytes (RFC 5531, section 9, and RFC 1813, section 3.3.7).
@@ -98,93 +97,58 @@ fn reply(alloc: Global) -> Result<Reply, Memory> {
     })
 }
 
-/// Whether the message is a call whose arguments are read.
-fn is_read(alloc: Global, message: &[u8]) -> bool {
-    match read_call(message) {
-        Heading::Good(call) => {
-            call.caller.is_some()
-                && read_args(alloc, call.program, call.procedure, call.args).is_ok()
+/// A reading of the call in this message, and of its arguments.
+#[derive(Clone, Copy)]
+struct Reads<'a>(&'a [u8]);
+
+impl Task for Reads<'_> {
+    fn turn(&mut self, alloc: Global) -> bool {
+        match read_call(self.0) {
+            Heading::Good(call) => {
+                call.caller.is_some()
+                    && read_args(alloc, call.program, call.procedure, call.args).is_ok()
+            }
+            _ => false,
         }
-        _ => false,
     }
 }
 
-/// The message of a reply.
-fn written(alloc: Global, reply: &Reply) -> Result<Bytes, Memory> {
-    let mut out = XdrWrite::new(alloc);
-    let room = room_for(reply).ok_or(Memory)?;
-    out.reserve(room.checked_add(LONGEST_HEAD).ok_or(Memory)?)?;
-    write_head(&mut out, 1, &ReplyHead::Success);
-    put_reply(&mut out, reply)?;
-    Ok(out.into_bytes())
+/// Writes the message of a reply. None where memory is short.
+fn write(out: &mut XdrWrite, reply: &Reply) -> Option<()> {
+    let room = room_for(reply)?.checked_add(LONGEST_HEAD)?;
+    out.reserve(room).ok()?;
+    write_head(out, 1, &ReplyHead::Success);
+    put_reply(out, reply).ok()
 }
 
-/// How often a copy of the bytes was had.
-fn copies(alloc: Global, bytes: &[u8], count: u32) -> u64 {
-    let mut done = 0u64;
-    for _n in 0..count {
-        let copy = Bytes::copy_of(alloc, bytes);
-        done = done.saturating_add(copy.is_ok() as u64);
+/// A writing of the reply, into a message of its own.
+#[derive(Clone, Copy)]
+struct Writes<'a>(&'a Reply);
+
+impl Task for Writes<'_> {
+    fn turn(&mut self, alloc: Global) -> bool {
+        let mut out = XdrWrite::new(alloc);
+        write(&mut out, self.0).is_some()
     }
-    done
-}
-
-/// How often the call was read.
-fn reads(alloc: Global, message: &[u8], count: u32) -> u64 {
-    let mut done = 0u64;
-    for _n in 0..count {
-        done = done.saturating_add(is_read(alloc, message) as u64);
-    }
-    done
-}
-
-/// How often the reply was written.
-fn writes(alloc: Global, reply: &Reply, count: u32) -> u64 {
-    let mut done = 0u64;
-    for _n in 0..count {
-        let message = written(alloc, reply);
-        done = done.saturating_add(message.is_ok() as u64);
-    }
-    done
-}
-
-/// Reads a call so often. None where memory is short for it.
-fn time_reads<R: Clock>(rt: &R, alloc: Global, count: u32) -> io::Result<Option<Measured>> {
-    let Ok(message) = call(alloc) else {
-        return Ok(None);
-    };
-    let start = Instant::now(rt);
-    let done = reads(alloc, &message, count);
-    since(rt, start, "read", done)
-}
-
-/// Writes a reply so often. None where memory is short for it.
-fn time_writes<R: Clock>(rt: &R, alloc: Global, count: u32) -> io::Result<Option<Measured>> {
-    let Ok(reply) = reply(alloc) else {
-        return Ok(None);
-    };
-    let start = Instant::now(rt);
-    let done = writes(alloc, &reply, count);
-    since(rt, start, "written", done)
-}
-
-/// Copies the content so often.
-fn time_copies<R: Clock>(rt: &R, alloc: Global, count: u32) -> io::Result<Option<Measured>> {
-    let content = CONTENT;
-    let start = Instant::now(rt);
-    let done = copies(alloc, content.as_slice(), count);
-    since(rt, start, "copied", done)
 }
 
 /// Measures what the words ask for. None where they ask for nothing of this family, or memory is short.
-pub fn answer<R: Clock>(rt: &R, alloc: Global, asked: &str) -> io::Result<Option<Measured>> {
-    let mut words = asked.split(' ');
-    let what = words.next();
-    let count = words.next().and_then(|word| word.parse().ok()).unwrap_or(0);
+pub fn answer<R: Clock>(rt: &R, alloc: Global, words: &mut Words<'_>) -> Option<Measured> {
+    let what = words.word();
+    let count = words.number();
     match what {
-        Some("copy") => time_copies(rt, alloc, count),
-        Some("read") => time_reads(rt, alloc, count),
-        Some("write") => time_writes(rt, alloc, count),
-        _ => Ok(None),
+        "copy" => {
+            let content = CONTENT;
+            repeat(rt, alloc, "copied", count, &mut Copies(content.as_slice()))
+        }
+        "read" => match call(alloc) {
+            Ok(message) => repeat(rt, alloc, "read", count, &mut Reads(&message)),
+            Err(Memory) => None,
+        },
+        "write" => match reply(alloc) {
+            Ok(reply) => repeat(rt, alloc, "written", count, &mut Writes(&reply)),
+            Err(Memory) => None,
+        },
+        _ => None,
     }
 }
