@@ -1,82 +1,72 @@
-//! Whether trees answer alike about all inodes.
+//! Whether trees answer alike.
 
 use crate::generated::NAMES;
-use crate::telling::{attributes, bytes, entries, kind_name, naming, times};
+use crate::inodes::{HIGHEST, key};
+use crate::lines::Line;
+use crate::telling::{attributes, bytes, entries, kind_name, naming};
 use crate::text::Text;
-use crate::trees::Trees;
-use crate::words::{HIGHEST, key};
-use dir_replay::Names;
+use crate::trees::{Effect, Trees};
+use dir_replay::{Names, Touched};
 use fs_tree::{ROOT, Tree};
 use inode_replay::Content;
-use ivy_base::{Bytes, Key};
+use ivy_base::Key;
 use plain_tree::Plain;
-use std::alloc::Global;
 
 /// How many bytes at each end of an inode are compared.
 const ENDS: u32 = 64;
 
-/// Tells an inode's kind, attributes, size, count of stored bytes and bytes at both ends, or that it is missing.
-fn tell_content(text: &mut Text, alloc: Global, content: Option<&Content>) {
-    let Some(content) = content else {
-        return text.add("none");
-    };
-    let (size, attr) = (content.size(), content.attr());
+/// Tells an inode's kind, attributes, size, count of stored bytes and bytes at both ends.
+fn tell_content(text: &mut Text, content: &Content) {
+    let size = content.size();
     text.add(kind_name(Some(content.kind())));
-    attributes(text, &attr);
-    times(text, size, &attr);
+    attributes(text, &content.attr(), size);
     text.count(" stored ", content.stored());
-    bytes(text, alloc, content, 0, ENDS);
-    bytes(
-        text,
-        alloc,
-        content,
-        size.saturating_sub(u64::from(ENDS)),
-        ENDS,
-    );
+    bytes(text, content, 0, ENDS);
+    bytes(text, content, size.saturating_sub(u64::from(ENDS)), ENDS);
 }
 
-/// Tells what names answer about an inode.
-fn tell_names(text: &mut Text, alloc: Global, names: &Names, ino: &Key) {
+/// Tells what names answer about an inode, and what it contains.
+fn tell_inode(text: &mut Text, names: &Names, content: Option<&Content>, ino: &Key) {
     text.add(kind_name(names.kind(ino)));
     naming(text, names, ino);
     text.count(" has ", names.entries(ino));
-    entries(text, alloc, names, ino);
-}
-
-/// What a tree answers about all inodes.
-fn tell_tree(alloc: Global, tree: &Tree) -> Text {
-    let mut text = Text::new(alloc);
-    for number in 0..=HIGHEST {
-        let ino = key(number);
-        tell_names(&mut text, alloc, tree.names(), &ino);
-        tell_content(&mut text, alloc, tree.content(&ino));
+    entries(text, names, ino);
+    match content {
+        Some(content) => tell_content(text, content),
+        None => text.add("none"),
     }
-    text
 }
 
-/// The same of names and of a plain tree.
-fn tell_apart(alloc: Global, names: &Names, plain: &Plain) -> Text {
-    let mut text = Text::new(alloc);
-    for number in 0..=HIGHEST {
-        let ino = key(number);
-        tell_names(&mut text, alloc, names, &ino);
-        tell_content(&mut text, alloc, plain.inode(&ino));
+/// Tells what a tree answers about an inode.
+fn tell(text: &mut Text, tree: &Tree, ino: &Key) {
+    tell_inode(text, tree.names(), tree.content(ino), ino);
+}
+
+/// Whether both trees answer alike about the root and these inodes.
+pub fn are_alike(line: &mut Line<'_>, a: &Tree, b: &Tree, inodes: &[Key]) -> bool {
+    let mut text = Text::new(line.alloc);
+    let mut other = Text::new(line.alloc);
+    tell(&mut text, a, &ROOT);
+    tell(&mut other, b, &ROOT);
+    for ino in inodes {
+        tell(&mut text, a, ino);
+        tell(&mut other, b, ino);
     }
-    text
+    line.are_same(&text, &other)
 }
 
-fn is_same(text: &Text, other: &Text) -> Option<bool> {
-    Some(text.whole()? == other.whole()?)
-}
-
-/// Whether the plain tree has these entries in the directory.
-fn has_entries(plain: &Plain, dir: &Key, entries: &[(Bytes, Key)]) -> bool {
+/// Whether the plain tree has the entries of the directory, and none where there are none.
+fn same_listing(line: &mut Line<'_>, tree: &Tree, plain: &Plain, dir: &Key) -> bool {
+    let Ok(listing) = tree.names().listing(line.alloc, dir) else {
+        line.fail();
+        return false;
+    };
+    let entries = listing.as_slice();
+    let mut is_same = plain.is_empty_directory(dir) == entries.is_empty();
     for (name, ino) in entries {
-        if plain.entry(dir, name.as_slice()) != Some(*ino) {
-            return false;
-        }
+        is_same = is_same && plain.entry(dir, name.as_slice()) == Some(*ino);
     }
-    plain.is_empty_directory(dir) == entries.is_empty()
+    is_same
 }
 
 /// Whether each name that is chosen leads to the same inode in both.
@@ -101,37 +91,30 @@ fn same_inside(tree: &Tree, plain: &Plain, dir: &Key) -> bool {
 }
 
 /// Whether the plain tree has the same names for the inode and in it.
-fn same_place(tree: &Tree, plain: &Plain, ino: &Key, entries: &[(Bytes, Key)]) -> bool {
-    has_entries(plain, ino, entries)
+fn same_place(line: &mut Line<'_>, tree: &Tree, plain: &Plain, ino: &Key) -> bool {
+    same_listing(line, tree, plain, ino)
         && same_entries(tree, plain, ino)
         && same_inside(tree, plain, ino)
         && tree.subdirs(ino) == plain.subdirs(ino) as u64
         && tree.live(ino) == (*ino == ROOT || plain.has_name(ino))
 }
 
-/// Whether the plain tree has the same names as the other one.
-fn same_places(alloc: Global, tree: &Tree, plain: &Plain) -> Option<bool> {
+/// What an operation did that touched these directories, before which the tree was like that one.
+pub fn effect(line: &mut Line<'_>, before: &Tree, trees: &Trees, touched: Touched) -> Effect {
+    let mut old = Text::new(line.alloc);
+    let mut new = Text::new(line.alloc);
+    let mut apart = Text::new(line.alloc);
+    let mut agree = true;
     for number in 0..=HIGHEST {
         let ino = key(number);
-        let listing = tree.names().listing(alloc, &ino).ok()?;
-        if !same_place(tree, plain, &ino, listing.as_slice()) {
-            return Some(false);
-        }
+        tell(&mut old, before, &ino);
+        tell(&mut new, &trees.tree, &ino);
+        tell_inode(&mut apart, &trees.names, trees.plain.inode(&ino), &ino);
+        agree = agree && same_place(line, &trees.tree, &trees.plain, &ino);
     }
-    Some(true)
-}
-
-/// Whether the three trees answer alike about all inodes. `None` is want of memory, here and below.
-pub fn agree(alloc: Global, trees: &Trees) -> Option<bool> {
-    let apart = tell_apart(alloc, &trees.names, &trees.plain);
-    if is_same(&tell_tree(alloc, &trees.tree), &apart)? {
-        same_places(alloc, &trees.tree, &trees.plain)
-    } else {
-        Some(false)
+    Effect {
+        touched,
+        has_changed: !line.are_same(&old, &new),
+        agree: agree && line.are_same(&new, &apart),
     }
-}
-
-/// Whether both trees answer alike about all inodes.
-pub fn are_alike(alloc: Global, a: &Tree, b: &Tree) -> Option<bool> {
-    is_same(&tell_tree(alloc, a), &tell_tree(alloc, b))
 }

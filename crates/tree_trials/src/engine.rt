@@ -1,7 +1,6 @@
 //! Trials of the replay engine.
 
 mod making;
-mod showing;
 mod taking;
 mod trial;
 

@@ -2,11 +2,10 @@
 
 ghost use Rattle.std.specs.Prelude.{◌<◌};
 
+use crate::lines::Line;
 use crate::text::Text;
 use crate::trees::{Effect, Trees};
-use crate::words::{Words, small_number};
 use ivy_base::Moment;
-use std::alloc::Global;
 
 /// The names that are chosen.
 pub const NAMES: [&str; 4] = ["b", "ab", "a", "ba"];
@@ -107,34 +106,38 @@ impl Choices {
 }
 
 /// Does the next operation.
-fn step(alloc: Global, trees: &mut Trees, choices: &mut Choices, moment: Moment) -> Option<Effect> {
-    let mut line = Text::new(alloc);
-    choices.operation(&mut line);
-    let words = Words { rest: line.whole() };
-    trees.operate(alloc, moment, words)
+fn step(line: &mut Line<'_>, trees: &mut Trees, choices: &mut Choices, moment: Moment) -> Effect {
+    let mut text = Text::new(line.alloc);
+    choices.operation(&mut text);
+    let mut chosen = Line::of(line.alloc, text.as_str());
+    let effect = trees.operate(&mut chosen, moment);
+    if !text.is_whole || !chosen.is_good() {
+        line.fail();
+    }
+    effect
 }
 
 /// Does so many operations, each at a second of its own, and tells whether the trees agree after each one.
-fn run_on(text: &mut Text, alloc: Global, trees: &mut Trees, seed: u32, count: u32) -> Option<()> {
-    let mut choices = Choices { state: seed };
+fn run_on(line: &mut Line<'_>, trees: &mut Trees) {
+    let mut choices = Choices {
+        state: line.small_number(),
+    };
     let mut effects = 0u64;
-    for sec in 1..=count {
-        let effect = step(alloc, trees, &mut choices, Moment { sec, nsec: 7 })?;
+    for sec in 1..=line.small_number() {
+        let effect = step(line, trees, &mut choices, Moment { sec, nsec: 7 });
         if !effect.agree {
-            text.add("they differ");
-            return Some(());
+            return line.answer.add("they differ");
         }
         effects = effects.saturating_add(u64::from(effect.has_changed));
     }
-    text.count("agree, ", effects);
-    text.add(" had an effect");
-    Some(())
+    line.answer.count("agree, ", effects);
+    line.answer.add(" had an effect");
 }
 
-/// The same on new trees, by the words of a line.
-pub fn run(text: &mut Text, alloc: Global, mut words: Words<'_>) -> Option<()> {
-    let seed = small_number(words.word()?)?;
-    let count = small_number(words.last()?)?;
-    let mut trees = Trees::empty(alloc).ok()?;
-    run_on(text, alloc, &mut trees, seed, count)
+/// The same on new trees.
+pub fn run(line: &mut Line<'_>) {
+    match Trees::empty(line.alloc) {
+        Ok(mut trees) => run_on(line, &mut trees),
+        Err(_) => line.fail(),
+    }
 }

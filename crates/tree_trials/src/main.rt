@@ -1,6 +1,6 @@
 //! Runs operations of records on trees, and what stands on trees, a step for each line of the standard input. A line `== FAMILY`
-//! begins a family anew, and the lines behind it are of that; at first it is `trees`. `no answer` stands for a line that is none of
-//! its family's, and for want of memory.
+//! says of which family the lines behind it are; at first it is `trees`. `no answer` stands for a line that is none of its
+//! family's, and for want of memory.
 //!
 //! Of `== trees`: an inode has a number up to 11, the root 0, and a moment is `SECONDS:NANOSECONDS`.
 //!
@@ -8,8 +8,8 @@
 //! - `MOMENT OPERATION`: does the operation, and tells which directories' entries it changed (`touched`), that it changed
 //!   something else (`changed`), or `nothing`:
 //!   `inode NUMBER reg|dir|lnk TARGET` (with mode 644, user 10, group 20), `link DIR NAME NUMBER`, `unlink DIR NAME`,
-//!   `rename DIR NAME TO_DIR TO_NAME`, `write NUMBER OFFSET BYTES`, `setattr NUMBER ..` (`mode=`, `uid=`, `gid=`, `size=`,
-//!   `atime=` or `mtime=` and a value each), `prepare DIR NAME`, `cancel SEQ`, `end`
+//!   `rename DIR NAME TO_DIR TO_NAME`, `write NUMBER OFFSET BYTES`, `setattr NUMBER ..` (in this order any of `mode=`, `uid=`,
+//!   `gid=`, `size=`, `atime=` and `mtime=`, with a value each), `prepare DIR NAME`, `cancel SEQ`, `end`
 //! - `attr NUMBER`: an inode's kind, mode, owners, size and the three times. `names NUMBER`: how many names it has, the
 //!   directory of a directory's name, and whether it is live
 //! - `list DIR`: a directory's entries in their order. `entry DIR NAME`: the inode of one
@@ -47,16 +47,16 @@
 //! - `undo`: the last call that stands is taken back
 //!
 //! Each answer tells how many records were applied and how many are held, and then `agree` where these are in order and the
-//! tree shows of every inode what their replay from nothing shows, or else the first inode that differs: 0 is the root, and
-//! the others are counted as they were made. Taking a call back must also give the tree that was there before; where none can be
-//! taken back, `undo` has no answer. What a record does depends on those before it: files are made, named, renamed, written, cut
-//! and unnamed by turns. The counts of the stored run are those of a model in another language.
+//! tree shows of every inode what their replay from nothing shows, or else which of that isn't so; no file has more than 64 bytes.
+//! Taking a call back must also give the tree that was there before; where none can be taken back, `undo` has no answer. What a
+//! record does depends on those before it: files are made, named, renamed, written, cut and unnamed by turns. The counts of the
+//! stored run are those of a model in another language.
 //!
 //! Of `== snapshots`: makes snapshots of trees and loads them again. Inodes have the numbers of one log's records, from 2 on, and
 //! 0 is the root.
 //!
 //! - `new`: a tree of the root alone
-//! - `inode NUMBER reg|dir|lnk TARGET`, `link DIR NAME NUMBER`, `unlink DIR NAME`, `write NUMBER OFFSET TEXT`: does the operation
+//! - an operation as in `== trees`, without a moment: does it, where a record may have it
 //! - `fill NUMBER OFFSET COUNT VALUE`: writes so many bytes of that value, by operations of 8,192 bytes at most
 //! - `many DIR FIRST COUNT`: makes so many files, and names each by its number
 //! - `cover BLOCK`: from now on snapshots cover what that root block says, which is given by hexadecimal digits
@@ -75,42 +75,61 @@ mod alike;
 mod engine;
 mod families;
 mod generated;
+mod inodes;
+mod lines;
 mod many;
 mod maps;
 mod operations;
+mod records;
 mod snapshots;
 mod telling;
 mod text;
 mod trees;
 mod trial;
-mod words;
 
 ghost use Rattle.std.specs.Prelude.{◌≡◌, ◌<◌};
 
 use families::Trials;
 use ivy_base::Steps;
+use lines::Line;
 use std::io;
 use std::marker::Brand;
 use std::sync::ledger::{Blank, Ledger};
+
+// Writes the answer to a line.
+fn answer<L: Ledger>(
+    rt: &HostRuntime,
+    trials: &mut Trials,
+    line: &str,
+    steps: &mut Steps<L>,
+) -> io::Result<()> {
+    let mut line = Line::of(rt.alloc(), line);
+    trials.answer(&mut line, steps);
+    println!(rt; "{}{}", line.front(), line.told())
+}
+
+// Answers each line.
+fn answer_all<L: Ledger>(
+    rt: &HostRuntime,
+    trials: &mut Trials,
+    steps: &mut Steps<L>,
+) -> io::Result<()> {
+    for line in rt.lines(rt.alloc()) {
+        answer(rt, trials, line?.as_str(), steps)?;
+    }
+    Ok(())
+}
 
 // Answers each line, with one counter of steps for all.
 fn run<L: Ledger>(rt: HostRuntime, blank: Blank) -> io::Result<()>
     requires name { L.name ≡ blank.name }
     requires parts { (L.parts ≡ blank.parts) × (0 < L.parts) }
 {
-    let alloc = rt.alloc();
     let mut steps = Steps::<L>::new(blank);
-    let Some(mut trials) = Trials::begun(alloc, "trees") else {
-        return println!(rt; "no answer");
-    };
-    for line in rt.lines(alloc) {
-        let line = line?;
-        match trials.answer(alloc, line.as_str(), &mut steps) {
-            Some(text) => println!(rt; "{text}")?,
-            None => println!(rt; "no answer")?,
-        }
+    match Trials::new(rt.alloc()) {
+        Ok(mut trials) => answer_all(&rt, &mut trials, &mut steps),
+        Err(_) => println!(rt; "no answer"),
     }
-    Ok(())
 }
 
 fn main(rt: HostRuntime) -> io::Result<()> {

@@ -2,12 +2,11 @@
 
 ghost use Rattle.fs_tree.specs.Applicable.{IsApplicable};
 
-use crate::text::Text;
-use crate::words::{Words, small_number};
+use crate::lines::Line;
+use crate::operations::made;
 use dir_replay::Listing;
 use fs_tree::{ROOT, Tree};
 use ivy_base::{Bytes, Key, Kind, Moment, Op};
-use std::alloc::Global;
 
 const NOW: Moment = Moment { sec: 1, nsec: 7 };
 
@@ -20,31 +19,29 @@ fn directory(number: u32) -> Key {
     Key([d, c, 3, 3, 3, 3, 3, 3, 3, 3, 3, 3, 3, 3, 3, 3, a, b, c, d])
 }
 
-fn apply(tree: &mut Tree, alloc: Global, op: Op) -> Option<()>
+fn apply(line: &mut Line<'_>, tree: &mut Tree, op: Op)
     requires { IsApplicable op }
 {
-    tree.apply(alloc, NOW, &op).ok()
+    if tree.apply(line.alloc, NOW, &op).is_err() {
+        line.fail();
+    }
+    drop(op);
 }
 
-fn make(tree: &mut Tree, alloc: Global, ino: Key, kind: Kind) -> Option<()> {
-    let target = Bytes::of(Vec::new(alloc));
-    let op = Op::Inode {
-        ino,
-        kind,
-        mode: 0o755,
-        uid: 10,
-        gid: 20,
-        target,
-    };
-    apply(tree, alloc, op)
+fn make(line: &mut Line<'_>, tree: &mut Tree, ino: Key, kind: Kind) {
+    let target = Bytes::of(Vec::new(line.alloc));
+    apply(line, tree, made(ino, kind, target));
 }
 
 /// Gives the inode a name in the root: the letter and the number's bytes.
-fn name(tree: &mut Tree, alloc: Global, ino: Key, letter: u8, number: u32) -> Option<()> {
+fn name(line: &mut Line<'_>, tree: &mut Tree, ino: Key, letter: u8, number: u32) {
     let [a, b, c, d] = number.to_be_bytes();
-    let name = Bytes::copy_of(alloc, &[letter, a, b, c, d]).ok()?;
-    let dir = ROOT;
-    apply(tree, alloc, Op::Link { dir, name, ino })
+    let op = Op::Link {
+        dir: ROOT,
+        name: line.copy_of(&[letter, a, b, c, d]),
+        ino,
+    };
+    apply(line, tree, op);
 }
 
 /// Whether each name is below the next one.
@@ -58,37 +55,49 @@ fn is_ascending(pairs: &[(Bytes, Key)]) -> bool {
 }
 
 /// Adds so many directories to the root, beside as many names of the file.
-fn fill(tree: &mut Tree, alloc: Global, count: u32) -> Option<()> {
-    make(tree, alloc, FILE, Kind::Reg)?;
+fn fill(line: &mut Line<'_>, tree: &mut Tree, count: u32) {
+    make(line, tree, FILE, Kind::Reg);
     for step in 0..count {
         let number = step.wrapping_mul(7) % count;
         let dir = directory(number);
-        make(tree, alloc, dir, Kind::Dir)?;
-        name(tree, alloc, dir, b'd', number)?;
-        name(tree, alloc, FILE, b'f', number)?;
+        make(line, tree, dir, Kind::Dir);
+        name(line, tree, dir, b'd', number);
+        name(line, tree, FILE, b'f', number);
     }
-    Some(())
 }
 
-/// Tells what the tree has.
-fn show(text: &mut Text, alloc: Global, tree: &Tree) -> Option<()> {
-    let listing = Listing::of(tree.names().listing(alloc, &ROOT).ok()?.into_vec());
+/// Tells what a copy of the tree has.
+fn show(line: &mut Line<'_>, copy: &Tree) {
+    let Ok(listing) = copy.names().listing(line.alloc, &ROOT) else {
+        return line.fail();
+    };
+    let listing = Listing::of(listing.into_vec());
     let pairs = listing.as_slice();
+    let text = &mut line.answer;
     text.count("entries ", pairs.len() as u64);
     text.add(if is_ascending(pairs) {
         " in order"
     } else {
         " out of order"
     });
-    text.count(", directories ", tree.subdirs(&ROOT));
-    text.count(", names of the file ", tree.names().names_of(&FILE));
-    Some(())
+    text.count(", directories ", copy.subdirs(&ROOT));
+    text.count(", names of the file ", copy.names().names_of(&FILE));
 }
 
-/// Tells what a copy of such a tree has, of so many directories as the words say.
-pub fn run(text: &mut Text, alloc: Global, words: Words<'_>) -> Option<()> {
-    let count = small_number(words.last()?)?;
-    let mut tree = Tree::empty(alloc).ok()?;
-    fill(&mut tree, alloc, count)?;
-    show(text, alloc, &tree.copy(alloc).ok()?)
+/// Fills the tree, and tells what a copy of it has.
+fn run_on(line: &mut Line<'_>, mut tree: Tree) {
+    let count = line.small_number();
+    fill(line, &mut tree, count);
+    match tree.copy(line.alloc) {
+        Ok(copy) => show(line, &copy),
+        Err(_) => line.fail(),
+    }
+}
+
+/// Tells what such a tree has, of so many directories as the line says.
+pub fn run(line: &mut Line<'_>) {
+    match Tree::empty(line.alloc) {
+        Ok(tree) => run_on(line, tree),
+        Err(_) => line.fail(),
+    }
 }

@@ -5,6 +5,5 @@ mod growing;
 mod loading;
 mod trial;
 mod trying;
-mod words;
 
 pub use trial::Trial;

@@ -4,7 +4,6 @@ use crate::text::Text;
 use dir_replay::Names;
 use inode_replay::{Attr, Content};
 use ivy_base::{Key, Kind};
-use std::alloc::Global;
 
 /// The name of an inode's kind, or that it is missing.
 pub fn kind_name(kind: Option<Kind>) -> &'static str {
@@ -16,15 +15,11 @@ pub fn kind_name(kind: Option<Kind>) -> &'static str {
     }
 }
 
-/// An inode's attributes, but for the times.
-pub fn attributes(text: &mut Text, attr: &Attr) {
+/// An inode's attributes and size.
+pub fn attributes(text: &mut Text, attr: &Attr, size: u64) {
     text.octal(" mode ", attr.mode);
     text.count(" owner ", u64::from(attr.uid));
     text.count(" ", u64::from(attr.gid));
-}
-
-/// An inode's size and times.
-pub fn times(text: &mut Text, size: u64, attr: &Attr) {
     text.count(" size ", size);
     text.moment(" atime ", attr.atime);
     text.moment(" mtime ", attr.mtime);
@@ -32,10 +27,10 @@ pub fn times(text: &mut Text, size: u64, attr: &Attr) {
 }
 
 /// Some of an inode's bytes.
-pub fn bytes(text: &mut Text, alloc: Global, content: &Content, offset: u64, count: u32) {
-    match content.read_range(alloc, offset, count) {
+pub fn bytes(text: &mut Text, content: &Content, offset: u64, count: u32) {
+    match content.read_range(text.alloc, offset, count) {
         Ok(bytes) => text.quote(bytes.as_slice()),
-        Err(_) => text.lack(),
+        Err(_) => text.fail(),
     }
 }
 
@@ -46,9 +41,9 @@ pub fn naming(text: &mut Text, names: &Names, ino: &Key) {
 }
 
 /// The entries of a directory, and how many lead to directories.
-pub fn entries(text: &mut Text, alloc: Global, names: &Names, dir: &Key) {
-    let Ok(listing) = names.listing(alloc, dir) else {
-        return text.lack();
+pub fn entries(text: &mut Text, names: &Names, dir: &Key) {
+    let Ok(listing) = names.listing(text.alloc, dir) else {
+        return text.fail();
     };
     let pairs = listing.as_slice();
     text.count("entries ", pairs.len() as u64);

@@ -1,45 +1,50 @@
-//! The text of an answer.
+//! Texts that are put together.
 
-use crate::words::number_of;
-use ivy_base::{Key, Moment};
+use crate::inodes::number_of;
+use ivy_base::{Bytes, Key, Moment};
 use std::alloc::Global;
 use std::fmt::Write;
 
-/// A text that is put together piece by piece. Want of memory is told once, where the text is read, so that no piece has
-/// an error of its own.
+/// A text that is put together piece by piece. Want of memory, and that there is nothing to tell, are noted in it and asked for
+/// where the text is read, so that no piece has an error of its own.
 #[derive(Drop)]
 pub struct Text {
+    /// What memory is taken from.
+    pub alloc: Global,
     text: String,
-    is_whole: bool,
+    /// Whether nothing lacks.
+    pub is_whole: bool,
 }
 
 impl Text {
     /// No text.
     pub fn new(alloc: Global) -> Text {
         Text {
+            alloc,
             text: String::new(alloc),
             is_whole: true,
         }
     }
 
-    /// What was put together; `None` where memory was wanting.
-    pub fn whole(&self) -> Option<&str> {
-        if self.is_whole {
-            Some(self.text.as_str())
-        } else {
-            None
-        }
+    /// What was put together.
+    pub fn as_str(&self) -> &str {
+        self.text.as_str()
     }
 
-    /// Notes that memory was wanting.
-    pub fn lack(&mut self) {
+    /// The same as bytes, which are not copied.
+    pub fn into_bytes(self) -> Bytes {
+        Bytes::of(self.text.into_bytes())
+    }
+
+    /// Notes that something lacks.
+    pub fn fail(&mut self) {
         self.is_whole = false;
     }
 
     /// Adds words.
     pub fn add(&mut self, words: &str) {
         if self.text.push_str(words).is_err() {
-            self.lack();
+            self.fail();
         }
     }
 
@@ -47,7 +52,7 @@ impl Text {
     pub fn count(&mut self, words: &str, number: u64) {
         self.add(words);
         if write!(self.text, "{number}").is_err() {
-            self.lack();
+            self.fail();
         }
     }
 
@@ -55,16 +60,28 @@ impl Text {
     pub fn octal(&mut self, words: &str, number: u32) {
         self.add(words);
         if write!(self.text, "{number:o}").is_err() {
-            self.lack();
+            self.fail();
         }
     }
 
-    /// Adds words and the number of an inode.
-    pub fn inode(&mut self, words: &str, ino: &Key) {
-        self.count(words, u64::from(number_of(ino)));
+    /// Adds words and a key in hexadecimal digits.
+    pub fn key(&mut self, words: &str, key: &Key) {
+        self.add(words);
+        match hex::encode(self.alloc, &key.0[..]) {
+            Ok(digits) => self.add(digits.as_str()),
+            Err(_) => self.fail(),
+        }
     }
 
-    /// Adds words and the number of an inode, or that there is none.
+    /// Adds words and the number of an inode, or its digits where it has none.
+    pub fn inode(&mut self, words: &str, ino: &Key) {
+        match number_of(ino) {
+            Some(number) => self.count(words, u64::from(number)),
+            None => self.key(words, ino),
+        }
+    }
+
+    /// Adds words and an inode, or that there is none.
     pub fn any_inode(&mut self, words: &str, ino: &Option<Key>) {
         match ino {
             Some(ino) => self.inode(words, ino),
@@ -87,7 +104,7 @@ impl Text {
             0 => self.add("\\0"),
             b' ' | b'!' | b'#'..=b'[' | b']'..=b'~' => {
                 if self.text.push(char::from(byte)).is_err() {
-                    self.lack();
+                    self.fail();
                 }
             }
             _ => {

@@ -2,9 +2,9 @@
 
 ghost use Rattle.fs_tree.specs.Applicable.{IsApplicable};
 
-use crate::alike::{agree, are_alike};
-use crate::operations::operation_of;
-use crate::words::Words;
+use crate::alike::effect;
+use crate::lines::Line;
+use crate::operations::operation;
 use dir_replay::{Names, Touched};
 use fs_tree::Tree;
 use ivy_base::{Memory, Moment, Op};
@@ -29,13 +29,26 @@ impl Drop for Trees {
     }
 }
 
-/// What an operation did, and whether the trees agree afterwards.
+/// What an operation did.
 #[derive(Clone, Copy)]
 pub struct Effect {
+    /// The directories whose entries it changed.
     pub touched: Touched,
+    /// Whether the tree answers otherwise than before about some inode.
     pub has_changed: bool,
+    /// Whether the three trees answer alike about all inodes afterwards.
     pub agree: bool,
 }
+
+/// Nothing was done.
+const NO_EFFECT: Effect = Effect {
+    touched: Touched {
+        first: None,
+        second: None,
+    },
+    has_changed: false,
+    agree: true,
+};
 
 impl Trees {
     /// The root alone.
@@ -65,27 +78,31 @@ impl Trees {
         self.names.apply_names(alloc, op)
     }
 
-    /// What has become of the trees, which were like that one, by an operation that touched these directories.
-    fn effect(&self, alloc: Global, before: &Tree, touched: Touched) -> Option<Effect> {
-        Some(Effect {
-            touched,
-            has_changed: !are_alike(alloc, before, &self.tree)?,
-            agree: agree(alloc, self)?,
-        })
-    }
-
-    /// Does the operation. `None` is want of memory.
-    fn perform(&mut self, alloc: Global, moment: Moment, op: &Op) -> Option<Effect>
+    /// Does the operation, and says what that did. The error is want of memory.
+    fn perform(&mut self, line: &mut Line<'_>, moment: Moment, op: &Op) -> Result<Effect, Memory>
         requires { IsApplicable op.now }
     {
-        let before = self.tree.copy(alloc).ok()?;
-        let touched = self.apply(alloc, moment, op).ok()?;
-        self.effect(alloc, &before, touched)
+        let before = self.tree.copy(line.alloc)?;
+        let touched = self.apply(line.alloc, moment, op)?;
+        Ok(effect(line, &before, self, touched))
     }
 
-    /// Does the operation that the words ask for; `None` where they ask for none, and for want of memory.
-    pub fn operate(&mut self, alloc: Global, moment: Moment, words: Words<'_>) -> Option<Effect> {
-        let op = operation_of(alloc, words)?;
-        self.perform(alloc, moment, &op)
+    /// Does the operation that is left of the line, at that moment.
+    pub fn operate(&mut self, line: &mut Line<'_>, moment: Moment) -> Effect {
+        let word = line.word();
+        let op = operation(line, word);
+        let effect = if line.is_good() {
+            self.perform(line, moment, &op)
+        } else {
+            Err(Memory)
+        };
+        drop(op);
+        match effect {
+            Ok(effect) => effect,
+            Err(_) => {
+                line.fail();
+                NO_EFFECT
+            }
+        }
     }
 }

@@ -1,24 +1,29 @@
 //! A trial: the trees, and how each line is answered.
 
-use crate::telling::{attributes, bytes, entries, kind_name, naming, times};
+use crate::lines::Line;
+use crate::telling::{attributes, bytes, entries, kind_name, naming};
 use crate::text::Text;
 use crate::trees::{Effect, Trees};
-use crate::words::{Words, moment_of, number, small_number};
 use crate::{generated, many};
 use fs_tree::Tree;
-use inode_replay::Content;
-use ivy_base::{Key, Kind, Memory};
+use ivy_base::{Kind, Memory};
 use std::alloc::Global;
 
 /// The trees that operations are done to, and those that are kept.
-#[derive(Drop)]
 pub struct Trial {
     trees: Trees,
     kept: Trees,
 }
 
+// Written out, so that what drops a trial calls it and isn't made over all its parts.
+impl Drop for Trial {
+    fn drop(self) {
+        let Trial { trees: _, kept: _ } = self;
+    }
+}
+
 impl Trial {
-    /// The root alone, twice.
+    /// The root alone, twice. The error is want of memory.
     pub fn new(alloc: Global) -> Result<Trial, Memory> {
         Ok(Trial {
             trees: Trees::empty(alloc)?,
@@ -26,62 +31,44 @@ impl Trial {
         })
     }
 
-    /// Adds the answer to a line, or that it has none: for want of memory and where the line asks nothing.
-    pub fn answer(&mut self, text: &mut Text, alloc: Global, line: &str) {
-        if line.is_empty() || line.starts_with('#') {
+    /// Answers a line.
+    pub fn answer(&mut self, line: &mut Line<'_>) {
+        line.is_repeated = true;
+        if line.is_comment() {
             return;
         }
-        text.add(": ");
-        let words = Words { rest: Some(line) };
-        if self.answer_words(text, alloc, words).is_none() {
-            text.add("no answer");
-        }
-    }
-
-    /// Adds the answer, and for `None` nothing.
-    fn answer_words(&mut self, text: &mut Text, alloc: Global, mut words: Words<'_>) -> Option<()> {
-        let word = words.word()?;
-        if words.rest.is_none() {
-            return self.change_trees(text, alloc, word);
-        }
-        match word {
-            "many" => many::run(text, alloc, words),
-            "generated" => generated::run(text, alloc, words),
-            _ => self.answer_more(text, alloc, word, words),
-        }
-    }
-
-    /// Adds what an operation changed, or what is asked about an inode.
-    fn answer_more(
-        &mut self,
-        text: &mut Text,
-        alloc: Global,
-        word: &str,
-        mut words: Words<'_>,
-    ) -> Option<()> {
-        match moment_of(word) {
-            Some(moment) => {
-                let effect = self.trees.operate(alloc, moment, words)?;
-                tell(text, &effect);
-                Some(())
-            }
-            None => {
-                let ino = words.inode()?;
-                show(text, alloc, &self.trees.tree, &ino, word, words)
+        line.answer.add(": ");
+        match line.word() {
+            "new" => put(&mut self.trees, Trees::empty(line.alloc), line),
+            "keep" => put(&mut self.kept, self.trees.copy(line.alloc), line),
+            "back" => put(&mut self.trees, self.kept.copy(line.alloc), line),
+            "many" => many::run(line),
+            "generated" => generated::run(line),
+            word => {
+                if !shows(line, &self.trees.tree, word) {
+                    self.operate(line);
+                }
             }
         }
     }
 
-    /// Puts trees in place of others.
-    fn change_trees(&mut self, text: &mut Text, alloc: Global, word: &str) -> Option<()> {
-        match word {
-            "new" => self.trees = Trees::empty(alloc).ok()?,
-            "keep" => self.kept = self.trees.copy(alloc).ok()?,
-            "back" => self.trees = self.kept.copy(alloc).ok()?,
-            _ => return None,
+    /// Does an operation, and tells what it changed.
+    fn operate(&mut self, line: &mut Line<'_>) {
+        line.begin();
+        let moment = line.moment();
+        let effect = self.trees.operate(line, moment);
+        tell(&mut line.answer, &effect);
+    }
+}
+
+/// Puts the trees in place of others.
+fn put(place: &mut Trees, trees: Result<Trees, Memory>, line: &mut Line<'_>) {
+    match trees {
+        Ok(trees) => {
+            *place = trees;
+            line.answer.add("done");
         }
-        text.add("done");
-        Some(())
+        Err(_) => line.fail(),
     }
 }
 
@@ -102,92 +89,91 @@ fn tell(text: &mut Text, effect: &Effect) {
     }
 }
 
-/// Tells what is asked about an inode's names.
-fn show(
-    text: &mut Text,
-    alloc: Global,
-    tree: &Tree,
-    ino: &Key,
-    word: &str,
-    words: Words<'_>,
-) -> Option<()> {
+/// Tells what is asked about an inode, where the word asks for that.
+fn shows(line: &mut Line<'_>, tree: &Tree, word: &str) -> bool {
     match word {
-        "names" => names(text, tree, ino),
-        "list" => entries(text, alloc, tree.names(), ino),
-        "attr" => attr(text, tree, ino),
-        "entry" => text.any_inode("", &tree.entry(ino, words.last()?.as_bytes())),
-        "inside" => text.add(if tree.names().inside(ino, &words.last_inode()?) {
-            "yes"
-        } else {
-            "no"
-        }),
-        _ => return show_content(text, alloc, tree.content(ino), word, words),
+        "attr" => attr(line, tree),
+        "names" => names(line, tree),
+        "list" => list(line, tree),
+        "entry" => entry(line, tree),
+        "inside" => inside(line, tree),
+        "stored" => stored(line, tree),
+        "target" => target(line, tree),
+        "read" => read(line, tree),
+        _ => return false,
     }
-    Some(())
+    true
+}
+
+/// Tells an inode's kind, attributes and size, or that it is missing.
+fn attr(line: &mut Line<'_>, tree: &Tree) {
+    let ino = line.inode();
+    line.answer.add(kind_name(tree.kind(&ino)));
+    if let Some(attr) = tree.attr(&ino) {
+        if let Some(content) = tree.content(&ino) {
+            attributes(&mut line.answer, &attr, content.size());
+        }
+    }
 }
 
 /// Tells how many names an inode has, the directory of a directory's name, and whether it is live.
-fn names(text: &mut Text, tree: &Tree, ino: &Key) {
-    naming(text, tree.names(), ino);
-    text.add(if tree.live(ino) {
+fn names(line: &mut Line<'_>, tree: &Tree) {
+    let ino = line.inode();
+    naming(&mut line.answer, tree.names(), &ino);
+    line.answer.add(if tree.live(&ino) {
         ", live"
     } else {
         ", not live"
     });
 }
 
-/// Tells an inode's kind, attributes and size, or that it is missing.
-fn attr(text: &mut Text, tree: &Tree, ino: &Key) {
-    text.add(kind_name(tree.kind(ino)));
-    if let Some(attr) = tree.attr(ino) {
-        attributes(text, &attr);
-        if let Some(content) = tree.content(ino) {
-            times(text, content.size(), &attr);
-        }
-    }
+/// Tells the entries of a directory.
+fn list(line: &mut Line<'_>, tree: &Tree) {
+    let dir = line.inode();
+    entries(&mut line.answer, tree.names(), &dir);
 }
 
-/// Tells what is asked about an inode's contents.
-fn show_content(
-    text: &mut Text,
-    alloc: Global,
-    content: Option<&Content>,
-    word: &str,
-    words: Words<'_>,
-) -> Option<()> {
-    if word == "stored" {
-        stored(text, content);
-        return Some(());
-    }
-    let content = content?;
-    match word {
-        "target" => target(text, content),
-        "read" => read(text, alloc, content, words)?,
-        _ => return None,
-    }
-    Some(())
+/// Tells the inode of a directory's entry.
+fn entry(line: &mut Line<'_>, tree: &Tree) {
+    let dir = line.inode();
+    let ino = tree.entry(&dir, line.word().as_bytes());
+    line.answer.any_inode("", &ino);
 }
 
-/// Tells how many of the inode's bytes are stored.
-fn stored(text: &mut Text, content: Option<&Content>) {
-    match content {
-        Some(content) => text.count("", content.stored()),
-        None => text.add("none"),
+/// Tells whether an inode is a directory or lies inside it.
+fn inside(line: &mut Line<'_>, tree: &Tree) {
+    let ino = line.inode();
+    let dir = line.inode();
+    line.answer.add(if tree.names().inside(&ino, &dir) {
+        "yes"
+    } else {
+        "no"
+    });
+}
+
+/// Tells how many of an inode's bytes are stored.
+fn stored(line: &mut Line<'_>, tree: &Tree) {
+    match tree.content(&line.inode()) {
+        Some(content) => line.answer.count("", content.stored()),
+        None => line.answer.add("none"),
     }
 }
 
 /// Tells the text of a symbolic link.
-fn target(text: &mut Text, content: &Content) {
-    if content.kind() == Kind::Lnk {
-        text.quote(content.target());
-    } else {
-        text.add("none");
+fn target(line: &mut Line<'_>, tree: &Tree) {
+    match tree.content(&line.inode()) {
+        Some(content) if content.kind() == Kind::Lnk => line.answer.quote(content.target()),
+        _ => line.answer.add("none"),
     }
 }
 
-fn read(text: &mut Text, alloc: Global, content: &Content, mut words: Words<'_>) -> Option<()> {
-    let offset = number(words.word()?)?;
-    let count = small_number(words.last()?)?;
-    bytes(text, alloc, content, offset, count);
-    Some(())
+/// Tells some of an inode's bytes.
+fn read(line: &mut Line<'_>, tree: &Tree) {
+    let ino = line.inode();
+    let offset = line.number();
+    let count = line.small_number();
+    match tree.content(&ino) {
+        Some(content) => bytes(&mut line.answer, content, offset, count),
+        None => line.answer.add("none"),
+    }
 }

@@ -1,6 +1,6 @@
 //! Whether new records may be taken in, and the row that several make.
 
-ghost use Rattle.std.specs.Prelude.{◌≡◌, ◌==◌, IsTrue, not, length, IfOk};
+ghost use Rattle.std.specs.Prelude.{◌≡◌, ◌==◌, IsTrue, not, length};
 ghost use Rattle.std.specs.List.{All};
 ghost use Rattle.std.specs.Ordering.{is_eq};
 ghost use Rattle.log_model.specs.Rank.{record_cmp};
@@ -8,10 +8,9 @@ ghost use Rattle.log_records.specs.Records.{record_of, records_of};
 ghost use Rattle.record_sets.specs.Rows.{IsRow};
 ghost use Rattle.replay_engine.specs.Places.{AreNew, AreBehind};
 
-use ivy_base::Memory;
+use crate::lines::Line;
 use log_records::{Record, merge_place};
 use record_sets::merge;
-use std::alloc::Global;
 
 /// Whether the records are of other numbers, and so of other ranks.
 fn differ(a: &Record, b: &Record) -> bool
@@ -24,7 +23,12 @@ fn differ(a: &Record, b: &Record) -> bool
 fn is_new(held: &[Record], record: &Record) -> bool
     ensures { IsTrue result → All (λ q. IsTrue (not (is_eq (record_cmp (record_of «record».now) (record_of q))))) held.now }
 {
-    held.iter().all(|other| differ(record, other))
+    'held: for other in held {
+        if !differ(record, other) {
+            return false;
+        }
+    }
+    true
 }
 
 /// Whether no held record has the rank of one of the new ones.
@@ -39,7 +43,12 @@ pub fn are_new(held: &[Record], more: &[Record]) -> bool
 fn each_is_new(held: &[Record], more: &[Record]) -> bool
     ensures { IsTrue result → All (λ r. All (λ q. IsTrue (not (is_eq (record_cmp (record_of r) (record_of q))))) held.now) more.now }
 {
-    more.iter().all(|record| is_new(held, record))
+    'more: for record in more {
+        if !is_new(held, record) {
+            return false;
+        }
+    }
+    true
 }
 
 /// Whether the new records are behind all held ones.
@@ -54,13 +63,13 @@ pub fn are_behind(held: &[Record], more: &[Record]) -> bool
     merge_place(held, &record.rank()) == held.len()
 }
 
-/// The one row with the other.
-pub fn merged(alloc: Global, row: Vec<Record>, more: Vec<Record>) -> Result<Vec<Record>, Memory>
-    requires row { IsRow (records_of row.items) }
+/// Puts the other row into the row; where memory is short, that is noted.
+pub fn put_in(line: &mut Line<'_>, row: &mut Vec<Record>, more: Vec<Record>)
+    requires row { IsRow (records_of row.old.items) }
     requires more { IsRow (records_of more.items) }
-    ensures { IfOk result (λ row. IsRow (records_of row.items)) }
+    ensures { IsRow (records_of row.new.items) }
 {
-    let mut row = row;
-    merge(alloc, &mut row, more)?;
-    Ok(row)
+    if merge(line.alloc, row, more).is_err() {
+        line.fail();
+    }
 }

@@ -1,14 +1,16 @@
 //! An engine, and the calls that lines ask for.
 
-ghost use Rattle.std.specs.Prelude.{◌≡◌, length, IfOk, IfSome};
+ghost use Rattle.std.specs.Prelude.{◌≡◌, length};
 ghost use Rattle.log_records.specs.Records.{records_of};
 ghost use Rattle.record_sets.specs.Rows.{IsRow};
 
-use crate::engine::making::{OWNER, SPACE, single};
-use crate::engine::showing::difference;
-use crate::engine::taking::{are_behind, are_new, merged};
+use crate::alike::are_alike;
+use crate::engine::making::single;
+use crate::engine::taking::{are_behind, are_new, put_in};
+use crate::inodes::made_by;
+use crate::lines::Line;
 use fs_tree::{Basis, Tree};
-use ivy_base::{Key, Memory, Steps, number_of};
+use ivy_base::{Key, Memory, Steps};
 use log_records::Record;
 use record_sets::replay;
 use replay_engine::Engine;
@@ -16,8 +18,11 @@ use std::alloc::Global;
 use std::sync::ledger::Ledger;
 use version_vectors::Vector;
 
+/// How far the number of a record is from that of the one before it, so that others go between them, and there is room for
+/// 100,000.
+const SPACE: u32 = 10;
+
 /// An engine over the empty tree, and what was given to it.
-#[derive(Drop)]
 pub struct Trial {
     engine: Engine,
     /// How many calls can be taken back.
@@ -29,23 +34,46 @@ pub struct Trial {
     ghost kept_is: { kept ≡ length engine.before },
 }
 
-/// The number of a word.
-fn number_of_word(word: Option<&str>) -> Option<u32> {
-    word?.parse().ok()
+// Written out, so that what drops a trial calls it and isn't made over all its parts.
+impl Drop for Trial {
+    fn drop(self) {
+        let Trial {
+            engine: _,
+            kept: _,
+            turn: _,
+            files: _,
+        } = self;
+    }
 }
 
-/// A number between those of the records at both sides of the place. None where there is none.
-fn between(records: &[Record], place: usize) -> Option<u32> {
-    let before = match place.checked_sub(1) {
-        Some(index) => records.get(index)?.seq,
-        None => 1,
+/// The records of a call.
+#[derive(Clone, Copy)]
+enum Call {
+    /// So many behind all others.
+    Behind(u32),
+    /// None, wherever they go.
+    Empty,
+    /// One for each of the places that the line tells.
+    Late,
+}
+
+/// A number between those of the records at both sides of the place, where there is one.
+fn between(line: &mut Line<'_>, records: &[Record], place: usize) -> u32 {
+    if place > records.len() {
+        line.fail();
+        return 0;
+    }
+    let before = if place == 0 {
+        1
+    } else {
+        records[place - 1].seq
     };
-    let after = match records.get(place) {
-        Some(record) => record.seq,
-        None => before.checked_add(SPACE.saturating_mul(2))?,
+    let after = if place == records.len() {
+        before.saturating_add(2 * SPACE)
+    } else {
+        records[place].seq
     };
-    let seq = before.checked_add(after.checked_sub(before)? / 2)?;
-    if seq == before { None } else { Some(seq) }
+    before.saturating_add(after.saturating_sub(before) / 2)
 }
 
 /// Whether the records, which are of one owner and cite none, ascend by rank.
@@ -62,11 +90,12 @@ fn is_in_order(records: &[Record]) -> bool {
 
 impl Trial {
     /// With no records. The error is want of memory.
-    pub fn start(alloc: Global) -> Result<Trial, Memory> {
+    pub fn new(alloc: Global) -> Result<Trial, Memory> {
+        let tree = Tree::empty(alloc)?;
         let basis = Basis {
             front: Vector::empty(alloc),
             tide: None,
-            tree: Tree::empty(alloc)?,
+            tree,
         };
         Ok(Trial {
             engine: Engine::over(alloc, basis)?,
@@ -76,184 +105,168 @@ impl Trial {
         })
     }
 
-    // The next record, of that number, as a row of its own. The error is want of memory.
-    fn made(&mut self, alloc: Global, seq: u32) -> Result<Vec<Record>, Memory>
-        ensures { IfOk result (λ row. IsRow (records_of row.items)) }
+    /// Answers a line.
+    pub fn answer<L: Ledger>(&mut self, line: &mut Line<'_>, steps: &mut Steps<L>) {
+        let word = line.word();
+        line.answer.add(": ");
+        match word {
+            "start" => self.start(line),
+            "undo" => self.undo(line),
+            _ => self.call(line, word, steps),
+        }
+        if line.is_good() {
+            line.is_repeated = true;
+            self.judge(line);
+        }
+    }
+
+    fn start(&mut self, line: &mut Line<'_>) {
+        match Trial::new(line.alloc) {
+            Ok(trial) => {
+                *self = trial;
+                line.answer.add("started");
+            }
+            Err(_) => line.fail(),
+        }
+    }
+
+    // The next record, of that number, as a row of its own.
+    fn made(&mut self, line: &mut Line<'_>, seq: u32) -> Vec<Record>
+        ensures { IsRow (records_of result.items) }
     {
-        let row = single(alloc, seq, self.turn, &self.files)?;
+        let row = single(line, seq, self.turn, &self.files);
         if self.turn % 8 == 0 {
-            self.files.push(number_of(&OWNER, seq))?;
+            if self.files.push(made_by(seq)).is_err() {
+                line.fail();
+            }
         }
         self.turn = self.turn.saturating_add(1);
-        Ok(row)
+        row
+    }
+
+    // A row of so many records behind that number: two halves in one.
+    fn row_behind(&mut self, line: &mut Line<'_>, last: u32, count: u32) -> Vec<Record>
+        ensures { IsRow (records_of result.items) }
+    {
+        match count {
+            0 => Vec::new(line.alloc),
+            1 => self.made(line, last.saturating_add(SPACE)),
+            _ => {
+                let half = count / 2;
+                let mut row = self.row_behind(line, last, half);
+                let last = last.saturating_add(SPACE.saturating_mul(half));
+                let rest = self.row_behind(line, last, count - half);
+                put_in(line, &mut row, rest);
+                row
+            }
+        }
     }
 
     // A row of so many records behind all others.
-    fn last_ones(&mut self, alloc: Global, count: u32) -> Option<Vec<Record>>
-        ensures { IfSome result (λ row. IsRow (records_of row.items)) }
+    fn last_ones(&mut self, line: &mut Line<'_>, count: u32) -> Vec<Record>
+        ensures { IsRow (records_of result.items) }
     {
         let last = match self.engine.records().last() {
             Some(record) => record.seq,
             None => 1,
         };
-        self.row_behind(alloc, last, count)
+        self.row_behind(line, last, count)
     }
 
-    // A row of so many records behind that number: two halves in one.
-    fn row_behind(&mut self, alloc: Global, last: u32, count: u32) -> Option<Vec<Record>>
-        ensures { IfSome result (λ row. IsRow (records_of row.items)) }
+    // A record for each of the places that the line tells, as a row.
+    fn late_ones(&mut self, line: &mut Line<'_>) -> Vec<Record>
+        ensures { IsRow (records_of result.items) }
     {
-        match count {
-            0 => Some(Vec::new(alloc)),
-            1 => self.made(alloc, last.checked_add(SPACE)?).ok(),
-            _ => {
-                let half = count / 2;
-                let first = self.row_behind(alloc, last, half)?;
-                let between = last.checked_add(SPACE.checked_mul(half)?)?;
-                let rest = self.row_behind(alloc, between, count - half)?;
-                merged(alloc, first, rest).ok()
+        let mut row = Vec::new(line.alloc);
+        'places: for _n in 0..line.rest.len() {
+            if line.rest.is_empty() {
+                break;
+            }
+            let place = line.number() as usize;
+            let seq = between(line, self.engine.records(), place);
+            let record = self.made(line, seq);
+            put_in(line, &mut row, record);
+        }
+        row
+    }
+
+    // Takes records in by one call, and says how many were applied.
+    fn take_in<L: Ledger>(&mut self, line: &mut Line<'_>, call: Call, steps: &mut Steps<L>) -> u64 {
+        let row = match call {
+            Call::Behind(count) => self.last_ones(line, count),
+            Call::Empty => Vec::new(line.alloc),
+            Call::Late => self.late_ones(line),
+        };
+        let held = self.engine.records();
+        let taken = match call {
+            _ if !line.is_good() => Err(Memory),
+            Call::Behind(_) if are_behind(held, &row) => self.engine.append(line.alloc, row, steps),
+            Call::Empty | Call::Late if are_new(held, &row) => self
+                .engine
+                .absorb(line.alloc, row, steps),
+            _ => Err(Memory),
+        };
+        match taken {
+            Ok(applied) => {
+                self.kept = if self.kept == 0 { 1 } else { 2 };
+                applied
+            }
+            Err(_) => {
+                line.fail();
+                0
             }
         }
     }
 
-    // Takes records in that are behind all others, and says how many were applied.
-    fn append_row<L: Ledger>(
-        &mut self,
-        alloc: Global,
-        row: Vec<Record>,
-        steps: &mut Steps<L>,
-    ) -> Option<u64>
-        requires { IsRow (records_of row.items) }
-    {
-        if !are_behind(self.engine.records(), &row) {
-            return None;
-        }
-        let applied = self.engine.append(alloc, row, steps).ok()?;
-        self.kept = if self.kept == 0 { 1 } else { 2 };
-        Some(applied)
-    }
-
-    // Takes records in wherever they go, and says how many were applied.
-    fn absorb_row<L: Ledger>(
-        &mut self,
-        alloc: Global,
-        row: Vec<Record>,
-        steps: &mut Steps<L>,
-    ) -> Option<u64>
-        requires { IsRow (records_of row.items) }
-    {
-        if !are_new(self.engine.records(), &row) {
-            return None;
-        }
-        let applied = self.engine.absorb(alloc, row, steps).ok()?;
-        self.kept = if self.kept == 0 { 1 } else { 2 };
-        Some(applied)
-    }
-
-    // So many records, each behind all others, by a call each.
-    fn append<L: Ledger>(
-        &mut self,
-        alloc: Global,
-        count: u32,
-        steps: &mut Steps<L>,
-    ) -> Option<u64> {
+    // Takes records in by as many calls as the line says, and tells how many were applied.
+    fn call<L: Ledger>(&mut self, line: &mut Line<'_>, word: &str, steps: &mut Steps<L>) {
+        let (calls, call) = match word {
+            "append" => (line.small_number(), Call::Behind(1)),
+            "row" => (1, Call::Behind(line.small_number())),
+            "read" => (line.small_number(), Call::Empty),
+            "absorb" => (1, Call::Late),
+            _ => return line.fail(),
+        };
         let mut applied = 0u64;
-        for _n in 0..count {
-            let row = self.last_ones(alloc, 1)?;
-            applied = applied.checked_add(self.append_row(alloc, row, steps)?)?;
+        for _n in 0..calls {
+            applied = applied.saturating_add(self.take_in(line, call, steps));
         }
-        Some(applied)
+        line.answer.count("", applied);
+        line.answer.add(" applied");
     }
 
-    // So many empty calls.
-    fn read<L: Ledger>(&mut self, alloc: Global, count: u32, steps: &mut Steps<L>) -> Option<u64> {
-        let mut applied = 0u64;
-        for _n in 0..count {
-            applied = applied.checked_add(self.absorb_row(alloc, Vec::new(alloc), steps)?)?;
-        }
-        Some(applied)
-    }
-
-    // A record for each of the places that the line's words tell, by one call.
-    fn absorb<L: Ledger>(
-        &mut self,
-        alloc: Global,
-        line: &str,
-        steps: &mut Steps<L>,
-    ) -> Option<u64> {
-        let mut row = Vec::new(alloc);
-        'places: for word in line.split(' ').skip(1) {
-            let seq = between(self.engine.records(), word.parse().ok()?)?;
-            row = merged(alloc, row, self.made(alloc, seq).ok()?).ok()?;
-        }
-        self.absorb_row(alloc, row, steps)
-    }
-
-    // Takes the last call back, and says whether the tree is the one that was there before.
-    fn undo(&mut self, alloc: Global) -> Option<String> {
+    // Takes the last call back, and tells whether the tree is the one that was there before.
+    fn undo(&mut self, line: &mut Line<'_>) {
         if self.kept == 0 {
-            return None;
+            return line.fail();
         }
-        let before = self.engine.tree_before().copy(alloc).ok()?;
+        let Ok(before) = self.engine.tree_before().copy(line.alloc) else {
+            return line.fail();
+        };
         self.engine.undo();
         self.kept = self.kept.saturating_sub(1);
-        match difference(alloc, self.engine.tree(), &before, &self.files).ok()? {
-            Some(place) => format!(in alloc; "not as before at {place}").ok(),
-            None => format!(in alloc; "taken back").ok(),
-        }
+        let is_before = are_alike(line, self.engine.tree(), &before, &self.files);
+        line.answer.add(if is_before {
+            "taken back"
+        } else {
+            "not as before"
+        });
     }
 
-    // How many records are held, and whether the tree shows what their replay from nothing does.
-    fn verdict(&self, alloc: Global) -> Option<String> {
+    // Tells how many records are held, and whether the tree shows what their replay from nothing does.
+    fn judge(&self, line: &mut Line<'_>) {
         let records = self.engine.records();
-        let plain = replay(alloc, records).ok()?;
-        let held = records.len();
-        if !is_in_order(records) {
-            return format!(in alloc; "{held} held, not in order").ok();
-        }
-        match difference(alloc, self.engine.tree(), &plain, &self.files).ok()? {
-            Some(place) => format!(in alloc; "{held} held, not as replayed at {place}").ok(),
-            None => format!(in alloc; "{held} held, agree").ok(),
-        }
-    }
-
-    // What the line's call does, and how many records were applied for it.
-    fn call<L: Ledger>(
-        &mut self,
-        alloc: Global,
-        line: &str,
-        steps: &mut Steps<L>,
-    ) -> Option<String> {
-        let mut words = line.split(' ');
-        let applied = match words.next()? {
-            "append" => self.append(alloc, number_of_word(words.next())?, steps)?,
-            "row" => {
-                let row = self.last_ones(alloc, number_of_word(words.next())?)?;
-                self.append_row(alloc, row, steps)?
-            }
-            "read" => self.read(alloc, number_of_word(words.next())?, steps)?,
-            "absorb" => self.absorb(alloc, line, steps)?,
-            "undo" => return self.undo(alloc),
-            _ => return None,
+        line.answer.count(", ", records.len() as u64);
+        let Ok(plain) = replay(line.alloc, records) else {
+            return line.fail();
         };
-        format!(in alloc; "{applied} applied").ok()
-    }
-
-    /// The answer to a line, `None` where it asks for no call that can be made, and for want of memory.
-    pub fn answer<L: Ledger>(
-        &mut self,
-        alloc: Global,
-        line: &str,
-        steps: &mut Steps<L>,
-    ) -> Option<String> {
-        if line == "start" {
-            *self = Trial::start(alloc).ok()?;
-        }
-        let done = match line {
-            "start" => format!(in alloc; "started").ok()?,
-            _ => self.call(alloc, line, steps)?,
+        let verdict = if !is_in_order(records) {
+            " held, not in order"
+        } else if are_alike(line, self.engine.tree(), &plain, &self.files) {
+            " held, agree"
+        } else {
+            " held, not as replayed"
         };
-        let verdict = self.verdict(alloc)?;
-        format!(in alloc; "{line}: {done}, {verdict}").ok()
+        line.answer.add(verdict);
     }
 }

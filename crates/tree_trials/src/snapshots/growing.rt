@@ -1,6 +1,6 @@
 //! A tree that operations of records make, and its snapshots.
 
-ghost use Rattle.std.specs.Prelude.{◌≡◌, ◌≤◌, length, IsTrue, IfSome};
+ghost use Rattle.std.specs.Prelude.{◌≡◌, ◌≤◌, length, IsTrue};
 ghost use Rattle.log_model.specs.Spelling.{HasSpelling};
 ghost use Rattle.log_records.specs.Records.{record_of};
 ghost use Rattle.fs_tree.specs.Bases.{basis_of};
@@ -8,15 +8,15 @@ ghost use Rattle.snapshot_model.specs.Blocks.{IsRootBlock};
 ghost use Rattle.snapshot_model.specs.Reading.{IsBasisSpelled};
 ghost use Rattle.snapshot_blocks.specs.Parsed.{root_of as said_of};
 
-use crate::snapshots::words::{OWNER, Step};
-use fs_tree::{Basis, Tree};
-use ivy_base::{Key, Moment};
+use crate::lines::Line;
+use crate::records::record;
+use fs_tree::{Basis, ROOT, Tree};
+use ivy_base::{Key, Memory, Moment, Op};
 use log_records::Record;
 use snapshot_blocks::RootBlock;
 use snapshot_store::{Made, make};
 use std::alloc::Global;
 use std::marker::Model;
-use version_vectors::Vector;
 use view_blocks::View;
 
 /// The most inodes of a snapshot.
@@ -41,37 +41,42 @@ impl Model for Grown {
 }
 
 impl Grown {
-    /// The root alone.
-    pub fn new(alloc: Global) -> Option<Grown> {
-        let tree = Tree::empty(alloc).ok()?;
-        Some(Grown { tree, count: 0 })
+    /// The root alone. The error is want of memory.
+    pub fn new(alloc: Global) -> Result<Grown, Memory> {
+        let tree = Tree::empty(alloc)?;
+        Ok(Grown { tree, count: 0 })
     }
 
-    /// Does the operation, where a record may have it.
-    pub fn grow(&mut self, alloc: Global, step: Step) -> Option<()> {
+    /// Does the operation, where a record of that number may have it, and nothing of the line failed.
+    pub fn grow(&mut self, line: &mut Line<'_>, seq: u32, op: Op) {
         let moment = Moment {
             sec: self.count,
             nsec: 7,
         };
-        let made = read_back(alloc, &record_of_step(alloc, moment, step))?;
-        self.take(alloc, &made)
+        let Ok(done) = record(line.alloc, seq, moment, op) else {
+            return line.fail();
+        };
+        if line.is_good() {
+            self.take(line, &done);
+        }
+        drop(done);
     }
 
     // Does what that record does.
-    fn take(&mut self, alloc: Global, done: &Record) -> Option<()>
+    fn take(&mut self, line: &mut Line<'_>, done: &Record)
         requires { HasSpelling (record_of done.now) }
     {
         if self.count == u32::MAX {
-            return None;
+            return line.fail();
         }
-        let Ok(()) = self.tree.apply(alloc, done.moment, &done.op) else {
-            return None;
+        let Ok(()) = self.tree.apply(line.alloc, done.moment, &done.op) else {
+            return line.fail();
         };
         self.count += 1;
-        Some(())
     }
 
-    /// A snapshot of it in that view, which covers what the root says.
+    /// A snapshot of it in that view, which covers what the root says. There is none where the root says nothing, and for want of
+    /// memory.
     pub fn snapshot(&self, alloc: Global, view: &View, covers: &[u8]) -> Option<Made> {
         match RootBlock::read(alloc, covers) {
             Ok(root) => self.snapshot_with(alloc, view, &root),
@@ -83,47 +88,32 @@ impl Grown {
     fn snapshot_with(&self, alloc: Global, view: &View, root: &RootBlock) -> Option<Made>
         requires { IsRootBlock (said_of root.now) }
     {
-        if !self.has_few(alloc)? {
+        if !self.has_few(alloc) {
             return None;
         }
         make(alloc, view, &root.front, root.tide, &self.tree).ok()
     }
 
-    // Whether it has no more inodes than a snapshot may have. None is want of memory.
-    fn has_few(&self, alloc: Global) -> Option<bool>
-        ensures { IfSome result (λ few. IsTrue few → length self.now.inodes ≤ 134217728) }
+    // Whether it has no more inodes than a snapshot may have, and there was memory to count them.
+    fn has_few(&self, alloc: Global) -> bool
+        ensures { IsTrue result → length self.now.inodes ≤ 134217728 }
     {
         match self.tree.numbers(alloc) {
-            Ok(numbers) => Some(numbers.len() <= MOST_INODES),
-            Err(_) => None,
+            Ok(numbers) => numbers.len() <= MOST_INODES,
+            Err(_) => false,
         }
     }
 }
 
-/// The record of that operation.
-fn record_of_step(alloc: Global, moment: Moment, step: Step) -> Record {
-    Record {
-        owner: OWNER,
-        seq: step.seq,
-        prev: Key([5; 20]),
-        vector: Vector::empty(alloc),
-        moment,
-        op: step.op,
-    }
-}
-
-/// The record as it is read from its block, so that it has one. None where it has none.
-fn read_back(alloc: Global, record: &Record) -> Option<Record>
-    ensures { IfSome result (λ r. HasSpelling (record_of r)) }
-{
-    let block = record.write(alloc).ok()?;
-    Record::read(alloc, block.as_slice(), &OWNER).ok()
-}
-
 /// The name of the root of the basis's snapshot in that view.
-pub fn root_of(alloc: Global, view: &View, basis: &Basis) -> Option<Key>
+pub fn root_of(line: &mut Line<'_>, view: &View, basis: &Basis) -> Key
     requires { IsBasisSpelled (basis_of basis.now) }
 {
-    let made = make(alloc, view, &basis.front, basis.tide, &basis.tree).ok()?;
-    Some(made.root)
+    match make(line.alloc, view, &basis.front, basis.tide, &basis.tree) {
+        Ok(made) => made.root,
+        Err(_) => {
+            line.fail();
+            ROOT
+        }
+    }
 }

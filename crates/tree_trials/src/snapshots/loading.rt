@@ -1,11 +1,12 @@
 //! A snapshot that is loaded from blocks, some of which may be lacking or spoilt.
 
-ghost use Rattle.std.specs.Prelude.{◌≡◌, None, IfOk, IfSome};
+ghost use Rattle.std.specs.Prelude.{◌≡◌, None, IfOk};
 ghost use Rattle.ivy_base.specs.Naming.{name};
 ghost use Rattle.fs_tree.specs.Bases.{basis_of};
 ghost use Rattle.snapshot_model.specs.Reading.{IsBasisSpelled};
 ghost use Rattle.snapshot_loading.specs.Loading.{wanted_of};
 
+use crate::lines::Line;
 use crate::snapshots::growing::root_of;
 use dhash_client::Miss;
 use dht_ids::{Peer, Peers};
@@ -49,13 +50,6 @@ fn missing(alloc: Global, key: Key) -> Miss {
     }
 }
 
-fn damaged(key: Key) -> Miss {
-    Miss::Damaged {
-        key,
-        node: Peer { number: 0, id: key },
-    }
-}
-
 /// The bytes, where that is their name.
 fn under(bytes: Bytes, key: &Key) -> Result<Bytes, Miss>
     ensures { IfOk result (λ bytes. name bytes ≡ key.now) }
@@ -63,23 +57,39 @@ fn under(bytes: Bytes, key: &Key) -> Result<Bytes, Miss>
     if name_of(bytes.as_slice()) == *key {
         return Ok(bytes);
     }
-    Err(damaged(*key))
+    Err(Miss::Damaged {
+        key: *key,
+        node: Peer {
+            number: 0,
+            id: *key,
+        },
+    })
 }
 
-/// What comes of the block of that name. `None` is want of memory.
-fn came(alloc: Global, blocks: &[Block], wrong: Wrong, key: &Key) -> Option<Result<Bytes, Miss>>
-    ensures { IfSome result (λ came. IfOk came (λ bytes. name bytes ≡ key.now)) }
+/// The block of that name and its place.
+fn find<'a>(blocks: &'a [Block], key: &Key) -> Option<(usize, &'a Block)> {
+    for (place, block) in blocks.iter().enumerate() {
+        if block.name() == *key {
+            return Some((place, block));
+        }
+    }
+    None
+}
+
+/// What comes of the block of that name.
+fn came(line: &mut Line<'_>, blocks: &[Block], wrong: Wrong, key: &Key) -> Result<Bytes, Miss>
+    ensures { IfOk result (λ bytes. name bytes ≡ key.now) }
 {
-    let Some(place) = blocks.iter().position(|block| block.name() == *key) else {
-        return Some(Err(missing(alloc, *key)));
+    let Some((place, block)) = find(blocks, key) else {
+        return Err(missing(line.alloc, *key));
     };
-    let mut bytes = blocks[place].as_slice().to_vec(alloc).ok()?;
+    let mut bytes = line.copy_of(block.as_slice()).into_vec();
     match wrong {
-        Wrong::Lacks(at) if at == place => return Some(Err(missing(alloc, *key))),
+        Wrong::Lacks(at) if at == place => return Err(missing(line.alloc, *key)),
         Wrong::Spoilt(at, byte) if at == place => spoil(&mut bytes, byte),
         _ => {}
     }
-    Some(under(Bytes::of(bytes), key))
+    under(Bytes::of(bytes), key)
 }
 
 /// What loading comes to, if this came last and no basis comes of it.
@@ -95,43 +105,54 @@ fn end_of(came: &Result<Bytes, Miss>) -> End {
 const MOST_BLOCKS: u32 = 1_000_000;
 
 /// Reads what is wanted, and tells what loading comes to if no basis comes of it.
-fn read_all(alloc: Global, blocks: &[Block], wrong: Wrong, load: &mut Load) -> Option<End> {
+fn read_all(line: &mut Line<'_>, blocks: &[Block], wrong: Wrong, load: &mut Load) -> End {
     let mut end = End::Malformed;
     'blocks: for _ in 0..MOST_BLOCKS {
         let Some(key) = load.wanted() else {
             break;
         };
-        let came = came(alloc, blocks, wrong, &key)?;
+        let came = came(line, blocks, wrong, &key);
         end = end_of(&came);
-        load.give(alloc, came).ok()?;
+        if load.give(line.alloc, came).is_err() {
+            break;
+        }
     }
-    Some(end)
-}
-
-/// A basis that was loaded.
-fn again(alloc: Global, view: &View, basis: &Basis) -> Option<End>
-    requires { IsBasisSpelled (basis_of basis.now) }
-{
-    Some(End::Basis(root_of(alloc, view, basis)?))
+    end
 }
 
 /// What a load that wants nothing more comes to.
-fn ended(alloc: Global, view: &View, load: Load, end: End) -> Option<End>
+fn ended(line: &mut Line<'_>, view: &View, load: Load, end: End) -> End
     requires { wanted_of load ≡ None }
 {
-    match loaded(alloc, load) {
-        Ok(Some(basis)) => again(alloc, view, &basis),
-        Ok(None) => Some(end),
-        Err(_) => None,
+    match loaded(line.alloc, load) {
+        Ok(Some(basis)) => End::Basis(root_of(line, view, &basis)),
+        Ok(None) => end,
+        Err(_) => {
+            line.fail();
+            end
+        }
     }
 }
 
-/// What loading the snapshot of that root comes to. `None` is want of memory.
-pub fn load(alloc: Global, view: &View, blocks: &[Block], wrong: Wrong, root: Key) -> Option<End> {
-    let mut load = Load::start(alloc, root).ok()?;
-    let end = read_all(alloc, blocks, wrong, &mut load)?;
+/// What loading goes on to, of which nothing was read.
+fn go_on(line: &mut Line<'_>, view: &View, blocks: &[Block], wrong: Wrong, load: Load) -> End {
+    let mut load = load;
+    let end = read_all(line, blocks, wrong, &mut load);
     if load.wanted().is_some() {
-        return None;
+        drop(load);
+        line.fail();
+        return end;
     }
-    ended(alloc, view, load, end)
+    ended(line, view, load, end)
+}
+
+/// What loading the snapshot of that root comes to.
+pub fn load(line: &mut Line<'_>, view: &View, blocks: &[Block], wrong: Wrong, root: Key) -> End {
+    match Load::start(line.alloc, root) {
+        Ok(load) => go_on(line, view, blocks, wrong, load),
+        Err(_) => {
+            line.fail();
+            End::Missing
+        }
+    }
 }

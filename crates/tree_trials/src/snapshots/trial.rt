@@ -1,10 +1,12 @@
 //! A trial: the tree, its last snapshot, and how each line is answered.
 
+use crate::inodes::{OWNER, made_by};
+use crate::lines::Line;
+use crate::operations::{made, operation};
 use crate::snapshots::growing::Grown;
 use crate::snapshots::loading::{End, Wrong, load};
-use crate::snapshots::trying::{forge, lack, spoil};
-use crate::snapshots::words::{OWNER, key_of, linked, made, step_of, words_of, written};
-use ivy_base::{Bytes, Key, Kind};
+use crate::snapshots::trying::{Change, Loads};
+use ivy_base::{Bytes, Key, Kind, Memory, Op};
 use snapshot_store::Made;
 use std::alloc::Global;
 use view_blocks::View;
@@ -12,15 +14,10 @@ use view_blocks::View;
 /// The most bytes that an operation writes.
 const MOST_WRITTEN: u32 = 8192;
 
-/// So many bytes of that value. `None` is want of memory.
-fn filled(alloc: Global, size: u64, value: u8) -> Option<Bytes> {
-    let mut bytes = Vec::new(alloc);
-    bytes.resize(size as usize, value).ok()?;
-    Some(Bytes::of(bytes))
-}
+/// The number of a record that makes no inode.
+const OTHER: u32 = 2;
 
 /// The tree, the view, a root block that says what snapshots cover, and the last snapshot.
-#[derive(Drop)]
 pub struct Trial {
     view: View,
     covers: Bytes,
@@ -28,12 +25,41 @@ pub struct Trial {
     made: Option<Made>,
 }
 
+// Written out, so that what drops a trial calls it and isn't made over all its parts.
+impl Drop for Trial {
+    fn drop(self) {
+        let Trial {
+            view: _,
+            covers: _,
+            tree: _,
+            made: _,
+        } = self;
+    }
+}
+
+/// The view whose only member is the owner. The error is want of memory.
+fn only_view(alloc: Global) -> Result<View, Memory> {
+    match View::make(alloc, &[OWNER], &[]) {
+        Ok(view) => Ok(view),
+        Err(_) => Err(Memory),
+    }
+}
+
+/// So many bytes of that value.
+fn filled(line: &mut Line<'_>, size: u32, value: u8) -> Bytes {
+    let mut bytes = Vec::new(line.alloc);
+    if bytes.resize(size as usize, value).is_err() {
+        line.fail();
+    }
+    Bytes::of(bytes)
+}
+
 impl Trial {
-    /// The root alone. `None` is want of memory.
-    pub fn new(alloc: Global) -> Option<Trial> {
-        let view = View::make(alloc, &[OWNER], &[]).ok()?;
+    /// The root alone. The error is want of memory.
+    pub fn new(alloc: Global) -> Result<Trial, Memory> {
+        let view = only_view(alloc)?;
         let tree = Grown::new(alloc)?;
-        Some(Trial {
+        Ok(Trial {
             view,
             covers: Bytes::of(Vec::new(alloc)),
             tree,
@@ -41,113 +67,117 @@ impl Trial {
         })
     }
 
-    /// The answer to a line, `None` for want of memory and where the line asks nothing.
-    pub fn answer(&mut self, alloc: Global, line: &str) -> Option<String> {
-        let words = words_of(alloc, line)?;
-        match words.as_slice() {
-            ["snapshot"] => self.snapshot(alloc),
-            [question @ ("load" | "lack" | "spoil" | "forge")] => self.ask(alloc, question),
-            words => {
-                self.change(alloc, words)?;
-                Some(String::new(alloc))
-            }
+    /// Answers a line.
+    pub fn answer(&mut self, line: &mut Line<'_>) {
+        line.is_repeated = true;
+        line.is_of_log = true;
+        if line.is_comment() {
+            return;
+        }
+        match line.word() {
+            "new" => self.begin(line),
+            "cover" => self.cover(line),
+            "fill" => self.fill(line),
+            "many" => self.make_many(line),
+            "snapshot" => self.snapshot(line),
+            "load" => self.load(line),
+            "lack" => self.load_changed(line, Change::Lack),
+            "spoil" => self.load_changed(line, Change::Spoil),
+            "forge" => self.load_changed(line, Change::Forge),
+            word => self.operate(line, word),
         }
     }
 
-    /// Does what the words say.
-    fn change(&mut self, alloc: Global, words: &[&str]) -> Option<()> {
-        match words {
-            ["new"] => self.begin(alloc),
-            ["cover", digits] => self.cover(alloc, digits),
-            ["fill", ino, rest @ ..] => self.fill(alloc, key_of(ino)?, rest),
-            ["many", dir, first, count] => self.make_many(
-                alloc,
-                key_of(dir)?,
-                first.parse().ok()?,
-                count.parse().ok()?,
-            ),
-            _ => self.tree.grow(alloc, step_of(alloc, words)?),
+    fn begin(&mut self, line: &mut Line<'_>) {
+        match Grown::new(line.alloc) {
+            Ok(tree) => self.tree = tree,
+            Err(_) => line.fail(),
         }
     }
 
-    fn begin(&mut self, alloc: Global) -> Option<()> {
-        self.tree = Grown::new(alloc)?;
-        Some(())
+    fn cover(&mut self, line: &mut Line<'_>) {
+        match hex::decode(line.alloc, line.word()) {
+            Ok(bytes) => self.covers = Bytes::of(bytes),
+            Err(_) => line.fail(),
+        }
     }
 
-    fn cover(&mut self, alloc: Global, digits: &str) -> Option<()> {
-        self.covers = Bytes::of(hex::decode(alloc, digits).ok()?);
-        Some(())
+    /// Does an operation, by the record that makes the inode which was read last, or by another one.
+    fn operate(&mut self, line: &mut Line<'_>, word: &str) {
+        let op = operation(line, word);
+        let seq = line.last_inode.max(OTHER);
+        self.tree.grow(line, seq, op);
     }
 
     /// Writes bytes of one value, from an offset on.
-    fn fill(&mut self, alloc: Global, ino: Key, words: &[&str]) -> Option<()> {
-        let [offset, count, value] = words else {
-            return None;
-        };
-        let (offset, value): (u32, u8) = (offset.parse().ok()?, value.parse().ok()?);
-        let count: u32 = count.parse().ok()?;
+    fn fill(&mut self, line: &mut Line<'_>) {
+        let ino = line.inode();
+        let offset = line.small_number();
+        let count = line.small_number();
+        let [.., value] = line.small_number().to_be_bytes();
         for part in 0..count.div_ceil(MOST_WRITTEN) {
-            let done = u64::from(part) * u64::from(MOST_WRITTEN);
-            let size = u64::from(count)
-                .saturating_sub(done)
-                .min(u64::from(MOST_WRITTEN));
-            let bytes = filled(alloc, size, value)?;
-            self.tree
-                .grow(alloc, written(ino, u64::from(offset) + done, bytes))?;
+            let done = part.saturating_mul(MOST_WRITTEN);
+            let size = count.saturating_sub(done).min(MOST_WRITTEN);
+            let op = Op::Write {
+                ino,
+                offset: u64::from(offset) + u64::from(done),
+                bytes: filled(line, size, value),
+            };
+            self.tree.grow(line, OTHER, op);
         }
-        Some(())
     }
 
     /// Makes files that are named by their numbers.
-    fn make_many(&mut self, alloc: Global, dir: Key, first: u32, count: u32) -> Option<()> {
+    fn make_many(&mut self, line: &mut Line<'_>) {
+        let dir = line.inode();
+        let first = line.small_number();
+        let count = line.small_number();
         for number in first..first.saturating_add(count) {
-            self.make_one(alloc, dir, number)?;
+            self.make_one(line, dir, number);
         }
-        Some(())
     }
 
-    fn make_one(&mut self, alloc: Global, dir: Key, number: u32) -> Option<()> {
-        let none = Bytes::of(Vec::new(alloc));
-        self.tree.grow(alloc, made(number, Kind::Reg, none))?;
-        let name = format!(in alloc; "{number}").ok()?.into_bytes();
-        self.tree.grow(alloc, linked(dir, Bytes::of(name), number))
+    fn make_one(&mut self, line: &mut Line<'_>, dir: Key, number: u32) {
+        let ino = made_by(number);
+        let none = Bytes::of(Vec::new(line.alloc));
+        self.tree.grow(line, number, made(ino, Kind::Reg, none));
+        let name = line.counted("", number);
+        self.tree.grow(line, OTHER, Op::Link { dir, name, ino });
     }
 
-    fn snapshot(&mut self, alloc: Global) -> Option<String> {
+    fn snapshot(&mut self, line: &mut Line<'_>) {
         let covers = self.covers.as_slice();
-        self.made = Some(self.tree.snapshot(alloc, &self.view, covers)?);
-        let made = self.made.as_ref()?;
-        let root = hex::encode(alloc, &made.root.0[..]).ok()?;
-        format!(in alloc; ": {} blocks, root {root}", made.blocks.len()).ok()
+        match self.tree.snapshot(line.alloc, &self.view, covers) {
+            Some(made) => {
+                line.answer.count(": ", made.blocks.len() as u64);
+                line.answer.key(" blocks, root ", &made.root);
+                self.made = Some(made);
+            }
+            None => line.fail(),
+        }
     }
 
-    /// What loads of the last snapshot come to.
-    fn ask(&self, alloc: Global, question: &str) -> Option<String> {
-        let made = self.made.as_ref()?;
-        let counts = match question {
-            "lack" => lack(alloc, &self.view, made)?,
-            "spoil" => spoil(alloc, &self.view, made)?,
-            "forge" => forge(alloc, &self.view, made)?,
-            _ => return self.load(alloc, made),
+    /// What loading the last snapshot comes to.
+    fn load(&self, line: &mut Line<'_>) {
+        let Some(made) = &self.made else {
+            return line.fail();
         };
-        format!(in alloc; ": {counts}").ok()
-    }
-
-    fn load(&self, alloc: Global, made: &Made) -> Option<String> {
         let blocks = made.blocks.as_slice();
-        let word = match load(alloc, &self.view, blocks, Wrong::Nothing, made.root)? {
-            End::Missing => "missing",
-            End::Damaged => "damaged",
-            End::Malformed => "malformed",
-            End::Basis(root) => return basis(alloc, &root),
-        };
-        format!(in alloc; ": {word}").ok()
+        match load(line, &self.view, blocks, Wrong::Nothing, made.root) {
+            End::Missing => line.answer.add(": missing"),
+            End::Damaged => line.answer.add(": damaged"),
+            End::Malformed => line.answer.add(": malformed"),
+            End::Basis(root) => line.answer.key(": a basis, root ", &root),
+        }
     }
-}
 
-/// A basis whose snapshot has that root. `None` is want of memory.
-fn basis(alloc: Global, root: &Key) -> Option<String> {
-    let root = hex::encode(alloc, &root.0[..]).ok()?;
-    format!(in alloc; ": a basis, root {root}").ok()
+    /// What loads of the last snapshot come to, with that done to each block in turn.
+    fn load_changed(&self, line: &mut Line<'_>, change: Change) {
+        let Some(made) = &self.made else {
+            return line.fail();
+        };
+        let mut loads = Loads::of(&self.view, made);
+        loads.change_each(line, change);
+        loads.tell(&mut line.answer);
+    }
 }

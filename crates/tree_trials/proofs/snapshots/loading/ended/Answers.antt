@@ -7,7 +7,7 @@ use Rattle.snapshot_loading.specs.Loading.{ComesTo}
 use Rattle.tree_trials.proofs.Grown.{loaded_spelled}
 use Rattle.tree_trials.proofs.snapshots.loading.ended.Goals as goal
 
-pub again-requires : goal.again-requires
-again-requires c =
+pub root_of-requires : goal.root_of-requires
+root_of-requires c =
     loaded_spelled (basis_of c.in-Ok-Some.basis)
     (subst (λ (o : Option Basis). ComesTo c.args.load (Loaded (loaded_basis o))) c.in-Ok-Some.field-0-is c.in-Ok-Some.ensures)

@@ -6,5 +6,5 @@ use Rattle.tree_trials.proofs.snapshots.growing.Grown.snapshot_with.Goals as goa
 
 pub make-requires : goal.make-requires
 make-requires c =
-    let few = subst (λ (t : Tree). length t.inodes ≤ 134217728) (sym c.self.view_is) (c.in_ok-has_few.ensures c.if-not-branch.false) in
+    let few = subst (λ (t : Tree). length t.inodes ≤ 134217728) (sym c.self.view_is) (c.has_few.ensures c.if-not-has_few.false) in
     grown_spelled c.self.inside.count c.self.inside.tree c.self.invariant few c.args.root.now.front (option_map rank_of c.args.root.now.tide) c.requires.front c.requires.tide

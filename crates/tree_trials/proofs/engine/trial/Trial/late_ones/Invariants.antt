@@ -1,6 +1,6 @@
 use Rattle.log_records.specs.Records.{records_of}
 use Rattle.record_sets.specs.Rows.{IsRow}
-use Rattle.tree_trials.proofs.engine.trial.Trial.absorb.Given as goal
+use Rattle.tree_trials.proofs.engine.trial.Trial.late_ones.Given as goal
 
 abbrev pub invariant-places : goal.invariant-places
-invariant-places g l = IsRow (records_of l.row.items)
+invariant-places l = IsRow (records_of l.row.items)
