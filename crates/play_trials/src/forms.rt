@@ -1,73 +1,62 @@
 //! The forms of a script's lines.
 
-use ivy_base::Memory;
-use std::alloc::Global;
+use crate::text::Text;
+use crate::words::Words;
 
-/// Puts the line, or what its form stands for, behind the script. A form with a word that it can't have stands for
-/// nothing.
-pub fn put_line(alloc: Global, script: &mut Vec<u8>, line: &str) -> Result<(), Memory> {
-    let words = match line.split_once(' ') {
-        Some((form, rest)) => (form, rest),
-        None => (line, ""),
-    };
-    match words {
-        ("@bytes", digits) => {
-            let bytes = hex::decode(alloc, digits).unwrap_or(Vec::new(alloc));
-            script.extend_from_slice(bytes.as_slice())?;
-            script.push(b'\n')?;
-        }
-        ("@long", rest) => {
-            let (length, text) = numbered(rest);
-            script.extend_from_slice(text.as_bytes())?;
-            for _ in text.len()..length as usize {
-                script.push(b'x')?;
-            }
-            script.push(b'\n')?;
-        }
-        ("@lines", rest) => {
-            let (count, text) = numbered(rest);
-            for number in 0..count {
-                put_numbered(alloc, script, number, text)?;
-            }
-        }
+/// Puts the line, or what its form stands for, behind the script. A script with a word that its form can't have isn't whole.
+pub fn put_line(script: &mut Text, line: &str) {
+    let mut words = Words::new(script.alloc, line);
+    match words.word() {
+        "@bytes" => put_bytes(script, &mut words),
+        "@long" => put_long(script, &mut words),
+        "@lines" => put_lines(script, &mut words),
         _ => {
-            script.extend_from_slice(line.as_bytes())?;
-            script.push(b'\n')?;
+            script.add(line);
+            script.byte(b'\n');
         }
     }
-    Ok(())
+    script.note(words.are_fine());
 }
 
-/// A number, and the text behind it.
-fn numbered(words: &str) -> (u32, &str) {
-    match words.split_once(' ') {
-        Some((number, text)) => (number.parse().unwrap_or(0), text),
-        None => (0, words),
+/// Puts a line of those bytes.
+fn put_bytes(script: &mut Text, words: &mut Words<'_>) {
+    script.bytes(words.bytes().as_slice());
+    script.byte(b'\n');
+}
+
+/// Puts a text, filled to that length.
+fn put_long(script: &mut Text, words: &mut Words<'_>) {
+    let length = words.number() as usize;
+    let text = words.rest();
+    script.add(text);
+    for _ in text.len()..length {
+        script.byte(b'x');
+    }
+    script.byte(b'\n');
+}
+
+/// Puts so many lines, each with its number.
+fn put_lines(script: &mut Text, words: &mut Words<'_>) {
+    let count = words.number();
+    let text = words.rest();
+    for number in 0..count {
+        put_numbered(script, number, text);
     }
 }
 
-/// Puts the line of that number behind the script.
-fn put_numbered(
-    alloc: Global,
-    script: &mut Vec<u8>,
-    number: u32,
-    text: &str,
-) -> Result<(), Memory> {
+/// Puts the line of that number.
+fn put_numbered(script: &mut Text, number: u32, text: &str) {
     let mut bits = number;
     let mut others = !number;
     for &byte in text.as_bytes() {
         match byte {
-            b'#' => {
-                let digits = format!(in alloc; "{number}")?;
-                script.extend_from_slice(digits.as_bytes())?;
-            }
-            b'?' => script.push(next_bit(&mut bits))?,
-            b'!' => script.push(next_bit(&mut others))?,
-            _ => script.push(byte)?,
+            b'#' => script.count("", u64::from(number)),
+            b'?' => script.byte(next_bit(&mut bits)),
+            b'!' => script.byte(next_bit(&mut others)),
+            _ => script.byte(byte),
         }
     }
-    script.push(b'\n')?;
-    Ok(())
+    script.byte(b'\n');
 }
 
 /// Takes the lowest bit of a number away, and gives its digit.

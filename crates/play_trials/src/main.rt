@@ -1,5 +1,9 @@
-//! Plays the scripts of the standard input, each as [`ivy_play::play`] plays it over a source and a sink, and tells what
-//! was written and the status that it ended with.
+//! Plays scripts, and runs sessions and fetches, as the lines of the standard input say. A line `== FAMILY` begins a family anew,
+//! where no script has begun, and the lines behind it are of that; at first it is `scripts`. `no answer` stands for a line that is
+//! none of its family's, of which a part may have been done, and for want of memory.
+//!
+//! Of `== scripts`: each script is played as [`ivy_play::play`] plays it over a source and a sink, and what was written is told,
+//! and the status that it ended with.
 //!
 //! A line that begins with `----` ends a script, and says behind it how the script is played:
 //!
@@ -24,31 +28,77 @@
 //!
 //! The answers of the stored run are written by hand from the rules of scripts and RFC 1813, but for the replies that
 //! stand there whole: these, and the lengths and SHA-1s, are those of a model of the program in another language.
+//!
+//! Of `== sessions`: calls of agents that nobody shares, one session after the other, and fetches of the logs of a view, over a
+//! table of nodes in memory. Each line says something of the table, of those who write logs, by their numbers, which are given from 1
+//! on, or of who fetches, or asks for a session or a fetch:
+//!
+//! - `start R N`: N nodes, numbered from 0, that own every key in this order, and hold nothing; as many answers as R are
+//!   enough for a get or a put; nobody writes a log, and nobody fetches
+//! - `owners N ..`: from now on every node says that these own every key, in this order
+//! - `silent N ..`: these nodes alone answer nothing from now on
+//! - `lost KEY ..`: a put under these keys alone is answered nothing from now on
+//! - `at N KEY BYTES`: the node gives these bytes under the key, `-` for their name
+//! - `log WHO SEC NSEC ID SEED SETS`: that number, the next one, opens a log at that moment, by a key such as `w4h5`
+//! - `enter WHO MEMBER ..`: its agent enters the view of these members' logs
+//! - `empty WHO`: its cache is emptied
+//! - `call WHO SEC NSEC MESSAGE`: a session of its agent with that message, whose turn is at that moment
+//! - `publish WHO`: a session that only publishes
+//! - `pending WHO`: what its agent has still to publish
+//! - `view LOG ..`, `view LOG .. former LOG ..`: whose logs are fetched from now on, by who knows nothing and has nothing at hand; a
+//!   log is written as two digits, the byte that its key repeats
+//! - `own LOG`: who fetches
+//! - `hand BYTES`: the block is at hand to who fetches, and is given where it is wanted
+//! - `floor KEY NUMBER NAME ..`, `held KEY NUMBER NAME ..`: the newest records that were known, and those that are held,
+//!   by their logs' head keys
+//! - `edge LOG KEY NUMBER NAME ..`: what the held record of that log cites
+//! - `fetch`: the fetch: each ask, `given` for each block that was at hand, then the chains that came, with the number of the
+//!   first record and the number and the name of the last, then the notes, and how it ended
+//!
+//! A session tells each ask, with the node's number and what it answers: `route`, `get`, `put` and `head`, the put of a head,
+//! with the record's number and name; `turn`; `settle`, with the keys of what was
+//! acknowledged; `cut`, where its publishing ended for want of memory; then how it ended, and what was noted. There is no answer
+//! for a view that isn't entered, for a caller in no view, and for a fetch that may not begin. Empty lines and those that begin with `#` say
+//! what comes.
+//!
+//! The answers of the stored run are those of a model in another language, written from the rules alone.
 #![tactic(auto)]
 
 mod ends;
+mod families;
 mod forms;
 mod runs;
+mod sessions;
+mod text;
 mod told;
 mod trial;
+mod words;
 
+use families::Trials;
+use std::alloc::Global;
 use std::io;
 use std::io::Write;
-use trial::Trial;
+use text::Text;
 
-fn main(rt: HostRuntime) -> anyhow::Result<()> {
+/// Writes the answer to a line.
+fn write_answer<W: Write>(
+    out: &mut W,
+    trials: &mut Trials,
+    alloc: Global,
+    line: &str,
+) -> io::Result<()> {
+    let mut answer = Text::new(alloc);
+    trials.take(&mut answer, line);
+    out.write_all(answer.whole().unwrap_or(b"no answer\n".as_slice()))
+}
+
+fn main(rt: HostRuntime) -> io::Result<()> {
     let alloc = rt.alloc();
     let mut out = io::writer(&rt);
-    let mut trial = Trial::new(alloc);
+    let mut trials = Trials::new(alloc);
     for line in rt.lines(alloc) {
         let line = line?;
-        if line.as_str().starts_with("----") {
-            let told = trial.told(alloc, line.as_str())?;
-            out.write_all(told.as_slice())?;
-            trial = Trial::new(alloc);
-        } else {
-            trial.add(alloc, line)?;
-        }
+        write_answer(&mut out, &mut trials, alloc, line.as_str())?;
     }
     Ok(())
 }
