@@ -19,7 +19,7 @@ use std::marker::Brand;
 use std::sync::ledger::{Blank, Ledger};
 
 /// Turns of an agent that nobody shares: the pass is the agent.
-#[derive(Clone, Copy, Debug)]
+#[derive(Clone, Copy)]
 pub struct Single;
 
 impl<K: Keeper, S: Signs + Drop> Turns<K, S> for Single {

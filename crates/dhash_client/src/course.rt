@@ -25,11 +25,21 @@ pub(crate) enum Step {
 }
 
 /// A look-up of a key's owners, and the owners once they are found.
-#[derive(Drop)]
 pub(crate) struct Course {
     lookup: Lookup,
     replicas: u32,
     round: Option<Round>,
+}
+
+// Written out, so that whatever drops one calls this and isn't proved over all of its parts once more.
+impl Drop for Course {
+    fn drop(self) {
+        let Course {
+            lookup: _,
+            replicas: _,
+            round: _,
+        } = self;
+    }
 }
 
 impl Model for Course {

@@ -13,11 +13,21 @@ use std::marker::Model;
 
 /// A get of the content block whose name is the key (DHash; CFS, SOSP 2001, section 5.1): its course, the block once it
 /// was given, and the first node that gave another one.
-#[derive(Drop)]
 pub struct GetBlock {
     course: Course,
     found: Option<Bytes>,
     wrong: Option<Peer>,
+}
+
+// Written out, so that whatever drops one calls this and isn't proved over all of its parts once more.
+impl Drop for GetBlock {
+    fn drop(self) {
+        let GetBlock {
+            course: _,
+            found: _,
+            wrong: _,
+        } = self;
+    }
 }
 
 impl Model for GetBlock {

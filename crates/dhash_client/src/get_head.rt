@@ -18,12 +18,23 @@ use std::mem;
 /// A get of the heads that the owners hold under a log's head key (Ivy, OSDI 2002, section 3.2: DHash returns the
 /// log-head it holds): its course, what the judge said of the heads so far, and the first node that gave something
 /// else. A head that is the one before it once more isn't judged again.
-#[derive(Drop)]
 pub struct GetHead<J: Judge> {
     judge: Remembering<J>,
     course: Course,
     heads: Vec<Judged>,
     wrong: Option<Peer>,
+}
+
+// Written out, so that whatever drops one calls this and isn't proved over all of its parts once more.
+impl<J: Judge> Drop for GetHead<J> {
+    fn drop(self) {
+        let GetHead {
+            judge: _,
+            course: _,
+            heads: _,
+            wrong: _,
+        } = self;
+    }
 }
 
 impl<J: Judge> Model for GetHead<J> {

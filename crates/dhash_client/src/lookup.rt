@@ -17,13 +17,25 @@ const MOST_ASKS: usize = 512;
 /// A look-up of a key's owners (Chord, SIGCOMM 2001, section 4.3, by asks of the one that looks up): the nodes asked,
 /// the owners that the last answer named, the nodes still to ask, nearest to the key first, and the node that was
 /// asked and not yet heard.
-#[derive(Drop)]
 pub struct Lookup {
     key: Key,
     asked: Vec<Peer>,
     last: Option<Peers>,
     rest: VecDeque<Peer>,
     waiting: Option<Peer>,
+}
+
+// Written out, so that whatever drops one calls this and isn't proved over all of its parts once more.
+impl Drop for Lookup {
+    fn drop(self) {
+        let Lookup {
+            key: _,
+            asked: _,
+            last: _,
+            rest: _,
+            waiting: _,
+        } = self;
+    }
 }
 
 impl Model for Lookup {

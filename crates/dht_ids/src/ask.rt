@@ -104,7 +104,7 @@ pub enum StoreFault {
 }
 
 /// Which of the asks for data an ask is.
-#[derive(Clone, Copy, Debug, PartialEq, Eq)]
+#[derive(Clone, Copy, PartialEq, Eq)]
 pub enum AskKind {
     Route,
     Get,

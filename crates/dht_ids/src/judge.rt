@@ -8,7 +8,7 @@ ghost use Rattle.dht_ids.specs.declared.judge.Judged.{Judged};
 use ivy_base::Key;
 
 /// What a good head says: the record that is its log's newest.
-#[derive(Clone, Copy, Debug, PartialEq, Eq)]
+#[derive(Clone, Copy, PartialEq, Eq)]
 pub struct Judged {
     /// The record's number in its log. Of two heads under one key the one of the greater number is newer.
     pub seq: u32,

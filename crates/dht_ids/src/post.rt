@@ -41,7 +41,7 @@ impl Post {
 }
 
 /// The word that a put was acknowledged.
-#[derive(Clone, Copy, Debug, PartialEq, Eq)]
+#[derive(Clone, Copy, PartialEq, Eq)]
 pub struct Ack {
     /// The key under which the block was put.
     pub key: Key,

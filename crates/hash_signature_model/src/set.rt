@@ -4,7 +4,7 @@ ghost use Rattle.hash_signature_model.specs.Parameters.{ots_type, lms_type, top,
 use thiserror::Error;
 
 /// The Winternitz parameter w of a one-time signature: how many bits of a digest one chain signs.
-#[derive(Clone, Copy, Debug, PartialEq, Eq)]
+#[derive(Clone, Copy, PartialEq, Eq)]
 pub enum Width {
     /// LMOTS_SHA256_N32_W4.
     W4,
@@ -65,7 +65,7 @@ impl Width {
 }
 
 /// The height h of a signature tree.
-#[derive(Clone, Copy, Debug, PartialEq, Eq)]
+#[derive(Clone, Copy, PartialEq, Eq)]
 pub enum Height {
     /// LMS_SHA256_M32_H5: 32 leaves.
     H5,
@@ -106,7 +106,7 @@ impl Height {
 }
 
 /// The parameters of a signature tree.
-#[derive(Clone, Copy, Debug, PartialEq, Eq)]
+#[derive(Clone, Copy, PartialEq, Eq)]
 pub struct Set {
     /// The width of its one-time signatures.
     pub w: Width,

@@ -6,5 +6,5 @@ pub struct Key(pub [u8; 20]);
 
 /// The public key of a participant, in the 60 bytes that RFC 8554, section 6.1, gives a key of hierarchical
 /// signatures. Keys are ordered by their bytes.
-#[derive(Clone, Copy, Debug, PartialEq, Eq, PartialOrd, Ord)]
+#[derive(Clone, Copy, PartialEq, Eq, PartialOrd, Ord)]
 pub struct PubKey(pub [u8; 60]);

@@ -10,7 +10,7 @@ use std::alloc::Global;
 use std::marker::Model;
 
 /// Which save is to fail, and what it leaves.
-#[derive(Clone, Copy, Debug, PartialEq, Eq)]
+#[derive(Clone, Copy, PartialEq, Eq)]
 pub struct Leave {
     /// The number of the save from now on: the next one is 1, and 0 names none.
     pub call: u64,
@@ -19,7 +19,7 @@ pub struct Leave {
 }
 
 /// A save that is to fail, by its number among all saves.
-#[derive(Clone, Copy, Debug)]
+#[derive(Clone, Copy)]
 pub struct Planned {
     /// Its number, the first save of all being 1.
     pub number: u128,

@@ -9,7 +9,7 @@ ghost use Rattle.lms_core.specs.Readers.{Gives, fields_of};
 use hash_signature_model::{Height, LmsFault, PublicKey, Set, Width};
 
 /// The parts of a signature, which lie in its bytes.
-#[derive(Clone, Copy, Debug)]
+#[derive(Clone, Copy)]
 pub struct SignatureParts<'a> {
     /// The leaf's number q.
     pub leaf: u32,

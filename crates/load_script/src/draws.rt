@@ -14,7 +14,7 @@ const INCREMENT: u64 = 1_442_695_040_888_963_407;
 const LOW_BITS: u32 = 33;
 
 /// The draws of a linear congruence modulo 2^64, which contracts see as its state.
-#[derive(Debug, Drop)]
+#[derive(Drop)]
 pub struct Draws {
     state: u64,
 }

@@ -7,7 +7,6 @@ use version_vectors::Vector;
 use view_blocks::View;
 
 /// The agent as a session began with it. Contracts see it as the standing of the definitions (`specs/Standings.antt`).
-#[derive(Drop)]
 pub struct Standing {
     /// The view that the agent is in.
     pub view: View,
@@ -23,4 +22,19 @@ pub struct Standing {
     pub basis: Option<Key>,
     /// The blocks that the agent still has to put.
     pub pending: Posts,
+}
+
+// Written out, so that whatever drops one calls this and isn't proved over all of its parts once more.
+impl Drop for Standing {
+    fn drop(self) {
+        let Standing {
+            view: _,
+            own: _,
+            held: _,
+            floor: _,
+            edges: _,
+            basis: _,
+            pending: _,
+        } = self;
+    }
 }

@@ -22,7 +22,7 @@ const MAGIC: [u8; 4] = *b"IVH1";
 const LONGEST_SIGNATURE: u32 = 16_000;
 
 /// The head of a log: its newest record, which the owner signs. Its block is at most 16,092 bytes.
-#[derive(Clone, Copy, Debug)]
+#[derive(Clone, Copy)]
 pub struct Head<'a> {
     /// The public key of the log's owner.
     pub owner: PubKey,

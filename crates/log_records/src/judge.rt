@@ -13,7 +13,7 @@ use ivy_base::{Key, head_key};
 ///
 /// It takes the bytes exactly where they are a head ([`Head::read`]), the key is the SHA-1 of its public key, and
 /// its signature is empty.
-#[derive(Clone, Copy, Debug, PartialEq, Eq)]
+#[derive(Clone, Copy, PartialEq, Eq)]
 pub struct PlainJudge;
 
 impl Judge for PlainJudge {

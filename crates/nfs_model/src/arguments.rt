@@ -65,7 +65,6 @@ pub enum Node {
 /// `object`, `dir`, `file` and `link` are file handles (section 2.5, nfs_fh3), of at most 64 bytes; names and the
 /// texts of symbolic links are of at most 4,096 bytes. Nothing else is looked at here: whether a handle or a name
 /// is good is for the procedures. `ArgumentsFit` has the bounds.
-#[derive(Drop)]
 pub enum Args {
     /// NULL (3.3.0): nothing.
     Null,
@@ -205,4 +204,91 @@ pub enum Args {
     UmntAll,
     /// EXPORT (5.2.5): which paths there are.
     Export,
+}
+
+// Written out, so that whatever drops one calls this and isn't proved over all of its parts once more.
+impl Drop for Args {
+    fn drop(self) {
+        match self {
+            Args::GetAttr { object: _ } => {}
+            Args::SetAttr {
+                object: _,
+                what: _,
+                guard: _,
+            } => {}
+            Args::Lookup { dir: _, name: _ } => {}
+            Args::Access { object: _, bits: _ } => {}
+            Args::ReadLink { link: _ } => {}
+            Args::Read {
+                file: _,
+                offset: _,
+                count: _,
+            } => {}
+            Args::Write {
+                file: _,
+                offset: _,
+                count: _,
+                stable: _,
+                bytes: _,
+            } => {}
+            Args::Create {
+                dir: _,
+                name: _,
+                how: _,
+            } => {}
+            Args::MkDir {
+                dir: _,
+                name: _,
+                what: _,
+            } => {}
+            Args::SymLink {
+                dir: _,
+                name: _,
+                what: _,
+                text: _,
+            } => {}
+            Args::MkNod {
+                dir: _,
+                name: _,
+                node: _,
+            } => {}
+            Args::Remove { dir: _, name: _ } => {}
+            Args::RmDir { dir: _, name: _ } => {}
+            Args::Rename {
+                dir: _,
+                name: _,
+                to_dir: _,
+                to_name: _,
+            } => {}
+            Args::Link {
+                file: _,
+                dir: _,
+                name: _,
+            } => {}
+            Args::ReadDir {
+                dir: _,
+                cookie: _,
+                verifier: _,
+                count: _,
+            } => {}
+            Args::ReadDirPlus {
+                dir: _,
+                cookie: _,
+                verifier: _,
+                dircount: _,
+                maxcount: _,
+            } => {}
+            Args::FsStat { object: _ } => {}
+            Args::FsInfo { object: _ } => {}
+            Args::PathConf { object: _ } => {}
+            Args::Commit {
+                file: _,
+                offset: _,
+                count: _,
+            } => {}
+            Args::Mnt { path: _ } => {}
+            Args::Umnt { path: _ } => {}
+            Args::Null | Args::MountNull | Args::Dump | Args::UmntAll | Args::Export => {}
+        }
+    }
 }

@@ -163,7 +163,6 @@ impl Page {
 /// The result of a procedure (RFC 1813, sections 3.3 and 5.2), from its status on.
 ///
 /// Attributes are `None` where they aren't given (post_op_attr). The file handles have 44 bytes.
-#[derive(Drop)]
 pub enum Reply {
     /// No result: NULL (3.3.0), and NULL, UMNT and UMNTALL of MOUNT.
     Nothing,
@@ -264,4 +263,54 @@ pub enum Reply {
     NoMounts,
     /// EXPORT (5.2.5): the path `/` alone, for all.
     Exports,
+}
+
+// Written out, so that whatever drops one calls this and isn't proved over all of its parts once more.
+impl Drop for Reply {
+    fn drop(self) {
+        match self {
+            Reply::Refused { status: _, tail: _ } => {}
+            Reply::Attributes { object: _ } => {}
+            Reply::Changed { cache: _ } => {}
+            Reply::Found {
+                handle: _,
+                object: _,
+                dir: _,
+            } => {}
+            Reply::Allowed { object: _, bits: _ } => {}
+            Reply::Text { link: _, text: _ } => {}
+            Reply::Bytes {
+                file: _,
+                count: _,
+                eof: _,
+                bytes: _,
+            } => {}
+            Reply::Written { cache: _, count: _ } => {}
+            Reply::Made {
+                handle: _,
+                object: _,
+                cache: _,
+            } => {}
+            Reply::Renamed { from: _, to: _ } => {}
+            Reply::Linked { file: _, cache: _ } => {}
+            Reply::Committed { cache: _ } => {}
+            Reply::Directory {
+                dir: _,
+                verifier: _,
+                page: _,
+                eof: _,
+            } => {}
+            Reply::DirectoryPlus {
+                dir: _,
+                verifier: _,
+                page: _,
+                eof: _,
+            } => {}
+            Reply::Space { object: _ } => {}
+            Reply::Limits { object: _ } => {}
+            Reply::Paths { object: _ } => {}
+            Reply::Mounted { handle: _ } => {}
+            Reply::Nothing | Reply::NoSuchPath | Reply::NoMounts | Reply::Exports => {}
+        }
+    }
 }

@@ -1,5 +1,5 @@
 /// How a block that is held was put.
-#[derive(Clone, Copy, Debug, PartialEq, Eq)]
+#[derive(Clone, Copy, PartialEq, Eq)]
 pub enum Kind {
     /// As content, under the SHA-1 of its bytes.
     Content,

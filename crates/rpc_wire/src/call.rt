@@ -33,7 +33,7 @@ const MOST_GROUPS: u32 = 16;
 const NOBODY: u32 = 65_534;
 
 /// Who calls: a user, its group, and `count` further groups, at most 16.
-#[derive(Clone, Copy, Debug, PartialEq, Eq)]
+#[derive(Clone, Copy, PartialEq, Eq)]
 pub struct Caller {
     pub uid: u32,
     pub gid: u32,
@@ -42,7 +42,7 @@ pub struct Caller {
 }
 
 /// A call (RFC 5531, section 9, call_body). The verifier isn't kept, and of the credential the caller alone.
-#[derive(Clone, Copy, Debug)]
+#[derive(Clone, Copy)]
 pub struct Call<'a> {
     pub xid: u32,
     pub program: u32,
@@ -55,7 +55,7 @@ pub struct Call<'a> {
 }
 
 /// What a message is.
-#[derive(Clone, Copy, Debug)]
+#[derive(Clone, Copy)]
 pub enum Heading<'a> {
     /// A call of RPC version 2.
     Good(Call<'a>),
@@ -66,7 +66,7 @@ pub enum Heading<'a> {
 }
 
 /// How a caller shows who it is (section 8.2, opaque_auth).
-#[derive(Clone, Copy, Debug)]
+#[derive(Clone, Copy)]
 pub struct Credential<'a> {
     pub flavour: u32,
     pub body: &'a [u8],

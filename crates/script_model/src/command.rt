@@ -171,7 +171,6 @@ impl Names {
 }
 
 /// What a line of a script asks for.
-#[derive(Drop)]
 pub enum Command {
     /// `ring N R`: makes so many nodes that keep so many replicas.
     Ring {
@@ -272,4 +271,60 @@ pub enum Command {
     Nothing,
     /// `end`: ends the run.
     End,
+}
+
+// Written out, so that whatever drops one calls this and isn't proved over all of its parts once more.
+impl Drop for Command {
+    fn drop(self) {
+        match self {
+            Command::Ring {
+                nodes: _,
+                replicas: _,
+            } => {}
+            Command::Log {
+                log: _,
+                id: _,
+                seed: _,
+                sets: _,
+            } => {}
+            Command::View {
+                view: _,
+                members: _,
+                former: _,
+            } => {}
+            Command::Use { log: _, view: _ } => {}
+            Command::At { sec: _, nsec: _ } => {}
+            Command::As { log: _, pieces: _ } => {}
+            Command::Open {
+                session: _,
+                log: _,
+                pieces: _,
+            } => {}
+            Command::Step {
+                session: _,
+                count: _,
+            } => {}
+            Command::Finish { session: _ } => {}
+            Command::Join { node: _ } => {}
+            Command::Stop { node: _ } => {}
+            Command::Lose { count: _ } => {}
+            Command::Damage {
+                node: _,
+                key: _,
+                offset: _,
+                byte: _,
+            } => {}
+            Command::Snap { log: _ } => {}
+            Command::Restart { log: _ } => {}
+            Command::Keep {
+                log: _,
+                count: _,
+                new: _,
+            } => {}
+            Command::Holds { node: _ } => {}
+            Command::Order { log: _ } => {}
+            Command::Work { log: _ } => {}
+            Command::Round | Command::Nothing | Command::End => {}
+        }
+    }
 }

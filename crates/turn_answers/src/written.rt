@@ -21,7 +21,7 @@ use version_vectors::{Entry, Vector};
 const NO_NAME: Key = Key([0; 20]);
 
 /// A record by which others stand: the newest one of a log.
-#[derive(Clone, Copy, Debug)]
+#[derive(Clone, Copy)]
 pub struct Before {
     /// Its number.
     pub seq: u32,

@@ -14,7 +14,7 @@ use std::cmp::Ordering;
 use xdr_codec::{XdrRead, XdrWrite};
 
 /// A log, and the newest of its records that is known (Ivy: an entry of a version vector).
-#[derive(Clone, Copy, Debug, PartialEq, Eq)]
+#[derive(Clone, Copy, PartialEq, Eq)]
 pub struct Entry {
     /// The log's head key.
     pub log: Key,

@@ -8,7 +8,7 @@ ghost use Rattle.version_vectors.specs.Ranks.{IsOrderOfRanks, OnlyEqualRanksTie}
 use ivy_base::PubKey;
 
 /// What the order of records goes by: ranks are ordered by weight, then by the owner's public key, and then by number.
-#[derive(Clone, Copy, Debug, PartialEq, Eq, PartialOrd, Ord)]
+#[derive(Clone, Copy, PartialEq, Eq, PartialOrd, Ord)]
 pub struct Rank {
     /// The record's number and those of its vector.
     pub weight: u64,

@@ -13,7 +13,7 @@ use std::marker::Model;
 ///
 /// Each call either takes its item from the front, or answers the first fault that it meets and takes nothing.
 /// It takes no memory: data lies in the bytes that are read, so a count that no bytes stand behind costs nothing.
-#[derive(Clone, Debug, Drop)]
+#[derive(Clone, Drop)]
 pub struct XdrRead<'a> {
     rest: &'a [u8],
 }
