@@ -113,7 +113,6 @@ pub enum AskKind {
 }
 
 /// An ask for data and what was heard of it: an entry of a trail.
-#[derive(Drop)]
 pub struct Heard {
     /// The node that was asked.
     pub node: Peer,
@@ -125,6 +124,19 @@ pub struct Heard {
     pub put: Option<Key>,
     /// The answer.
     pub got: Answer,
+}
+
+// Written out, so that whatever drops one calls this and isn't proved over all of its parts once more.
+impl Drop for Heard {
+    fn drop(self) {
+        let Heard {
+            node: _,
+            kind: _,
+            key: _,
+            put: _,
+            got: _,
+        } = self;
+    }
 }
 
 /// What a machine wants next: that a node is asked, or nothing more, since it has its result.

@@ -6,7 +6,6 @@ use ivy_base::Bytes;
 use version_vectors::Vector;
 
 /// What a turn gives.
-#[derive(Drop)]
 pub struct Turned {
     /// The result's bytes, from its status on.
     pub reply: Bytes,
@@ -16,6 +15,18 @@ pub struct Turned {
     pub front: Vector,
     /// How many records were applied.
     pub applied: u64,
+}
+
+// Written out, so that whatever drops one calls this and isn't proved over all of its parts once more.
+impl Drop for Turned {
+    fn drop(self) {
+        let Turned {
+            reply: _,
+            posts: _,
+            front: _,
+            applied: _,
+        } = self;
+    }
 }
 
 /// Why a turn answered nothing. What begins anew has the agent's standing then, without a snapshot.

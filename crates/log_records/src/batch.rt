@@ -34,11 +34,21 @@ pub struct Chain {
 /// Each chain is linked by name from its judged head's record down to the held record of its log, or to the log's first
 /// record where none is held; and where the floor is above what is held of the log, the floor's record is one of the
 /// chain's. A batch doesn't know under which view its chains were added.
-#[derive(Drop)]
 pub struct Batch {
     held: Vector,
     floor: Vector,
     chains: Vec<Chain>,
+}
+
+// Written out, so that whatever drops one calls this and isn't proved over all of its parts once more.
+impl Drop for Batch {
+    fn drop(self) {
+        let Batch {
+            held: _,
+            floor: _,
+            chains: _,
+        } = self;
+    }
 }
 
 impl Model for Batch {
@@ -116,6 +126,11 @@ impl Batch {
         ensures chains { chains_of result.items ≡ self.chains }
         ensures legal { IsBatch self }
     {
-        self.chains
+        let Batch {
+            held: _,
+            floor: _,
+            chains,
+        } = self;
+        chains
     }
 }
