@@ -1,8 +1,8 @@
 //! What the procedures of NFS version 3 ask of an object: its handle, its attributes, who may do what with it, and
 //! whether a name may stand in it (RFC 1813, section 2.5).
 //!
-//! Layer: above `fs_tree`, `view_blocks` and `rpc_wire`, and below the crates that answer and plan (`nfs3_pages`,
-//! `nfs3_reads`, `nfs3_writes`).
+//! Layer: above `fs_tree`, `view_blocks` and `rpc_wire`, and below the crates that answer and plan (`nfs3_reads`,
+//! `nfs3_writes`).
 //! For the layers above: each function is the word of `nfs_model` that has its name (`specs/Objects.antt` and
 //! `specs/Checks.antt` there), of the tree, the view and the caller as contracts see these; [`bare_tail`] is `turn_model`'s.
 //! [`object_of`] finds the object of a handle or gives the handle's fault; a [`LiveObject`] is the object `seen` of

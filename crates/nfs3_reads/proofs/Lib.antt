@@ -1,1 +1,3 @@
 mod Parents
+pub mod Runs
+pub mod Replies

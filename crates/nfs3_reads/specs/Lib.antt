@@ -1,1 +1,4 @@
 pub mod ReadChecks
+pub mod Measures
+pub mod Places
+pub mod Names

@@ -1,5 +1,0 @@
-use Rattle.nfs3_pages.proofs.Runs.{behind_cookie}
-use Rattle.nfs3_pages.proofs.cuts.behind.Goals as goal
-
-pub returns : goal.returns
-returns c = behind_cookie c.args.all.now c.args.cookie _ c.min-before.ensures

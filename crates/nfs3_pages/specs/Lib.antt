@@ -1,3 +1,0 @@
-pub mod Measures
-pub mod Places
-pub mod Names

@@ -1,0 +1,21 @@
+use Rattle.std.proofs.Common.{◌≡◌, ◌∙◌, ◌+◌, ◌++◌, [], ◌∷◌, arith, None}
+use Rattle.nfs_model.specs.Pages.{listed}
+use Rattle.nfs3_reads.proofs.Runs.{one_listed, all_listed}
+use Rattle.nfs3_reads.proofs.page.plain_page.Goals as goal
+
+pub loop-name-preserved : goal.loop-name-preserved
+loop-name-preserved c =
+    let e = c.args.entries.now in
+    let cookie : c.loop-name.cookie + 1 ≡ e.before + c.loop-name.name-index + 1 = omega (arith, c.loop-name.invariant.counted) in
+    record {
+      counted = omega (arith, c.loop-name.invariant.counted);
+      so_far =
+          c.in_ok-push.ensures.items
+          ∙ (λ i. c.loop-name.page.items ++ record { fileid = c.leading_number.ensures i; name = c.in_ok-copy.ensures i; cookie = cookie i; attributes = None; handle = None } ∷ [])
+          ∙ one_listed listed e.before c.loop-name.name-index e.pairs.now c.loop-name-item.result c.loop-name.page.items c.loop-name-test.true c.loop-name-item.is c.loop-name.invariant.so_far;
+    }
+
+pub returns : goal.returns
+returns c =
+    let e = c.args.entries.now in
+    c.of.ensures ∙ all_listed listed e.before c.loop-name.name-index e.pairs.now c.loop-name.page.items c.loop-name-test.false c.loop-name.invariant.so_far
