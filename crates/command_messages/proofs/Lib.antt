@@ -1,3 +1,4 @@
 mod Groups
 mod LengthLemmas
 mod Pieces
+mod Forms

@@ -19,7 +19,7 @@ use ivy_session::Next;
 use log_fetch::{Refresh, TurnFault, Turned};
 use log_heads::HssJudge;
 use met_blocks::MetBlocks;
-use reply_parts::parts_of;
+use command_messages::parts_of;
 use ring_nodes::RingNodes;
 use script_participants::Participant;
 use std::alloc::Global;

@@ -1,5 +1,5 @@
 use Rattle.std.proofs.Common.{Ok, sym, ap, ◌∙◌, subst}
-use Rattle.reply_parts.specs.Reading.{GivesParts}
+use Rattle.command_messages.specs.Reading.{GivesParts}
 use Rattle.script_model.specs.Messages.{Given}
 use Rattle.session_steps.specs.Showing.{CallState}
 use Rattle.session_steps.proofs.Parts.{told_so}

@@ -2,10 +2,10 @@
 
 ghost use Rattle.std.specs.Prelude.{◌≡◌, IfOk, IfSome, MatchOption};
 ghost use Rattle.session_model.specs.Replies.{handle_given, verifier_given};
-ghost use Rattle.reply_parts.specs.Reading.{GivesParts, IsNoReply, IsReadFrom};
+ghost use Rattle.command_messages.specs.Reading.{GivesParts, IsNoReply, IsReadFrom};
 
 use crate::numbers::{procedure_number, program_number};
-use command_messages::ReplyParts;
+use crate::replies::ReplyParts;
 use ivy_base::{Bytes, Memory};
 use nfs_model::{Args, ArgsFault, Reply};
 use nfs3_replies::read_reply;

@@ -9,7 +9,7 @@ use Rattle.nfs_model.specs.Replies.{IsReplyTo, result_form_of, tail_form_of}
 use Rattle.nfs3_replies.specs.Reading.{IsProcedure, IsReply}
 use Rattle.nfs3_replies.specs.ReadParts.{result_form_for, tail_form_for}
 use Rattle.nfs3_replies.proofs.ReadAnswers.{forms_of}
-use Rattle.reply_parts.specs.Reading.{IsNoReply, IsReadFrom}
+use Rattle.command_messages.specs.Reading.{IsNoReply, IsReadFrom}
 
 -- each call is of a procedure that there is
 pub is_procedure : (args : Args) → IsProcedure (program_of args) (procedure_of args)

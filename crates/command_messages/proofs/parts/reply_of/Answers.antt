@@ -2,8 +2,8 @@ use Rattle.std.proofs.Common.{ℕ, subst, sym}
 use Rattle.nfs_model.specs.Arguments.{procedure_of, program_of}
 use Rattle.nfs_model.specs.declared.replies.Reply.{Reply}
 use Rattle.nfs3_replies.specs.Reading.{IsReply, NoReply}
-use Rattle.reply_parts.proofs.Forms.{none_so, read_so}
-use Rattle.reply_parts.proofs.parts.reply_of.Goals as goal
+use Rattle.command_messages.proofs.Forms.{none_so, read_so}
+use Rattle.command_messages.proofs.parts.reply_of.Goals as goal
 
 pub returns-in-Ok : goal.returns-in-Ok
 returns-in-Ok c =
