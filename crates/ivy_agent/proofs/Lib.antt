@@ -31,3 +31,5 @@ pub mod Dropped
 pub mod Restarted
 pub mod Snapped
 pub mod Told
+pub mod Views
+pub mod Bounds

@@ -13,3 +13,4 @@ pub mod Taking
 pub mod Turns
 pub mod Restarting
 pub mod Snapping
+pub mod Calls

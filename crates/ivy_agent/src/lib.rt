@@ -24,6 +24,12 @@
 //! saved key, a block or a list has 2^32 parts or more, which no word counts, and in a turn where the front of what it took
 //! doesn't end in the own log where the floor does, which takes names that clash.
 //!
+//! [`Turns`] is what a session wants of its agent, by a pass: a standing, a turn, and the settling of what was published. Which
+//! agent a pass comes to may be open, as others may have been there before; each call is that call of one agent to which it may
+//! come, in the view that all these are in, and leaves that agent as the call does (`specs/Calls.antt`). With [`Single`] the pass
+//! is the agent itself. Lemmas to cite: `proofs/Views.antt` (a turn leaves an agent in its view), `proofs/Bounds.antt` (what a
+//! refresh brings may be given to a turn: the tree of a basis that was loaded has the bounds of an agent's).
+//!
 //! Always, whatever the names of blocks, holds `IsSound` (`specs/Holders.antt`): the front of what is held is kept; before a
 //! view nothing is held; in a view the held records are closed over the basis's front, the basis's tree has the bounds that
 //! records keep to (`specs/Bounds.antt`), and that front and the front of all that is held name logs of the view alone and go
@@ -56,10 +62,14 @@ mod outcome;
 mod posting;
 mod saving;
 mod settling;
+mod single;
 mod snapping;
 mod standing;
 mod taking;
+mod turns;
 pub mod writing;
 
 pub use agent::Agent;
 pub use fault::{EnterFault, MakeFault, RestartFault, SnapFault};
+pub use single::Single;
+pub use turns::Turns;

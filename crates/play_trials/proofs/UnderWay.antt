@@ -30,7 +30,7 @@ use Rattle.log_fetch.specs.declared.turned.TurnFault.{TurnFault}
 use Rattle.log_fetch.specs.declared.turned.TurnFault.TheVariants as fault
 use Rattle.log_fetch.specs.Edges.{edge_in}
 use Rattle.log_fetch.specs.Standings.{asked_of, refresh_of, standing_of}
-use Rattle.agent_turns.specs.Calls.{Stands}
+use Rattle.ivy_agent.specs.Calls.{Stands}
 use Rattle.ivy_agent.specs.Answering.{IsCall}
 use Rattle.ivy_agent.specs.Holders.{Holder}
 use Rattle.ivy_agent.specs.Turns.{IsFetchedIn, TakesTurn}
@@ -43,7 +43,7 @@ use Rattle.ivy_session.specs.Stepping.HeardIs.{hears, lacks_memory as hearing_la
 use Rattle.ivy_session.specs.Stepping.IsRefused.{begins_anew, lacks_memory as refused_lacks, gives_up}
 use Rattle.ivy_session.specs.Stepping.NextIs.{asks, asks_again, turns, settles, is_over, lacks_memory, is_cut, is_unrouted}
 use Rattle.play_trials.specs.UnderWay.{GoesOn, IsUnderWay, MayWant}
-use Rattle.agent_turns.proofs.Bounds.{bounds_in}
+use Rattle.ivy_agent.proofs.Bounds.{bounds_in}
 use Rattle.play_trials.proofs.SameStanding.{failed_same, heard_same, lacking_same, taken_same}
 
 true_or_false : true ≡ false → ⊥

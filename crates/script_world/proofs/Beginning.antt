@@ -14,7 +14,7 @@ use Rattle.world_model.specs.Logs.{LogLine, Played, fresh_signer, newcomer}
 use Rattle.world_model.specs.Logs.LogLine.{before_ring, known}
 use Rattle.world_model.specs.Steps.{met_by}
 use Rattle.world_model.specs.World.{Participant, World, participant}
-use Rattle.met_blocks.specs.MetState.{AreMet, MetState}
+use Rattle.session_steps.specs.MetState.{AreMet, MetState}
 use Rattle.script_participants.specs.ParticipantState.{HasParticipants, ParticipantState, state_of}
 use Rattle.script_world.specs.Newcomers.{HasNewcomer}
 use Rattle.script_world.specs.PartsState.{HasParts, PartsState}

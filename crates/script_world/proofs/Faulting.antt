@@ -8,7 +8,7 @@ use Rattle.world_model.specs.Faults.{damage_by, lose_line}
 use Rattle.world_model.specs.Nodes.{Node}
 use Rattle.world_model.specs.Ring.{stop_line}
 use Rattle.world_model.specs.World.{World, meets}
-use Rattle.met_blocks.specs.MetState.{AreMet, MetState}
+use Rattle.session_steps.specs.MetState.{AreMet, MetState}
 use Rattle.ring_nodes.specs.NodesState.{NodesState, node_of, with_nodes}
 use Rattle.ring_nodes.specs.Spoiling.{damaged_world}
 use Rattle.script_world.specs.PartsState.{GoesOn, HasParts, PartsState}

@@ -7,7 +7,7 @@ use Rattle.ivy_base.specs.declared.memory.Memory.{Memory}
 use Rattle.log_heads.specs.Signed.{hss_judged}
 use Rattle.ring_nodes.specs.NodesState.{NodesState, with_nodes}
 use Rattle.ring_nodes.proofs.Places.{none_found}
-use Rattle.met_blocks.specs.MetState.{MetState}
+use Rattle.session_steps.specs.MetState.{MetState}
 use Rattle.world_model.specs.World.{Participant, World, participant, with_participant}
 use Rattle.world_model.specs.Steps.{RunsOut, Scene, StepsOn}
 use Rattle.world_model.specs.Steps.RunsOut.{is_over as runs_over, more as runs_more}

@@ -13,3 +13,6 @@ pub mod Sent
 pub mod Going
 pub mod Published
 pub mod Returning
+pub mod Apart
+pub mod Sorting
+pub mod Passing

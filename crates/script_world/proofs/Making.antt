@@ -16,13 +16,13 @@ use Rattle.world_model.specs.Agents.{own}
 use Rattle.world_model.specs.Logs.{Played, ViewLine, acked_view, is_too_large, keys_of, with_view}
 use Rattle.world_model.specs.Logs.ViewLine.{exceeds, makes, no_former, no_members, one_head_key}
 use Rattle.world_model.specs.World.{NamedView, Participant, World, empty_world, meets, participant, view_named}
-use Rattle.met_blocks.specs.MetState.{AreMet, MetState}
+use Rattle.session_steps.specs.MetState.{AreMet, MetState}
 use Rattle.ring_nodes.specs.Looking.{PutsSo}
 use Rattle.ring_nodes.specs.NodesState.{IsNodesOf, NodesState, with_nodes}
 use Rattle.script_participants.specs.ParticipantState.{HasParticipants, ParticipantState, state_of}
-use Rattle.script_views.specs.Made.{IsMade, view_of_keys}
-use Rattle.script_views.specs.declared.making.Made.{Made}
-use Rattle.script_views.specs.declared.making.Made.TheVariants as made
+use Rattle.script_world.specs.Made.{IsMade, view_of_keys}
+use Rattle.script_world.specs.declared.making.Made.{Made}
+use Rattle.script_world.specs.declared.making.Made.TheVariants as made
 use Rattle.script_world.specs.PartsState.{AreKept, GoesOn, HasParts, PartsState}
 use Rattle.script_world.specs.Views.{MakesOf, PutsView}
 

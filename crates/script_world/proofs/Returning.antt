@@ -18,7 +18,7 @@ use Rattle.world_laws.specs.Keeps.{IsKeptSo, IsSavedWell, Keeps}
 use Rattle.world_laws.proofs.Bringing.{found_named}
 use Rattle.world_laws.proofs.ExistingLines.{restart_line}
 use Rattle.world_laws.proofs.KeptBytes.{kept_once}
-use Rattle.met_blocks.specs.MetState.{AreMet, MetState}
+use Rattle.session_steps.specs.MetState.{AreMet, MetState}
 use Rattle.ring_nodes.proofs.Places.{none_found}
 use Rattle.script_participants.specs.declared.end.RestartEnd.{RestartEnd}
 use Rattle.script_participants.specs.declared.end.RestartEnd.TheVariants as end

@@ -6,3 +6,4 @@ pub mod Held
 pub mod Ends
 pub mod Running
 pub mod Starting
+pub mod Made

@@ -8,7 +8,7 @@ use Rattle.script_driver.specs.Run.{Outcome, Goes, Ends, Refuses, Exceeds}
 use Rattle.script_model.specs.Messages.{Given}
 use Rattle.world_model.specs.Logs.{Played}
 use Rattle.world_model.specs.World.{NamedView, Participant, World}
-use Rattle.met_blocks.specs.MetState.{AreMet, MetState}
+use Rattle.session_steps.specs.MetState.{AreMet, MetState}
 use Rattle.ring_nodes.specs.NodesState.{IsNodesOf, NodesState}
 use Rattle.script_participants.specs.ParticipantState.{AreNamedApart, HasParticipants, ParticipantState}
 

@@ -1,8 +1,7 @@
 //! A script's world but for its open sessions, the lines that need none, and how its sessions go on.
 //!
-//! Layer: over the nodes of `ring_nodes`, the rounds of `ring_rounds`, the participants of `script_participants`, the views of
-//! `script_views`, the blocks of `met_blocks` and the calls of `session_steps`, by the definitions of `world_model`; below the
-//! world that has sessions too.
+//! Layer: over the nodes of `ring_nodes`, the rounds of `ring_rounds`, the participants of `script_participants`, and the
+//! calls and met blocks of `session_steps`, by the definitions of `world_model`; below the world that has sessions too.
 //! For the layer above: contracts see [`Parts`] as `PartsState` (`specs/PartsState.antt`). What they say is about each world of the
 //! definitions that has these parts (`HasParts`): a line does in it what the definitions say, and the world after it has the parts
 //! then, and the same open sessions (`DoesIn`; `PlaysIn` of a world with its story). So it is with [`Parts::ring`],
@@ -17,6 +16,8 @@
 //! or all up to the end, from each scene under way in such a world (`IsSceneIn`), which lead to one whose world has the parts then
 //! and the same open sessions (`StepsOnIn`, `RunsOutIn`). [`Parts::publish`] is all that a participant publishes (`PublishesIn`), and
 //! [`Parts::take_reply`] what is left to later lines by a session that is over (`RepliesIn`).
+//! Within, `making` makes of public keys, in any order, the view of these keys in ascending order, or says why there is none
+//! (`specs/Made.antt`); that such a view may be made is proved in `world_laws` (`proofs/MadeViews.antt`), which the proofs here cite.
 //! Definitions: `specs/*.antt`, and `world_model`'s `specs/Logs.antt`, `specs/Ring.antt`, `specs/Rounds.antt` and
 //! `specs/Faults.antt`.
 //! Lemmas: `proofs/NamedIn.antt` (what a line names), `proofs/Keeping.antt` (a participant that is named and changed),
@@ -24,11 +25,13 @@
 //! `proofs/Sent.antt`, `proofs/Going.antt` and `proofs/Published.antt` (sessions that begin, go on, and only publish).
 //!
 //! Costs: a participant or a view is found by a walk over the names, and a node by a walk over the nodes. `holds` copies all
-//! blocks of the node.
+//! blocks of the node. Each key of a view is hashed once to see that its log stands once, and once more where the view is made;
+//! the keys are put in order by std's sort, in the rows that were given.
 #![tactic(auto)]
 
 mod faults;
 mod joining;
+mod making;
 mod naming;
 mod newcomers;
 mod parts;

@@ -5,9 +5,9 @@ ghost use Rattle.std.specs.List.{sum_by};
 
 use command_messages::ReplyParts;
 use ivy_base::{Bytes, Moment};
-use met_blocks::MetBlocks;
 use ring_nodes::RingNodes;
 use script_participants::Participants;
+use session_steps::MetBlocks;
 use std::alloc::Global;
 use std::marker::Model;
 use view_blocks::View;

@@ -2,11 +2,11 @@
 
 ghost use Rattle.std.specs.Prelude.{◌≡◌, ◌≢◌, ◌++◌, [], ◌∷◌, IfOk, OnOk};
 
+use crate::making::{Made, make_view};
 use crate::parts::{NamedView, Parts};
 use dht_ids::Judge;
 use ivy_base::{Bytes, Memory};
 use script_driver::Taken;
-use script_views::{Made, make_view};
 use std::alloc::Global;
 use view_blocks::View;
 

@@ -10,7 +10,7 @@ use Rattle.ivy_session.specs.declared.served.Served.{Served}
 use Rattle.ivy_session.specs.declared.session.Next.TheVariants as next
 use Rattle.ivy_session.specs.Left.{session_left}
 use Rattle.ring_nodes.specs.NodesState.{NodesState}
-use Rattle.met_blocks.specs.MetState.{MetState}
+use Rattle.session_steps.specs.MetState.{MetState}
 use Rattle.script_participants.specs.ParticipantState.{ParticipantState}
 use Rattle.session_steps.specs.Showing.{CallState, Shown, shown}
 use Rattle.session_steps.specs.Within.{HasAskedOf, HasNext, HasTurned, IsArm, Laws, left_to}

@@ -16,3 +16,5 @@ mod Begun
 mod Lines
 mod Parts
 mod Arms
+pub mod Members
+pub mod Meeting

@@ -18,7 +18,7 @@ use Rattle.ivy_session.specs.declared.session.Next.{Next}
 use Rattle.ivy_session.specs.Left.{LeavesNoMore, session_left}
 use Rattle.ivy_session.specs.States.{SessionState, asked_at, is_turning, session_awaited}
 use Rattle.ivy_session.specs.Stepping.{IsAnewFor, IsHeard, IsNext, IsTurned}
-use Rattle.met_blocks.specs.MetState.{MetState}
+use Rattle.session_steps.specs.MetState.{MetState}
 use Rattle.script_participants.specs.ParticipantState.{ParticipantState}
 use Rattle.script_participants.specs.Turning.{TakesTurn}
 use Rattle.session_steps.specs.Showing.{CallState, judges}

@@ -7,7 +7,7 @@ use Rattle.session_model.specs.Courses.{LacksMemory}
 use Rattle.ivy_session.specs.declared.served.Served.{Served}
 use Rattle.ivy_session.specs.States.{HasAsked, IsSession, SessionState, is_turning}
 use Rattle.ring_nodes.specs.NodesState.{IsNodesOf, with_nodes}
-use Rattle.met_blocks.specs.MetState.{AreMet}
+use Rattle.session_steps.specs.MetState.{AreMet}
 use Rattle.script_model.specs.Messages.{Given}
 use Rattle.script_participants.specs.ParticipantState.{state_of}
 use Rattle.world_model.specs.World.{Participant, World, participant, with_participant}

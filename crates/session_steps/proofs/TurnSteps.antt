@@ -70,7 +70,7 @@ use Rattle.world_laws.proofs.Frames.{into_map}
 use Rattle.session_steps.specs.Laws.{AgentsGiveTurns, BatchesAreFetched, GivesNothing, RefusalsAreFresh, RepliesAreRead, TurnsAreSteps, TurnsMayBe}
 use Rattle.session_steps.specs.Scenes.{GivesTurn, HadTurn, IsLeft, IsSceneOf, IsStep, MayLack, given_at, given_by, given_of, holder_of, memory_saves, turned_participant, turned_world}
 use Rattle.session_steps.specs.Scenes.IsLeft.{goes_on as left_on, lacks_memory as left_lacking, is_cut as left_cut}
-use Rattle.agent_turns.proofs.Bounds.{bounds_in}
+use Rattle.ivy_agent.proofs.Bounds.{bounds_in}
 use Rattle.session_steps.proofs.Read.{reply_of}
 use Rattle.session_steps.proofs.SceneSteps.{all_some, as_ring, found_then, keeps_then, lacking_gives, taken_same, twice_placed}
 

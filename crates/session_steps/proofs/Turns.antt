@@ -27,7 +27,7 @@ use Rattle.ivy_session.specs.declared.session.Stage.TheVariants as stage
 use Rattle.ivy_session.specs.States.{IsSession, SessionState, asked_at, is_turning}
 use Rattle.ivy_session.specs.Stepping.{IsNext, IsTurned, NextIs}
 use Rattle.ivy_session.specs.Stepping.NextIs.{turns}
-use Rattle.met_blocks.specs.MetState.{AreMet, MetState}
+use Rattle.session_steps.specs.MetState.{AreMet, MetState}
 use Rattle.script_model.specs.Messages.{Given}
 use Rattle.script_participants.specs.ParticipantState.{ParticipantState, counting, state_of}
 use Rattle.script_participants.specs.Turning.{HasTurn, TakesTurn, work_after}

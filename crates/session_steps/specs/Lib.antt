@@ -3,3 +3,4 @@ pub mod Laws
 pub mod Showing
 pub mod Ending
 pub mod Within
+pub mod MetState

@@ -9,7 +9,7 @@ use Rattle.log_fetch.specs.Standings.{notes_of}
 pub use Rattle.ivy_session.specs.declared.served.Served.{Served}
 use Rattle.ivy_session.specs.States.{HasAsked, IsSession, SessionState, is_turning, served_of}
 use Rattle.ring_nodes.specs.NodesState.{IsNodesOf, NodesState, with_nodes}
-use Rattle.met_blocks.specs.MetState.{AreMet, MetState}
+use Rattle.session_steps.specs.MetState.{AreMet, MetState}
 use Rattle.script_model.specs.Messages.{Given}
 use Rattle.script_participants.specs.ParticipantState.{ParticipantState, state_of}
 use Rattle.world_model.specs.Calls.{BeginsWith}

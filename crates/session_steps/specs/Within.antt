@@ -21,7 +21,7 @@ use Rattle.ivy_session.specs.Left.{LeavesNoMore, session_left}
 use Rattle.ivy_session.specs.States.{asked_at, is_turning, session_awaited}
 use Rattle.ivy_session.specs.Stepping.{IsHeard, IsNext, IsTurned}
 use Rattle.ring_nodes.specs.NodesState.{BringsOnly, IsNodesOf, NodesState, made_peers, with_nodes}
-use Rattle.met_blocks.specs.MetState.{AreMet, MetState}
+use Rattle.session_steps.specs.MetState.{AreMet, MetState}
 use Rattle.command_messages.specs.Reading.{GivesParts}
 use Rattle.script_participants.specs.ParticipantState.{ParticipantState, counting}
 use Rattle.script_participants.specs.Turning.{TakesTurn}

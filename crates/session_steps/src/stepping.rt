@@ -3,23 +3,23 @@
 ghost use Rattle.std.specs.Prelude.{◌≡◌, ◌≢◌, ◌≤◌, ◌<◌, true, false, None, length, Ok, Err, IfOk, IfErr, OnOk};
 ghost use Rattle.ivy_session.specs.States.{asked_at, is_told, is_turning, session_awaited};
 ghost use Rattle.ivy_session.specs.Stepping.{IsAnewFor};
-ghost use Rattle.met_blocks.specs.MetState.{MetState};
+ghost use Rattle.session_steps.specs.MetState.{MetState};
 ghost use Rattle.script_participants.specs.ParticipantState.{ParticipantState};
 ghost use Rattle.session_steps.specs.Showing.{HasScene, ManyStepsFrom, RunsOutFrom, StepsFrom, shown};
 ghost use Rattle.session_steps.specs.Within.{CountsAsMade, GivesOf, HasAskedOf, HasHeard, HasNext, HasTurned, IsArm, IsToldOf, Laws, MayAsk, MayTurn, TookTurn, left_to};
 
+use crate::MetBlocks;
 use crate::laws::{
     asked_nodes_are_made, asks_are_steps, done_is_over, replies_are_read, scenes_go_on,
     settlings_are_steps, turns_are_steps, turns_may_be,
 };
 use crate::open::OpenCall;
+use command_messages::parts_of;
 use dht_ids::{Answer, Ask, Peer};
 use ivy_base::{Memory, Moment, Steps};
 use ivy_session::Next;
 use log_fetch::{Refresh, TurnFault, Turned};
 use log_heads::HssJudge;
-use met_blocks::MetBlocks;
-use command_messages::parts_of;
 use ring_nodes::RingNodes;
 use script_participants::Participant;
 use std::alloc::Global;

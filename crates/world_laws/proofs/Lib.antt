@@ -131,3 +131,4 @@ mod FullScenes
 pub mod FullLines
 pub mod FullScripts
 pub mod MemoryDecided
+pub mod Messages

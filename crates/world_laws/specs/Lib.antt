@@ -3,6 +3,7 @@ pub mod Headline
 pub mod Keeps
 pub mod Kinds
 pub mod Laws
+pub mod Messages
 pub mod Frames
 pub mod Calm
 pub mod FullTurns

@@ -3,7 +3,7 @@
 //! Layer: laws, above `world_model` and `session_laws`; below the crates that play scripts.
 //! Statements, in reading order: `specs/Headline.antt` (each reply), `specs/Causes.antt` (why a session says what it
 //! says), `specs/Keeps.antt` (each world), `specs/Kinds.antt` (which lines are refused), `specs/Laws.antt` (steps and
-//! runs), `specs/FullTurns.antt` (turns that exist), `specs/FullRuns.antt` (the run in which memory is never wanting),
+//! runs), `specs/Messages.antt` (each message is one thing, and one thing becomes of it), `specs/FullTurns.antt` (turns that exist), `specs/FullRuns.antt` (the run in which memory is never wanting),
 //! `specs/Frames.antt` (what may change of a world that keeps what it should), `specs/Calm.antt` (rings that change
 //! little).
 //! For the layers above, of a session in a world that keeps what it should (`Keeps`), where names tell the blocks apart: a
@@ -53,6 +53,7 @@
 //! runs, so there are no costs.
 #![tactic(auto)]
 
+ghost use Rattle.world_laws.specs.Messages.{EachMessageBecomesOne, EachMessageIsOne};
 ghost use Rattle.world_laws.specs.Calm.{AreAny, RingStays};
 ghost use Rattle.world_laws.specs.Frames.{DamageLinesKeep, JoinLinesKeep, KeeperLinesKeep, LogLinesKeep, MildChangesKeep, MoreBlocksKeep, RestartLinesKeep, RingLinesKeep, RoundLinesKeep, StillLinesKeep, StopLinesKeep, UseLinesKeep, ViewLinesKeep};
 ghost use Rattle.world_laws.specs.FullRuns.{BytesCome, EmptyHasBytes, EmptyPublishesFew, FewPostsCome, FullLines, FullScripts, FullStarts, MemoryIsDecided, MessagesAreBytes, ThereIsRoom};
@@ -342,4 +343,11 @@ pub fn scripts_run_fully()
 /// met, or memory was wanting for a call, or names clash.
 pub fn memory_is_decided()
     ensures { MemoryIsDecided }
+{}
+
+/// A law and no code: each message is a call of one meaning, a call of another version of RPC, or no call; and in each view either
+/// it has one reply by itself, which may be none, or it asks one thing of a turn.
+pub fn messages_are_one()
+    ensures is { EachMessageIsOne }
+    ensures becomes { EachMessageBecomesOne }
 {}

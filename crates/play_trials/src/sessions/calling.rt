@@ -9,7 +9,7 @@ use crate::sessions::table::Table;
 use crate::sessions::writer::Writer;
 use crate::text::Text;
 use crate::words::{NEVER, Words};
-use agent_turns::Single;
+use ivy_agent::Single;
 use ivy_base::Moment;
 use ivy_session::Session;
 use log_heads::HssJudge;

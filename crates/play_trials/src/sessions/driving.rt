@@ -9,7 +9,7 @@ ghost use Rattle.play_trials.specs.UnderWay.{GoesOn, MayHear, MayTurn, MayWant, 
 use crate::sessions::showing::{show_answer, show_end, show_question, show_settled};
 use crate::sessions::table::Table;
 use crate::text::Text;
-use agent_turns::Turns;
+use ivy_agent::Turns;
 use block_cache::BlockCache;
 use dht_ids::{Ask, Peer, Posts};
 use hss_keys::Hss;

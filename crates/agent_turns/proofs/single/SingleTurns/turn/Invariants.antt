@@ -1,4 +1,0 @@
-use Rattle.agent_turns.proofs.single.SingleTurns.turn.Given as goal
-
-abbrev pub ghosts-turn_in : goal.ghosts-turn_in
-ghosts-turn_in g a = record { name = a.blank.name; parts = a.blank.parts }

@@ -1,0 +1,59 @@
+//! What a session wants of its agent.
+
+ghost use Rattle.std.specs.Prelude.{◌≡◌, ◌≤◌, length, Option, IfOk, IfSome, IsSomeAnd};
+ghost use Rattle.log_model.specs.View.{View};
+ghost use Rattle.log_fetch.specs.Standings.{asked_of, refresh_of};
+ghost use Rattle.ivy_agent.specs.Answering.{IsCall};
+ghost use Rattle.ivy_agent.specs.Bounds.{HasBounds};
+ghost use Rattle.ivy_agent.specs.Holders.{Holder, signing};
+ghost use Rattle.ivy_agent.specs.Turns.{IsFetchedIn};
+ghost use Rattle.ivy_agent.specs.Calls.{Settles, Stands, Turns as TakesTurn};
+
+use dht_ids::Acks;
+use hss_keys::Signs;
+use ivy_base::{Memory, Moment};
+use ivy_io::Keeper;
+use log_fetch::{Asked, Refresh, Standing, TurnFault, Turned};
+use std::alloc::Global;
+
+/// Whoever takes turns, by passes.
+pub trait Turns<K: Keeper, S: Signs> {
+    /// What whoever asks has to show.
+    type Pass;
+
+    /// Which agents the pass may come to.
+    ghost comes: { Self → Self.Pass → Holder K S → Type 0 };
+
+    /// Which agents it may have left.
+    ghost leaves: { Self → Self.Pass → Holder K S → Type 0 };
+
+    /// In which view each of these is, which no call changes.
+    ghost view: { Self → Self.Pass → Option View };
+
+    /// What a session is given of the agent, which stays as it is. The error is want of memory.
+    fn standing(&self, alloc: Global, pass: &mut Self::Pass) -> Result<Standing, Memory>
+        requires { IsSomeAnd (view self.now pass.old) (λ view. Unit {0}) }
+        ensures stands { Stands (signing S.key S.remaining S.signature S.next S.saved) (comes self.now pass.old) (leaves self.now pass.new) (view self.now pass.old) result }
+        ensures view { view self.now pass.new ≡ view self.now pass.old };
+
+    /// A turn of the agent, as [`ivy_agent::Agent::turn`] takes it, with its refusals. A reply has 32,772 bytes at most.
+    fn turn(
+        &self,
+        alloc: Global,
+        pass: &mut Self::Pass,
+        refresh: Refresh,
+        asked: &Asked,
+        now: Moment,
+    ) -> Result<Turned, TurnFault>
+        requires batch { IsSomeAnd (view self.now pass.old) (λ view. IsFetchedIn view refresh.batch) }
+        requires bounds { IfSome refresh.basis (λ basis. HasBounds basis.tree) }
+        requires call { IsCall (asked_of asked.now) now }
+        ensures turn { TakesTurn (signing S.key S.remaining S.signature S.next S.saved) S.is_whole K.saves (comes self.now pass.old) (leaves self.now pass.new) (view self.now pass.old) (refresh_of refresh) (asked_of asked.now) now result }
+        ensures view { view self.now pass.new ≡ view self.now pass.old }
+        ensures short { IfOk result (λ turned. length turned.reply ≤ 32772) };
+
+    /// The agent drops the posts that are acknowledged. It takes no memory.
+    fn settle(&self, pass: &mut Self::Pass, acks: &Acks)
+        ensures settles { Settles (comes self.now pass.old) (leaves self.now pass.new) acks.now }
+        ensures view { view self.now pass.new ≡ view self.now pass.old };
+}

@@ -1,5 +1,0 @@
-use Rattle.script_views.proofs.Sorting.{sorted_is}
-use Rattle.script_views.proofs.making.in_order.Goals as goal
-
-pub returns : goal.returns
-returns c = sorted_is _ _ c.sort_unstable.ensures.permutation c.sort_unstable.ensures.sorted
