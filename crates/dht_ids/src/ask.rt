@@ -87,7 +87,7 @@ impl Answer {
 }
 
 /// Why a node refuses a block.
-#[derive(Clone, Copy, Debug, PartialEq, Eq, Error)]
+#[derive(Clone, Copy, Debug, Error)]
 pub enum StoreFault {
     /// The key of a content block isn't the SHA-1 of its bytes.
     #[error("the key isn't the name of the bytes")]
@@ -104,7 +104,7 @@ pub enum StoreFault {
 }
 
 /// Which of the asks for data an ask is.
-#[derive(Clone, Copy, PartialEq, Eq)]
+#[derive(Clone, Copy)]
 pub enum AskKind {
     Route,
     Get,

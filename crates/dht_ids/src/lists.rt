@@ -10,7 +10,7 @@ use std::alloc::Global;
 use std::marker::Model;
 
 /// Peers in a row.
-#[derive(Debug, Drop)]
+#[derive(Drop)]
 pub struct Peers {
     peers: Vec<Peer>,
 }

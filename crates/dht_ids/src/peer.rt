@@ -9,7 +9,7 @@ use ring_model::Placed;
 use sha1::Sha1;
 
 /// A node of the ring: its number and its identifier, which is its place on the circle.
-#[derive(Clone, Copy, Debug, PartialEq, Eq)]
+#[derive(Clone, Copy, PartialEq, Eq)]
 pub struct Peer {
     /// The number, in the order in which nodes are made.
     pub number: u32,

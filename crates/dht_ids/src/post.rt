@@ -41,7 +41,7 @@ impl Post {
 }
 
 /// The word that a put was acknowledged.
-#[derive(Clone, Copy, PartialEq, Eq)]
+#[derive(Clone, Copy)]
 pub struct Ack {
     /// The key under which the block was put.
     pub key: Key,

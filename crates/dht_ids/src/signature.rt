@@ -4,7 +4,6 @@ ghost use Rattle.std.specs.Prelude.{◌≡◌};
 
 use ivy_base::Bytes;
 use std::marker::Model;
-use thiserror::Error;
 
 /// A signature, which contracts see as the list of its bytes.
 #[derive(Drop)]
@@ -42,23 +41,19 @@ impl Signature {
 }
 
 /// Why nothing was signed.
-#[derive(Clone, Copy, Debug, PartialEq, Eq, Error)]
+#[derive(Clone, Copy)]
 pub enum SignFault {
     /// Each leaf of the key has signed.
-    #[error("the key is spent")]
     Spent,
     /// Want of memory. No clause ties this to a cause.
-    #[error("out of memory")]
     Memory,
 }
 
 /// Why no signer was loaded.
-#[derive(Clone, Copy, Debug, PartialEq, Eq, Error)]
+#[derive(Clone, Copy)]
 pub enum LoadFault {
     /// The bytes are not those of a saved signer.
-    #[error("not a saved signer")]
     Malformed,
     /// Want of memory. No clause ties this to a cause.
-    #[error("out of memory")]
     Memory,
 }

@@ -1,7 +1,7 @@
 use crate::set::Set;
 
 /// The public key of a signature tree (RFC 8554, section 5.3).
-#[derive(Clone, Copy, PartialEq, Eq)]
+#[derive(Clone, Copy)]
 pub struct PublicKey {
     /// The parameters, which stand in the key's bytes as two type numbers.
     pub set: Set,

@@ -3,7 +3,7 @@ ghost use Rattle.std.specs.Prelude.{◌≡◌};
 use ivy_base::Moment;
 
 /// What an inode shows of itself beside its kind and its size (RFC 1813, section 2.5, fattr3).
-#[derive(Clone, Copy, PartialEq, Eq)]
+#[derive(Clone, Copy)]
 pub struct Attr {
     /// The permission bits, 12 of them.
     pub mode: u32,

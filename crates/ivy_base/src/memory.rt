@@ -1,9 +1,7 @@
 use std::alloc::{AllocError, AllocFailed};
-use thiserror::Error;
 
 /// Want of memory: the one answer that no clause ties to a cause.
-#[derive(Clone, Copy, Debug, PartialEq, Eq, Error)]
-#[error("out of memory")]
+#[derive(Clone, Copy)]
 pub struct Memory;
 
 impl From<AllocError> for Memory {

@@ -6,7 +6,7 @@ use crate::memory::Memory;
 use std::alloc::Global;
 
 /// A moment: seconds since the epoch, and nanoseconds below 1,000,000,000 (RFC 1813, section 2.5, nfstime3).
-#[derive(Clone, Copy, Debug, PartialEq, Eq, PartialOrd, Ord)]
+#[derive(Clone, Copy, Debug, PartialEq, Eq)]
 pub struct Moment {
     pub sec: u32,
     pub nsec: u32,
@@ -23,7 +23,7 @@ pub enum Kind {
 /// The attributes that a SetAttrs record gives; `None` leaves one as it is.
 ///
 /// A mode has 12 bits, and a size is at most 16,777,216.
-#[derive(Clone, Copy, PartialEq, Eq)]
+#[derive(Clone, Copy)]
 pub struct Change {
     pub mode: Option<u32>,
     pub uid: Option<u32>,

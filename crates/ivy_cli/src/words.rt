@@ -10,7 +10,7 @@ ghost use Rattle.ivy_cli.specs.Words.{asked_of, load_of};
 const MOST_CALLS: u32 = 10_000;
 
 /// What the words ask for.
-#[derive(Clone, Copy, PartialEq, Eq)]
+#[derive(Clone, Copy)]
 pub enum Asked {
     /// `play`: the script of the source is played.
     Play,

@@ -10,7 +10,7 @@ use std::alloc::Global;
 use std::marker::Model;
 
 /// Which save is to fail, and what it leaves.
-#[derive(Clone, Copy, PartialEq, Eq)]
+#[derive(Clone, Copy)]
 pub struct Leave {
     /// The number of the save from now on: the next one is 1, and 0 names none.
     pub call: u64,

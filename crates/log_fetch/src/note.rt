@@ -8,7 +8,7 @@ use ivy_base::{Key, Memory};
 use std::marker::Model;
 
 /// What a refresh notes of a log, or why it ended early; the key is that of the log's head, or of the block.
-#[derive(Clone, Copy, PartialEq, Eq)]
+#[derive(Clone, Copy)]
 pub enum Note {
     /// The first of the log's heads that was passed over leads to records that break a rule of logs.
     Bad(Key),

@@ -19,7 +19,7 @@ const SIGNED_LEN: usize = 88;
 /// It takes the bytes exactly where they are a head ([`Head::read`]), the key is the SHA-1 of its public key, and its
 /// signature of the block's first 88 bytes is accepted under that public key (RFC 8554, section 6.3; [`Hss::verify`]).
 /// Nothing allocates.
-#[derive(Clone, Copy, PartialEq, Eq)]
+#[derive(Clone, Copy)]
 pub struct HssJudge;
 
 impl Judge for HssJudge {

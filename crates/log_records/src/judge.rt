@@ -13,7 +13,7 @@ use ivy_base::{Key, head_key};
 ///
 /// It takes the bytes exactly where they are a head ([`Head::read`]), the key is the SHA-1 of its public key, and
 /// its signature is empty.
-#[derive(Clone, Copy, PartialEq, Eq)]
+#[derive(Clone, Copy)]
 pub struct PlainJudge;
 
 impl Judge for PlainJudge {

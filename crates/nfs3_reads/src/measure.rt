@@ -23,7 +23,7 @@ const MOST: u32 = 32_768;
 pub const FRAME: usize = 104;
 
 /// What is counted of an entry.
-#[derive(Clone, Copy, PartialEq, Eq)]
+#[derive(Clone, Copy)]
 pub enum Measure {
     /// Its number, its name and its cookie.
     Entry,

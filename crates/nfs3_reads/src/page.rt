@@ -27,7 +27,7 @@ use view_blocks::View;
 
 /// Where a page begins: behind the entry of that cookie, of the listing that has that verifier (RFC 1813, sections
 /// 3.3.16 and 3.3.17, cookie and cookieverf).
-#[derive(Clone, Copy, PartialEq, Eq)]
+#[derive(Clone, Copy)]
 pub struct PageStart {
     /// The cookie of the last entry that was given; 0 begins at the first.
     pub cookie: u64,

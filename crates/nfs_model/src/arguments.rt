@@ -1,7 +1,7 @@
 use ivy_base::{Bytes, Moment};
 
 /// What a client asks of a time (RFC 1813, section 2.5, set_atime and set_mtime).
-#[derive(Clone, Copy, Debug, PartialEq, Eq)]
+#[derive(Clone, Copy, Debug)]
 pub enum SetTime {
     /// The time stays (DONT_CHANGE).
     Keep,
@@ -13,7 +13,7 @@ pub enum SetTime {
 }
 
 /// The attributes that a client asks for (RFC 1813, section 2.5, sattr3); `None` leaves one as it is.
-#[derive(Clone, Copy, Debug, PartialEq, Eq)]
+#[derive(Clone, Copy, Debug)]
 pub struct SetWhat {
     /// The permission bits; the procedures take the low 12.
     pub mode: Option<u32>,
@@ -30,7 +30,7 @@ pub struct SetWhat {
 }
 
 /// How a file is to be created (RFC 1813, section 3.3.8, createhow3).
-#[derive(Clone, Copy, Debug, PartialEq, Eq)]
+#[derive(Clone, Copy, Debug)]
 pub enum How {
     /// With these attributes; a file that is there stays, and takes the size.
     Unchecked(SetWhat),
@@ -42,7 +42,7 @@ pub enum How {
 
 /// What kind of special node is to be made (RFC 1813, section 3.3.11, mknoddata3), by the number of its type
 /// (section 2.5, ftype3).
-#[derive(Clone, Copy, Debug, PartialEq, Eq)]
+#[derive(Clone, Copy, Debug)]
 pub enum Node {
     /// A type with which nothing is given: 1, 2 or 5 (a file, a directory, a symbolic link).
     Plain(u32),

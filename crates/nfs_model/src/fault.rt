@@ -5,17 +5,14 @@ ghost use Rattle.nfs_model.specs.declared.fault.ArgsFault.TheVariants.{Garbage a
 
 use ivy_base::Memory;
 use std::alloc::AllocFailed;
-use thiserror::Error;
 use xdr_codec::XdrFault;
 
 /// Why bytes were not read as a procedure's arguments, or as its result.
-#[derive(Clone, Copy, Debug, PartialEq, Eq, Error)]
+#[derive(Clone, Copy)]
 pub enum ArgsFault {
     /// The bytes are no arguments of the procedure (RFC 5531, section 9, GARBAGE_ARGS), or no result of it.
-    #[error("the bytes aren't the procedure's")]
     Garbage,
     /// Memory ran out. No clause ties this to a cause.
-    #[error("out of memory")]
     Memory,
 }
 

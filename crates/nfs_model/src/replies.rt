@@ -5,7 +5,7 @@ use std::marker::Model;
 
 /// The statuses of NFS version 3 other than OK (RFC 1813, section 2.6, nfsstat3) that are given here;
 /// `status_number` has their numbers.
-#[derive(Clone, Copy, Debug, PartialEq, Eq)]
+#[derive(Clone, Copy, Debug)]
 pub enum NfsStatus {
     /// The caller is neither the superuser nor the owner (1).
     Perm,
@@ -53,7 +53,7 @@ pub enum NfsStatus {
 
 /// The attributes of an object (RFC 1813, section 2.5, fattr3). The device numbers, which are 0, stand in the
 /// spelling alone.
-#[derive(Clone, Copy, Debug, PartialEq, Eq)]
+#[derive(Clone, Copy, Debug)]
 pub struct Fattr {
     /// The type (ftype3).
     pub kind: Kind,
@@ -77,7 +77,7 @@ pub struct Fattr {
 }
 
 /// The attributes before an operation (RFC 1813, section 2.5, wcc_attr).
-#[derive(Clone, Copy, Debug, PartialEq, Eq)]
+#[derive(Clone, Copy, Debug)]
 pub struct WccBefore {
     /// The size in bytes.
     pub size: u64,
@@ -87,7 +87,7 @@ pub struct WccBefore {
 }
 
 /// Weak cache consistency data (RFC 1813, section 2.5, wcc_data): an object before and after an operation.
-#[derive(Clone, Copy, Debug, PartialEq, Eq)]
+#[derive(Clone, Copy, Debug)]
 pub struct Wcc {
     pub before: Option<WccBefore>,
     pub after: Option<Fattr>,
@@ -95,7 +95,7 @@ pub struct Wcc {
 
 /// What stands after a status other than OK; each procedure has one form of it (RFC 1813, section 3.3, the
 /// `resfail` parts).
-#[derive(Clone, Copy, Debug, PartialEq, Eq)]
+#[derive(Clone, Copy, Debug)]
 pub enum Tail {
     /// Nothing: GETATTR, and MOUNT.
     Empty,

@@ -16,7 +16,7 @@ use std::alloc::Global;
 const MOST_NODES: usize = 256;
 
 /// What became of a node that was to join.
-#[derive(Clone, Copy, PartialEq, Eq)]
+#[derive(Clone, Copy)]
 pub enum Join {
     /// The node stands, and lives.
     Joined,

@@ -33,7 +33,7 @@ const MOST_GROUPS: u32 = 16;
 const NOBODY: u32 = 65_534;
 
 /// Who calls: a user, its group, and `count` further groups, at most 16.
-#[derive(Clone, Copy, PartialEq, Eq)]
+#[derive(Clone, Copy)]
 pub struct Caller {
     pub uid: u32,
     pub gid: u32,

@@ -9,22 +9,18 @@ use crate::stream::Stream;
 use ivy_base::{Bytes, Memory};
 use std::alloc::Global;
 use std::marker::Model;
-use thiserror::Error;
 
 /// Why a piece of a stream brings no further messages.
-#[derive(Clone, Copy, Debug, PartialEq, Eq, Error)]
+#[derive(Clone, Copy)]
 pub enum FrameFault {
     /// A fragment's header makes a message longer than 65,536 bytes.
-    #[error("a message has more than 65536 bytes")]
     TooLong,
     /// Want of memory. No clause ties this to a cause.
-    #[error("out of memory")]
     Memory,
 }
 
 /// Bytes of a message that isn't whole are held.
-#[derive(Clone, Copy, Debug, PartialEq, Eq, Error)]
-#[error("the stream ends inside a message")]
+#[derive(Clone, Copy)]
 pub struct Cut;
 
 /// Reads a stream of messages in fragments, each message of up to 65,536 bytes (RFC 5531, section 11).

@@ -42,7 +42,7 @@ const AUTH_ERROR: u32 = 1;
 const AUTH_BADCRED: u32 = 1;
 
 /// What a reply tells in front of a procedure's result (RFC 5531, section 9).
-#[derive(Clone, Copy, PartialEq, Eq)]
+#[derive(Clone, Copy)]
 pub enum ReplyHead {
     /// The call was done; its result follows.
     Success,

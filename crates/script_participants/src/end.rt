@@ -7,7 +7,7 @@ use ivy_agent::{EnterFault, RestartFault};
 use ivy_base::Memory;
 
 /// How entering a view ends.
-#[derive(Clone, Copy, PartialEq, Eq)]
+#[derive(Clone, Copy)]
 pub enum EnterEnd {
     /// The agent is in the view.
     Entered,
@@ -18,7 +18,7 @@ pub enum EnterEnd {
 }
 
 /// How starting again ends.
-#[derive(Clone, Copy, PartialEq, Eq)]
+#[derive(Clone, Copy)]
 pub enum RestartEnd {
     /// The agent has started again.
     Restarted,

@@ -2,18 +2,15 @@
 
 use block_parts::Malformed;
 use std::alloc::{AllocError, AllocFailed};
-use thiserror::Error;
 use version_vectors::VectorFault;
 use xdr_codec::XdrFault;
 
 /// Why a block was not read.
-#[derive(Clone, Copy, Debug, PartialEq, Eq, Error)]
+#[derive(Clone, Copy)]
 pub enum BlockFault {
     /// The bytes are no block of that form.
-    #[error("not such a block of a snapshot")]
     Malformed,
     /// Memory ran out. No clause ties this to a cause.
-    #[error("out of memory")]
     Memory,
 }
 

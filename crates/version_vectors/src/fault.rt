@@ -5,16 +5,13 @@ ghost use Rattle.version_vectors.specs.declared.fault.VectorFault.TheVariants.{M
 
 use block_parts::Malformed;
 use std::alloc::{AllocError, AllocFailed};
-use thiserror::Error;
 
 /// Why no vector was read.
-#[derive(Clone, Copy, Debug, PartialEq, Eq, Error)]
+#[derive(Clone, Copy)]
 pub enum VectorFault {
     /// The bytes begin with no vector of at most so many entries.
-    #[error("no version vector stands there")]
     Malformed,
     /// Memory ran out. No clause ties this to a cause.
-    #[error("out of memory")]
     Memory,
 }
 
