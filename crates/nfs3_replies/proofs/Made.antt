@@ -1,6 +1,6 @@
 -- Values that are made of parts: read where the parts are, and nowhere else.
 use Rattle.std.proofs.Common.{◌≡◌, ℕ, true, false, List, ◌++◌, Option, Some, None, sym, ap, ◌∙◌}
-use Rattle.std.specs.Prelude.{Result, Ok, Err, IfOk, IfErr}
+use Rattle.std.specs.Prelude.{Result, Ok, Err, IfOk, IfErr, IsErrAnd}
 use Rattle.wire_model.specs.Xdr.{boolean, optional, IsAny}
 use Rattle.wire_model.specs.OneReading.{ReadsOne, IsFront, HasNoFront}
 use Rattle.wire_model.proofs.OneReading.{one_boolean}
@@ -47,6 +47,13 @@ pub refused : {A B : Type 0} {Fits : A → Type 0} {spell : A → List ℕ} {Who
     → (HasNoFront Fits spell middle → HasNoFront Whole written bytes) → (fault : ArgsFault) → Refuses Fits spell middle fault → Refuses Whole written bytes fault
 refused absent Garbage f = absent f
 refused absent Memory f = tt
+
+-- a part is missing, and garbage is told
+pub on_garbage : {T A : Type 0} {Fits : A → Type 0} {spell : A → List ℕ} {bytes : List ℕ} (r : Result T ArgsFault)
+    → IsErrAnd r (λ fault. fault ≡ Garbage) → HasNoFront Fits spell bytes → IfErr r (Refuses Fits spell bytes)
+on_garbage (Ok x) told absent = tt
+on_garbage (Err Garbage) told absent = absent
+on_garbage (Err Memory) told absent = tt
 
 -- what follows from what holds of a result
 pub if_ok_by : {T E : Type 0} {P Q : T → Type 0} (r : Result T E) → ((x : T) → P x → Q x) → IfOk r P → IfOk r Q

@@ -61,7 +61,9 @@ pub fn read_found(alloc: Global, reader: &mut XdrRead) -> Result<Reply, ArgsFaul
     ensures ok { IfOk result (λ r. IsFront (IsDone 3) after_status reader.old r reader.new) }
     ensures err { IfErr result (Refuses (IsDone 3) after_status reader.old) }
 {
-    let (handle, object, dir) = read_found_parts(reader)?;
+    let handle = reader.opaque(MOST_HANDLE)?;
+    let object = read_optional_fattr(reader)?;
+    let dir = read_optional_fattr(reader)?;
     let handle = Bytes::copy_of(alloc, handle)?;
     Ok(Reply::Found {
         handle,
@@ -70,36 +72,14 @@ pub fn read_found(alloc: Global, reader: &mut XdrRead) -> Result<Reply, ArgsFaul
     })
 }
 
-/// A handle, and the attributes of its object and of the directory.
-fn read_found_parts<'a>(
-    reader: &mut XdrRead<'a>,
-) -> Result<(&'a [u8], Option<Fattr>, Option<Fattr>), Malformed>
-    ensures ok { IfOk result (λ p. IsFront IsFound found reader.old ((p.0.now, p.1), p.2) reader.new) }
-    ensures err { OnErr result (HasNoFront IsFound found reader.old) }
-{
-    let handle = reader.opaque(MOST_HANDLE)?;
-    let object = read_optional_fattr(reader)?;
-    let dir = read_optional_fattr(reader)?;
-    Ok((handle, object, dir))
-}
-
 /// ACCESS (section 3.3.4).
 pub fn read_allowed(reader: &mut XdrRead) -> Result<Reply, ArgsFault>
     ensures ok { IfOk result (λ r. IsFront (IsDone 4) after_status reader.old r reader.new) }
     ensures err { IfErr result (Refuses (IsDone 4) after_status reader.old) }
 {
-    let (object, bits) = read_allowed_parts(reader)?;
-    Ok(Reply::Allowed { object, bits })
-}
-
-/// Attributes and the rights.
-fn read_allowed_parts(reader: &mut XdrRead) -> Result<(Option<Fattr>, u32), Malformed>
-    ensures ok { IfOk result (λ p. IsFront IsAllowedParts allowed_parts reader.old p reader.new) }
-    ensures err { OnErr result (HasNoFront IsAllowedParts allowed_parts reader.old) }
-{
     let object = read_optional_fattr(reader)?;
     let bits = reader.u32()?;
-    Ok((object, bits))
+    Ok(Reply::Allowed { object, bits })
 }
 
 /// READLINK (section 3.3.5).
@@ -107,19 +87,10 @@ pub fn read_text(alloc: Global, reader: &mut XdrRead) -> Result<Reply, ArgsFault
     ensures ok { IfOk result (λ r. IsFront (IsDone 5) after_status reader.old r reader.new) }
     ensures err { IfErr result (Refuses (IsDone 5) after_status reader.old) }
 {
-    let (link, text) = read_link_text(reader)?;
-    let text = Bytes::copy_of(alloc, text)?;
-    Ok(Reply::Text { link, text })
-}
-
-/// Attributes and a text.
-fn read_link_text<'a>(reader: &mut XdrRead<'a>) -> Result<(Option<Fattr>, &'a [u8]), Malformed>
-    ensures ok { IfOk result (λ p. IsFront IsLinkText link_text reader.old (p.0, p.1.now) reader.new) }
-    ensures err { OnErr result (HasNoFront IsLinkText link_text reader.old) }
-{
     let link = read_optional_fattr(reader)?;
     let text = reader.opaque(u32::MAX)?;
-    Ok((link, text))
+    let text = Bytes::copy_of(alloc, text)?;
+    Ok(Reply::Text { link, text })
 }
 
 /// READ (section 3.3.6).
@@ -127,7 +98,10 @@ pub fn read_content(alloc: Global, reader: &mut XdrRead) -> Result<Reply, ArgsFa
     ensures ok { IfOk result (λ r. IsFront (IsDone 6) after_status reader.old r reader.new) }
     ensures err { IfErr result (Refuses (IsDone 6) after_status reader.old) }
 {
-    let (file, count, eof, bytes) = read_content_parts(reader)?;
+    let file = read_optional_fattr(reader)?;
+    let count = reader.u32()?;
+    let eof = reader.boolean()?;
+    let bytes = reader.opaque(u32::MAX)?;
     let bytes = Bytes::copy_of(alloc, bytes)?;
     Ok(Reply::Bytes {
         file,
@@ -137,38 +111,15 @@ pub fn read_content(alloc: Global, reader: &mut XdrRead) -> Result<Reply, ArgsFa
     })
 }
 
-/// Attributes, a count, whether the file ends there, and the bytes.
-fn read_content_parts<'a>(
-    reader: &mut XdrRead<'a>,
-) -> Result<(Option<Fattr>, u32, bool, &'a [u8]), Malformed>
-    ensures ok { IfOk result (λ p. IsFront IsContent content reader.old (((p.0, p.1), p.2), p.3.now) reader.new) }
-    ensures err { OnErr result (HasNoFront IsContent content reader.old) }
-{
-    let file = read_optional_fattr(reader)?;
-    let count = reader.u32()?;
-    let eof = reader.boolean()?;
-    let bytes = reader.opaque(u32::MAX)?;
-    Ok((file, count, eof, bytes))
-}
-
 /// WRITE (section 3.3.7).
 pub fn read_written(reader: &mut XdrRead) -> Result<Reply, ArgsFault>
     ensures ok { IfOk result (λ r. IsFront (IsDone 7) after_status reader.old r reader.new) }
     ensures err { IfErr result (Refuses (IsDone 7) after_status reader.old) }
 {
-    let (cache, count) = read_written_parts(reader)?;
-    Ok(Reply::Written { cache, count })
-}
-
-/// Cache data and a count, and that the bytes are stored.
-fn read_written_parts(reader: &mut XdrRead) -> Result<(Wcc, u32), Malformed>
-    ensures ok { IfOk result (λ p. IsFront IsWrittenParts written_parts reader.old (p, tt) reader.new) }
-    ensures err { OnErr result (HasNoFront IsWrittenParts written_parts reader.old) }
-{
     let cache = read_wcc(reader)?;
     let count = reader.u32()?;
     read_constant(reader, &STORED)?;
-    Ok((cache, count))
+    Ok(Reply::Written { cache, count })
 }
 
 /// CREATE, MKDIR and SYMLINK (sections 3.3.8 to 3.3.10).
@@ -176,25 +127,14 @@ pub fn read_made(alloc: Global, reader: &mut XdrRead) -> Result<Reply, ArgsFault
     ensures ok { IfOk result (λ r. IsFront (IsDone 8) after_status reader.old r reader.new) }
     ensures err { IfErr result (Refuses (IsDone 8) after_status reader.old) }
 {
-    let (handle, (object, cache)) = read_made_parts(reader)?;
+    let handle = read_given_handle(reader)?;
+    let (object, cache) = read_attributes_and_cache(reader)?;
     let handle = Bytes::copy_of(alloc, handle)?;
     Ok(Reply::Made {
         handle,
         object,
         cache,
     })
-}
-
-/// A handle, attributes and cache data.
-fn read_made_parts<'a>(
-    reader: &mut XdrRead<'a>,
-) -> Result<(&'a [u8], (Option<Fattr>, Wcc)), Malformed>
-    ensures ok { IfOk result (λ p. IsFront IsMade made reader.old (p.0.now, p.1) reader.new) }
-    ensures err { OnErr result (HasNoFront IsMade made reader.old) }
-{
-    let handle = read_given_handle(reader)?;
-    let rest = read_attributes_and_cache(reader)?;
-    Ok((handle, rest))
 }
 
 /// A file handle that may be missing (post_op_fh3), but isn't.
@@ -289,16 +229,7 @@ pub fn read_committed(reader: &mut XdrRead) -> Result<Reply, ArgsFault>
     ensures ok { IfOk result (λ r. IsFront (IsDone 21) after_status reader.old r reader.new) }
     ensures err { IfErr result (Refuses (IsDone 21) after_status reader.old) }
 {
-    let cache = read_committed_parts(reader)?;
-    Ok(Reply::Committed { cache })
-}
-
-/// Cache data and the verifier.
-fn read_committed_parts(reader: &mut XdrRead) -> Result<Wcc, Malformed>
-    ensures ok { IfOk result (λ w. IsFront IsCommittedParts committed_parts reader.old (w, tt) reader.new) }
-    ensures err { OnErr result (HasNoFront IsCommittedParts committed_parts reader.old) }
-{
     let cache = read_wcc(reader)?;
     read_constant(reader, &WRITE_VERIFIER)?;
-    Ok(cache)
+    Ok(Reply::Committed { cache })
 }

@@ -1,9 +1,13 @@
-use Rattle.std.proofs.lemmas.Result.{err_from_is_err_and}
-use Rattle.nfs3_replies.proofs.Made.{none_made}
-use Rattle.nfs3_replies.proofs.ReadForms.{made_object}
+use Rattle.wire_model.proofs.Fronts.{both}
+use Rattle.nfs3_replies.proofs.Made.{made_front, none_made, on_garbage}
+use Rattle.nfs3_replies.proofs.ReadForms.{made_object, no_new_attributes, no_new_handle}
 use Rattle.nfs3_replies.proofs.forms_reading.read_made.Goals as goal
 
 pub returns-in_err-handle-clause-err : goal.returns-in_err-handle-clause-err
-returns-in_err-handle-clause-err c =
-    let p = err_from_is_err_and c.from_residual.result c.from_residual.ensures.1 in
-    rw (p.1, p.2) (none_made made_object c.in_err-handle.ensures.err)
+returns-in_err-handle-clause-err c = on_garbage c.from_residual.result c.from_residual.ensures.1 (none_made made_object (no_new_handle c.in_err-handle.ensures.err))
+
+pub returns-in_err-object-clause-err : goal.returns-in_err-object-clause-err
+returns-in_err-object-clause-err c = on_garbage c.from_residual-in_err-object.result c.from_residual-in_err-object.ensures.1 (none_made made_object (no_new_attributes c.in_ok-handle.ensures.ok c.in_err-object.ensures.err))
+
+pub returns-clause-ok : goal.returns-clause-ok
+returns-clause-ok c = rw c.in_ok-handle-2.ensures (made_front made_object (both c.in_ok-handle.ensures.ok c.in_ok-object.ensures.ok))
