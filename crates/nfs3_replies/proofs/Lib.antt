@@ -4,6 +4,7 @@ mod ReadConstants
 mod ReadAttributes
 mod ReadForms
 mod ReadPages
+mod PartByPart
 mod ReadMounts
 pub mod ReadAnswers
 mod Sizes

@@ -1,12 +1,10 @@
 -- Values that are made of parts: read where the parts are, and nowhere else.
 use Rattle.std.proofs.Common.{◌≡◌, ℕ, true, false, List, ◌++◌, Option, Some, None, sym, ap, ◌∙◌}
-use Rattle.std.specs.Prelude.{Result, Ok, Err, IfOk, IfErr, IsErrAnd}
+use Rattle.std.specs.Prelude.{Result, Ok, Err, IfOk}
 use Rattle.wire_model.specs.Xdr.{boolean, optional, IsAny}
 use Rattle.wire_model.specs.OneReading.{ReadsOne, IsFront, HasNoFront}
 use Rattle.wire_model.proofs.OneReading.{one_boolean}
-use Rattle.nfs3_replies.specs.ReadParts.{IsOptional, Refuses}
-use Rattle.nfs_model.specs.declared.fault.ArgsFault.{ArgsFault}
-use Rattle.nfs_model.specs.declared.fault.ArgsFault.TheVariants.{Garbage, Memory}
+use Rattle.nfs3_replies.specs.ReadParts.{IsOptional}
 
 -- the parts of a value
 pub record MadeOf {A B : Type 0} (Fits : A → Type 0) (make : A → B) (x : B) : Type 0 where
@@ -42,27 +40,10 @@ module _ {A B : Type 0} {Fits : A → Type 0} {spell : A → List ℕ} {Whole : 
         (p.same ∙ ap make t.0 ∙ sym q.same, t.1);
   }
 
--- one part is refused as another one is
-pub refused : {A B : Type 0} {Fits : A → Type 0} {spell : A → List ℕ} {Whole : B → Type 0} {written : B → List ℕ} {bytes middle : List ℕ}
-    → (HasNoFront Fits spell middle → HasNoFront Whole written bytes) → (fault : ArgsFault) → Refuses Fits spell middle fault → Refuses Whole written bytes fault
-refused absent Garbage f = absent f
-refused absent Memory f = tt
-
--- a part is missing, and garbage is told
-pub on_garbage : {T A : Type 0} {Fits : A → Type 0} {spell : A → List ℕ} {bytes : List ℕ} (r : Result T ArgsFault)
-    → IsErrAnd r (λ fault. fault ≡ Garbage) → HasNoFront Fits spell bytes → IfErr r (Refuses Fits spell bytes)
-on_garbage (Ok x) told absent = tt
-on_garbage (Err Garbage) told absent = absent
-on_garbage (Err Memory) told absent = tt
-
 -- what follows from what holds of a result
 pub if_ok_by : {T E : Type 0} {P Q : T → Type 0} (r : Result T E) → ((x : T) → P x → Q x) → IfOk r P → IfOk r Q
 if_ok_by (Ok x) f h = f x h
 if_ok_by (Err e) f h = tt
-
-pub if_err_by : {T E : Type 0} {P Q : E → Type 0} (r : Result T E) → ((e : E) → P e → Q e) → IfErr r P → IfErr r Q
-if_err_by (Ok x) f h = tt
-if_err_by (Err e) f h = f e h
 
 -- ---- optional data
 

@@ -1,8 +1,8 @@
 -- Whole results are read: a status, and what stands behind it.
 use Rattle.std.proofs.Common.{◌≡◌, ◌≢◌, ℕ, ◌<◌, ◌≤◌, ◌^◌, Bool, true, false, List, [], ◌∷◌, ◌++◌, length, get_or, zero, suc, ◌+◌, Option, Some, None, ◌⊎◌, inl, inr, refl, sym, ap, ◌∙◌, subst, arith, append_assoc}
-use Rattle.std.specs.Prelude.{nat_eq, nat_le, ◌&&◌}
+use Rattle.std.specs.Prelude.{nat_eq, nat_le, ◌&&◌, ◌-◌}
 use Rattle.std.proofs.lemmas.List.{append-nil}
-use Rattle.wire_model.specs.Xdr.{word, IsAny}
+use Rattle.wire_model.specs.Xdr.{word, optional, IsWord, IsAny}
 use Rattle.wire_model.specs.OneReading.{ReadsOne, IsFront, HasNoFront}
 use Rattle.wire_model.proofs.OneReading.{of_parts, one_word}
 use Rattle.nfs_model.specs.declared.arguments.Args.{Args}
@@ -17,25 +17,21 @@ use Rattle.nfs_model.specs.declared.replies.Tail.TheVariants as tails
 use Rattle.nfs_model.specs.declared.replies.Reply.{Reply}
 use Rattle.nfs_model.specs.declared.replies.Reply.TheVariants as reply
 use Rattle.nfs_model.specs.Arguments.{nfs_program, mount_program, program_of, procedure_of, only_mode}
-use Rattle.nfs_model.specs.Results.{status_number, tail, result}
-use Rattle.nfs_model.specs.Replies.{IsTail, IsReplyTo, tail_form, result_form, tail_form_of, result_form_of}
+use Rattle.nfs_model.specs.Results.{status_number, fattr, wcc, tail, result}
+use Rattle.nfs_model.specs.Replies.{IsFattr, IsWcc, IsTail, IsReplyTo, tail_form, result_form, tail_form_of, result_form_of}
 use Rattle.nfs_model.proofs.OneReplies.{status_fits, is_no_ok, statuses_apart, begins_zero, one_fattr, one_wcc, one_post_attributes}
 use Rattle.std.proofs.lemmas.Bool.{eqb-true, leb-true}
-use Rattle.xdr_codec.specs.Reading.{EndFault}
-use Rattle.xdr_codec.specs.declared.fault.XdrFault.{XdrFault}
-use Rattle.xdr_codec.specs.declared.fault.XdrFault.TheVariants as xdr
-use Rattle.nfs_model.specs.declared.fault.ArgsFault.{ArgsFault}
-use Rattle.nfs_model.specs.declared.fault.ArgsFault.TheVariants.{Garbage, Memory}
-use Rattle.nfs3_replies.specs.Reading.{IsProcedure, IsReply, NoReply}
-use Rattle.nfs3_replies.specs.ReadParts.{Refuses, AreTwoCaches, two_caches, AreAttributesAndCache, attributes_and_cache, status_or_ok, IsDone, after_status, IsTailOf, IsOfForms, IsAnswer, tail_form_at, result_form_at, tail_form_for, result_form_for}
+use Rattle.nfs3_replies.specs.Reading.{IsProcedure, IsReply}
+use Rattle.nfs3_replies.specs.ReadParts.{Told, Reads, IsOptional, AreTwoCaches, two_caches, AreAttributesAndCache, attributes_and_cache, status_or_ok, IsDone, after_status, IsTailOf, IsOfForms, IsAnswer, tail_form_at, result_form_at, tail_form_for, result_form_for}
 use Rattle.nfs3_replies.proofs.Made.{MadeOf, Made, one_made}
+use Rattle.nfs3_replies.proofs.PartByPart.{◌▸◌, part, made_read, number_read, number_missed}
 use Rattle.nfs3_replies.proofs.ReadForms.{one_attributes_and_cache, one_two_caches, one_found, one_allowed, one_link_text, one_content, one_written, one_committed, one_made_object, one_numbered, made_attributes, made_changed, made_found, made_allowed, made_text, made_content, made_written, made_object, made_renamed, made_linked, space_words, made_space, limits_words, made_limits, paths_words, made_paths, made_committed}
 use Rattle.nfs3_replies.proofs.ReadPages.{one_directory, made_directory, made_directory_plus}
-use Rattle.nfs3_replies.proofs.ReadMounts.{one_nothing, one_of_mount}
+use Rattle.nfs3_replies.proofs.ReadMounts.{nothing_read, one_nothing, one_of_mount}
 
 -- ---- statuses
 
-abbrev number_of : Option NfsStatus → ℕ
+abbrev pub number_of : Option NfsStatus → ℕ
 number_of None = 0
 number_of (Some s) = status_number s
 
@@ -56,20 +52,30 @@ numbers_apart (Some s) (Some t) e = ap Some (statuses_apart s t e)
 one_status_or_ok : ReadsOne IsAny status_or_ok
 one_status_or_ok = of_parts number_of number_fits number_spelled numbers_apart one_word
 
+pub status_read : {a b : Option (List ℕ)} {n : ℕ} {o : Option NfsStatus} → Reads IsWord word a n b → number_of o ≡ n → Reads IsAny status_or_ok a o b
+status_read f is = number_read number_of (λ o. number_fits o tt) number_spelled f is
+
+pub status_missed : {a b c : Option (List ℕ)} {n : ℕ} {o : Option NfsStatus} → Reads IsWord word a n b → n ≢ 0 → ((s : NfsStatus) → status_number s ≢ n) → c ≡ None → Reads IsAny status_or_ok a o c
+status_missed {n = n} f other no_status gone = number_missed number_of (λ o. number_fits o tt) number_spelled f none gone
+  where
+    none : (o : Option NfsStatus) → number_of o ≢ n
+    none None e = other (sym e)
+    none (Some s) e = no_status s e
+
 -- ---- what stands behind a refusal
 
 two_caches_of : (t : Tail) → IsTailOf 3 t → MadeOf AreTwoCaches (λ p. tails.TwoCaches p.0 p.1) t
 two_caches_of (tails.TwoCaches v w) f = record { part = (v, w); fits = f.1; same = refl }
 two_caches_of t f = absurd (omega (arith, f.0))
 
-pub made_two_caches : Made AreTwoCaches two_caches (IsTailOf 3) tail (λ p. tails.TwoCaches p.0 p.1)
+made_two_caches : Made AreTwoCaches two_caches (IsTailOf 3) tail (λ p. tails.TwoCaches p.0 p.1)
 made_two_caches = record { whole = λ p f. (refl, f); spelled = λ p. refl; parts = two_caches_of }
 
 attributes_and_cache_of : (t : Tail) → IsTailOf 4 t → MadeOf AreAttributesAndCache (λ p. tails.AttributesAndCache p.0 p.1) t
 attributes_and_cache_of (tails.AttributesAndCache a w) f = record { part = (a, w); fits = f.1; same = refl }
 attributes_and_cache_of t f = absurd (omega (arith, f.0))
 
-pub made_attributes_and_cache : Made AreAttributesAndCache attributes_and_cache (IsTailOf 4) tail (λ p. tails.AttributesAndCache p.0 p.1)
+made_attributes_and_cache : Made AreAttributesAndCache attributes_and_cache (IsTailOf 4) tail (λ p. tails.AttributesAndCache p.0 p.1)
 made_attributes_and_cache = record { whole = λ p f. (refl, f); spelled = λ p. refl; parts = attributes_and_cache_of }
 
 one_tail_of : (form : ℕ) → ReadsOne (IsTailOf form) tail
@@ -107,15 +113,20 @@ one_done (reply.Paths object) f g = one_made made_paths (one_numbered paths_word
 one_done r f g = absurd (omega (arith, f, g))
 
 -- MKNOD has none
-pub never_done : {bytes : List ℕ} → HasNoFront (IsDone 11) after_status bytes
+never_done : {bytes : List ℕ} → HasNoFront (IsDone 11) after_status bytes
 never_done {bytes} = record { none = λ r rest f. no_such r f.fits.0 }
   where
     no_such : (r : Reply) → result_form r ≡ 11 → ⊥
     no_such (reply.Attributes object) e = absurd (omega (arith, e))
     no_such r e = absurd (omega (arith, e))
 
-pub never_done_at : {bytes : List ℕ} (p : ℕ) → p ≡ 11 → HasNoFront (IsDone (result_form_at p)) after_status bytes
-never_done_at {bytes} p e = subst (λ n. HasNoFront (IsDone (result_form_at n)) after_status bytes) (sym e) never_done
+pub never_done_at : {a b : Option (List ℕ)} {r : Reply} (p : ℕ) → p ≡ 11 → b ≡ None → Reads (IsDone (result_form_at p)) after_status a r b
+never_done_at {a} {b} {r} p e gone = subst (λ n. Reads (IsDone (result_form_at n)) after_status a r b) (sym e) (record { told = cases a b gone })
+  where
+    cases : (a b : Option (List ℕ)) → b ≡ None → Told (IsDone 11) after_status a r b
+    cases a (Some b) gone = absurd (cc gone)
+    cases None None gone = refl
+    cases (Some a) None gone = never_done
 
 -- ---- refusals and results
 
@@ -146,7 +157,7 @@ module _ (a b : ℕ) (some : 1 ≤ b) (few : b ≤ 100) where
     spelled = e ∙ ap (λ (r : Reply). result r ++ rest) f.same ∙ append_assoc (word (status_number f.status)) (tail f.after) rest;
   }
 
-  pub done_front : {bytes middle rest : List ℕ} {r : Reply} → IsFront IsAny status_or_ok bytes None middle → IsFront (IsDone b) after_status middle r rest
+  done_front : {bytes middle rest : List ℕ} {r : Reply} → IsFront IsAny status_or_ok bytes None middle → IsFront (IsDone b) after_status middle r rest
       → IsFront (IsAnswer a b) result bytes r rest
   done_front {rest = rest} {r = r} f g = record {
     fits = answers_done a b r few g.fits;
@@ -155,14 +166,14 @@ module _ (a b : ℕ) (some : 1 ≤ b) (few : b ≤ 100) where
         ∙ ap (λ (s : List ℕ). s ++ rest) (sym (begins r g.fits));
   }
 
-  pub no_status : {bytes : List ℕ} → HasNoFront IsAny status_or_ok bytes → HasNoFront (IsAnswer a b) result bytes
+  no_status : {bytes : List ℕ} → HasNoFront IsAny status_or_ok bytes → HasNoFront (IsAnswer a b) result bytes
   no_status {bytes} absent = record { none = λ r rest f. either r rest f.spelled (cases a b r f.fits) }
     where
       either : (r : Reply) (rest : List ℕ) → bytes ≡ result r ++ rest → IsRefusal a r ⊎ IsDone b r → ⊥
       either r rest e (inl f) = let g = behind_status rest r f e in absent.none (Some f.status) (tail f.after ++ rest) g
       either r rest e (inr f) = let g = behind_ok rest r f e in absent.none None (after_status r ++ rest) g
 
-  pub not_done : {bytes middle : List ℕ} → IsFront IsAny status_or_ok bytes None middle → HasNoFront (IsDone b) after_status middle → HasNoFront (IsAnswer a b) result bytes
+  not_done : {bytes middle : List ℕ} → IsFront IsAny status_or_ok bytes None middle → HasNoFront (IsDone b) after_status middle → HasNoFront (IsAnswer a b) result bytes
   not_done {bytes} {middle} status absent = record { none = λ r rest f. either r rest f.spelled (cases a b r f.fits) }
     where
       either : (r : Reply) (rest : List ℕ) → bytes ≡ result r ++ rest → IsRefusal a r ⊎ IsDone b r → ⊥
@@ -174,6 +185,50 @@ module _ (a b : ℕ) (some : 1 ≤ b) (few : b ≤ 100) where
           let g = behind_ok rest r f e in
           let p = one_status_or_ok.one None None middle (after_status r ++ rest) tt tt (sym status.spelled ∙ g.spelled) in
           absent.none r rest (record { fits = f; spelled = p.1 })
+
+  refused_front : {bytes middle rest : List ℕ} {s : NfsStatus} {t : Tail} → IsFront IsAny status_or_ok bytes (Some s) middle → IsFront (IsTailOf a) tail middle t rest
+      → IsFront (IsAnswer a b) result bytes (reply.Refused s t) rest
+  refused_front {rest = rest} {s = s} {t = t} f g = record {
+    fits = g.fits;
+    spelled = f.spelled ∙ ap (λ (bytes : List ℕ). status_or_ok (Some s) ++ bytes) g.spelled ∙ sym (append_assoc (word (status_number s)) (tail t) rest);
+  }
+
+  not_refused : {bytes middle : List ℕ} {s : NfsStatus} → IsFront IsAny status_or_ok bytes (Some s) middle → HasNoFront (IsTailOf a) tail middle → HasNoFront (IsAnswer a b) result bytes
+  not_refused {bytes} {middle} {s} status absent = record { none = λ r rest f. either r rest f.spelled (cases a b r f.fits) }
+    where
+      either : (r : Reply) (rest : List ℕ) → bytes ≡ result r ++ rest → IsRefusal a r ⊎ IsDone b r → ⊥
+      either r rest e (inl f) =
+          let g = behind_status rest r f e in
+          let p = one_status_or_ok.one (Some s) (Some f.status) middle (tail f.after ++ rest) tt tt (sym status.spelled ∙ g.spelled) in
+          absent.none f.after rest (record { fits = f.fits; spelled = p.1 })
+      either r rest e (inr f) =
+          let g = behind_ok rest r f e in
+          let p = (one_status_or_ok.one (Some s) None middle (after_status r ++ rest) tt tt (sym status.spelled ∙ g.spelled)).0 in
+          absurd (cc p)
+
+  pub done_read : {x y z : Option (List ℕ)} {s : Option NfsStatus} {r : Reply} → Reads IsAny status_or_ok x s y → s ≡ None → Reads (IsDone b) after_status y r z → Reads (IsAnswer a b) result x r z
+  done_read {x} {y} {z} {s} {r} f ok g = record { told = told x y z s ok f.told g.told }
+    where
+      told : (x y z : Option (List ℕ)) (s : Option NfsStatus) → s ≡ None → Told IsAny status_or_ok x s y → Told (IsDone b) after_status y r z → Told (IsAnswer a b) result x r z
+      told x y z (Some s) ok p q = absurd (cc ok)
+      told None None z None ok p q = q
+      told None (Some y) z None ok p q = absurd (cc p)
+      told (Some x) None None None ok p q = no_status p
+      told (Some x) None (Some z) None ok p q = absurd (cc q)
+      told (Some x) (Some y) None None ok p q = not_done p q
+      told (Some x) (Some y) (Some z) None ok p q = done_front p q
+
+  pub refusal_read : {x y z : Option (List ℕ)} {o : Option NfsStatus} {s : NfsStatus} {t : Tail} → Reads IsAny status_or_ok x o y → o ≡ Some s → Reads (IsTailOf a) tail y t z
+      → Reads (IsAnswer a b) result x (reply.Refused s t) z
+  refusal_read {x} {y} {z} {o} {s} {t} f given g = record { told = told x y z (subst (λ (o : Option NfsStatus). Told IsAny status_or_ok x o y) given f.told) g.told }
+    where
+      told : (x y z : Option (List ℕ)) → Told IsAny status_or_ok x (Some s) y → Told (IsTailOf a) tail y t z → Told (IsAnswer a b) result x (reply.Refused s t) z
+      told None None z p q = q
+      told None (Some y) z p q = absurd (cc p)
+      told (Some x) None None p q = no_status p
+      told (Some x) None (Some z) p q = absurd (cc q)
+      told (Some x) (Some y) None p q = not_refused p q
+      told (Some x) (Some y) (Some z) p q = refused_front p q
 
   one_answer : ReadsOne (IsAnswer a b) result
   one_answer = record { one = λ x y r s f g e. either x y r s (cases a b x f) (cases a b y g) e }
@@ -383,14 +438,67 @@ module _ (program procedure : ℕ) {bytes : List ℕ} where
       let g = front_of i in
       more ((one_for program procedure exists).one r other rest [] f.fits g.fits (sym f.spelled ∙ g.spelled)).1
 
-pub no_reply_refused : (program procedure : ℕ) (bytes : List ℕ) (fault : ArgsFault) → Refuses (Answers program procedure) result bytes fault → NoReply program procedure bytes fault
-no_reply_refused program procedure bytes Garbage absent = no_reply program procedure absent
-no_reply_refused program procedure bytes Memory absent = tt
+-- ---- the whole
 
--- something follows
-pub ended : (rest : List ℕ) (fault : XdrFault) → EndFault rest fault → rest ≢ []
-ended rest xdr.Trailing f = f
-ended rest xdr.Short f = absurd f
-ended rest xdr.TooLong f = absurd f
-ended rest xdr.Padding f = absurd f
-ended rest xdr.NotBool f = absurd f
+module _ (program procedure : ℕ) {bytes : List ℕ} {now : Option (List ℕ)} {r : Reply} (exists : IsProcedure program procedure) (read : Reads (Answers program procedure) result (Some bytes) r now) where
+  pub whole_reply : now ≡ Some [] → IsReply program procedure bytes r
+  whole_reply ends = cases now ends read.told
+    where
+      cases : (now : Option (List ℕ)) → now ≡ Some [] → Told (Answers program procedure) result (Some bytes) r now → IsReply program procedure bytes r
+      cases None ends p = absurd (cc ends)
+      cases (Some []) ends p = is_reply program procedure exists p refl
+      cases (Some (x ∷ rest)) ends p = absurd (cc ends)
+
+  pub no_whole_reply : now ≢ Some [] → (other : Reply) → IsReply program procedure bytes other → ⊥
+  no_whole_reply more = cases now more read.told
+    where
+      cases : (now : Option (List ℕ)) → now ≢ Some [] → Told (Answers program procedure) result (Some bytes) r now → (other : Reply) → IsReply program procedure bytes other → ⊥
+      cases None more p = no_reply program procedure p
+      cases (Some []) more p = absurd (more refl)
+      cases (Some (x ∷ rest)) more p = more_than_a_reply program procedure exists p (λ e. absurd (cc e))
+
+-- NULL has one reply
+pub null_read : (program procedure : ℕ) (a : Option (List ℕ)) → program ≡ nfs_program → procedure ≡ 0 → Reads (Answers program procedure) result a reply.Nothing a
+null_read program procedure a p q = subst (λ n. Reads (Answers n procedure) result a reply.Nothing a) (sym p) (subst (λ n. Reads (Answers nfs_program n) result a reply.Nothing a) (sym q) (nothing_read a))
+
+-- ---- what stands behind a refusal
+
+pub two_caches_read : {a b c : Option (List ℕ)} {v w : Wcc} → Reads IsWcc wcc a v b → Reads IsWcc wcc b w c → Reads (IsTailOf 3) tail a (tails.TwoCaches v w) c
+two_caches_read f g = (made_read made_two_caches (part one_wcc f ▸ part one_wcc g)).reads
+
+pub attributes_and_cache_read : {a b c : Option (List ℕ)} {o : Option Fattr} {w : Wcc} → Reads (IsOptional IsFattr) (optional fattr) a o b → Reads IsWcc wcc b w c
+    → Reads (IsTailOf 4) tail a (tails.AttributesAndCache o w) c
+attributes_and_cache_read f g = (made_read made_attributes_and_cache (part one_post_attributes f ▸ part one_wcc g)).reads
+
+cache_of : (t : Tail) → IsTailOf 2 t → MadeOf IsWcc tails.Cache t
+cache_of (tails.Cache w) f = record { part = w; fits = f.1; same = refl }
+cache_of t f = absurd (omega (arith, f.0))
+
+made_cache : Made IsWcc wcc (IsTailOf 2) tail tails.Cache
+made_cache = record { whole = λ w f. (refl, f); spelled = λ w. refl; parts = cache_of }
+
+pub cache_read : {a b : Option (List ℕ)} {w : Wcc} (p : ℕ) → tail_form_at p ≡ 2 → Reads IsWcc wcc a w b → Reads (IsTailOf (tail_form_at p)) tail a (tails.Cache w) b
+cache_read {a} {b} {w} p e f = subst (λ n. Reads (IsTailOf n) tail a (tails.Cache w) b) (sym e) (made_read made_cache (part one_wcc f)).reads
+
+-- the procedures whose refusals have a cache
+pub cache_form_2 : (p : ℕ) → p ≡ 2 → tail_form_at p ≡ 2
+cache_form_2 p e = ap tail_form_at e
+
+pub cache_form_7 : (p : ℕ) → 7 ≤ p → p < 14 → tail_form_at p ≡ 2
+cache_form_7 p some few = ap tail_form_at split ∙ behind (p - 7) (omega (arith, some, few))
+  where
+    split : p ≡ 7 + (p - 7)
+    split = omega (arith, some)
+
+    behind : (k : ℕ) → k < 7 → tail_form_at (7 + k) ≡ 2
+    behind zero h = refl
+    behind (suc zero) h = refl
+    behind (suc (suc zero)) h = refl
+    behind (suc (suc (suc zero))) h = refl
+    behind (suc (suc (suc (suc zero)))) h = refl
+    behind (suc (suc (suc (suc (suc zero))))) h = refl
+    behind (suc (suc (suc (suc (suc (suc zero)))))) h = refl
+    behind (suc (suc (suc (suc (suc (suc (suc k))))))) h = absurd (omega (arith, h))
+
+pub cache_form_21 : (p : ℕ) → p ≡ 21 → tail_form_at p ≡ 2
+cache_form_21 p e = ap tail_form_at e

@@ -3,7 +3,6 @@ use Rattle.std.proofs.Common.{ℕ, ◌^◌, Bool, true, List, [], ◌∷◌, ◌
 use Rattle.wire_model.specs.Xdr.{word, double_word, boolean, opaque, optional, IsWord, IsAny, IsUpTo}
 use Rattle.wire_model.specs.OneReading.{ReadsOne, IsFront, HasNoFront}
 use Rattle.wire_model.proofs.OneReading.{◌▷◌, one_word, one_boolean}
-use Rattle.wire_model.proofs.Fronts.{both, no_first, no_second}
 use Rattle.nfs_model.specs.declared.replies.Fattr.{Fattr}
 use Rattle.nfs_model.specs.declared.replies.Wcc.{Wcc}
 use Rattle.nfs_model.specs.declared.replies.Reply.{Reply}
@@ -13,8 +12,8 @@ use Rattle.nfs_model.specs.Results.{fattr, wcc, many, write_verifier}
 use Rattle.nfs_model.specs.Replies.{IsFattr, IsWcc, IsText}
 use Rattle.nfs_model.proofs.OneArguments.{one_handle}
 use Rattle.nfs_model.proofs.OneReplies.{one_wcc, one_post_attributes, one_text}
-use Rattle.nfs3_replies.specs.ReadParts.{constant, IsOptional, AreAttributesAndCache, attributes_and_cache, AreTwoCaches, two_caches, given_handle, Found, IsFound, found, IsAllowedParts, allowed_parts, IsLinkText, link_text, Content, IsContent, content, IsWrittenParts, written_parts, IsCommittedParts, committed_parts, MadeObject, IsMade, made, IsNumbered, numbered, IsDone, after_status}
-use Rattle.nfs3_replies.proofs.Made.{MadeOf, Made}
+use Rattle.nfs3_replies.specs.ReadParts.{constant, IsOptional, AreAttributesAndCache, attributes_and_cache, AreTwoCaches, two_caches, given_handle, Found, IsFound, found, IsAllowedParts, allowed_parts, IsLinkText, link_text, Content, IsContent, content, IsWrittenParts, written_parts, IsCommittedParts, committed_parts, IsNumbered, numbered, IsDone, after_status}
+use Rattle.nfs3_replies.proofs.Made.{MadeOf, Made, one_made}
 use Rattle.nfs3_replies.proofs.ReadConstants.{one_constant}
 
 -- ---- parts
@@ -25,12 +24,11 @@ one_attributes_and_cache = one_post_attributes ▷ one_wcc
 pub one_two_caches : ReadsOne AreTwoCaches two_caches
 one_two_caches = one_wcc ▷ one_wcc
 
+pub made_given : Made {A = Unit {0} × List ℕ} (λ p. IsAny p.0 × IsHandle p.1) (λ p. constant (1 ∷ []) p.0 ++ opaque p.1) IsHandle given_handle (λ p. p.1)
+made_given = record { whole = λ p f. f.1; spelled = λ p. refl; parts = λ h f. record { part = (tt, h); fits = (tt, f); same = refl } }
+
 pub one_given_handle : ReadsOne IsHandle given_handle
-one_given_handle = record {
-  one = λ x y r s f g e.
-      let p = (one_boolean ▷ one_handle).one (true, x) (true, y) r s (tt, f) (tt, g) e in
-      (ap (λ (p : Bool × List ℕ). p.1) p.0, p.1);
-}
+one_given_handle = one_made made_given (one_constant (1 ∷ []) ▷ one_handle)
 
 pub one_found : ReadsOne IsFound found
 one_found = one_handle ▷ one_post_attributes ▷ one_post_attributes
@@ -50,13 +48,20 @@ one_written = one_wcc ▷ one_word ▷ one_constant (2 ∷ 1230395734 ∷ 116301
 pub one_committed : ReadsOne IsCommittedParts committed_parts
 one_committed = one_wcc ▷ one_constant (1230395734 ∷ 1163019825 ∷ [])
 
-pub one_made_object : ReadsOne IsMade made
-one_made_object = one_given_handle ▷ one_attributes_and_cache
+abbrev ObjectParts : Type 0
+ObjectParts = (List ℕ × Option Fattr) × Wcc
+
+abbrev AreObjectParts : ObjectParts → Type 0
+AreObjectParts p = (IsHandle p.0.0 × IsOptional IsFattr p.0.1) × IsWcc p.1
+
+abbrev object_bytes : ObjectParts → List ℕ
+object_bytes p = given_handle p.0.0 ++ optional fattr p.0.1 ++ wcc p.1
+
+pub one_made_object : ReadsOne AreObjectParts object_bytes
+one_made_object = one_given_handle ▷ one_post_attributes ▷ one_wcc
 
 pub one_numbered : (numbers : List ℕ) → ReadsOne IsNumbered (numbered numbers)
 one_numbered numbers = one_post_attributes ▷ one_constant numbers
-
--- ---- a part that is missing
 
 -- a text's length is any word
 pub long_text : {b : List ℕ} → HasNoFront (IsUpTo 4294967295) opaque b → HasNoFront IsText opaque b
@@ -64,81 +69,6 @@ long_text absent = record { none = λ x rest f. absent.none x rest (record { fit
 
 pub text_front : {b rest text : List ℕ} → IsFront (IsUpTo 4294967295) opaque b text rest → IsFront IsText opaque b text rest
 text_front f = record { fits = omega (arith, f.fits); spelled = f.spelled }
-
-module _ {b0 : List ℕ} where
-  pub no_handle_found : HasNoFront IsHandle opaque b0 → HasNoFront IsFound found b0
-  no_handle_found absent = no_first (IsOptional IsFattr) (optional fattr) (no_first (IsOptional IsFattr) (optional fattr) absent)
-
-  pub no_object_found : {b1 handle : List ℕ} → IsFront IsHandle opaque b0 handle b1 → HasNoFront (IsOptional IsFattr) (optional fattr) b1 → HasNoFront IsFound found b0
-  no_object_found f absent = no_first (IsOptional IsFattr) (optional fattr) (no_second one_handle f absent)
-
-  pub no_dir_found : {b1 b2 handle : List ℕ} {o : Option Fattr} → IsFront IsHandle opaque b0 handle b1 → IsFront (IsOptional IsFattr) (optional fattr) b1 o b2
-      → HasNoFront (IsOptional IsFattr) (optional fattr) b2 → HasNoFront IsFound found b0
-  no_dir_found f g absent = no_second (one_handle ▷ one_post_attributes) (both f g) absent
-
-  pub no_object_allowed : HasNoFront (IsOptional IsFattr) (optional fattr) b0 → HasNoFront IsAllowedParts allowed_parts b0
-  no_object_allowed absent = no_first IsWord word absent
-
-  pub no_bits : {b1 : List ℕ} {o : Option Fattr} → IsFront (IsOptional IsFattr) (optional fattr) b0 o b1 → HasNoFront IsWord word b1 → HasNoFront IsAllowedParts allowed_parts b0
-  no_bits f absent = no_second one_post_attributes f absent
-
-  pub no_link : HasNoFront (IsOptional IsFattr) (optional fattr) b0 → HasNoFront IsLinkText link_text b0
-  no_link absent = no_first IsText opaque absent
-
-  pub no_text : {b1 : List ℕ} {o : Option Fattr} → IsFront (IsOptional IsFattr) (optional fattr) b0 o b1 → HasNoFront (IsUpTo 4294967295) opaque b1 → HasNoFront IsLinkText link_text b0
-  no_text f absent = no_second one_post_attributes f (long_text absent)
-
-  pub no_file : HasNoFront (IsOptional IsFattr) (optional fattr) b0 → HasNoFront IsContent content b0
-  no_file absent = no_first IsText opaque (no_first IsAny boolean (no_first IsWord word absent))
-
-  pub no_count : {b1 : List ℕ} {o : Option Fattr} → IsFront (IsOptional IsFattr) (optional fattr) b0 o b1 → HasNoFront IsWord word b1 → HasNoFront IsContent content b0
-  no_count f absent = no_first IsText opaque (no_first IsAny boolean (no_second one_post_attributes f absent))
-
-  pub no_eof : {b1 b2 : List ℕ} {o : Option Fattr} {n : ℕ} → IsFront (IsOptional IsFattr) (optional fattr) b0 o b1 → IsFront IsWord word b1 n b2
-      → HasNoFront IsAny boolean b2 → HasNoFront IsContent content b0
-  no_eof f g absent = no_first IsText opaque (no_second (one_post_attributes ▷ one_word) (both f g) absent)
-
-  pub no_content : {b1 b2 b3 : List ℕ} {o : Option Fattr} {n : ℕ} {eof : Bool} → IsFront (IsOptional IsFattr) (optional fattr) b0 o b1 → IsFront IsWord word b1 n b2
-      → IsFront IsAny boolean b2 eof b3 → HasNoFront (IsUpTo 4294967295) opaque b3 → HasNoFront IsContent content b0
-  no_content f g h absent = no_second (one_post_attributes ▷ one_word ▷ one_boolean) (both (both f g) h) (long_text absent)
-
-  pub no_written_cache : HasNoFront IsWcc wcc b0 → HasNoFront IsWrittenParts written_parts b0
-  no_written_cache absent = no_first IsAny (constant (2 ∷ 1230395734 ∷ 1163019825 ∷ [])) (no_first IsWord word absent)
-
-  pub no_written_count : {b1 : List ℕ} {w : Wcc} → IsFront IsWcc wcc b0 w b1 → HasNoFront IsWord word b1 → HasNoFront IsWrittenParts written_parts b0
-  no_written_count f absent = no_first IsAny (constant (2 ∷ 1230395734 ∷ 1163019825 ∷ [])) (no_second one_wcc f absent)
-
-  pub not_stored : {b1 b2 : List ℕ} {w : Wcc} {n : ℕ} → IsFront IsWcc wcc b0 w b1 → IsFront IsWord word b1 n b2
-      → HasNoFront IsAny (constant (2 ∷ 1230395734 ∷ 1163019825 ∷ [])) b2 → HasNoFront IsWrittenParts written_parts b0
-  not_stored f g absent = no_second (one_wcc ▷ one_word) (both f g) absent
-
-  pub no_committed_cache : HasNoFront IsWcc wcc b0 → HasNoFront IsCommittedParts committed_parts b0
-  no_committed_cache absent = no_first IsAny (constant (1230395734 ∷ 1163019825 ∷ [])) absent
-
-  pub no_write_verifier : {b1 : List ℕ} {w : Wcc} → IsFront IsWcc wcc b0 w b1 → HasNoFront IsAny (constant (1230395734 ∷ 1163019825 ∷ [])) b1 → HasNoFront IsCommittedParts committed_parts b0
-  no_write_verifier f absent = no_second one_wcc f absent
-
-  pub no_new_handle : HasNoFront IsHandle given_handle b0 → HasNoFront IsMade made b0
-  no_new_handle absent = no_first AreAttributesAndCache attributes_and_cache absent
-
-  pub no_new_attributes : {b1 handle : List ℕ} → IsFront IsHandle given_handle b0 handle b1 → HasNoFront AreAttributesAndCache attributes_and_cache b1 → HasNoFront IsMade made b0
-  no_new_attributes f absent = no_second one_given_handle f absent
-
-  pub no_attributes : HasNoFront (IsOptional IsFattr) (optional fattr) b0 → HasNoFront AreAttributesAndCache attributes_and_cache b0
-  no_attributes absent = no_first IsWcc wcc absent
-
-  pub no_cache : {b1 : List ℕ} {o : Option Fattr} → IsFront (IsOptional IsFattr) (optional fattr) b0 o b1 → HasNoFront IsWcc wcc b1 → HasNoFront AreAttributesAndCache attributes_and_cache b0
-  no_cache f absent = no_second one_post_attributes f absent
-
-  pub no_first_cache : HasNoFront IsWcc wcc b0 → HasNoFront AreTwoCaches two_caches b0
-  no_first_cache absent = no_first IsWcc wcc absent
-
-  pub no_second_cache : {b1 : List ℕ} {w : Wcc} → IsFront IsWcc wcc b0 w b1 → HasNoFront IsWcc wcc b1 → HasNoFront AreTwoCaches two_caches b0
-  no_second_cache f absent = no_second one_wcc f absent
-
-  pub other_numbers : (numbers : List ℕ) {b1 : List ℕ} {o : Option Fattr} → IsFront (IsOptional IsFattr) (optional fattr) b0 o b1 → HasNoFront IsAny (constant numbers) b1 → HasNoFront IsNumbered (numbered numbers) b0
-  other_numbers numbers f absent = no_second one_post_attributes f absent
-  -- a handle is given
 
 -- ---- results of each form
 
@@ -210,19 +140,15 @@ made_written = record {
   parts = written_of;
 }
 
-abbrev object_with : MadeObject → Reply
-object_with p = reply.Made p.0 p.1.0 p.1.1
+abbrev object_with : ObjectParts → Reply
+object_with p = reply.Made p.0.0 p.0.1 p.1
 
-object_parts : (r : Reply) → IsDone 8 r → MadeOf IsMade object_with r
-object_parts (reply.Made handle object cache) f = record { part = (handle, (object, cache)); fits = (f.1.0, (f.1.1, f.1.2)); same = refl }
+object_parts : (r : Reply) → IsDone 8 r → MadeOf AreObjectParts object_with r
+object_parts (reply.Made handle object cache) f = record { part = ((handle, object), cache); fits = ((f.1.0, f.1.1), f.1.2); same = refl }
 object_parts r f = absurd (omega (arith, f.0))
 
-pub made_object : Made IsMade made (IsDone 8) after_status object_with
-made_object = record {
-  whole = λ p f. (refl, (f.0, f.1.0, f.1.1));
-  spelled = λ p. append_assoc (given_handle p.0) (optional fattr p.1.0) (wcc p.1.1);
-  parts = object_parts;
-}
+pub made_object : Made AreObjectParts object_bytes (IsDone 8) after_status object_with
+made_object = record { whole = λ p f. (refl, (f.0.0, f.0.1, f.1)); spelled = λ p. refl; parts = object_parts }
 
 abbrev renamed_with : Wcc × Wcc → Reply
 renamed_with p = reply.Renamed p.0 p.1

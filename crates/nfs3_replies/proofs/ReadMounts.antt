@@ -1,41 +1,77 @@
 -- Results of MOUNT are read.
-use Rattle.std.proofs.Common.{◌≡◌, ℕ, zero, suc, ◌<◌, List, [], ◌∷◌, ◌++◌, refl, sym, ap, ◌∙◌, arith}
+use Rattle.std.proofs.Common.{◌≡◌, ℕ, zero, suc, ◌<◌, List, [], ◌∷◌, ◌++◌, Option, Some, None, refl, sym, ap, ◌∙◌, arith, append_assoc}
+use Rattle.std.specs.Prelude.{◌≢◌}
 use Rattle.wire_model.specs.Xdr.{word, opaque, IsWord, IsAny}
 use Rattle.wire_model.specs.OneReading.{ReadsOne, IsFront, HasNoFront}
 use Rattle.wire_model.proofs.OneReading.{◌▷◌, one_word, always}
-use Rattle.wire_model.proofs.Fronts.{no_first, no_second}
 use Rattle.nfs_model.specs.declared.replies.Reply.{Reply}
 use Rattle.nfs_model.specs.declared.replies.Reply.TheVariants as reply
 use Rattle.nfs_model.specs.Arguments.{IsHandle}
 use Rattle.nfs_model.specs.Results.{result}
 use Rattle.nfs_model.proofs.OneArguments.{one_handle}
 use Rattle.nfs_model.proofs.OneReplies.{tail_below}
-use Rattle.nfs3_replies.specs.ReadParts.{constant, IsMountedParts, mounted_parts, IsAnswer, mount_form_at}
+use Rattle.nfs3_replies.specs.ReadParts.{Told, Reads, constant, IsMountedParts, mounted_parts, IsAnswer, mount_form_at}
 use Rattle.nfs3_replies.proofs.Made.{MadeOf, Made, one_made}
 use Rattle.nfs3_replies.proofs.ReadConstants.{one_constant}
 
-one_mounted : ReadsOne IsMountedParts mounted_parts
+pub one_mounted : ReadsOne IsMountedParts mounted_parts
 one_mounted = one_handle ▷ one_constant (1 ∷ 1 ∷ [])
 
-module _ {b0 : List ℕ} where
-  pub no_mounted_handle : HasNoFront IsHandle opaque b0 → HasNoFront IsMountedParts mounted_parts b0
-  no_mounted_handle absent = no_first IsAny (constant (1 ∷ 1 ∷ [])) absent
+no_status : {bytes : List ℕ} → HasNoFront IsWord word bytes → (r : Reply) (rest : List ℕ) → IsFront (IsAnswer 5 101) result bytes r rest → ⊥
+no_status absent (reply.Mounted other) rest g = absent.none 0 (mounted_parts (other, tt) ++ rest) (record { fits = omega arith; spelled = g.spelled })
+no_status absent reply.NoSuchPath rest g = absent.none 2 rest (record { fits = omega arith; spelled = g.spelled })
+no_status absent (reply.Refused s t) rest g = absurd (omega (arith, g.fits.0, tail_below t))
+no_status absent r rest g = absurd (omega (arith, g.fits.0))
 
-  pub no_flavours : {b1 handle : List ℕ} → IsFront IsHandle opaque b0 handle b1 → HasNoFront IsAny (constant (1 ∷ 1 ∷ [])) b1 → HasNoFront IsMountedParts mounted_parts b0
-  no_flavours f absent = no_second one_handle f absent
-
-  pub not_mounted : {b1 : List ℕ} {n : ℕ} → IsFront IsWord word b0 n b1 → n ≡ 0 → HasNoFront IsMountedParts mounted_parts b1 → HasNoFront (IsAnswer 5 101) result b0
-  not_mounted {b1} {n} status done absent = record { none = replies }
+module _ {a b : Option (List ℕ)} {n : ℕ} (status : Reads IsWord word a n b) where
+  pub mount_read : {c : Option (List ℕ)} {handle : List ℕ} → n ≡ 0 → Reads IsMountedParts mounted_parts b (handle, tt) c → Reads (IsAnswer 5 101) result a (reply.Mounted handle) c
+  mount_read {c} {handle} zero_is f = record { told = cases a b c status.told f.told }
     where
-      replies : (r : Reply) (rest : List ℕ) → IsFront (IsAnswer 5 101) result b0 r rest → ⊥
-      replies (reply.Mounted handle) rest f =
-          let p = one_word.one n 0 b1 (mounted_parts (handle, tt) ++ rest) status.fits (omega arith) (sym status.spelled ∙ f.spelled) in
-          absent.none (handle, tt) rest (record { fits = (f.fits.1, tt); spelled = p.1 })
-      replies reply.NoSuchPath rest f =
-          let p = one_word.one n 2 b1 rest status.fits (omega arith) (sym status.spelled ∙ f.spelled) in
-          absurd (omega (arith, p.0, done))
-      replies (reply.Refused s t) rest f = absurd (omega (arith, f.fits.0, tail_below t))
-      replies r rest f = absurd (omega (arith, f.fits.0))
+      absent_part : {bytes middle : List ℕ} → IsFront IsWord word bytes n middle → HasNoFront IsMountedParts mounted_parts middle → (r : Reply) (rest : List ℕ) → IsFront (IsAnswer 5 101) result bytes r rest → ⊥
+      absent_part {middle = middle} front absent (reply.Mounted other) rest g =
+          let p = one_word.one n 0 middle (mounted_parts (other, tt) ++ rest) front.fits (omega arith) (sym front.spelled ∙ g.spelled) in
+          absent.none (other, tt) rest (record { fits = (g.fits.1, tt); spelled = p.1 })
+      absent_part {middle = middle} front absent reply.NoSuchPath rest g =
+          let p = one_word.one n 2 middle rest front.fits (omega arith) (sym front.spelled ∙ g.spelled) in
+          absurd (omega (arith, p.0, zero_is))
+      absent_part front absent (reply.Refused s t) rest g = absurd (omega (arith, g.fits.0, tail_below t))
+      absent_part front absent r rest g = absurd (omega (arith, g.fits.0))
+
+      cases : (a b c : Option (List ℕ)) → Told IsWord word a n b → Told IsMountedParts mounted_parts b (handle, tt) c → Told (IsAnswer 5 101) result a (reply.Mounted handle) c
+      cases None None c p q = q
+      cases None (Some b) c p q = absurd (cc p)
+      cases (Some a) None None p q = record { none = no_status p }
+      cases (Some a) None (Some c) p q = absurd (cc q)
+      cases (Some a) (Some b) None p q = record { none = absent_part p q }
+      cases (Some a) (Some b) (Some c) p q = record {
+        fits = (refl, q.fits.0);
+        spelled =
+            p.spelled ∙ ap (λ (k : ℕ). word k ++ b) zero_is ∙ ap (λ (s : List ℕ). word 0 ++ s) q.spelled ∙ sym (append_assoc (word 0) (mounted_parts (handle, tt)) c);
+      }
+
+  pub no_path_read : n ≡ 2 → Reads (IsAnswer 5 101) result a reply.NoSuchPath b
+  no_path_read two = record { told = cases a b status.told }
+    where
+      cases : (a b : Option (List ℕ)) → Told IsWord word a n b → Told (IsAnswer 5 101) result a reply.NoSuchPath b
+      cases None b p = p
+      cases (Some a) None p = record { none = no_status p }
+      cases (Some a) (Some b) p = record { fits = (refl, tt); spelled = p.spelled ∙ ap (λ (k : ℕ). word k ++ b) two }
+
+  pub other_status : {c : Option (List ℕ)} → n ≢ 0 → n ≢ 2 → c ≡ None → Reads (IsAnswer 5 101) result a reply.NoSuchPath c
+  other_status {c} no_zero no_two gone = record { told = cases a b c gone status.told }
+    where
+      neither : {bytes middle : List ℕ} → IsFront IsWord word bytes n middle → (r : Reply) (rest : List ℕ) → IsFront (IsAnswer 5 101) result bytes r rest → ⊥
+      neither {middle = middle} front (reply.Mounted other) rest g =
+          no_zero (one_word.one n 0 middle (mounted_parts (other, tt) ++ rest) front.fits (omega arith) (sym front.spelled ∙ g.spelled)).0
+      neither {middle = middle} front reply.NoSuchPath rest g = no_two (one_word.one n 2 middle rest front.fits (omega arith) (sym front.spelled ∙ g.spelled)).0
+      neither front (reply.Refused s t) rest g = absurd (omega (arith, g.fits.0, tail_below t))
+      neither front r rest g = absurd (omega (arith, g.fits.0))
+
+      cases : (a b c : Option (List ℕ)) → c ≡ None → Told IsWord word a n b → Told (IsAnswer 5 101) result a reply.NoSuchPath c
+      cases a b (Some c) gone p = absurd (cc gone)
+      cases None b None gone p = refl
+      cases (Some a) None None gone p = record { none = no_status p }
+      cases (Some a) (Some b) None gone p = record { none = neither p }
 
 no_mounts_of : (r : Reply) → IsAnswer 5 102 r → MadeOf (IsAny {A = Unit {0}}) (λ u. reply.NoMounts) r
 no_mounts_of reply.NoMounts f = record { part = tt; fits = tt; same = refl }
@@ -58,8 +94,15 @@ nothing_of reply.Nothing f = record { part = tt; fits = tt; same = refl }
 nothing_of (reply.Refused s t) f = absurd (omega (arith, f.0, tail_below t))
 nothing_of r f = absurd (omega (arith, f.0))
 
-made_nothing : Made IsAny (constant []) (IsAnswer 5 0) result (λ u. reply.Nothing)
+pub made_nothing : Made IsAny (constant []) (IsAnswer 5 0) result (λ u. reply.Nothing)
 made_nothing = record { whole = λ u f. (refl, tt); spelled = λ u. refl; parts = nothing_of }
+
+pub nothing_read : (a : Option (List ℕ)) → Reads (IsAnswer 5 0) result a reply.Nothing a
+nothing_read a = record { told = cases a }
+  where
+    cases : (a : Option (List ℕ)) → Told (IsAnswer 5 0) result a reply.Nothing a
+    cases None = refl
+    cases (Some bytes) = record { fits = (refl, tt); spelled = refl }
 
 -- ---- each is of one reply
 

@@ -1,23 +1,23 @@
 -- Pages are read entry by entry.
-use Rattle.std.proofs.Common.{◌≡◌, ℕ, Bool, true, false, List, [], ◌∷◌, ◌++◌, length, Option, Some, None, refl, sym, ap, ◌∙◌, arith, append_assoc}
+use Rattle.std.proofs.Common.{◌≡◌, ℕ, Bool, true, false, List, [], ◌∷◌, ◌++◌, length, ◌<◌, Option, Some, None, refl, sym, ap, ◌∙◌, arith, append_assoc}
+use Rattle.std.specs.Prelude.{◌≢◌}
 use Rattle.std.specs.List.{flat_map, AllByRecursion}
-use Rattle.std.proofs.lemmas.List.{append-nil}
+use Rattle.std.proofs.lemmas.List.{append-nil, length-append}
 use Rattle.wire_model.specs.Xdr.{word, double_word, boolean, opaque, optional, fixed, IsDoubleWord, IsAny, IsOfLength, IsUpTo}
 use Rattle.wire_model.specs.OneReading.{ReadsOne, IsFront, HasNoFront}
 use Rattle.wire_model.proofs.OneReading.{◌▷◌, always, regrouped, one_double_word, one_boolean}
-use Rattle.wire_model.proofs.Fronts.{both, no_first, no_second}
+use Rattle.wire_model.proofs.Arrays.{more_items}
 use Rattle.nfs_model.specs.declared.replies.Fattr.{Fattr}
 use Rattle.nfs_model.specs.declared.replies.Listed.{Listed}
 use Rattle.nfs_model.specs.declared.replies.Reply.{Reply}
 use Rattle.nfs_model.specs.declared.replies.Reply.TheVariants as reply
 use Rattle.nfs_model.specs.Arguments.{IsHandle, IsVerifier}
 use Rattle.nfs_model.specs.Results.{fattr}
-use Rattle.nfs_model.specs.Replies.{IsText, IsPlainEntry, IsPlusEntry}
+use Rattle.nfs_model.specs.Replies.{IsFattr, IsText, IsPlainEntry, IsPlusEntry}
 use Rattle.nfs_model.proofs.OneArguments.{one_verifier}
 use Rattle.nfs_model.proofs.OneReplies.{one_text, one_post_attributes, one_plain, one_plus, one_page}
-use Rattle.nfs3_replies.specs.ReadParts.{given_handle, as_it_stands, EntryParts, AreEntryParts, entry_parts, ArePlusParts, plus_parts, IsEntry, entry_body, flagged_entry, ArePage, page_bytes, IsPageHead, page_head, IsDone, after_status}
+use Rattle.nfs3_replies.specs.ReadParts.{Told, Reads, IsOptional, given_handle, as_it_stands, EntryParts, AreEntryParts, entry_parts, IsEntry, entry_body, flagged_entry, ArePage, page_bytes, IsPageHead, page_head, IsDone, after_status}
 use Rattle.nfs3_replies.proofs.Made.{MadeOf, Made}
-use Rattle.nfs3_replies.proofs.ReadForms.{long_text}
 
 -- ---- verifiers
 
@@ -33,27 +33,10 @@ no_verifier bytes absent = record {
   none = λ x rest f. absent.none x rest (record { fits = f.fits; spelled = f.spelled ∙ ap (λ (s : List ℕ). s ++ rest) (sym (fixed_verifier x f.fits)) });
 }
 
-pub one_page_head : ReadsOne IsPageHead page_head
+one_page_head : ReadsOne IsPageHead page_head
 one_page_head = one_post_attributes ▷ one_verifier
 
 -- ---- entries
-
-one_entry_parts : ReadsOne AreEntryParts entry_parts
-one_entry_parts = one_double_word ▷ one_text ▷ one_double_word
-
-module _ {b0 : List ℕ} where
-  pub no_file_number : HasNoFront IsDoubleWord double_word b0 → HasNoFront AreEntryParts entry_parts b0
-  no_file_number absent = no_first IsDoubleWord double_word (no_first IsText opaque absent)
-
-  pub no_entry_name : {b1 : List ℕ} {n : ℕ} → IsFront IsDoubleWord double_word b0 n b1 → HasNoFront (IsUpTo 4294967295) opaque b1 → HasNoFront AreEntryParts entry_parts b0
-  no_entry_name f absent = no_first IsDoubleWord double_word (no_second one_double_word f (long_text absent))
-
-  pub no_cookie : {b1 b2 name : List ℕ} {n : ℕ} → IsFront IsDoubleWord double_word b0 n b1 → IsFront (IsUpTo 4294967295) opaque b1 name b2 → HasNoFront IsDoubleWord double_word b2
-      → HasNoFront AreEntryParts entry_parts b0
-  no_cookie {name = name} f g absent = no_second (one_double_word ▷ one_text) (both f (short g)) absent
-    where
-      short : {b c name : List ℕ} → IsFront (IsUpTo 4294967295) opaque b name c → IsFront IsText opaque b name c
-      short g = record { fits = omega (arith, g.fits); spelled = g.spelled }
 
 abbrev plain_with : EntryParts → Listed
 plain_with p = record { fileid = p.0.0; name = p.0.1; cookie = p.1; attributes = None; handle = None }
@@ -71,16 +54,16 @@ made_plain = record {
 }
 
 abbrev PlusEntry : Type 0
-PlusEntry = EntryParts × (Option Fattr × List ℕ)
+PlusEntry = (EntryParts × Option Fattr) × List ℕ
 
 abbrev IsPlusOf : PlusEntry → Type 0
-IsPlusOf p = AreEntryParts p.0 × ArePlusParts p.1
+IsPlusOf p = (AreEntryParts p.0.0 × IsOptional IsFattr p.0.1) × IsHandle p.1
 
 abbrev plus_entry : PlusEntry → List ℕ
-plus_entry p = entry_parts p.0 ++ plus_parts p.1
+plus_entry p = (entry_parts p.0.0 ++ optional fattr p.0.1) ++ given_handle p.1
 
 abbrev plus_with : PlusEntry → Listed
-plus_with p = record { fileid = p.0.0.0; name = p.0.0.1; cookie = p.0.1; attributes = p.1.0; handle = Some p.1.1 }
+plus_with p = record { fileid = p.0.0.0.0; name = p.0.0.0.1; cookie = p.0.0.1; attributes = p.0.1; handle = Some p.1 }
 
 plus_of : (e : Listed) → IsPlusEntry e → MadeOf IsPlusOf plus_with e
 plus_of e f = handled e.handle refl f.handle
@@ -88,23 +71,17 @@ plus_of e f = handled e.handle refl f.handle
     handled : (h : Option (List ℕ)) → e.handle ≡ h → Rattle.std.specs.Prelude.IsSomeAnd h IsHandle → MadeOf IsPlusOf plus_with e
     handled None is g = absurd g
     handled (Some handle) is g = record {
-      part = (((e.fileid, e.name), e.cookie), (e.attributes, handle));
-      fits = (((f.fileid, f.name), f.cookie), (f.attributes, g));
+      part = ((((e.fileid, e.name), e.cookie), e.attributes), handle);
+      fits = ((((f.fileid, f.name), f.cookie), f.attributes), g);
       same = ap (λ (h : Option (List ℕ)). record { fileid = e.fileid; name = e.name; cookie = e.cookie; attributes = e.attributes; handle = h }) is;
     }
 
 pub made_plus : Made IsPlusOf plus_entry (IsEntry true) (entry_body true) plus_with
 made_plus = record {
-  whole = λ p f. record { fileid = f.0.0.0; name = f.0.0.1; cookie = f.0.1; attributes = f.1.0; handle = f.1.1 };
-  spelled = λ p. append_assoc (entry_parts p.0) (optional fattr p.1.0) (given_handle p.1.1);
+  whole = λ p f. record { fileid = f.0.0.0.0; name = f.0.0.0.1; cookie = f.0.0.1; attributes = f.0.1; handle = f.1 };
+  spelled = λ p. refl;
   parts = plus_of;
 }
-
-pub no_plus_front : {b0 : List ℕ} → HasNoFront AreEntryParts entry_parts b0 → HasNoFront IsPlusOf plus_entry b0
-no_plus_front absent = no_first ArePlusParts plus_parts absent
-
-pub no_plus_behind : {b0 b1 : List ℕ} {p : EntryParts} → IsFront AreEntryParts entry_parts b0 p b1 → HasNoFront ArePlusParts plus_parts b1 → HasNoFront IsPlusOf plus_entry b0
-no_plus_behind f absent = no_second one_entry_parts f absent
 
 pub one_entry : (plus : Bool) → ReadsOne (IsEntry plus) (entry_body plus)
 one_entry false = one_plain
@@ -175,6 +152,75 @@ module _ (plus : Bool) {start left : List ℕ} {done : List Listed} (so_far : Ar
           grouped : page_bytes plus (x ∷ others) ++ rest ≡ boolean true ++ (entry_body plus x ++ (page_bytes plus others ++ rest))
           grouped = simp append_assoc
 
+-- ---- the entries so far
+
+abbrev ToldSoFar : Bool → Option (List ℕ) → List Listed → Option (List ℕ) → Type 0
+ToldSoFar plus None done now = now ≡ None
+ToldSoFar plus (Some bytes) done None = HasNoFront (ArePage plus) (page_bytes plus) bytes
+ToldSoFar plus (Some bytes) done (Some left) = AreRead plus bytes done left
+
+pub record EntriesSoFar (plus : Bool) (start : Option (List ℕ)) (done : List Listed) (now : Option (List ℕ)) : Type 0 where
+  pub told : ToldSoFar plus start done now
+
+pub no_entries : (plus : Bool) (start : Option (List ℕ)) → EntriesSoFar plus start [] start
+no_entries plus start = record { told = cases start }
+  where
+    cases : (start : Option (List ℕ)) → ToldSoFar plus start [] start
+    cases None = refl
+    cases (Some bytes) = record { fits = tt; spelled = refl }
+
+pub entry_more : (plus : Bool) {start now middle after : Option (List ℕ)} {done : List Listed} {flag : Bool} {entry : Listed} → EntriesSoFar plus start done now
+    → Reads IsAny boolean now flag middle → flag ≡ true → Reads (IsEntry plus) (entry_body plus) middle entry after → EntriesSoFar plus start (done ++ entry ∷ []) after
+entry_more plus {start} {now} {middle} {after} {done} {flag} {entry} so_far mark set next = record { told = cases start now middle after flag set so_far.told mark.told next.told }
+  where
+    cases : (start now middle after : Option (List ℕ)) (flag : Bool) → flag ≡ true → ToldSoFar plus start done now → Told IsAny boolean now flag middle → Told (IsEntry plus) (entry_body plus) middle entry after
+        → ToldSoFar plus start (done ++ entry ∷ []) after
+    cases start now middle after false set p q r = absurd (cc set)
+    cases None None None after true set p q r = r
+    cases None None (Some m) after true set p q r = absurd (cc q)
+    cases None (Some left) middle after true set p q r = absurd (cc p)
+    cases (Some bytes) None None None true set p q r = p
+    cases (Some bytes) None None (Some rest) true set p q r = absurd (cc r)
+    cases (Some bytes) None (Some m) after true set p q r = absurd (cc q)
+    cases (Some bytes) (Some left) None None true set p q r = no_mark plus p q
+    cases (Some bytes) (Some left) None (Some rest) true set p q r = absurd (cc r)
+    cases (Some bytes) (Some left) (Some m) None true set p q r = no_entry plus p q r
+    cases (Some bytes) (Some left) (Some m) (Some rest) true set p q r =
+        more_items (one_flagged plus) p (record { fits = r.fits; spelled = q.spelled ∙ ap (λ (s : List ℕ). word 1 ++ s) r.spelled ∙ sym (append_assoc (word 1) (entry_body plus entry) rest) })
+
+pub entries_end : (plus : Bool) {start now after : Option (List ℕ)} {done : List Listed} {flag : Bool} → EntriesSoFar plus start done now
+    → Reads IsAny boolean now flag after → flag ≡ false → Reads (ArePage plus) (page_bytes plus) start done after
+entries_end plus {start} {now} {after} {done} {flag} so_far mark unset = record { told = cases start now after flag unset so_far.told mark.told }
+  where
+    cases : (start now after : Option (List ℕ)) (flag : Bool) → flag ≡ false → ToldSoFar plus start done now → Told IsAny boolean now flag after → Told (ArePage plus) (page_bytes plus) start done after
+    cases start now after true unset p q = absurd (cc unset)
+    cases None None after false unset p q = q
+    cases None (Some left) after false unset p q = absurd (cc p)
+    cases (Some bytes) None None false unset p q = p
+    cases (Some bytes) None (Some rest) false unset p q = absurd (cc q)
+    cases (Some bytes) (Some left) None false unset p q = no_mark plus p q
+    cases (Some bytes) (Some left) (Some rest) false unset p q = record {
+      fits = p.fits;
+      spelled = p.spelled ∙ ap (λ (s : List ℕ). flat_map (flagged_entry plus) done ++ s) q.spelled ∙ sym (append_assoc (flat_map (flagged_entry plus) done) (word 0) rest);
+    }
+
+-- how many bytes are left
+abbrev pub left_length : Option (List ℕ) → ℕ
+left_length None = 0
+left_length (Some left) = length left
+
+pub fewer_left : (plus : Bool) {now middle after : Option (List ℕ)} {flag : Bool} {entry : Listed} → Reads IsAny boolean now flag middle → flag ≡ true → middle ≢ None
+    → Reads (IsEntry plus) (entry_body plus) middle entry after → left_length after < left_length now
+fewer_left plus {now} {middle} {after} {flag} {entry} mark set there next = cases now middle after flag set there mark.told next.told
+  where
+    cases : (now middle after : Option (List ℕ)) (flag : Bool) → flag ≡ true → middle ≢ None → Told IsAny boolean now flag middle → Told (IsEntry plus) (entry_body plus) middle entry after
+        → left_length after < left_length now
+    cases now middle after false set there p q = absurd (cc set)
+    cases now None after true set there p q = absurd (there refl)
+    cases None (Some m) after true set there p q = absurd (cc p)
+    cases (Some left) (Some m) None true set there p q = omega (arith, ap length p.spelled, length-append (word 1) m)
+    cases (Some left) (Some m) (Some rest) true set there p q = omega (arith, ap length p.spelled, length-append (word 1) m, ap length q.spelled, length-append (entry_body plus entry) rest)
+
 -- ---- the results
 
 abbrev DirectoryParts : Type 0
@@ -216,14 +262,3 @@ made_directory_plus = record {
   spelled = λ p. ap (λ (s : List ℕ). s ++ boolean p.1) (append_assoc (page_head p.0.0) (flat_map (flagged_entry true) p.0.1) (word 0));
   parts = plus_directory_parts;
 }
-
-module _ (plus : Bool) {b0 : List ℕ} where
-  pub no_directory_head : HasNoFront IsPageHead page_head b0 → HasNoFront (IsDirectory plus) (directory plus) b0
-  no_directory_head absent = no_first IsAny boolean (no_first (ArePage plus) (page_bytes plus) absent)
-
-  pub no_directory_page : {b1 : List ℕ} {h : Option Fattr × List ℕ} → IsFront IsPageHead page_head b0 h b1 → HasNoFront (ArePage plus) (page_bytes plus) b1 → HasNoFront (IsDirectory plus) (directory plus) b0
-  no_directory_page f absent = no_first IsAny boolean (no_second one_page_head f absent)
-
-  pub no_directory_end : {b1 b2 : List ℕ} {h : Option Fattr × List ℕ} {page : List Listed} → IsFront IsPageHead page_head b0 h b1 → IsFront (ArePage plus) (page_bytes plus) b1 page b2
-      → HasNoFront IsAny boolean b2 → HasNoFront (IsDirectory plus) (directory plus) b0
-  no_directory_end f g absent = no_second (one_page_head ▷ one_of_page plus) (both f g) absent

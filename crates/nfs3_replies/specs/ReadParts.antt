@@ -5,7 +5,7 @@ use Rattle.ivy_base.specs.declared.operation.Kind.{Kind}
 use Rattle.ivy_base.specs.declared.operation.Moment.{Moment}
 use Rattle.log_model.specs.Spelling.{kind_number}
 use Rattle.wire_model.specs.Xdr.{word, double_word, boolean, opaque, optional, moment, IsWordMoment, IsWord, IsDoubleWord, IsAny}
-use Rattle.wire_model.specs.OneReading.{HasNoFront}
+use Rattle.wire_model.specs.OneReading.{IsFront, HasNoFront}
 use Rattle.nfs_model.specs.declared.replies.NfsStatus.{NfsStatus}
 use Rattle.nfs_model.specs.declared.replies.Fattr.{Fattr}
 use Rattle.nfs_model.specs.declared.replies.Wcc.{Wcc}
@@ -23,6 +23,16 @@ use Rattle.nfs_model.specs.declared.fault.ArgsFault.TheVariants.{Garbage, Memory
 abbrev pub Refuses : {A : Type 0} → (A → Type 0) → (A → List ℕ) → List ℕ → ArgsFault → Type 0
 Refuses Fits spell bytes Garbage = HasNoFront Fits spell bytes
 Refuses Fits spell bytes Memory = ⊤
+
+-- what is told of a part by the bytes that were left before it and those that are left behind it: it stands at their front, or there is
+-- none; and where a part was missed before, nothing
+abbrev pub Told : {A : Type 0} → (A → Type 0) → (A → List ℕ) → Option (List ℕ) → A → Option (List ℕ) → Type 0
+Told Fits spell None x now = now ≡ None
+Told Fits spell (Some bytes) x None = HasNoFront Fits spell bytes
+Told Fits spell (Some bytes) x (Some rest) = IsFront Fits spell bytes x rest
+
+pub record Reads {A : Type 0} (Fits : A → Type 0) (spell : A → List ℕ) (before : Option (List ℕ)) (x : A) (now : Option (List ℕ)) : Type 0 where
+  pub told : Told Fits spell before x now
 
 -- ---- parts
 

@@ -1,22 +1,20 @@
 //! Reading results after status 0, by their forms (RFC 1813, section 3.3), but for the pages of directories.
 
-ghost use Rattle.std.specs.Prelude.{◌≡◌, IfOk, IfErr, OnErr};
-ghost use Rattle.wire_model.specs.Xdr.{optional, opaque, IsAny};
-ghost use Rattle.wire_model.specs.OneReading.{IsFront, HasNoFront};
+ghost use Rattle.std.specs.Prelude.{◌≡◌, IfOk};
 ghost use Rattle.nfs_model.specs.Arguments.{IsHandle};
-ghost use Rattle.nfs_model.specs.Results.{fattr, wcc};
-ghost use Rattle.nfs_model.specs.Replies.{IsFattr, IsWcc, IsText};
-ghost use Rattle.nfs3_replies.specs.ReadParts.{Refuses, constant, IsOptional, AreAttributesAndCache, attributes_and_cache, AreTwoCaches, two_caches, given_handle, IsAllowedParts, allowed_parts, IsWrittenParts, written_parts, IsCommittedParts, committed_parts, IsFound, found, IsLinkText, link_text, IsContent, content, IsMade, made, IsNumbered, numbered, IsDone, after_status};
+ghost use Rattle.nfs3_replies.specs.ReadParts.{Reads, given_handle, IsNumbered, numbered, IsDone, after_status};
 
 use crate::attributes_reading::{read_constant, read_fattr, read_optional_fattr, read_wcc};
-use crate::fault::Malformed;
-use ivy_base::Bytes;
-use nfs_model::{ArgsFault, Fattr, Reply, Wcc};
+use crate::parts::Parts;
+use ivy_base::{Bytes, Memory};
+use nfs_model::{Fattr, Reply};
 use std::alloc::Global;
-use xdr_codec::XdrRead;
 
 /// The most bytes of a file handle (nfs_fh3).
 pub const MOST_HANDLE: u32 = 64;
+
+/// The flag in front of a file handle that is given (post_op_fh3).
+const GIVEN: [u32; 1] = [1];
 
 /// How safely the bytes of a WRITE were stored (stable_how), FILE_SYNC, and the verifier of what was written
 /// (writeverf3), `IVYVERF1`.
@@ -39,31 +37,28 @@ const LIMITS: [u32; 12] = [
 const PATHS: [u32; 6] = [1000, 255, 1, 1, 0, 1];
 
 /// GETATTR (section 3.3.1).
-pub fn read_attributes(reader: &mut XdrRead) -> Result<Reply, ArgsFault>
-    ensures ok { IfOk result (λ r. IsFront (IsDone 1) after_status reader.old r reader.new) }
-    ensures err { IfErr result (Refuses (IsDone 1) after_status reader.old) }
+pub fn read_attributes(parts: &mut Parts) -> Reply
+    ensures { Reads (IsDone 1) after_status parts.old result parts.new }
 {
-    let object = read_fattr(reader)?;
-    Ok(Reply::Attributes { object })
+    let object = read_fattr(parts);
+    Reply::Attributes { object }
 }
 
 /// SETATTR, REMOVE and RMDIR (sections 3.3.2, 3.3.12 and 3.3.13).
-pub fn read_changed(reader: &mut XdrRead) -> Result<Reply, ArgsFault>
-    ensures ok { IfOk result (λ r. IsFront (IsDone 2) after_status reader.old r reader.new) }
-    ensures err { IfErr result (Refuses (IsDone 2) after_status reader.old) }
+pub fn read_changed(parts: &mut Parts) -> Reply
+    ensures { Reads (IsDone 2) after_status parts.old result parts.new }
 {
-    let cache = read_wcc(reader)?;
-    Ok(Reply::Changed { cache })
+    let cache = read_wcc(parts);
+    Reply::Changed { cache }
 }
 
 /// LOOKUP (section 3.3.3).
-pub fn read_found(alloc: Global, reader: &mut XdrRead) -> Result<Reply, ArgsFault>
-    ensures ok { IfOk result (λ r. IsFront (IsDone 3) after_status reader.old r reader.new) }
-    ensures err { IfErr result (Refuses (IsDone 3) after_status reader.old) }
+pub fn read_found(alloc: Global, parts: &mut Parts) -> Result<Reply, Memory>
+    ensures { IfOk result (λ r. Reads (IsDone 3) after_status parts.old r parts.new) }
 {
-    let handle = reader.opaque(MOST_HANDLE)?;
-    let object = read_optional_fattr(reader)?;
-    let dir = read_optional_fattr(reader)?;
+    let handle = parts.opaque(MOST_HANDLE);
+    let object = read_optional_fattr(parts);
+    let dir = read_optional_fattr(parts);
     let handle = Bytes::copy_of(alloc, handle)?;
     Ok(Reply::Found {
         handle,
@@ -73,35 +68,32 @@ pub fn read_found(alloc: Global, reader: &mut XdrRead) -> Result<Reply, ArgsFaul
 }
 
 /// ACCESS (section 3.3.4).
-pub fn read_allowed(reader: &mut XdrRead) -> Result<Reply, ArgsFault>
-    ensures ok { IfOk result (λ r. IsFront (IsDone 4) after_status reader.old r reader.new) }
-    ensures err { IfErr result (Refuses (IsDone 4) after_status reader.old) }
+pub fn read_allowed(parts: &mut Parts) -> Reply
+    ensures { Reads (IsDone 4) after_status parts.old result parts.new }
 {
-    let object = read_optional_fattr(reader)?;
-    let bits = reader.u32()?;
-    Ok(Reply::Allowed { object, bits })
+    let object = read_optional_fattr(parts);
+    let bits = parts.u32();
+    Reply::Allowed { object, bits }
 }
 
 /// READLINK (section 3.3.5).
-pub fn read_text(alloc: Global, reader: &mut XdrRead) -> Result<Reply, ArgsFault>
-    ensures ok { IfOk result (λ r. IsFront (IsDone 5) after_status reader.old r reader.new) }
-    ensures err { IfErr result (Refuses (IsDone 5) after_status reader.old) }
+pub fn read_text(alloc: Global, parts: &mut Parts) -> Result<Reply, Memory>
+    ensures { IfOk result (λ r. Reads (IsDone 5) after_status parts.old r parts.new) }
 {
-    let link = read_optional_fattr(reader)?;
-    let text = reader.opaque(u32::MAX)?;
+    let link = read_optional_fattr(parts);
+    let text = parts.opaque(u32::MAX);
     let text = Bytes::copy_of(alloc, text)?;
     Ok(Reply::Text { link, text })
 }
 
 /// READ (section 3.3.6).
-pub fn read_content(alloc: Global, reader: &mut XdrRead) -> Result<Reply, ArgsFault>
-    ensures ok { IfOk result (λ r. IsFront (IsDone 6) after_status reader.old r reader.new) }
-    ensures err { IfErr result (Refuses (IsDone 6) after_status reader.old) }
+pub fn read_content(alloc: Global, parts: &mut Parts) -> Result<Reply, Memory>
+    ensures { IfOk result (λ r. Reads (IsDone 6) after_status parts.old r parts.new) }
 {
-    let file = read_optional_fattr(reader)?;
-    let count = reader.u32()?;
-    let eof = reader.boolean()?;
-    let bytes = reader.opaque(u32::MAX)?;
+    let file = read_optional_fattr(parts);
+    let count = parts.u32();
+    let eof = parts.boolean();
+    let bytes = parts.opaque(u32::MAX);
     let bytes = Bytes::copy_of(alloc, bytes)?;
     Ok(Reply::Bytes {
         file,
@@ -112,23 +104,22 @@ pub fn read_content(alloc: Global, reader: &mut XdrRead) -> Result<Reply, ArgsFa
 }
 
 /// WRITE (section 3.3.7).
-pub fn read_written(reader: &mut XdrRead) -> Result<Reply, ArgsFault>
-    ensures ok { IfOk result (λ r. IsFront (IsDone 7) after_status reader.old r reader.new) }
-    ensures err { IfErr result (Refuses (IsDone 7) after_status reader.old) }
+pub fn read_written(parts: &mut Parts) -> Reply
+    ensures { Reads (IsDone 7) after_status parts.old result parts.new }
 {
-    let cache = read_wcc(reader)?;
-    let count = reader.u32()?;
-    read_constant(reader, &STORED)?;
-    Ok(Reply::Written { cache, count })
+    let cache = read_wcc(parts);
+    let count = parts.u32();
+    read_constant(parts, &STORED);
+    Reply::Written { cache, count }
 }
 
 /// CREATE, MKDIR and SYMLINK (sections 3.3.8 to 3.3.10).
-pub fn read_made(alloc: Global, reader: &mut XdrRead) -> Result<Reply, ArgsFault>
-    ensures ok { IfOk result (λ r. IsFront (IsDone 8) after_status reader.old r reader.new) }
-    ensures err { IfErr result (Refuses (IsDone 8) after_status reader.old) }
+pub fn read_made(alloc: Global, parts: &mut Parts) -> Result<Reply, Memory>
+    ensures { IfOk result (λ r. Reads (IsDone 8) after_status parts.old r parts.new) }
 {
-    let handle = read_given_handle(reader)?;
-    let (object, cache) = read_attributes_and_cache(reader)?;
+    let handle = read_given_handle(parts);
+    let object = read_optional_fattr(parts);
+    let cache = read_wcc(parts);
     let handle = Bytes::copy_of(alloc, handle)?;
     Ok(Reply::Made {
         handle,
@@ -138,98 +129,69 @@ pub fn read_made(alloc: Global, reader: &mut XdrRead) -> Result<Reply, ArgsFault
 }
 
 /// A file handle that may be missing (post_op_fh3), but isn't.
-pub fn read_given_handle<'a>(reader: &mut XdrRead<'a>) -> Result<&'a [u8], Malformed>
-    ensures ok { IfOk result (λ handle. IsFront IsHandle given_handle reader.old handle.now reader.new) }
-    ensures err { OnErr result (HasNoFront IsHandle given_handle reader.old) }
+pub fn read_given_handle<'a>(parts: &mut Parts<'a>) -> &'a [u8]
+    ensures { Reads IsHandle given_handle parts.old result.now parts.new }
 {
-    if !reader.boolean()? {
-        return Err(Malformed);
-    }
-    let handle = reader.opaque(MOST_HANDLE)?;
-    Ok(handle)
-}
-
-/// Attributes, where they are given, and cache data.
-pub fn read_attributes_and_cache(reader: &mut XdrRead) -> Result<(Option<Fattr>, Wcc), Malformed>
-    ensures ok { IfOk result (λ p. IsFront AreAttributesAndCache attributes_and_cache reader.old p reader.new) }
-    ensures err { OnErr result (HasNoFront AreAttributesAndCache attributes_and_cache reader.old) }
-{
-    let attributes = read_optional_fattr(reader)?;
-    let cache = read_wcc(reader)?;
-    Ok((attributes, cache))
-}
-
-/// Cache data of two directories.
-pub fn read_two_caches(reader: &mut XdrRead) -> Result<(Wcc, Wcc), Malformed>
-    ensures ok { IfOk result (λ p. IsFront AreTwoCaches two_caches reader.old p reader.new) }
-    ensures err { OnErr result (HasNoFront AreTwoCaches two_caches reader.old) }
-{
-    let first = read_wcc(reader)?;
-    let second = read_wcc(reader)?;
-    Ok((first, second))
+    read_constant(parts, &GIVEN);
+    parts.opaque(MOST_HANDLE)
 }
 
 /// RENAME (section 3.3.14).
-pub fn read_renamed(reader: &mut XdrRead) -> Result<Reply, ArgsFault>
-    ensures ok { IfOk result (λ r. IsFront (IsDone 14) after_status reader.old r reader.new) }
-    ensures err { IfErr result (Refuses (IsDone 14) after_status reader.old) }
+pub fn read_renamed(parts: &mut Parts) -> Reply
+    ensures { Reads (IsDone 14) after_status parts.old result parts.new }
 {
-    let (from, to) = read_two_caches(reader)?;
-    Ok(Reply::Renamed { from, to })
+    let from = read_wcc(parts);
+    let to = read_wcc(parts);
+    Reply::Renamed { from, to }
 }
 
 /// LINK (section 3.3.15).
-pub fn read_linked(reader: &mut XdrRead) -> Result<Reply, ArgsFault>
-    ensures ok { IfOk result (λ r. IsFront (IsDone 15) after_status reader.old r reader.new) }
-    ensures err { IfErr result (Refuses (IsDone 15) after_status reader.old) }
+pub fn read_linked(parts: &mut Parts) -> Reply
+    ensures { Reads (IsDone 15) after_status parts.old result parts.new }
 {
-    let (file, cache) = read_attributes_and_cache(reader)?;
-    Ok(Reply::Linked { file, cache })
+    let file = read_optional_fattr(parts);
+    let cache = read_wcc(parts);
+    Reply::Linked { file, cache }
 }
 
 /// FSSTAT (section 3.3.18).
-pub fn read_space(reader: &mut XdrRead) -> Result<Reply, ArgsFault>
-    ensures ok { IfOk result (λ r. IsFront (IsDone 18) after_status reader.old r reader.new) }
-    ensures err { IfErr result (Refuses (IsDone 18) after_status reader.old) }
+pub fn read_space(parts: &mut Parts) -> Reply
+    ensures { Reads (IsDone 18) after_status parts.old result parts.new }
 {
-    let object = read_numbered(reader, &SPACE)?;
-    Ok(Reply::Space { object })
+    let object = read_numbered(parts, &SPACE);
+    Reply::Space { object }
 }
 
 /// FSINFO (section 3.3.19).
-pub fn read_limits(reader: &mut XdrRead) -> Result<Reply, ArgsFault>
-    ensures ok { IfOk result (λ r. IsFront (IsDone 19) after_status reader.old r reader.new) }
-    ensures err { IfErr result (Refuses (IsDone 19) after_status reader.old) }
+pub fn read_limits(parts: &mut Parts) -> Reply
+    ensures { Reads (IsDone 19) after_status parts.old result parts.new }
 {
-    let object = read_numbered(reader, &LIMITS)?;
-    Ok(Reply::Limits { object })
+    let object = read_numbered(parts, &LIMITS);
+    Reply::Limits { object }
 }
 
 /// PATHCONF (section 3.3.20).
-pub fn read_paths(reader: &mut XdrRead) -> Result<Reply, ArgsFault>
-    ensures ok { IfOk result (λ r. IsFront (IsDone 20) after_status reader.old r reader.new) }
-    ensures err { IfErr result (Refuses (IsDone 20) after_status reader.old) }
+pub fn read_paths(parts: &mut Parts) -> Reply
+    ensures { Reads (IsDone 20) after_status parts.old result parts.new }
 {
-    let object = read_numbered(reader, &PATHS)?;
-    Ok(Reply::Paths { object })
+    let object = read_numbered(parts, &PATHS);
+    Reply::Paths { object }
 }
 
 /// Attributes, and words that are the same in each result.
-fn read_numbered(reader: &mut XdrRead, words: &[u32]) -> Result<Option<Fattr>, Malformed>
-    ensures ok { IfOk result (λ o. IsFront IsNumbered (numbered words.now) reader.old (o, tt) reader.new) }
-    ensures err { OnErr result (HasNoFront IsNumbered (numbered words.now) reader.old) }
+fn read_numbered(parts: &mut Parts, words: &[u32]) -> Option<Fattr>
+    ensures { Reads IsNumbered (numbered words.now) parts.old (result, tt) parts.new }
 {
-    let object = read_optional_fattr(reader)?;
-    read_constant(reader, words)?;
-    Ok(object)
+    let object = read_optional_fattr(parts);
+    read_constant(parts, words);
+    object
 }
 
 /// COMMIT (section 3.3.21).
-pub fn read_committed(reader: &mut XdrRead) -> Result<Reply, ArgsFault>
-    ensures ok { IfOk result (λ r. IsFront (IsDone 21) after_status reader.old r reader.new) }
-    ensures err { IfErr result (Refuses (IsDone 21) after_status reader.old) }
+pub fn read_committed(parts: &mut Parts) -> Reply
+    ensures { Reads (IsDone 21) after_status parts.old result parts.new }
 {
-    let cache = read_wcc(reader)?;
-    read_constant(reader, &WRITE_VERIFIER)?;
-    Ok(Reply::Committed { cache })
+    let cache = read_wcc(parts);
+    read_constant(parts, &WRITE_VERIFIER);
+    Reply::Committed { cache }
 }

@@ -24,12 +24,12 @@
 
 mod attributes;
 mod attributes_reading;
-mod fault;
 mod forms;
 mod forms_reading;
 mod mount_reading;
 mod pages;
 mod pages_reading;
+mod parts;
 mod reading;
 mod reply;
 mod room;

@@ -1,25 +1,24 @@
 //! Reading whole results.
 
-ghost use Rattle.std.specs.Prelude.{◌≡◌, ◌≢◌, ◌≤◌, ◌<◌, IfOk, IfErr, OnErr, MatchOption};
+ghost use Rattle.std.specs.Prelude.{◌≡◌, ◌≢◌, ◌≤◌, ◌<◌, IfOk, IfErr, MatchOption};
 ghost use Rattle.wire_model.specs.Xdr.{IsAny};
-ghost use Rattle.wire_model.specs.OneReading.{IsFront, HasNoFront};
 ghost use Rattle.nfs_model.specs.declared.replies.NfsStatus.{NfsStatus as AnyStatus};
 ghost use Rattle.nfs_model.specs.Results.{result as bytes_of, tail as tail_bytes, status_number};
 ghost use Rattle.nfs3_replies.specs.Reading.{IsProcedure, IsReply, NoReply};
-ghost use Rattle.nfs3_replies.specs.ReadParts.{Refuses, status_or_ok, IsDone, after_status, IsTailOf, IsAnswer, tail_form_at, result_form_at, tail_form_for, result_form_for};
+ghost use Rattle.nfs3_replies.specs.ReadParts.{Reads, status_or_ok, IsDone, after_status, IsTailOf, IsAnswer, tail_form_at, result_form_at, tail_form_for, result_form_for};
 
 use crate::attributes_reading::{read_optional_fattr, read_wcc};
-use crate::fault::Malformed;
 use crate::forms_reading::{
-    read_allowed, read_attributes, read_attributes_and_cache, read_changed, read_committed,
-    read_content, read_found, read_limits, read_linked, read_made, read_paths, read_renamed,
-    read_space, read_text, read_two_caches, read_written,
+    read_allowed, read_attributes, read_changed, read_committed, read_content, read_found,
+    read_limits, read_linked, read_made, read_paths, read_renamed, read_space, read_text,
+    read_written,
 };
 use crate::mount_reading::read_mount_result;
 use crate::pages_reading::{read_directory, read_directory_plus};
+use crate::parts::Parts;
+use ivy_base::Memory;
 use nfs_model::{ArgsFault, NfsStatus, Reply, Tail};
 use std::alloc::Global;
-use xdr_codec::XdrRead;
 
 /// The program of MOUNT (RFC 1813, section 5.2).
 const MOUNT_PROGRAM: u32 = 100_005;
@@ -41,61 +40,58 @@ pub fn read_reply(
     ensures ok { IfOk result (λ reply. IsReply program procedure bytes.now reply) }
     ensures err { IfErr result (NoReply program procedure bytes.now) }
 {
-    let mut reader = XdrRead::new(bytes);
-    let reply = read_any(alloc, &mut reader, program, procedure)?;
-    reader.finish()?;
-    Ok(reply)
+    let mut parts = Parts::of(bytes);
+    let reply = read_any(alloc, &mut parts, program, procedure)?;
+    if parts.are_read() {
+        Ok(reply)
+    } else {
+        Err(ArgsFault::Garbage)
+    }
 }
 
 /// A result at the front.
-fn read_any(
-    alloc: Global,
-    reader: &mut XdrRead,
-    program: u32,
-    procedure: u32,
-) -> Result<Reply, ArgsFault>
+fn read_any(alloc: Global, parts: &mut Parts, program: u32, procedure: u32) -> Result<Reply, Memory>
     requires { IsProcedure program procedure }
-    ensures ok { IfOk result (λ r. IsFront (IsAnswer (tail_form_for program procedure) (result_form_for program procedure)) bytes_of reader.old r reader.new) }
-    ensures err { IfErr result (Refuses (IsAnswer (tail_form_for program procedure) (result_form_for program procedure)) bytes_of reader.old) }
+    ensures { IfOk result (λ r. Reads (IsAnswer (tail_form_for program procedure) (result_form_for program procedure)) bytes_of parts.old r parts.new) }
 {
     if program == MOUNT_PROGRAM {
-        read_mount_result(alloc, reader, procedure)
+        read_mount_result(alloc, parts, procedure)
     } else if procedure == 0 {
         Ok(Reply::Nothing)
     } else {
-        read_result(alloc, reader, procedure)
+        read_result(alloc, parts, procedure)
     }
 }
 
 /// A result of NFS's, of another procedure than NULL.
-fn read_result(alloc: Global, reader: &mut XdrRead, procedure: u32) -> Result<Reply, ArgsFault>
+fn read_result(alloc: Global, parts: &mut Parts, procedure: u32) -> Result<Reply, Memory>
     requires first { 1 ≤ procedure }
     requires last { procedure < 22 }
-    ensures ok { IfOk result (λ r. IsFront (IsAnswer (tail_form_at procedure) (result_form_at procedure)) bytes_of reader.old r reader.new) }
-    ensures err { IfErr result (Refuses (IsAnswer (tail_form_at procedure) (result_form_at procedure)) bytes_of reader.old) }
+    ensures { IfOk result (λ r. Reads (IsAnswer (tail_form_at procedure) (result_form_at procedure)) bytes_of parts.old r parts.new) }
 {
-    let status = read_status(reader)?;
-    match status {
-        None => read_done(alloc, reader, procedure),
+    match read_status(parts) {
+        None => read_done(alloc, parts, procedure),
         Some(status) => {
-            let tail = read_tail(reader, procedure)?;
+            let tail = read_tail(parts, procedure);
             Ok(Reply::Refused { status, tail })
         }
     }
 }
 
 /// A status, `None` where it is OK.
-fn read_status(reader: &mut XdrRead) -> Result<Option<NfsStatus>, Malformed>
-    ensures ok { IfOk result (λ s. IsFront IsAny status_or_ok reader.old s reader.new) }
-    ensures err { OnErr result (HasNoFront IsAny status_or_ok reader.old) }
+fn read_status(parts: &mut Parts) -> Option<NfsStatus>
+    ensures { Reads IsAny status_or_ok parts.old result parts.new }
 {
-    let number = reader.u32()?;
+    let number = parts.u32();
     if number == 0 {
-        return Ok(None);
+        return None;
     }
     match status_of(number) {
-        Some(status) => Ok(Some(status)),
-        None => Err(Malformed),
+        Some(status) => Some(status),
+        None => {
+            parts.miss();
+            None
+        }
     }
 }
 
@@ -130,57 +126,64 @@ fn status_of(number: u32) -> Option<NfsStatus>
 }
 
 /// What stands after status 0. MKNOD never gives it.
-fn read_done(alloc: Global, reader: &mut XdrRead, procedure: u32) -> Result<Reply, ArgsFault>
+fn read_done(alloc: Global, parts: &mut Parts, procedure: u32) -> Result<Reply, Memory>
     requires first { 1 ≤ procedure }
     requires last { procedure < 22 }
-    ensures ok { IfOk result (λ r. IsFront (IsDone (result_form_at procedure)) after_status reader.old r reader.new) }
-    ensures err { IfErr result (Refuses (IsDone (result_form_at procedure)) after_status reader.old) }
+    ensures { IfOk result (λ r. Reads (IsDone (result_form_at procedure)) after_status parts.old r parts.new) }
 {
     match procedure {
-        1 => read_attributes(reader),
-        2 | 12 | 13 => read_changed(reader),
-        3 => read_found(alloc, reader),
-        4 => read_allowed(reader),
-        5 => read_text(alloc, reader),
-        6 => read_content(alloc, reader),
-        7 => read_written(reader),
-        8..=10 => read_made(alloc, reader),
-        14 => read_renamed(reader),
-        15 => read_linked(reader),
-        16 => read_directory(alloc, reader),
-        17 => read_directory_plus(alloc, reader),
-        18 => read_space(reader),
-        19 => read_limits(reader),
-        20 => read_paths(reader),
-        21 => read_committed(reader),
-        _ => Err(ArgsFault::Garbage),
+        1 => Ok(read_attributes(parts)),
+        2 | 12 | 13 => Ok(read_changed(parts)),
+        3 => read_found(alloc, parts),
+        4 => Ok(read_allowed(parts)),
+        5 => read_text(alloc, parts),
+        6 => read_content(alloc, parts),
+        7 => Ok(read_written(parts)),
+        8..=10 => read_made(alloc, parts),
+        14 => Ok(read_renamed(parts)),
+        15 => Ok(read_linked(parts)),
+        16 => read_directory(alloc, parts),
+        17 => read_directory_plus(alloc, parts),
+        18 => Ok(read_space(parts)),
+        19 => Ok(read_limits(parts)),
+        20 => Ok(read_paths(parts)),
+        21 => Ok(read_committed(parts)),
+        _ => {
+            parts.miss();
+            Ok(Reply::Nothing)
+        }
     }
 }
 
 /// What stands after another status.
-fn read_tail(reader: &mut XdrRead, procedure: u32) -> Result<Tail, Malformed>
+fn read_tail(parts: &mut Parts, procedure: u32) -> Tail
     requires first { 1 ≤ procedure }
     requires last { procedure < 22 }
-    ensures ok { IfOk result (λ t. IsFront (IsTailOf (tail_form_at procedure)) tail_bytes reader.old t reader.new) }
-    ensures err { OnErr result (HasNoFront (IsTailOf (tail_form_at procedure)) tail_bytes reader.old) }
+    ensures { Reads (IsTailOf (tail_form_at procedure)) tail_bytes parts.old result parts.new }
 {
     match procedure {
-        1 => Ok(Tail::Empty),
-        14 => {
-            let (from, to) = read_two_caches(reader)?;
-            Ok(Tail::TwoCaches(from, to))
-        }
-        15 => {
-            let (file, dir) = read_attributes_and_cache(reader)?;
-            Ok(Tail::AttributesAndCache(file, dir))
-        }
-        3..=6 | 16..=20 => {
-            let attributes = read_optional_fattr(reader)?;
-            Ok(Tail::Attributes(attributes))
-        }
-        _ => {
-            let cache = read_wcc(reader)?;
-            Ok(Tail::Cache(cache))
-        }
+        1 => Tail::Empty,
+        14 => read_two_caches(parts),
+        15 => read_attributes_and_cache(parts),
+        3..=6 | 16..=20 => Tail::Attributes(read_optional_fattr(parts)),
+        _ => Tail::Cache(read_wcc(parts)),
     }
+}
+
+/// The directories of the source and of the target.
+fn read_two_caches(parts: &mut Parts) -> Tail
+    ensures { Reads (IsTailOf 3) tail_bytes parts.old result parts.new }
+{
+    let from = read_wcc(parts);
+    let to = read_wcc(parts);
+    Tail::TwoCaches(from, to)
+}
+
+/// The file and the directory.
+fn read_attributes_and_cache(parts: &mut Parts) -> Tail
+    ensures { Reads (IsTailOf 4) tail_bytes parts.old result parts.new }
+{
+    let file = read_optional_fattr(parts);
+    let dir = read_wcc(parts);
+    Tail::AttributesAndCache(file, dir)
 }

@@ -1,13 +1,12 @@
 use Rattle.std.proofs.Common.{arith}
-use Rattle.wire_model.proofs.Dependent.{on_err}
-use Rattle.nfs3_replies.proofs.ReadConstants.{no_more, another}
+use Rattle.nfs3_replies.proofs.ReadConstants.{the_word, missed_word, all_words}
 use Rattle.nfs3_replies.proofs.attributes_reading.read_constant.Goals as goal
 
-pub returns-in_err-u32-clause-err : goal.returns-in_err-u32-clause-err
-returns-in_err-u32-clause-err c =
-    on_err c.from_residual.result
-    (no_more c.args.words.now c.words.word-index c.args.reader.now c.words.reader c.words-test.true c.words.invariant c.in_err-u32.ensures.none (omega (arith, c.type_inv.words c.words.word-index)))
+pub returns-then-u32-word : goal.returns-then-u32-word
+returns-then-u32-word c = missed_word c.args.words.now c.words.word-index c.words-test.true (omega (arith, c.type_inv.words c.words.word-index)) c.words.invariant c.u32.ensures c.if-u32-word.true c.miss.ensures
 
-pub returns-then-branch-word-clause-err : goal.returns-then-branch-word-clause-err
-returns-then-branch-word-clause-err c =
-    another c.args.words.now c.words.word-index c.args.reader.now c.words.reader c.words-test.true c.words.invariant c.in_ok-u32.ensures.ok c.if-branch-word.true (omega (arith, c.type_inv.words c.words.word-index))
+pub words-preserved : goal.words-preserved
+words-preserved c = the_word c.args.words.now c.words.word-index c.words-test.true (omega (arith, c.type_inv.words c.words.word-index)) c.words.invariant c.u32.ensures c.if-u32-word.false
+
+pub returns : goal.returns
+returns c = all_words c.args.words.now c.words.word-index c.words-test.false c.words.invariant

@@ -1,15 +1,15 @@
-use Rattle.wire_model.proofs.Dependent.{on_err}
-use Rattle.nfs3_replies.proofs.ReadAttributes.{no_numbers, no_owner, no_sizes, no_times}
+use Rattle.std.proofs.Common.{[], ◌∷◌}
+use Rattle.wire_model.proofs.OneReading.{one_word, one_double_word, one_moment}
+use Rattle.nfs_model.proofs.OneReplies.{one_kind}
+use Rattle.nfs3_replies.proofs.ReadAttributes.{made_fattr}
+use Rattle.nfs3_replies.proofs.ReadConstants.{one_constant}
+use Rattle.nfs3_replies.proofs.PartByPart.{◌▸◌, part, made_read}
 use Rattle.nfs3_replies.proofs.attributes_reading.read_fattr.Goals as goal
 
-pub returns-in_err-uid-clause-err : goal.returns-in_err-uid-clause-err
-returns-in_err-uid-clause-err c = on_err c.from_residual-in_err-uid.result (no_owner c.in_ok-kind.ensures.ok c.in_err-uid.ensures.err)
-
-pub returns-in_err-size-clause-err : goal.returns-in_err-size-clause-err
-returns-in_err-size-clause-err c = on_err c.from_residual-in_err-size.result (no_sizes c.in_ok-kind.ensures.ok c.in_ok-uid.ensures.ok c.in_err-size.ensures.err)
-
-pub returns-in_err-fsid-clause-err : goal.returns-in_err-fsid-clause-err
-returns-in_err-fsid-clause-err c = on_err c.from_residual-in_err-fsid.result (no_numbers c.in_ok-kind.ensures.ok c.in_ok-uid.ensures.ok c.in_ok-size.ensures.ok c.in_err-fsid.ensures.err)
-
-pub returns-in_err-atime-clause-err : goal.returns-in_err-atime-clause-err
-returns-in_err-atime-clause-err c = on_err c.from_residual-in_err-atime.result (no_times c.in_ok-kind.ensures.ok c.in_ok-uid.ensures.ok c.in_ok-size.ensures.ok c.in_ok-fsid.ensures.ok c.in_err-atime.ensures.err)
+pub returns : goal.returns
+returns c =
+    (made_read made_fattr (
+    part one_kind c.read_kind-kind.ensures ▸ part one_word c.u32-mode.ensures ▸ part one_word c.u32-nlink.ensures ▸ part one_word c.u32-uid.ensures ▸ part one_word c.u32-gid.ensures
+    ▸ part one_double_word c.u64-size.ensures ▸ part one_double_word c.u64-used.ensures ▸ part (one_constant (0 ∷ 0 ∷ [])) c.read_constant.ensures ▸ part one_double_word c.u64-fsid.ensures ▸ part one_double_word c.u64-fileid.ensures
+    ▸ part one_moment c.read_time-atime.ensures ▸ part one_moment c.read_time-mtime.ensures ▸ part one_moment c.read_time-ctime.ensures
+    )).reads

@@ -1,9 +1,8 @@
-use Rattle.wire_model.proofs.Dependent.{on_err}
-use Rattle.nfs3_replies.proofs.ReadAttributes.{no_wcc_after, no_wcc_before}
+use Rattle.wire_model.proofs.OneReading.{one_optional}
+use Rattle.nfs_model.proofs.OneReplies.{one_before, one_fattr}
+use Rattle.nfs3_replies.proofs.ReadAttributes.{made_wcc}
+use Rattle.nfs3_replies.proofs.PartByPart.{◌▸◌, part, made_read}
 use Rattle.nfs3_replies.proofs.attributes_reading.read_wcc.Goals as goal
 
-pub returns-in_err-before-clause-err : goal.returns-in_err-before-clause-err
-returns-in_err-before-clause-err c = on_err c.from_residual.result (no_wcc_before c.in_err-before.ensures.err)
-
-pub returns-in_err-after-clause-err : goal.returns-in_err-after-clause-err
-returns-in_err-after-clause-err c = on_err c.from_residual-in_err-after.result (no_wcc_after c.in_ok-before.ensures.ok c.in_err-after.ensures.err)
+pub returns : goal.returns
+returns c = (made_read made_wcc (part (one_optional one_before) c.read_optional_before-before.ensures ▸ part (one_optional one_fattr) c.read_optional_fattr-after.ensures)).reads

@@ -1,9 +1,7 @@
-use Rattle.std.proofs.lemmas.Result.{err_from_is_err_and}
-use Rattle.nfs3_replies.proofs.Made.{none_made}
+use Rattle.nfs_model.proofs.OneReplies.{one_wcc}
 use Rattle.nfs3_replies.proofs.ReadForms.{made_changed}
+use Rattle.nfs3_replies.proofs.PartByPart.{part, made_read}
 use Rattle.nfs3_replies.proofs.forms_reading.read_changed.Goals as goal
 
-pub returns-in_err-cache-clause-err : goal.returns-in_err-cache-clause-err
-returns-in_err-cache-clause-err c =
-    let p = err_from_is_err_and c.from_residual.result c.from_residual.ensures.1 in
-    rw (p.1, p.2) (none_made made_changed c.in_err-cache.ensures.err)
+pub returns : goal.returns
+returns c = (made_read made_changed (part one_wcc c.read_wcc-cache.ensures)).reads

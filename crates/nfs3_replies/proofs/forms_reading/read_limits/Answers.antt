@@ -1,9 +1,6 @@
-use Rattle.std.proofs.lemmas.Result.{err_from_is_err_and}
-use Rattle.nfs3_replies.proofs.Made.{none_made}
-use Rattle.nfs3_replies.proofs.ReadForms.{made_limits}
+use Rattle.nfs3_replies.proofs.ReadForms.{made_limits, one_numbered, limits_words}
+use Rattle.nfs3_replies.proofs.PartByPart.{part, made_read}
 use Rattle.nfs3_replies.proofs.forms_reading.read_limits.Goals as goal
 
-pub returns-in_err-object-clause-err : goal.returns-in_err-object-clause-err
-returns-in_err-object-clause-err c =
-    let p = err_from_is_err_and c.from_residual.result c.from_residual.ensures.1 in
-    rw (p.1, p.2) (none_made made_limits c.in_err-object.ensures.err)
+pub returns : goal.returns
+returns c = (made_read made_limits (part (one_numbered limits_words) c.read_numbered-object.ensures)).reads

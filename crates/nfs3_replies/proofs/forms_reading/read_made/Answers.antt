@@ -1,13 +1,7 @@
-use Rattle.wire_model.proofs.Fronts.{both}
-use Rattle.nfs3_replies.proofs.Made.{made_front, none_made, on_garbage}
-use Rattle.nfs3_replies.proofs.ReadForms.{made_object, no_new_attributes, no_new_handle}
+use Rattle.nfs_model.proofs.OneReplies.{one_wcc, one_post_attributes}
+use Rattle.nfs3_replies.proofs.ReadForms.{made_object, one_given_handle}
+use Rattle.nfs3_replies.proofs.PartByPart.{◌▸◌, part, made_read}
 use Rattle.nfs3_replies.proofs.forms_reading.read_made.Goals as goal
 
-pub returns-in_err-handle-clause-err : goal.returns-in_err-handle-clause-err
-returns-in_err-handle-clause-err c = on_garbage c.from_residual.result c.from_residual.ensures.1 (none_made made_object (no_new_handle c.in_err-handle.ensures.err))
-
-pub returns-in_err-object-clause-err : goal.returns-in_err-object-clause-err
-returns-in_err-object-clause-err c = on_garbage c.from_residual-in_err-object.result c.from_residual-in_err-object.ensures.1 (none_made made_object (no_new_attributes c.in_ok-handle.ensures.ok c.in_err-object.ensures.err))
-
-pub returns-clause-ok : goal.returns-clause-ok
-returns-clause-ok c = rw c.in_ok-handle-2.ensures (made_front made_object (both c.in_ok-handle.ensures.ok c.in_ok-object.ensures.ok))
+pub returns : goal.returns
+returns c = rw c.in_ok-handle.ensures (made_read made_object (part one_given_handle c.read_given_handle-handle.ensures ▸ part one_post_attributes c.read_optional_fattr-object.ensures ▸ part one_wcc c.read_wcc-cache.ensures)).reads

@@ -1,20 +1,10 @@
-use Rattle.std.proofs.lemmas.Result.{err_from_is_err_and}
 use Rattle.std.proofs.Common.{false}
-use Rattle.nfs3_replies.proofs.Made.{none_made, refused}
-use Rattle.nfs3_replies.proofs.ReadPages.{made_directory, no_directory_head, no_directory_page, no_directory_end}
+use Rattle.wire_model.proofs.OneReading.{one_boolean}
+use Rattle.nfs_model.proofs.OneArguments.{one_verifier}
+use Rattle.nfs_model.proofs.OneReplies.{one_post_attributes}
+use Rattle.nfs3_replies.proofs.ReadPages.{one_of_page, made_directory}
+use Rattle.nfs3_replies.proofs.PartByPart.{◌▸◌, part, made_read}
 use Rattle.nfs3_replies.proofs.pages_reading.read_directory.Goals as goal
 
-pub returns-in_err-dir-clause-err : goal.returns-in_err-dir-clause-err
-returns-in_err-dir-clause-err c =
-    let p = err_from_is_err_and c.from_residual.result c.from_residual.ensures.1 in
-    rw (p.1, p.2) (none_made made_directory (no_directory_head false c.in_err-dir.ensures.err))
-
-pub returns-in_err-page-clause-err : goal.returns-in_err-page-clause-err
-returns-in_err-page-clause-err c =
-    let p = err_from_is_err_and c.from_residual-in_err-page.result c.from_residual-in_err-page.ensures.1 in
-    rw (p.1, p.2) (refused (λ absent. none_made made_directory (no_directory_page false c.in_ok-dir.ensures.ok absent)) _ c.in_err-page.ensures.err)
-
-pub returns-in_err-eof-clause-err : goal.returns-in_err-eof-clause-err
-returns-in_err-eof-clause-err c =
-    let p = err_from_is_err_and c.from_residual-in_err-eof.result c.from_residual-in_err-eof.ensures.1 in
-    rw (p.1, p.2) (none_made made_directory (no_directory_end false c.in_ok-dir.ensures.ok c.in_ok-page.ensures.ok c.in_err-eof.ensures.none))
+pub returns : goal.returns
+returns c = (made_read made_directory (part one_post_attributes c.read_optional_fattr-dir.ensures ▸ part one_verifier c.verifier-verifier.ensures ▸ part (one_of_page false) c.in_ok-page.ensures ▸ part one_boolean c.boolean-eof.ensures.reads)).reads

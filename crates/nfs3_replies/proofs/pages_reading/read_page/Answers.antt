@@ -1,18 +1,14 @@
-use Rattle.std.proofs.lemmas.Result.{err_from_is_err_and}
-use Rattle.std.proofs.Common.{Bool, subst}
-use Rattle.wire_model.specs.Xdr.{boolean, IsAny}
-use Rattle.wire_model.specs.OneReading.{IsFront}
-use Rattle.nfs3_replies.proofs.Made.{refused}
-use Rattle.nfs3_replies.proofs.ReadPages.{no_mark, no_entry}
+use Rattle.nfs3_replies.proofs.ReadPages.{no_entries, entry_more, entries_end, fewer_left}
 use Rattle.nfs3_replies.proofs.pages_reading.read_page.Goals as goal
 
-pub returns-in_err-boolean-clause-err : goal.returns-in_err-boolean-clause-err
-returns-in_err-boolean-clause-err c =
-    let p = err_from_is_err_and c.from_residual.result c.from_residual.ensures.1 in
-    rw (p.1, p.2) (no_mark c.args.plus c.entries.invariant c.in_err-boolean.ensures.none)
+pub entries-init : goal.entries-init
+entries-init c = rw c.new-entries.ensures.items (no_entries c.args.plus c.args.parts.now)
 
-pub returns-in_err-entry-clause-err : goal.returns-in_err-entry-clause-err
-returns-in_err-entry-clause-err c =
-    let p = err_from_is_err_and c.from_residual-in_err-entry.result c.from_residual-in_err-entry.ensures.1 in
-    let flag = subst (λ (b : Bool). IsFront IsAny boolean c.entries.reader b c.boolean.new.self) c.if-not-branch.false c.in_ok-boolean.ensures.ok in
-    rw (p.1, p.2) (refused (no_entry c.args.plus c.entries.invariant flag) _ c.in_err-entry.ensures.err)
+pub entries-preserved : goal.entries-preserved
+entries-preserved c = rw c.in_ok-push.ensures.items (entry_more c.args.plus c.entries.invariant c.boolean.ensures.reads c.entries-test.true c.in_ok-entry.ensures)
+
+pub entries-smaller : goal.entries-smaller
+entries-smaller c = fewer_left c.args.plus c.boolean.ensures.reads c.entries-test.true (c.boolean.ensures.set c.entries-test.true) c.in_ok-entry.ensures
+
+pub returns : goal.returns
+returns c = rw c.of.ensures (entries_end c.args.plus c.entries.invariant c.boolean.ensures.reads c.entries-test.false)

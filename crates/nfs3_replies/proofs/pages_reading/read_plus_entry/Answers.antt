@@ -1,14 +1,9 @@
-use Rattle.std.proofs.lemmas.Result.{err_from_is_err_and}
-use Rattle.nfs3_replies.proofs.Made.{none_made}
-use Rattle.nfs3_replies.proofs.ReadPages.{made_plus, no_plus_front, no_plus_behind}
+use Rattle.wire_model.proofs.OneReading.{one_double_word}
+use Rattle.nfs_model.proofs.OneReplies.{one_post_attributes}
+use Rattle.nfs3_replies.proofs.ReadForms.{one_given_handle}
+use Rattle.nfs3_replies.proofs.ReadPages.{made_plus}
+use Rattle.nfs3_replies.proofs.PartByPart.{◌▸◌, part, made_read, text_read}
 use Rattle.nfs3_replies.proofs.pages_reading.read_plus_entry.Goals as goal
 
-pub returns-in_err-fileid-clause-err : goal.returns-in_err-fileid-clause-err
-returns-in_err-fileid-clause-err c =
-    let p = err_from_is_err_and c.from_residual.result c.from_residual.ensures.1 in
-    rw (p.1, p.2) (none_made made_plus (no_plus_front c.in_err-fileid.ensures.err))
-
-pub returns-in_err-attributes-clause-err : goal.returns-in_err-attributes-clause-err
-returns-in_err-attributes-clause-err c =
-    let p = err_from_is_err_and c.from_residual-in_err-attributes.result c.from_residual-in_err-attributes.ensures.1 in
-    rw (p.1, p.2) (none_made made_plus (no_plus_behind c.in_ok-fileid.ensures.ok c.in_err-attributes.ensures.err))
+pub returns : goal.returns
+returns c = rw (c.in_ok-name.ensures, c.in_ok-handle.ensures) (made_read made_plus (part one_double_word c.u64-fileid.ensures ▸ text_read c.opaque-name.ensures ▸ part one_double_word c.u64-cookie.ensures ▸ part one_post_attributes c.read_optional_fattr-attributes.ensures ▸ part one_given_handle c.read_given_handle-handle.ensures)).reads

@@ -1,5 +1,0 @@
-use Rattle.wire_model.proofs.Fronts.{both}
-use Rattle.nfs3_replies.proofs.pages_reading.read_plus_parts.Goals as goal
-
-pub returns-clause-ok : goal.returns-clause-ok
-returns-clause-ok c = both c.in_ok-attributes.ensures.ok c.in_ok-handle.ensures.ok
