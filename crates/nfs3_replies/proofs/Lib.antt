@@ -8,3 +8,4 @@ mod PartByPart
 mod ReadMounts
 pub mod ReadAnswers
 mod Sizes
+mod Written

@@ -128,6 +128,10 @@ never_done_at {a} {b} {r} p e gone = subst (λ n. Reads (IsDone (result_form_at 
     cases None None gone = refl
     cases (Some a) None gone = never_done
 
+-- by the number of the procedure
+pub done_at : {a b : Option (List ℕ)} {r : Reply} {p n : ℕ} → p ≡ n → Reads (IsDone (result_form_at n)) after_status a r b → Reads (IsDone (result_form_at p)) after_status a r b
+done_at {a} {b} {r} e f = subst (λ k. Reads (IsDone (result_form_at k)) after_status a r b) (sym e) f
+
 -- ---- refusals and results
 
 record IsRefusal (form : ℕ) (r : Reply) : Type 0 where

@@ -16,8 +16,9 @@ use Rattle.nfs_model.specs.Results.{fattr}
 use Rattle.nfs_model.specs.Replies.{IsFattr, IsText, IsPlainEntry, IsPlusEntry}
 use Rattle.nfs_model.proofs.OneArguments.{one_verifier}
 use Rattle.nfs_model.proofs.OneReplies.{one_text, one_post_attributes, one_plain, one_plus, one_page}
-use Rattle.nfs3_replies.specs.ReadParts.{Told, Reads, IsOptional, given_handle, as_it_stands, EntryParts, AreEntryParts, entry_parts, IsEntry, entry_body, flagged_entry, ArePage, page_bytes, IsPageHead, page_head, IsDone, after_status}
+use Rattle.nfs3_replies.specs.ReadParts.{Told, Reads, IsOptional, given_handle, as_it_stands, EntryParts, AreEntryParts, entry_parts, IsEntry, entry_body, flagged_entry, ArePage, page_bytes, directory_form, IsPageHead, page_head, IsDone, after_status}
 use Rattle.nfs3_replies.proofs.Made.{MadeOf, Made}
+use Rattle.nfs3_replies.proofs.PartByPart.{◌▸◌, part, made_read}
 
 -- ---- verifiers
 
@@ -262,3 +263,15 @@ made_directory_plus = record {
   spelled = λ p. ap (λ (s : List ℕ). s ++ boolean p.1) (append_assoc (page_head p.0.0) (flat_map (flagged_entry true) p.0.1) (word 0));
   parts = plus_directory_parts;
 }
+
+pub plus_directory_read : {a b c d e : Option (List ℕ)} {o : Option Fattr} {verifier : List ℕ} {page : List Listed} {eof : Bool} (plus : Bool) → plus ≡ true
+    → Reads (IsOptional IsFattr) (optional fattr) a o b → Reads IsVerifier as_it_stands b verifier c → Reads (ArePage plus) (page_bytes plus) c page d → Reads IsAny boolean d eof e
+    → Reads (IsDone (directory_form plus)) after_status a (reply.DirectoryPlus o verifier page eof) e
+plus_directory_read true is f g h k = (made_read made_directory_plus (part one_post_attributes f ▸ part one_verifier g ▸ part (one_of_page true) h ▸ part one_boolean k)).reads
+plus_directory_read false is f g h k = absurd (cc is)
+
+pub plain_directory_read : {a b c d e : Option (List ℕ)} {o : Option Fattr} {verifier : List ℕ} {page : List Listed} {eof : Bool} (plus : Bool) → plus ≡ false
+    → Reads (IsOptional IsFattr) (optional fattr) a o b → Reads IsVerifier as_it_stands b verifier c → Reads (ArePage plus) (page_bytes plus) c page d → Reads IsAny boolean d eof e
+    → Reads (IsDone (directory_form plus)) after_status a (reply.Directory o verifier page eof) e
+plain_directory_read false is f g h k = (made_read made_directory (part one_post_attributes f ▸ part one_verifier g ▸ part (one_of_page false) h ▸ part one_boolean k)).reads
+plain_directory_read true is f g h k = absurd (cc is)

@@ -223,6 +223,11 @@ ArePage plus page = AllByRecursion (IsEntry plus) page
 abbrev pub page_bytes : Bool → List Listed → List ℕ
 page_bytes plus page = flat_map (flagged_entry plus) page ++ word 0
 
+-- the form of READDIRPLUS's result, or else of READDIR's
+abbrev pub directory_form : Bool → ℕ
+directory_form false = 16
+directory_form true = 17
+
 abbrev pub IsPageHead : Option Fattr × List ℕ → Type 0
 IsPageHead p = IsOptional IsFattr p.0 × IsVerifier p.1
 

@@ -1,5 +1,5 @@
 -- How much room is asked for before a result is written.
-use Rattle.std.specs.Prelude.{ℕ, ◌+◌, Option, Some, None, List, length}
+use Rattle.std.specs.Prelude.{ℕ, ◌+◌, Bool, true, false, Option, Some, None, List, length}
 use Rattle.std.specs.List.{sum_by}
 use Rattle.xdr_codec.specs.Writing.{padded}
 use Rattle.nfs_model.specs.declared.replies.Listed.{Listed}
@@ -18,6 +18,11 @@ entry_room e = 24 + padded (length e.name)
 -- the same, with attributes and a handle
 abbrev pub entry_plus_room : Listed → ℕ
 entry_plus_room e = entry_room e + 88 + handle_room e.handle
+
+-- either of them: with attributes and a handle, or without
+abbrev pub listed_room : Bool → Listed → ℕ
+listed_room false = entry_room
+listed_room true = entry_plus_room
 
 -- the strings and entries of a result, and 240 bytes, which hold all the rest of each form
 abbrev pub room : Reply → ℕ

@@ -1,5 +1,5 @@
 -- Which results have bytes: XDR counts the bytes of a string in a word (RFC 4506, section 4.10).
-use Rattle.std.specs.Prelude.{ℕ, ◌<◌, ◌^◌, List, length, Option, IfSome}
+use Rattle.std.specs.Prelude.{ℕ, Bool, true, false, ◌<◌, ◌^◌, List, length, Option, IfSome}
 use Rattle.std.specs.List.{All}
 use Rattle.nfs_model.specs.declared.replies.Listed.{Listed}
 use Rattle.nfs_model.specs.declared.replies.Reply.{Reply}
@@ -19,6 +19,11 @@ HasShortName e = IsShort e.name
 -- an entry of READDIRPLUS shows its handle too
 abbrev pub IsWritableEntry : Listed → Type 0
 IsWritableEntry e = IsShort e.name × IsShortHandle e.handle
+
+-- either of them: with its handle, or without
+abbrev pub IsWritableListed : Bool → Listed → Type 0
+IsWritableListed false = HasShortName
+IsWritableListed true = IsWritableEntry
 
 -- each string that the result shows has a length that is a word
 abbrev pub IsWritable : Reply → Type 0

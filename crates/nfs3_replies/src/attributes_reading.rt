@@ -8,6 +8,7 @@ ghost use Rattle.nfs_model.specs.Results.{fattr, before, wcc};
 ghost use Rattle.nfs_model.specs.Replies.{IsFattr, IsBefore, IsWcc};
 ghost use Rattle.nfs3_replies.specs.ReadParts.{Reads, constant, kind_word, IsOptional};
 
+use crate::constants::NO_DEVICE;
 use crate::parts::Parts;
 use ivy_base::{Kind, Moment};
 use nfs_model::{Fattr, Wcc, WccBefore};
@@ -23,9 +24,6 @@ pub fn read_constant(parts: &mut Parts, words: &[u32])
         }
     }
 }
-
-/// The numbers of a device, which are 0.
-const NO_DEVICE: [u32; 2] = [0, 0];
 
 /// The attributes of an object (fattr3).
 pub fn read_fattr(parts: &mut Parts) -> Fattr

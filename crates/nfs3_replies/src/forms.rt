@@ -2,41 +2,16 @@
 
 ghost use Rattle.std.specs.Prelude.{◌≡◌, ◌+◌, ◌*◌, ◌≤◌, ◌++◌, length};
 ghost use Rattle.xdr_codec.specs.Writing.{padded};
-ghost use Rattle.wire_model.specs.Xdr.{word, double_word};
+ghost use Rattle.wire_model.specs.Xdr.{word};
 ghost use Rattle.nfs_model.specs.Results.{result as bytes_of, many};
 ghost use Rattle.nfs_model.specs.declared.replies.Reply.TheVariants.{Refused, Attributes, Changed, Found, Allowed, Text, Bytes as Content, Written, Made, Renamed, Linked, Committed, Space, Limits, Paths, Mounted, Exports};
 ghost use Rattle.nfs3_replies.specs.Writable.{IsShort};
 
 use crate::attributes::{put_fattr, put_optional_fattr, put_tail, put_wcc, status_number};
+use crate::constants::{EXPORTS, FLAVOURS, LIMITS, OK, PATHS, SPACE, STORED, WRITE_VERIFIER};
 use ivy_base::Bytes;
 use nfs_model::{Fattr, NfsStatus, Tail, Wcc};
 use xdr_codec::XdrWrite;
-
-/// The status of success (NFS3_OK and MNT3_OK).
-pub const OK: u32 = 0;
-
-/// How safely the bytes of a WRITE were stored (stable_how): FILE_SYNC.
-const FILE_SYNC: u32 = 2;
-
-/// The verifier of what was written (writeverf3).
-const WRITE_VERIFIER: [u8; 8] = *b"IVYVERF1";
-
-/// FSSTAT (section 3.3.18): the bytes in all, free, and free for the caller, then the same of files.
-const SPACE: [u64; 6] = [1 << 40, 1 << 40, 1 << 40, 1 << 32, 1 << 32, 1 << 32];
-
-/// FSINFO (section 3.3.19): rtmax, rtpref, rtmult, wtmax, wtpref, wtmult and dtpref, in bytes.
-const TRANSFER_SIZES: [u32; 7] = [8192, 8192, 512, 8192, 8192, 512, 8192];
-
-/// FSINFO: the bytes of the longest file.
-const LONGEST_FILE: u64 = 16_777_216;
-
-/// FSINFO: the grain of times, a nanosecond, and the properties FSF_LINK, FSF_SYMLINK, FSF_HOMOGENEOUS and
-/// FSF_CANSETTIME.
-const TIMES_AND_PROPERTIES: [u32; 3] = [0, 1, 27];
-
-/// PATHCONF (section 3.3.20): linkmax, name_max, no_trunc, chown_restricted, case_insensitive and
-/// case_preserving.
-const PATH_LIMITS: [u32; 6] = [1000, 255, 1, 1, 0, 1];
 
 /// Appends the bytes of `Reply::Refused`: a status other than OK, and what stands after it.
 pub fn put_refused(out: &mut XdrWrite, status: NfsStatus, after: &Tail)
@@ -119,8 +94,7 @@ pub fn put_written(out: &mut XdrWrite, cache: &Wcc, count: u32)
     out.put_u32(OK);
     put_wcc(out, cache);
     out.put_u32(count);
-    out.put_u32(FILE_SYNC);
-    out.put_fixed(&WRITE_VERIFIER);
+    put_words(out, &STORED);
 }
 
 /// Appends the bytes of `Reply::Made`: CREATE, MKDIR and SYMLINK (sections 3.3.8 to 3.3.10).
@@ -163,7 +137,7 @@ pub fn put_committed(out: &mut XdrWrite, cache: &Wcc)
 {
     out.put_u32(OK);
     put_wcc(out, cache);
-    out.put_fixed(&WRITE_VERIFIER);
+    put_words(out, &WRITE_VERIFIER);
 }
 
 /// Appends the bytes of `Reply::Space`: FSSTAT (section 3.3.18).
@@ -173,8 +147,7 @@ pub fn put_space(out: &mut XdrWrite, object: &Option<Fattr>)
 {
     out.put_u32(OK);
     put_optional_fattr(out, object);
-    put_double_words(out, &SPACE);
-    out.put_u32(0);
+    put_words(out, &SPACE);
 }
 
 /// Appends the bytes of `Reply::Limits`: FSINFO (section 3.3.19).
@@ -184,9 +157,7 @@ pub fn put_limits(out: &mut XdrWrite, object: &Option<Fattr>)
 {
     out.put_u32(OK);
     put_optional_fattr(out, object);
-    put_words(out, &TRANSFER_SIZES);
-    out.put_u64(LONGEST_FILE);
-    put_words(out, &TIMES_AND_PROPERTIES);
+    put_words(out, &LIMITS);
 }
 
 /// Appends the bytes of `Reply::Paths`: PATHCONF (section 3.3.20).
@@ -196,7 +167,7 @@ pub fn put_paths(out: &mut XdrWrite, object: &Option<Fattr>)
 {
     out.put_u32(OK);
     put_optional_fattr(out, object);
-    put_words(out, &PATH_LIMITS);
+    put_words(out, &PATHS);
 }
 
 /// Appends the bytes of `Reply::Mounted`: MNT, with AUTH_SYS as the only flavour (section 5.2.1).
@@ -207,7 +178,7 @@ pub fn put_mounted(out: &mut XdrWrite, handle: &Bytes)
 {
     out.put_u32(OK);
     out.put_opaque(handle.as_slice());
-    put_words(out, &[1, 1]);
+    put_words(out, &FLAVOURS);
 }
 
 /// Appends the bytes of `Reply::Exports`: EXPORT, with the one directory `/` for everybody (section 5.2.5).
@@ -215,10 +186,7 @@ pub fn put_exports(out: &mut XdrWrite)
     requires { 240 ≤ out.old.spare }
     ensures { out.new.written ≡ out.old.written ++ bytes_of Exports }
 {
-    out.put_bool(true);
-    out.put_opaque(b"/".as_slice());
-    out.put_u32(0);
-    out.put_u32(0);
+    put_words(out, &EXPORTS);
 }
 
 /// Appends numbers of four bytes.
@@ -229,16 +197,5 @@ fn put_words(out: &mut XdrWrite, values: &[u32])
 {
     for &value in values {
         out.put_u32(value);
-    }
-}
-
-/// Appends numbers of eight bytes.
-fn put_double_words(out: &mut XdrWrite, values: &[u64])
-    requires { 8 * length values.now ≤ out.old.spare }
-    ensures written { out.new.written ≡ out.old.written ++ many double_word values.now }
-    ensures spare { out.new.spare + 8 * length values.now ≡ out.old.spare }
-{
-    for &value in values {
-        out.put_u64(value);
     }
 }

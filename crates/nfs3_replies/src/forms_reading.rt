@@ -1,48 +1,16 @@
-//! Reading results after status 0, by their forms (RFC 1813, section 3.3), but for the pages of directories.
+//! Reading results after status 0 that have several parts, by their forms (RFC 1813, section 3.3), but for the pages of
+//! directories.
 
 ghost use Rattle.std.specs.Prelude.{◌≡◌, IfOk};
 ghost use Rattle.nfs_model.specs.Arguments.{IsHandle};
 ghost use Rattle.nfs3_replies.specs.ReadParts.{Reads, given_handle, IsNumbered, numbered, IsDone, after_status};
 
-use crate::attributes_reading::{read_constant, read_fattr, read_optional_fattr, read_wcc};
+use crate::attributes_reading::{read_constant, read_optional_fattr, read_wcc};
+use crate::constants::{GIVEN, MOST_HANDLE, STORED, WRITE_VERIFIER};
 use crate::parts::Parts;
 use ivy_base::{Bytes, Memory};
 use nfs_model::{Fattr, Reply};
 use std::alloc::Global;
-
-/// The most bytes of a file handle (nfs_fh3).
-pub const MOST_HANDLE: u32 = 64;
-
-/// The flag in front of a file handle that is given (post_op_fh3).
-const GIVEN: [u32; 1] = [1];
-
-/// How safely the bytes of a WRITE were stored (stable_how), FILE_SYNC, and the verifier of what was written
-/// (writeverf3), `IVYVERF1`.
-const STORED: [u32; 3] = [2, 0x4956_5956, 0x4552_4631];
-
-/// The verifier alone.
-const WRITE_VERIFIER: [u32; 2] = [0x4956_5956, 0x4552_4631];
-
-/// FSSTAT (section 3.3.18): 2^40 bytes three times and 2^32 files three times, each in two words, and invarsec.
-const SPACE: [u32; 13] = [256, 0, 256, 0, 256, 0, 1, 0, 1, 0, 1, 0, 0];
-
-/// FSINFO (section 3.3.19): rtmax, rtpref, rtmult, wtmax, wtpref, wtmult and dtpref, the bytes of the longest file
-/// in two words, the grain of times in two words, and the properties.
-const LIMITS: [u32; 12] = [
-    8192, 8192, 512, 8192, 8192, 512, 8192, 0, 16_777_216, 0, 1, 27,
-];
-
-/// PATHCONF (section 3.3.20): linkmax, name_max, no_trunc, chown_restricted, case_insensitive and
-/// case_preserving.
-const PATHS: [u32; 6] = [1000, 255, 1, 1, 0, 1];
-
-/// GETATTR (section 3.3.1).
-pub fn read_attributes(parts: &mut Parts) -> Reply
-    ensures { Reads (IsDone 1) after_status parts.old result parts.new }
-{
-    let object = read_fattr(parts);
-    Reply::Attributes { object }
-}
 
 /// SETATTR, REMOVE and RMDIR (sections 3.3.2, 3.3.12 and 3.3.13).
 pub fn read_changed(parts: &mut Parts) -> Reply
@@ -154,32 +122,8 @@ pub fn read_linked(parts: &mut Parts) -> Reply
     Reply::Linked { file, cache }
 }
 
-/// FSSTAT (section 3.3.18).
-pub fn read_space(parts: &mut Parts) -> Reply
-    ensures { Reads (IsDone 18) after_status parts.old result parts.new }
-{
-    let object = read_numbered(parts, &SPACE);
-    Reply::Space { object }
-}
-
-/// FSINFO (section 3.3.19).
-pub fn read_limits(parts: &mut Parts) -> Reply
-    ensures { Reads (IsDone 19) after_status parts.old result parts.new }
-{
-    let object = read_numbered(parts, &LIMITS);
-    Reply::Limits { object }
-}
-
-/// PATHCONF (section 3.3.20).
-pub fn read_paths(parts: &mut Parts) -> Reply
-    ensures { Reads (IsDone 20) after_status parts.old result parts.new }
-{
-    let object = read_numbered(parts, &PATHS);
-    Reply::Paths { object }
-}
-
-/// Attributes, and words that are the same in each result.
-fn read_numbered(parts: &mut Parts, words: &[u32]) -> Option<Fattr>
+/// Attributes, and words that are the same in each result: FSSTAT, FSINFO and PATHCONF (sections 3.3.18 to 3.3.20).
+pub fn read_numbered(parts: &mut Parts, words: &[u32]) -> Option<Fattr>
     ensures { Reads IsNumbered (numbered words.now) parts.old (result, tt) parts.new }
 {
     let object = read_optional_fattr(parts);

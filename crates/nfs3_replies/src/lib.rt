@@ -24,6 +24,7 @@
 
 mod attributes;
 mod attributes_reading;
+mod constants;
 mod forms;
 mod forms_reading;
 mod mount_reading;

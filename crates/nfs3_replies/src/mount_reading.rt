@@ -5,20 +5,11 @@ ghost use Rattle.nfs_model.specs.Results.{result as bytes_of};
 ghost use Rattle.nfs3_replies.specs.ReadParts.{Reads, IsAnswer, mount_form_at};
 
 use crate::attributes_reading::read_constant;
-use crate::forms_reading::MOST_HANDLE;
+use crate::constants::{EXPORTS, FLAVOURS, MOST_HANDLE, NO_MOUNTS, NO_SUCH_PATH, OK};
 use crate::parts::Parts;
 use ivy_base::{Bytes, Memory};
 use nfs_model::Reply;
 use std::alloc::Global;
-
-/// The flavours of MNT (section 5.2.1): one, AUTH_SYS.
-const FLAVOURS: [u32; 2] = [1, 1];
-
-/// DUMP (section 5.2.2): no entry.
-const NO_MOUNTS: [u32; 1] = [0];
-
-/// EXPORT (section 5.2.5): the one directory `/` for everybody.
-const EXPORTS: [u32; 5] = [1, 1, 0x2f00_0000, 0, 0];
 
 /// A result of MOUNT's.
 pub fn read_mount_result(alloc: Global, parts: &mut Parts, procedure: u32) -> Result<Reply, Memory>
@@ -38,12 +29,12 @@ fn read_mount(alloc: Global, parts: &mut Parts) -> Result<Reply, Memory>
     ensures { IfOk result (λ r. Reads (IsAnswer 5 101) bytes_of parts.old r parts.new) }
 {
     let status = parts.u32();
-    if status == 0 {
+    if status == OK {
         let handle = parts.opaque(MOST_HANDLE);
         read_constant(parts, &FLAVOURS);
         let handle = Bytes::copy_of(alloc, handle)?;
         Ok(Reply::Mounted { handle })
-    } else if status == 2 {
+    } else if status == NO_SUCH_PATH {
         Ok(Reply::NoSuchPath)
     } else {
         parts.miss();

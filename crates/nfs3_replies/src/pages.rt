@@ -10,7 +10,7 @@ ghost use Rattle.nfs3_replies.specs.Writable.{IsShortHandle, HasShortName, IsWri
 ghost use Rattle.nfs3_replies.specs.Room.{entry_room, entry_plus_room, handle_room};
 
 use crate::attributes::put_optional_fattr;
-use crate::forms::OK;
+use crate::constants::OK;
 use ivy_base::Bytes;
 use nfs_model::{Fattr, Listed, Page};
 use xdr_codec::XdrWrite;

@@ -1,7 +1,7 @@
 //! Reading pages of directories: READDIR and READDIRPLUS (RFC 1813, sections 3.3.16 and 3.3.17).
 
 ghost use Rattle.std.specs.Prelude.{◌≡◌, true, false, IfOk};
-ghost use Rattle.nfs3_replies.specs.ReadParts.{Reads, IsEntry, entry_body, ArePage, page_bytes, IsDone, after_status};
+ghost use Rattle.nfs3_replies.specs.ReadParts.{Reads, IsEntry, entry_body, ArePage, page_bytes, directory_form, IsDone, after_status};
 
 use crate::attributes_reading::read_optional_fattr;
 use crate::forms_reading::read_given_handle;
@@ -10,36 +10,29 @@ use ivy_base::{Bytes, Memory};
 use nfs_model::{Listed, Page, Reply};
 use std::alloc::Global;
 
-/// READDIR (section 3.3.16).
-pub fn read_directory(alloc: Global, parts: &mut Parts) -> Result<Reply, Memory>
-    ensures { IfOk result (λ r. Reads (IsDone 16) after_status parts.old r parts.new) }
+/// READDIRPLUS (section 3.3.17), or else READDIR (section 3.3.16).
+pub fn read_directory(alloc: Global, parts: &mut Parts, plus: bool) -> Result<Reply, Memory>
+    ensures { IfOk result (λ r. Reads (IsDone (directory_form plus)) after_status parts.old r parts.new) }
 {
     let dir = read_optional_fattr(parts);
     let verifier = parts.verifier();
-    let page = read_page(alloc, parts, false)?;
+    let page = read_page(alloc, parts, plus)?;
     let eof = parts.boolean();
-    Ok(Reply::Directory {
-        dir,
-        verifier,
-        page,
-        eof,
-    })
-}
-
-/// READDIRPLUS (section 3.3.17).
-pub fn read_directory_plus(alloc: Global, parts: &mut Parts) -> Result<Reply, Memory>
-    ensures { IfOk result (λ r. Reads (IsDone 17) after_status parts.old r parts.new) }
-{
-    let dir = read_optional_fattr(parts);
-    let verifier = parts.verifier();
-    let page = read_page(alloc, parts, true)?;
-    let eof = parts.boolean();
-    Ok(Reply::DirectoryPlus {
-        dir,
-        verifier,
-        page,
-        eof,
-    })
+    if plus {
+        Ok(Reply::DirectoryPlus {
+            dir,
+            verifier,
+            page,
+            eof,
+        })
+    } else {
+        Ok(Reply::Directory {
+            dir,
+            verifier,
+            page,
+            eof,
+        })
+    }
 }
 
 /// Entries up to the mark that there is no more: those of READDIRPLUS, or else of READDIR.

@@ -7,14 +7,14 @@ ghost use Rattle.nfs_model.specs.Results.{result as bytes_of, tail as tail_bytes
 ghost use Rattle.nfs3_replies.specs.Reading.{IsProcedure, IsReply, NoReply};
 ghost use Rattle.nfs3_replies.specs.ReadParts.{Reads, status_or_ok, IsDone, after_status, IsTailOf, IsAnswer, tail_form_at, result_form_at, tail_form_for, result_form_for};
 
-use crate::attributes_reading::{read_optional_fattr, read_wcc};
+use crate::attributes_reading::{read_fattr, read_optional_fattr, read_wcc};
+use crate::constants::{LIMITS, PATHS, SPACE};
 use crate::forms_reading::{
-    read_allowed, read_attributes, read_changed, read_committed, read_content, read_found,
-    read_limits, read_linked, read_made, read_paths, read_renamed, read_space, read_text,
-    read_written,
+    read_allowed, read_changed, read_committed, read_content, read_found, read_linked, read_made,
+    read_numbered, read_renamed, read_text, read_written,
 };
 use crate::mount_reading::read_mount_result;
-use crate::pages_reading::{read_directory, read_directory_plus};
+use crate::pages_reading::read_directory;
 use crate::parts::Parts;
 use ivy_base::Memory;
 use nfs_model::{ArgsFault, NfsStatus, Reply, Tail};
@@ -132,7 +132,9 @@ fn read_done(alloc: Global, parts: &mut Parts, procedure: u32) -> Result<Reply, 
     ensures { IfOk result (λ r. Reads (IsDone (result_form_at procedure)) after_status parts.old r parts.new) }
 {
     match procedure {
-        1 => Ok(read_attributes(parts)),
+        1 => Ok(Reply::Attributes {
+            object: read_fattr(parts),
+        }),
         2 | 12 | 13 => Ok(read_changed(parts)),
         3 => read_found(alloc, parts),
         4 => Ok(read_allowed(parts)),
@@ -142,11 +144,17 @@ fn read_done(alloc: Global, parts: &mut Parts, procedure: u32) -> Result<Reply, 
         8..=10 => read_made(alloc, parts),
         14 => Ok(read_renamed(parts)),
         15 => Ok(read_linked(parts)),
-        16 => read_directory(alloc, parts),
-        17 => read_directory_plus(alloc, parts),
-        18 => Ok(read_space(parts)),
-        19 => Ok(read_limits(parts)),
-        20 => Ok(read_paths(parts)),
+        16 => read_directory(alloc, parts, false),
+        17 => read_directory(alloc, parts, true),
+        18 => Ok(Reply::Space {
+            object: read_numbered(parts, &SPACE),
+        }),
+        19 => Ok(Reply::Limits {
+            object: read_numbered(parts, &LIMITS),
+        }),
+        20 => Ok(Reply::Paths {
+            object: read_numbered(parts, &PATHS),
+        }),
         21 => Ok(read_committed(parts)),
         _ => {
             parts.miss();

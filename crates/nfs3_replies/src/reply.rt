@@ -6,6 +6,7 @@ ghost use Rattle.nfs3_replies.specs.Writable.{IsWritable};
 ghost use Rattle.nfs3_replies.specs.Room.{room};
 ghost use Rattle.nfs3_replies.specs.Sizes.{result_bound, HasShortHandles, HasWholeVerifier};
 
+use crate::constants::NO_SUCH_PATH;
 use crate::forms::{
     put_allowed, put_attributes, put_changed, put_committed, put_content, put_exports, put_found,
     put_limits, put_linked, put_made, put_mounted, put_paths, put_refused, put_renamed, put_space,
@@ -17,9 +18,6 @@ use ivy_base::{Bytes, Memory};
 use nfs_model::Reply;
 use std::alloc::Global;
 use xdr_codec::XdrWrite;
-
-/// The status of MNT for a path that isn't there (MNT3ERR_NOENT; RFC 1813, section 5.1.5).
-const NO_SUCH_PATH: u32 = 2;
 
 /// The bytes of a result, from its status on (RFC 1813, sections 3.3 and 5.2).
 ///

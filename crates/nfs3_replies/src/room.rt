@@ -3,8 +3,8 @@
 ghost use Rattle.std.specs.Prelude.{◌≡◌, ◌+◌, ◌^◌, ◌≤◌, IfSome, IsNone, length};
 ghost use Rattle.std.specs.List.{All, sum_by};
 ghost use Rattle.xdr_codec.specs.Writing.{padded};
-ghost use Rattle.nfs3_replies.specs.Room.{room, entry_room, entry_plus_room, handle_room};
-ghost use Rattle.nfs3_replies.specs.Writable.{IsShort, IsShortHandle, HasShortName, IsWritableEntry, IsWritable};
+ghost use Rattle.nfs3_replies.specs.Room.{room, listed_room, handle_room};
+ghost use Rattle.nfs3_replies.specs.Writable.{IsShort, IsShortHandle, IsWritableListed, IsWritable};
 
 use ivy_base::Bytes;
 use nfs_model::{Listed, Reply};
@@ -31,8 +31,8 @@ pub fn room_for(reply: &Reply) -> Option<usize>
         Reply::Bytes { bytes, .. } => with_string(bytes),
         Reply::Made { handle, .. } => with_string(handle),
         Reply::Mounted { handle } => with_string(handle),
-        Reply::Directory { page, .. } => with_entries(page.as_slice()),
-        Reply::DirectoryPlus { page, .. } => with_entries_plus(page.as_slice()),
+        Reply::Directory { page, .. } => with_entries(page.as_slice(), false),
+        Reply::DirectoryPlus { page, .. } => with_entries(page.as_slice(), true),
         _ => Some(FRAME),
     }
 }
@@ -46,48 +46,31 @@ fn with_string(bytes: &Bytes) -> Option<usize>
     Some(FRAME + padded_len(bytes)?)
 }
 
-/// The room for a page's entries and what stands beside them.
-fn with_entries(entries: &[Listed]) -> Option<usize>
-    ensures some { IfSome result (λ bytes. bytes ≡ 240 + sum_by entry_room entries.now) }
-    ensures counted { IfSome result (λ bytes. All HasShortName entries.now) }
-    ensures none { IsNone result → All HasShortName entries.now → 2 ^ 64 ≤ 240 + sum_by entry_room entries.now }
+/// The room for a page's entries and what stands beside them; where they have attributes and handles, the most room.
+fn with_entries(entries: &[Listed], plus: bool) -> Option<usize>
+    ensures some { IfSome result (λ bytes. bytes ≡ 240 + sum_by (listed_room plus) entries.now) }
+    ensures counted { IfSome result (λ bytes. All (IsWritableListed plus) entries.now) }
+    ensures none { IsNone result → All (IsWritableListed plus) entries.now → 2 ^ 64 ≤ 240 + sum_by (listed_room plus) entries.now }
 {
     let mut sum: usize = FRAME;
     for entry in entries {
-        sum = sum.checked_add(room_of_entry(entry)?)?;
+        sum = sum.checked_add(room_of_entry(entry, plus)?)?;
     }
     Some(sum)
 }
 
-/// The most room for a page's entries with their attributes and handles, and what stands beside them.
-fn with_entries_plus(entries: &[Listed]) -> Option<usize>
-    ensures some { IfSome result (λ bytes. bytes ≡ 240 + sum_by entry_plus_room entries.now) }
-    ensures counted { IfSome result (λ bytes. All IsWritableEntry entries.now) }
-    ensures none { IsNone result → All IsWritableEntry entries.now → 2 ^ 64 ≤ 240 + sum_by entry_plus_room entries.now }
+/// The bytes of an entry; with attributes and a handle, the most bytes.
+fn room_of_entry(entry: &Listed, plus: bool) -> Option<usize>
+    ensures some { IfSome result (λ bytes. bytes ≡ listed_room plus entry.now) }
+    ensures counted { IfSome result (λ bytes. IsWritableListed plus entry.now) }
+    ensures none { IsNone result → IsWritableListed plus entry.now → ⊥ }
 {
-    let mut sum: usize = FRAME;
-    for entry in entries {
-        sum = sum.checked_add(room_of_entry_plus(entry)?)?;
+    let shown = ENTRY_FRAME + padded_len(&entry.name)?;
+    if plus {
+        Some(shown + ENTRY_ATTRIBUTES + room_of_handle(&entry.handle)?)
+    } else {
+        Some(shown)
     }
-    Some(sum)
-}
-
-/// The bytes of an entry without attributes and handle.
-fn room_of_entry(entry: &Listed) -> Option<usize>
-    ensures some { IfSome result (λ bytes. bytes ≡ entry_room entry.now) }
-    ensures counted { IfSome result (λ bytes. HasShortName entry.now) }
-    ensures none { IsNone result → HasShortName entry.now → ⊥ }
-{
-    Some(ENTRY_FRAME + padded_len(&entry.name)?)
-}
-
-/// The most bytes of an entry with its attributes and its handle.
-fn room_of_entry_plus(entry: &Listed) -> Option<usize>
-    ensures some { IfSome result (λ bytes. bytes ≡ entry_plus_room entry.now) }
-    ensures counted { IfSome result (λ bytes. IsWritableEntry entry.now) }
-    ensures none { IsNone result → IsWritableEntry entry.now → ⊥ }
-{
-    Some(ENTRY_FRAME + padded_len(&entry.name)? + ENTRY_ATTRIBUTES + room_of_handle(&entry.handle)?)
 }
 
 /// The bytes of a handle that may be missing: its flag, and where it is given its length and its bytes.

@@ -1,5 +1,5 @@
-use Rattle.std.proofs.Common.{append_assoc}
+use Rattle.nfs3_replies.proofs.Written.{put, more}
 use Rattle.nfs3_replies.proofs.attributes.put_optional_before.Goals as goal
 
 pub returns-in-Some-clause-written : goal.returns-in-Some-clause-written
-returns-in-Some-clause-written c = rw (c.in-Some.is, c.put_before.ensures.written, c.put_bool-in-Some.ensures.written, append_assoc)
+returns-in-Some-clause-written c = rw c.in-Some.is ((more _ (put _ _ c.put_bool-in-Some.ensures.written) c.put_before.ensures.written).is)

@@ -1,5 +1,5 @@
-use Rattle.std.proofs.Common.{append_assoc}
+use Rattle.nfs3_replies.proofs.Written.{put, more}
 use Rattle.nfs3_replies.proofs.forms.put_attributes.Goals as goal
 
 pub returns : goal.returns
-returns c = rw (c.put_fattr.ensures.written, c.put_u32.ensures.written, append_assoc)
+returns c = (more _ (put _ _ c.put_u32.ensures.written) c.put_fattr.ensures.written).is

@@ -6,10 +6,10 @@ use Rattle.nfs3_replies.proofs.PartByPart.{◌▸◌, part}
 use Rattle.nfs3_replies.proofs.mount_reading.read_mount.Goals as goal
 
 pub returns-in_ok-handle : goal.returns-in_ok-handle
-returns-in_ok-handle c = rw c.in_ok-handle.ensures (mount_read c.u32-status.ensures c.if-status-eq0.true (part one_handle c.opaque-handle.ensures ▸ part (one_constant (1 ∷ 1 ∷ [])) c.read_constant.ensures).reads)
+returns-in_ok-handle c = rw c.in_ok-handle.ensures (mount_read c.u32-status.ensures c.if-status-eq-OK.true (part one_handle c.opaque-handle.ensures ▸ part (one_constant (1 ∷ 1 ∷ [])) c.read_constant.ensures).reads)
 
-pub returns-then-status-eq2 : goal.returns-then-status-eq2
-returns-then-status-eq2 c = no_path_read c.u32-status.ensures c.if-status-eq2.true
+pub returns-then-status-eq-NO_SUCH_PATH : goal.returns-then-status-eq-NO_SUCH_PATH
+returns-then-status-eq-NO_SUCH_PATH c = no_path_read c.u32-status.ensures c.if-status-eq-NO_SUCH_PATH.true
 
-pub returns-else-status-eq2 : goal.returns-else-status-eq2
-returns-else-status-eq2 c = other_status c.u32-status.ensures c.if-status-eq0.false c.if-status-eq2.false c.miss.ensures
+pub returns-else-status-eq-NO_SUCH_PATH : goal.returns-else-status-eq-NO_SUCH_PATH
+returns-else-status-eq-NO_SUCH_PATH c = other_status c.u32-status.ensures c.if-status-eq-OK.false c.if-status-eq-NO_SUCH_PATH.false c.miss.ensures

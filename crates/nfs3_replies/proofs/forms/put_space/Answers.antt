@@ -1,0 +1,5 @@
+use Rattle.nfs3_replies.proofs.Written.{put, more, space_written}
+use Rattle.nfs3_replies.proofs.forms.put_space.Goals as goal
+
+pub returns : goal.returns
+returns c = space_written c.args.out.now.written c.args.object.now ((more _ (more _ (put _ _ c.put_u32.ensures.written) c.put_optional_fattr.ensures.written) c.put_words.ensures.written).is)
