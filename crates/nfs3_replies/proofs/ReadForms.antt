@@ -1,6 +1,6 @@
 -- Results after status 0 are read part by part.
-use Rattle.std.proofs.Common.{ℕ, ◌^◌, Bool, true, List, [], ◌∷◌, ◌++◌, Option, refl, ap, ◌∙◌, arith, append_assoc}
-use Rattle.wire_model.specs.Xdr.{word, double_word, boolean, opaque, optional, IsWord, IsAny, IsUpTo}
+use Rattle.std.proofs.Common.{ℕ, ◌^◌, List, [], ◌∷◌, ◌++◌, Option, refl, ◌∙◌, arith, append_assoc}
+use Rattle.wire_model.specs.Xdr.{word, double_word, opaque, optional, IsAny, IsUpTo}
 use Rattle.wire_model.specs.OneReading.{ReadsOne, IsFront, HasNoFront}
 use Rattle.wire_model.proofs.OneReading.{◌▷◌, one_word, one_boolean}
 use Rattle.nfs_model.specs.declared.replies.Fattr.{Fattr}

@@ -1,12 +1,11 @@
 -- Results of MOUNT are read.
 use Rattle.std.proofs.Common.{◌≡◌, ℕ, zero, suc, ◌<◌, List, [], ◌∷◌, ◌++◌, Option, Some, None, refl, sym, ap, ◌∙◌, arith, append_assoc}
 use Rattle.std.specs.Prelude.{◌≢◌}
-use Rattle.wire_model.specs.Xdr.{word, opaque, IsWord, IsAny}
+use Rattle.wire_model.specs.Xdr.{word, IsWord, IsAny}
 use Rattle.wire_model.specs.OneReading.{ReadsOne, IsFront, HasNoFront}
 use Rattle.wire_model.proofs.OneReading.{◌▷◌, one_word, always}
 use Rattle.nfs_model.specs.declared.replies.Reply.{Reply}
 use Rattle.nfs_model.specs.declared.replies.Reply.TheVariants as reply
-use Rattle.nfs_model.specs.Arguments.{IsHandle}
 use Rattle.nfs_model.specs.Results.{result}
 use Rattle.nfs_model.proofs.OneArguments.{one_handle}
 use Rattle.nfs_model.proofs.OneReplies.{tail_below}

@@ -3,9 +3,9 @@ use Rattle.std.proofs.Common.{◌≡◌, ℕ, Bool, true, false, List, [], ◌�
 use Rattle.std.specs.Prelude.{◌≢◌}
 use Rattle.std.specs.List.{flat_map, AllByRecursion}
 use Rattle.std.proofs.lemmas.List.{append-nil, length-append}
-use Rattle.wire_model.specs.Xdr.{word, double_word, boolean, opaque, optional, fixed, IsDoubleWord, IsAny, IsOfLength, IsUpTo}
+use Rattle.wire_model.specs.Xdr.{word, boolean, optional, fixed, IsAny, IsOfLength}
 use Rattle.wire_model.specs.OneReading.{ReadsOne, IsFront, HasNoFront}
-use Rattle.wire_model.proofs.OneReading.{◌▷◌, always, regrouped, one_double_word, one_boolean}
+use Rattle.wire_model.proofs.OneReading.{◌▷◌, always, regrouped, one_boolean}
 use Rattle.wire_model.proofs.Arrays.{more_items}
 use Rattle.nfs_model.specs.declared.replies.Fattr.{Fattr}
 use Rattle.nfs_model.specs.declared.replies.Listed.{Listed}
@@ -13,9 +13,9 @@ use Rattle.nfs_model.specs.declared.replies.Reply.{Reply}
 use Rattle.nfs_model.specs.declared.replies.Reply.TheVariants as reply
 use Rattle.nfs_model.specs.Arguments.{IsHandle, IsVerifier}
 use Rattle.nfs_model.specs.Results.{fattr}
-use Rattle.nfs_model.specs.Replies.{IsFattr, IsText, IsPlainEntry, IsPlusEntry}
+use Rattle.nfs_model.specs.Replies.{IsFattr, IsPlainEntry, IsPlusEntry}
 use Rattle.nfs_model.proofs.OneArguments.{one_verifier}
-use Rattle.nfs_model.proofs.OneReplies.{one_text, one_post_attributes, one_plain, one_plus, one_page}
+use Rattle.nfs_model.proofs.OneReplies.{one_post_attributes, one_plain, one_plus, one_page}
 use Rattle.nfs3_replies.specs.ReadParts.{Told, Reads, IsOptional, given_handle, as_it_stands, EntryParts, AreEntryParts, entry_parts, IsEntry, entry_body, flagged_entry, ArePage, page_bytes, directory_form, IsPageHead, page_head, IsDone, after_status}
 use Rattle.nfs3_replies.proofs.Made.{MadeOf, Made}
 use Rattle.nfs3_replies.proofs.PartByPart.{◌▸◌, part, made_read}
