@@ -1,10 +1,9 @@
 -- The parts of results in the order in which they are read, and the forms of procedures by their numbers.
-use Rattle.std.specs.Prelude.{◌≡◌, ℕ, Bool, true, false, List, [], ◌∷◌, ◌++◌, get_or, drop, Option, Some, None, IfSome, ⊤, nat_eq, if◌then◌else◌}
+use Rattle.std.specs.Prelude.{◌≡◌, ℕ, Bool, true, false, List, [], ◌∷◌, ◌++◌, get_or, drop, Option, Some, None, IfSome, nat_eq, if◌then◌else◌}
 use Rattle.std.specs.List.{flat_map, AllByRecursion}
 use Rattle.ivy_base.specs.declared.operation.Kind.{Kind}
-use Rattle.ivy_base.specs.declared.operation.Moment.{Moment}
 use Rattle.log_model.specs.Spelling.{kind_number}
-use Rattle.wire_model.specs.Xdr.{word, double_word, boolean, opaque, optional, moment, IsWordMoment, IsWord, IsDoubleWord, IsAny}
+use Rattle.wire_model.specs.Xdr.{word, double_word, boolean, opaque, optional, IsWord, IsDoubleWord, IsAny}
 use Rattle.wire_model.specs.OneReading.{IsFront, HasNoFront}
 use Rattle.nfs_model.specs.declared.replies.NfsStatus.{NfsStatus}
 use Rattle.nfs_model.specs.declared.replies.Fattr.{Fattr}
@@ -16,13 +15,6 @@ use Rattle.nfs_model.specs.declared.replies.Reply.TheVariants as reply
 use Rattle.nfs_model.specs.Arguments.{IsHandle, IsVerifier, mount_program}
 use Rattle.nfs_model.specs.Results.{status_number, fattr, wcc, result, many}
 use Rattle.nfs_model.specs.Replies.{IsFattr, IsWcc, IsTail, IsText, IsPlainEntry, IsPlusEntry, ReplyFits, tail_form, result_form}
-use Rattle.nfs_model.specs.declared.fault.ArgsFault.{ArgsFault}
-use Rattle.nfs_model.specs.declared.fault.ArgsFault.TheVariants.{Garbage, Memory}
-
--- a part is refused where the bytes begin with none, and given up for want of memory
-abbrev pub Refuses : {A : Type 0} → (A → Type 0) → (A → List ℕ) → List ℕ → ArgsFault → Type 0
-Refuses Fits spell bytes Garbage = HasNoFront Fits spell bytes
-Refuses Fits spell bytes Memory = ⊤
 
 -- what is told of a part by the bytes that were left before it and those that are left behind it: it stands at their front, or there is
 -- none; and where a part was missed before, nothing
@@ -52,52 +44,6 @@ IsOptional Fits o = IfSome o Fits
 -- bytes as they stand
 abbrev pub as_it_stands : List ℕ → List ℕ
 as_it_stands bytes = bytes
-
--- ---- attributes
-
--- type, mode and links
-abbrev pub Start : Type 0
-Start = (Kind × ℕ) × ℕ
-
-abbrev pub IsStart : Start → Type 0
-IsStart p = (IsAny p.0.0 × IsWord p.0.1) × IsWord p.1
-
-abbrev pub start : Start → List ℕ
-start p = (kind_word p.0.0 ++ word p.0.1) ++ word p.1
-
--- two words: owner and group
-abbrev pub AreWords : ℕ × ℕ → Type 0
-AreWords p = IsWord p.0 × IsWord p.1
-
-abbrev pub words : ℕ × ℕ → List ℕ
-words p = word p.0 ++ word p.1
-
--- two double words: size and what is used for it, or the numbers of the file system and the object
-abbrev pub AreDoubleWords : ℕ × ℕ → Type 0
-AreDoubleWords p = IsDoubleWord p.0 × IsDoubleWord p.1
-
-abbrev pub double_words : ℕ × ℕ → List ℕ
-double_words p = double_word p.0 ++ double_word p.1
-
--- the numbers of the file system and the object, behind those of a device, which are 0
-abbrev pub Numbers : Type 0
-Numbers = Unit {0} × (ℕ × ℕ)
-
-abbrev pub AreNumbers : Numbers → Type 0
-AreNumbers p = IsAny p.0 × AreDoubleWords p.1
-
-abbrev pub numbers : Numbers → List ℕ
-numbers p = constant (0 ∷ 0 ∷ []) p.0 ++ double_words p.1
-
--- three times
-abbrev pub Times : Type 0
-Times = (Moment × Moment) × Moment
-
-abbrev pub AreTimes : Times → Type 0
-AreTimes p = (IsWordMoment p.0.0 × IsWordMoment p.0.1) × IsWordMoment p.1
-
-abbrev pub times : Times → List ℕ
-times p = (moment p.0.0 ++ moment p.0.1) ++ moment p.1
 
 -- ---- results
 
@@ -162,15 +108,6 @@ IsCommittedParts p = IsWcc p.0 × IsAny p.1
 abbrev pub committed_parts : Wcc × Unit {0} → List ℕ
 committed_parts p = wcc p.0 ++ constant (1230395734 ∷ 1163019825 ∷ []) p.1
 
-abbrev pub MadeObject : Type 0
-MadeObject = List ℕ × (Option Fattr × Wcc)
-
-abbrev pub IsMade : MadeObject → Type 0
-IsMade p = IsHandle p.0 × AreAttributesAndCache p.1
-
-abbrev pub made : MadeObject → List ℕ
-made p = given_handle p.0 ++ attributes_and_cache p.1
-
 -- attributes, and words that are always the same
 abbrev pub IsNumbered : Option Fattr × Unit {0} → Type 0
 IsNumbered p = IsOptional IsFattr p.0 × IsAny p.1
@@ -196,13 +133,6 @@ AreEntryParts p = (IsDoubleWord p.0.0 × IsText p.0.1) × IsDoubleWord p.1
 
 abbrev pub entry_parts : EntryParts → List ℕ
 entry_parts p = (double_word p.0.0 ++ opaque p.0.1) ++ double_word p.1
-
--- what READDIRPLUS adds
-abbrev pub ArePlusParts : Option Fattr × List ℕ → Type 0
-ArePlusParts p = IsOptional IsFattr p.0 × IsHandle p.1
-
-abbrev pub plus_parts : Option Fattr × List ℕ → List ℕ
-plus_parts p = optional fattr p.0 ++ given_handle p.1
 
 -- an entry of READDIRPLUS, or else of READDIR, behind its flag
 abbrev pub IsEntry : Bool → Listed → Type 0
