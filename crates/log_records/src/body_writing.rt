@@ -1,8 +1,8 @@
 //! Writing the operation of a record.
 
 ghost use Rattle.std.specs.Prelude.{◌≡◌, ◌+◌, ◌^◌, ◌<◌, ◌≤◌, ◌++◌, length, IfSome};
-ghost use Rattle.wire_model.specs.Xdr.{opaque};
-ghost use Rattle.log_model.specs.Spelling.{record_kind, body};
+ghost use Rattle.wire_model.specs.Xdr.{word, double_word, opaque};
+ghost use Rattle.log_model.specs.Spelling.{record_kind, body, kind_number as number_of_kind};
 ghost use Rattle.block_parts.specs.Parts.{key_bytes};
 ghost use Rattle.log_records.specs.Parts.{place_block};
 ghost use Rattle.block_parts.specs.Parts.{opaque_size, IsShort};
@@ -10,7 +10,7 @@ ghost use Rattle.log_records.specs.Sizes.{body_size, HasShortTexts};
 
 use crate::change_writing::{change_len, put_change};
 use block_parts::{kind_number, opaque_len, put_key};
-use ivy_base::{Bytes, Key, Op};
+use ivy_base::{Bytes, Key, Kind, Op};
 use xdr_codec::XdrWrite;
 
 /// Which operation it is, 1 to 9.
@@ -36,19 +36,27 @@ pub fn body_len(op: &Op) -> Option<usize>
     ensures short { IfSome result (λ _. HasShortTexts op.now) }
     ensures bound { IfSome result (λ n. n ≤ 2 ^ 35) }
 {
-    Some(match op {
-        Op::Inode { target, .. } => 36 + opaque_len(target.as_slice())?,
-        Op::Write { bytes, .. } => 28 + opaque_len(bytes.as_slice())?,
-        Op::Link { name, .. } => 40 + opaque_len(name.as_slice())?,
-        Op::Unlink { name, .. } => 20 + opaque_len(name.as_slice())?,
-        Op::Rename { name, to_name, .. } => 40
-            + opaque_len(name.as_slice())?
-            + opaque_len(to_name.as_slice())?,
-        Op::Prepare { name, .. } => 28 + opaque_len(name.as_slice())?,
-        Op::Cancel { .. } => 4,
-        Op::SetAttrs { change, .. } => 20 + change_len(change),
-        Op::End => 0,
-    })
+    match op {
+        Op::Inode { target, .. } => len_with(36, target),
+        Op::Write { bytes, .. } => len_with(28, bytes),
+        Op::Link { name, .. } => len_with(40, name),
+        Op::Unlink { name, .. } => len_with(20, name),
+        Op::Rename { name, to_name, .. } => len_with(len_with(40, name)?, to_name),
+        Op::Prepare { name, .. } => len_with(28, name),
+        Op::Cancel { .. } => Some(4),
+        Op::SetAttrs { change, .. } => Some(20 + change_len(change)),
+        Op::End => Some(0),
+    }
+}
+
+/// How many bytes a text takes together with those before it; none where it has 2^32 bytes or more.
+fn len_with(before: usize, text: &Bytes) -> Option<usize>
+    requires { before ≤ 2 ^ 34 }
+    ensures size { IfSome result (λ n. n ≡ before + opaque_size text.now) }
+    ensures short { IfSome result (λ _. IsShort text.now) }
+    ensures bound { IfSome result (λ n. n ≤ before + 2 ^ 33) }
+{
+    Some(before + opaque_len(text.as_slice())?)
 }
 
 /// Appends the operation.
@@ -66,19 +74,8 @@ pub fn put_body(out: &mut XdrWrite, op: &Op)
             uid,
             gid,
             target,
-        } => {
-            put_key(out, ino);
-            out.put_u32(kind_number(*kind));
-            out.put_u32(*mode);
-            out.put_u32(*uid);
-            out.put_u32(*gid);
-            out.put_opaque(target.as_slice());
-        }
-        Op::Write { ino, offset, bytes } => {
-            put_key(out, ino);
-            out.put_u64(*offset);
-            out.put_opaque(bytes.as_slice());
-        }
+        } => put_inode(out, ino, *kind, *mode, *uid, *gid, target),
+        Op::Write { ino, offset, bytes } => put_write(out, ino, *offset, bytes),
         Op::Link { dir, name, ino } => {
             put_place(out, dir, name);
             put_key(out, ino);
@@ -104,6 +101,41 @@ pub fn put_body(out: &mut XdrWrite, op: &Op)
         }
         Op::End => {}
     }
+}
+
+/// Appends a new inode.
+fn put_inode(
+    out: &mut XdrWrite,
+    ino: &Key,
+    kind: Kind,
+    mode: u32,
+    uid: u32,
+    gid: u32,
+    target: &Bytes,
+)
+    requires room { 36 + opaque_size target.now ≤ out.old.spare }
+    requires short { IsShort target.now }
+    ensures written { out.new.written ≡ out.old.written ++ (key_bytes ino.now ++ word (number_of_kind kind) ++ word mode ++ word uid ++ word gid ++ opaque target.now) }
+    ensures spare { out.new.spare + (36 + opaque_size target.now) ≡ out.old.spare }
+{
+    put_key(out, ino);
+    out.put_u32(kind_number(kind));
+    out.put_u32(mode);
+    out.put_u32(uid);
+    out.put_u32(gid);
+    out.put_opaque(target.as_slice());
+}
+
+/// Appends bytes that are written into a file.
+fn put_write(out: &mut XdrWrite, ino: &Key, offset: u64, bytes: &Bytes)
+    requires room { 28 + opaque_size bytes.now ≤ out.old.spare }
+    requires short { IsShort bytes.now }
+    ensures written { out.new.written ≡ out.old.written ++ (key_bytes ino.now ++ double_word offset ++ opaque bytes.now) }
+    ensures spare { out.new.spare + (28 + opaque_size bytes.now) ≡ out.old.spare }
+{
+    put_key(out, ino);
+    out.put_u64(offset);
+    out.put_opaque(bytes.as_slice());
 }
 
 /// Appends the verifier of an exclusive creation.

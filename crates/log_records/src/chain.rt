@@ -57,7 +57,7 @@ fn all_names(alloc: Global, chain: &[Record]) -> Result<Vec<Key>, Memory>
 {
     let mut names = Vec::with_capacity(alloc, chain.len())?;
     for record in chain {
-        names.push(record.name(alloc)?)?;
+        names.push_reserved(record.name(alloc)?);
     }
     Ok(names)
 }
@@ -132,7 +132,19 @@ fn names_only(view: &View, vector: &Vector) -> bool
 fn all_named(view: &View, entries: &[Entry]) -> bool
     ensures { result ≡ list_all (λ e. is_named view.now e.log) entries.now }
 {
-    entries.iter().all(|e: &Entry| view.is_member(&e.log) || view.is_former(&e.log))
+    for entry in entries {
+        if !is_of_view(view, &entry.log) {
+            return false;
+        }
+    }
+    true
+}
+
+/// Whether the log is a member's of the view or a former one's.
+fn is_of_view(view: &View, log: &Key) -> bool
+    ensures { result ≡ is_named view.now log.now }
+{
+    view.is_member(log) || view.is_former(log)
 }
 
 /// Whether the record is numbered next after what is held of its log.
@@ -227,7 +239,7 @@ fn is_stamped(record: &Record, name: &Key, seq: u32, wanted: &Key) -> bool
 pub(crate) fn is_same(a: &Key, b: &Key) -> bool
     ensures { IsTrue result ↔ a.now ≡ b.now }
 {
-    a == b
+    *a == *b
 }
 
 /// Whether the records go on from the held record itself, through the floor's.

@@ -50,7 +50,7 @@ impl Records {
     {
         let mut records = Vec::with_capacity(alloc, self.records.len())?;
         for held in &self.records {
-            records.push(held.copy(alloc)?)?;
+            records.push_reserved(held.copy(alloc)?);
         }
         Ok(Records { records })
     }
