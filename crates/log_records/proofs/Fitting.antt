@@ -7,11 +7,11 @@ use Rattle.ivy_base.specs.declared.operation.Kind.{Kind}
 use Rattle.ivy_base.specs.declared.operation.Change.{Change}
 use Rattle.ivy_base.specs.declared.operation.Op.{Op}
 use Rattle.ivy_base.specs.declared.operation.Op.TheVariants as op
-use Rattle.ivy_base.specs.Naming.{IsFileName}
 use Rattle.log_model.specs.Vector.{Stamp, reach}
 use Rattle.log_model.specs.Record.{Record}
 use Rattle.log_model.specs.Spelling.{IsKey, IsBlock, IsMode, IsTarget, IsChange, OperationFits, IsEndOp, HasSpelling}
 use Rattle.log_model.specs.Chain.{IsFirst}
+use Rattle.log_records.specs.Parts.{IsPlace}
 use Rattle.log_records.specs.Batches.{MayBeNext}
 
 -- ---- whether an operation fits, where it is of that form
@@ -38,34 +38,26 @@ write_fits {offset} is number same tested =
     let t = of_text (λ (x : List ℕ). (1 ≤ length x) × (length x ≤ 8192) × (offset + length x ≤ 16777216)) same tested in
     of_op is (λ h. let p = t.0 h in (number, p.0, p.1, p.2), λ f. t.1 (f.1, f.2, f.3))
 
-pub link_fits : {o : Op} {dir number : Key} {name text : List ℕ} {b : Bool}
-    → o ≡ op.Link dir name number → IsKey dir → IsKey number → text ≡ name → IsTrue b ↔ IsFileName text → IsTrue b ↔ OperationFits o
-link_fits is dir number same tested =
-    let t = of_text IsFileName same tested in
-    of_op is (λ h. (dir, t.0 h, number), λ f. t.1 f.1)
+pub link_fits : {o : Op} {dir number : Key} {name : List ℕ} {b : Bool}
+    → o ≡ op.Link dir name number → IsKey number → IsTrue b ↔ IsPlace (dir, name) → IsTrue b ↔ OperationFits o
+link_fits is number t = of_op is (λ h. let p = t.0 h in (p.0, p.1, number), λ f. t.1 (f.0, f.1))
 
-pub unlink_fits : {o : Op} {dir : Key} {name text : List ℕ} {b : Bool}
-    → o ≡ op.Unlink dir name → IsKey dir → text ≡ name → IsTrue b ↔ IsFileName text → IsTrue b ↔ OperationFits o
-unlink_fits is dir same tested =
-    let t = of_text IsFileName same tested in
-    of_op is (λ h. (dir, t.0 h), λ f. t.1 f.1)
+pub unlink_fits : {o : Op} {dir : Key} {name : List ℕ} {b : Bool} → o ≡ op.Unlink dir name → IsTrue b ↔ IsPlace (dir, name) → IsTrue b ↔ OperationFits o
+unlink_fits is t = of_op is t
 
-pub rename_fits : {o : Op} {dir to_dir : Key} {name to_name text to_text : List ℕ} {a b : Bool}
-    → o ≡ op.Rename dir name to_dir to_name → IsKey dir → IsKey to_dir → text ≡ name → IsTrue a ↔ IsFileName text → a ≡ true → to_text ≡ to_name → IsTrue b ↔ IsFileName to_text → IsTrue b ↔ OperationFits o
-rename_fits is dir to_dir same tested first to_same to_tested =
-    let s = of_text IsFileName same tested in
-    let t = of_text IsFileName to_same to_tested in
-    of_op is (λ h. (dir, s.0 first, to_dir, t.0 h), λ f. t.1 f.3)
+pub rename_fits : {o : Op} {dir to_dir : Key} {name to_name : List ℕ} {a b : Bool}
+    → o ≡ op.Rename dir name to_dir to_name → IsTrue a ↔ IsPlace (dir, name) → a ≡ true → IsTrue b ↔ IsPlace (to_dir, to_name) → IsTrue b ↔ OperationFits o
+rename_fits is s first t =
+    let p = s.0 first in
+    of_op is (λ h. let q = t.0 h in (p.0, p.1, q.0, q.1), λ f. t.1 (f.2, f.3))
 
-pub no_rename_fits : {o : Op} {dir to_dir : Key} {name to_name text : List ℕ} {b : Bool}
-    → o ≡ op.Rename dir name to_dir to_name → b ≡ false → text ≡ name → IsTrue b ↔ IsFileName text → IsTrue b ↔ OperationFits o
-no_rename_fits is e same tested = of_op is (λ h. absurd (cc (h, e)), λ f. (of_text IsFileName same tested).1 f.1)
+pub no_rename_fits : {o : Op} {dir to_dir : Key} {name to_name : List ℕ} {b : Bool}
+    → o ≡ op.Rename dir name to_dir to_name → b ≡ false → IsTrue b ↔ IsPlace (dir, name) → IsTrue b ↔ OperationFits o
+no_rename_fits is e t = of_op is (λ h. absurd (cc (h, e)), λ f. t.1 (f.0, f.1))
 
-pub prepare_fits : {o : Op} {dir : Key} {name text verifier : List ℕ} {b : Bool}
-    → o ≡ op.Prepare dir name verifier → IsKey dir → IsBlock 8 verifier → text ≡ name → IsTrue b ↔ IsFileName text → IsTrue b ↔ OperationFits o
-prepare_fits is dir verifier same tested =
-    let t = of_text IsFileName same tested in
-    of_op is (λ h. (dir, t.0 h, verifier), λ f. t.1 f.1)
+pub prepare_fits : {o : Op} {dir : Key} {name verifier : List ℕ} {b : Bool}
+    → o ≡ op.Prepare dir name verifier → IsBlock 8 verifier → IsTrue b ↔ IsPlace (dir, name) → IsTrue b ↔ OperationFits o
+prepare_fits is verifier t = of_op is (λ h. let p = t.0 h in (p.0, p.1, verifier), λ f. t.1 (f.0, f.1))
 
 pub cancel_fits : {o : Op} {seq : ℕ} → o ≡ op.Cancel seq → seq < 2 ^ 32 → IsTrue true ↔ OperationFits o
 cancel_fits is fits = of_op is (λ h. fits, λ f. refl)

@@ -18,6 +18,7 @@ use Rattle.log_records.specs.declared.part_fault.PartFault.TheVariants as part
 use Rattle.log_records.specs.Parts.{IsOfKind}
 use Rattle.log_records.specs.Frames.{IsFrame, frame_block, AreParts, parts_block, IsWellPlaced}
 use Rattle.log_records.specs.Reading.{Refuses, fault_of_part, IsSpelled, RefusesWhole}
+use Rattle.log_records.specs.Spelled.{IsInPlace}
 use Rattle.log_records.specs.Records.{ReadFault}
 use Rattle.log_records.specs.Laws.{RecordsAreOne}
 use Rattle.wire_model.proofs.Dependent.{no_first_by, no_second_by, one_by}
@@ -119,6 +120,13 @@ pub no_record : (owner : PubKey) (bytes : List ℕ) (log : Key) → log ≡ head
     → RefusesWhole (AreParts log) (parts_block log) bytes fault → ReadFault owner bytes (fault_of_part fault)
 no_record owner bytes log e short part.Malformed absent = (short, λ r f. absent (parts_in r) (rw e (record_parts owner bytes r f)))
 no_record owner bytes log e short part.Memory absent = tt
+
+-- the parts of a record keep the rules that it has as a whole exactly where it does
+pub in_place : (owner : PubKey) (p : Frame × Op) → IsWellPlaced p.0 p.1 → IsInPlace (record_with owner p)
+in_place owner p w = record { ends_first = w.ends_first; first_alone = w.first_alone }
+
+pub placed : (owner : PubKey) (p : Frame × Op) → IsInPlace (record_with owner p) → IsWellPlaced p.0 p.1
+placed owner p i = record { ends_first = i.ends_first; first_alone = i.first_alone }
 
 pub misplaced : (owner : PubKey) (bytes : List ℕ) (log : Key) (p : Frame × Op) → log ≡ head_key_of owner → IsSpelled (AreParts log) (parts_block log) bytes p → (IsWellPlaced p.0 p.1 → ⊥)
     → (r : Record) → IsRecordOf owner bytes r → ⊥

@@ -38,11 +38,11 @@ fn read_optional_mode(reader: &mut XdrRead) -> Result<Option<u32>, Malformed>
     ensures ok { IfOk result (λ o. IsFront (IsOptional IsMode) (optional word) reader.old o reader.new) }
     ensures err { OnErr result (HasNoFront (IsOptional IsMode) (optional word) reader.old) }
 {
-    if !reader.boolean()? {
-        return Ok(None);
+    match reader.boolean() {
+        Ok(true) => Ok(Some(read_at_most(reader, 0o7777)?)),
+        Ok(false) => Ok(None),
+        Err(_) => Err(Malformed),
     }
-    let mode = read_at_most(reader, 0o7777)?;
-    Ok(Some(mode))
 }
 
 /// The number of a user or a group, where there is one.
@@ -51,11 +51,11 @@ fn read_optional_id(reader: &mut XdrRead) -> Result<Option<u32>, Malformed>
     ensures ok { IfOk result (λ o. IsFront (IsOptional IsWord) (optional word) reader.old o reader.new) }
     ensures err { OnErr result (HasNoFront (IsOptional IsWord) (optional word) reader.old) }
 {
-    if !reader.boolean()? {
-        return Ok(None);
+    match reader.boolean() {
+        Ok(true) => Ok(Some(reader.u32()?)),
+        Ok(false) => Ok(None),
+        Err(_) => Err(Malformed),
     }
-    let id = reader.u32()?;
-    Ok(Some(id))
 }
 
 /// The size of a file, where there is one.
@@ -64,11 +64,11 @@ fn read_optional_size(reader: &mut XdrRead) -> Result<Option<u64>, Malformed>
     ensures ok { IfOk result (λ o. IsFront (IsOptional (IsAtMost 16777216)) (optional double_word) reader.old o reader.new) }
     ensures err { OnErr result (HasNoFront (IsOptional (IsAtMost 16777216)) (optional double_word) reader.old) }
 {
-    if !reader.boolean()? {
-        return Ok(None);
+    match reader.boolean() {
+        Ok(true) => Ok(Some(read_size(reader)?)),
+        Ok(false) => Ok(None),
+        Err(_) => Err(Malformed),
     }
-    let size = read_size(reader)?;
-    Ok(Some(size))
 }
 
 /// A moment, where there is one.
@@ -77,9 +77,9 @@ fn read_optional_moment(reader: &mut XdrRead) -> Result<Option<Moment>, Malforme
     ensures ok { IfOk result (λ o. IsFront (IsOptional IsMoment) (optional moment) reader.old o reader.new) }
     ensures err { OnErr result (HasNoFront (IsOptional IsMoment) (optional moment) reader.old) }
 {
-    if !reader.boolean()? {
-        return Ok(None);
+    match reader.boolean() {
+        Ok(true) => Ok(Some(read_moment(reader)?)),
+        Ok(false) => Ok(None),
+        Err(_) => Err(Malformed),
     }
-    let moment = read_moment(reader)?;
-    Ok(Some(moment))
 }

@@ -40,7 +40,14 @@ impl<'a> Head<'a> {
         ensures some { IfSome result (λ h. IsHeadOf h.owner bytes.now (stamp h.seq h.name) h.signature.now) }
         ensures none { IfNone result ((owner : PubKey) (newest : Stamp) (signature : List ℕ) → IsHeadOf owner bytes.now newest signature → ⊥) }
     {
-        read_whole(bytes).ok()
+        let mut reader = XdrRead::new(bytes);
+        let Ok(head) = read_head(&mut reader) else {
+            return None;
+        };
+        if reader.finish().is_err() {
+            return None;
+        }
+        Some(head)
     }
 
     /// The head's block. The error is want of memory; it also comes where the signature has 2^32 bytes or more.
@@ -72,17 +79,6 @@ pub fn plain_head(alloc: Global, owner: &PubKey, seq: u32, name: &Key) -> Result
         signature: &[],
     }
     .write(alloc)
-}
-
-/// The head at the front, where nothing is behind it.
-fn read_whole<'a>(bytes: &'a [u8]) -> Result<Head<'a>, Malformed>
-    ensures ok { IfOk result (λ h. IsHeadOf h.owner bytes.now (stamp h.seq h.name) h.signature.now) }
-    ensures err { OnErr result ((owner : PubKey) (newest : Stamp) (signature : List ℕ) → IsHeadOf owner bytes.now newest signature → ⊥) }
-{
-    let mut reader = XdrRead::new(bytes);
-    let head = read_head(&mut reader)?;
-    reader.finish()?;
-    Ok(head)
 }
 
 /// The head at the front.

@@ -22,11 +22,10 @@ pub fn read_number(reader: &mut XdrRead) -> Result<u32, Malformed>
     ensures ok { IfOk result (λ n. IsFront IsNumber word reader.old n reader.new) }
     ensures err { OnErr result (HasNoFront IsNumber word reader.old) }
 {
-    let n = read_at_most(reader, MOST_RECORDS)?;
-    if n == 0 {
-        return Err(Malformed);
+    match read_at_most(reader, MOST_RECORDS) {
+        Ok(0) | Err(_) => Err(Malformed),
+        Ok(n) => Ok(n),
     }
-    Ok(n)
 }
 
 /// A name in a directory, behind the directory's number.

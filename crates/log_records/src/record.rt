@@ -7,7 +7,7 @@ ghost use Rattle.log_model.specs.Spelling.{record_block, longest_record, no_name
 ghost use Rattle.log_model.specs.Rank.{rank};
 ghost use Rattle.log_model.specs.Chain.{HasMadeNumber};
 ghost use Rattle.version_vectors.specs.Ranks.{rank_of};
-ghost use Rattle.log_records.specs.Frames.{AreParts, parts_block, CitesNothing, IsWellPlaced};
+ghost use Rattle.log_records.specs.Frames.{AreParts, parts_block};
 ghost use Rattle.log_records.specs.Reading.{IsSpelled, RefusesWhole};
 ghost use Rattle.log_records.specs.Records.{record_of, IsRead, ReadFault};
 
@@ -16,6 +16,7 @@ use crate::body_writing::{body_len, kind_of, put_body};
 use crate::fault::RecordFault;
 use crate::frame::{Frame, MAGIC, read_frame};
 use crate::part_fault::PartFault;
+use crate::spelled::is_in_place;
 use block_parts::{put_constant, put_key, put_moment};
 use ivy_base::{Bytes, Key, Memory, Moment, Op, PubKey, head_key, name_of, number_of};
 use std::alloc::Global;
@@ -60,20 +61,21 @@ impl Record {
             return Err(RecordFault::TooLong);
         }
         let (frame, op) = read_parts(alloc, bytes, &head_key(owner))?;
-        if !is_well_placed(&frame, &op) {
-            return Err(RecordFault::Malformed);
-        }
-        if !has_made_number(owner, frame.seq, &op) {
-            return Err(RecordFault::BadNumber);
-        }
-        Ok(Record {
+        let record = Record {
             owner: *owner,
             seq: frame.seq,
             prev: frame.prev,
             vector: frame.vector,
             moment: frame.moment,
             op,
-        })
+        };
+        if !is_in_place(&record) {
+            return Err(RecordFault::Malformed);
+        }
+        if !has_made_number(owner, record.seq, &record.op) {
+            return Err(RecordFault::BadNumber);
+        }
+        Ok(record)
     }
 
     /// A copy of this record and of what it has. The error is want of memory.
@@ -159,25 +161,6 @@ fn cited_weight(vector: &Vector) -> u64
     // That it is a vector, so that its numbers are below 2^32, is said by `len`.
     let _ = vector.len();
     vector.weight()
-}
-
-/// Whether the operation is End in the first record of a log and nowhere else, and whether the first one cites
-/// nothing.
-fn is_well_placed(frame: &Frame, op: &Op) -> bool
-    ensures { IsTrue result ↔ IsWellPlaced frame.now op.now }
-{
-    if frame.seq == 1 {
-        is_end(op) && cites_nothing(frame)
-    } else {
-        !is_end(op)
-    }
-}
-
-/// Whether the frame names neither a record before it nor one of another log.
-fn cites_nothing(frame: &Frame) -> bool
-    ensures { IsTrue result ↔ CitesNothing frame.now }
-{
-    frame.prev == NO_NAME && frame.vector.len() == 0
 }
 
 /// Whether the operation is End.

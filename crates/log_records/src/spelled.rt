@@ -5,6 +5,7 @@ ghost use Rattle.ivy_base.specs.Naming.{head_key_of};
 ghost use Rattle.log_model.specs.Spelling.{no_name, HasSpelling, IsMode, IsMoment, IsTarget, IsChange, OperationFits};
 ghost use Rattle.log_records.specs.Frames.{IsCited};
 ghost use Rattle.log_records.specs.Heads.{IsNumber};
+ghost use Rattle.log_records.specs.Parts.{IsPlace};
 ghost use Rattle.log_records.specs.Records.{record_of};
 ghost use Rattle.log_records.specs.Spelled.{IsInPlace};
 
@@ -13,7 +14,7 @@ use crate::frame::MOST_CITED;
 use crate::parts::{MOST_RECORDS, is_piece};
 use crate::record::{NO_NAME, Record, is_end};
 use block_parts::{LONGEST_FILE, check_block};
-use ivy_base::{Change, Key, Kind, Moment, Op, name_ok};
+use ivy_base::{Bytes, Change, Key, Kind, Moment, Op, name_ok};
 use version_vectors::Vector;
 
 /// Whether the record has a block. `log` is its owner's head key.
@@ -52,7 +53,7 @@ fn may_cite(log: &Key, vector: &Vector) -> bool
 
 /// Whether the operation is End in the first record of a log and nowhere else, and whether the first one cites
 /// nothing.
-fn is_in_place(record: &Record) -> bool
+pub(crate) fn is_in_place(record: &Record) -> bool
     ensures { IsTrue result ↔ IsInPlace (record_of «record».now) }
 {
     if record.seq == 1 {
@@ -92,28 +93,19 @@ fn operation_fits(op: &Op) -> bool
             is_written(*offset, bytes.as_slice())
         }
         Op::Link { dir, name, ino } => {
-            check_block(&dir.0);
             check_block(&ino.0);
-            name_ok(name.as_slice())
+            is_place(dir, name)
         }
-        Op::Unlink { dir, name } => {
-            check_block(&dir.0);
-            name_ok(name.as_slice())
-        }
+        Op::Unlink { dir, name } => is_place(dir, name),
         Op::Rename {
             dir,
             name,
             to_dir,
             to_name,
-        } => {
-            check_block(&dir.0);
-            check_block(&to_dir.0);
-            name_ok(name.as_slice()) && name_ok(to_name.as_slice())
-        }
+        } => is_place(dir, name) && is_place(to_dir, to_name),
         Op::Prepare { dir, name, verf } => {
-            check_block(&dir.0);
             check_block(verf);
-            name_ok(name.as_slice())
+            is_place(dir, name)
         }
         Op::Cancel { seq } => {
             check_word(*seq);
@@ -125,6 +117,14 @@ fn operation_fits(op: &Op) -> bool
         }
         Op::End => true,
     }
+}
+
+/// Whether a file may have the name. That the directory's number has 20 bytes says its type.
+fn is_place(dir: &Key, name: &Bytes) -> bool
+    ensures { IsTrue result ↔ IsPlace (dir.now, name.now) }
+{
+    check_block(&dir.0);
+    name_ok(name.as_slice())
 }
 
 /// What the type says of a number.

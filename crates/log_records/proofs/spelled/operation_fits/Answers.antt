@@ -11,19 +11,19 @@ pub returns-in-Write : goal.returns-in-Write
 returns-in-Write c = write_fits c.in-Write.is c.check_block-in-Write.ensures c.as_slice-in-Write.ensures c.is_written.ensures
 
 pub returns-in-Link : goal.returns-in-Link
-returns-in-Link c = link_fits c.in-Link.is c.check_block-in-Link.ensures c.check_block-in-Link-2.ensures c.as_slice-in-Link.ensures c.name_ok.ensures
+returns-in-Link c = link_fits c.in-Link.is c.check_block-in-Link.ensures c.is_place.ensures
 
 pub returns-in-Unlink : goal.returns-in-Unlink
-returns-in-Unlink c = unlink_fits c.in-Unlink.is c.check_block-in-Unlink.ensures c.as_slice-in-Unlink.ensures c.name_ok-in-Unlink.ensures
+returns-in-Unlink c = unlink_fits c.in-Unlink.is c.is_place-in-Unlink.ensures
 
-pub returns-then-name_ok : goal.returns-then-name_ok
-returns-then-name_ok c = rename_fits c.in-Rename.is c.check_block-in-Rename.ensures c.check_block-in-Rename-2.ensures c.as_slice-in-Rename.ensures c.name_ok-in-Rename.ensures c.if-name_ok.true c.as_slice-then-name_ok.ensures c.name_ok-then-name_ok.ensures
+pub returns-then-is_place : goal.returns-then-is_place
+returns-then-is_place c = rename_fits c.in-Rename.is c.is_place-in-Rename.ensures c.if-is_place.true c.is_place-then-is_place.ensures
 
-pub returns-else-name_ok : goal.returns-else-name_ok
-returns-else-name_ok c = no_rename_fits c.in-Rename.is c.if-name_ok.false c.as_slice-in-Rename.ensures c.name_ok-in-Rename.ensures
+pub returns-else-is_place : goal.returns-else-is_place
+returns-else-is_place c = no_rename_fits c.in-Rename.is c.if-is_place.false c.is_place-in-Rename.ensures
 
 pub returns-in-Prepare : goal.returns-in-Prepare
-returns-in-Prepare c = prepare_fits c.in-Prepare.is c.check_block-in-Prepare.ensures c.check_block-in-Prepare-2.ensures c.as_slice-in-Prepare.ensures c.name_ok-in-Prepare.ensures
+returns-in-Prepare c = prepare_fits c.in-Prepare.is c.check_block-in-Prepare.ensures c.is_place-in-Prepare.ensures
 
 pub returns-in-Cancel : goal.returns-in-Cancel
 returns-in-Cancel c = cancel_fits c.in-Cancel.is c.check_word-in-Cancel.ensures
