@@ -119,7 +119,7 @@ fn operation_fits(op: &Op) -> bool
     }
 }
 
-/// Whether a file may have the name. That the directory's number has 20 bytes says its type.
+/// Whether the name is one that a file may have; the directory's number may be any.
 fn is_place(dir: &Key, name: &Bytes) -> bool
     ensures { IsTrue result ↔ IsPlace (dir.now, name.now) }
 {
