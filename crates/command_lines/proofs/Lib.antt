@@ -1,4 +1,3 @@
-mod BeginLemmas
 mod DigitLemmas
 mod EachLemmas
 mod Examples

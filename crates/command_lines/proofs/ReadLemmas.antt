@@ -1,10 +1,12 @@
 -- Reading words one after the other, each as a value.
-use Rattle.std.proofs.Common.{◌≡◌, ℕ, ◌<◌, ◌≤◌, List, [], ◌∷◌, ◌++◌, length, map, Option, Some, None, Bor, refl, arith}
+use Rattle.std.proofs.Common.{◌≡◌, ℕ, ◌^◌, ◌<◌, ◌≤◌, List, [], ◌∷◌, ◌++◌, length, get_or, map, Option, Some, None, Bor, refl, sym, arith}
 use Rattle.script_model.specs.declared.command.NodeWord.{NodeWord}
 use Rattle.script_model.specs.declared.command.KeyWord.{KeyWord}
+use Rattle.script_model.specs.declared.command.Command.{Command}
 use Rattle.script_model.specs.declared.command.Command.TheVariants as command
-use Rattle.script_model.specs.Words.{◌>>=◌}
-use Rattle.script_model.specs.Lines.{damage_of}
+use Rattle.script_model.specs.Words.{◌>>=◌, each_of, piece_of, number_below, node_of, key_of, byte_of}
+use Rattle.script_model.specs.Lines.{damage_of, open_of}
+use Rattle.command_lines.specs.Steps.{pieces_of}
 
 abbrev pub seen : List (Bor (List ℕ)) → List (List ℕ)
 seen words = map (λ w. w.now) words
@@ -13,6 +15,10 @@ seen words = map (λ w. w.now) words
 abbrev pub behind : {A : Type 0} → List A → Option (List A) → Option (List A)
 behind values None = None
 behind values (Some others) = Some (values ++ others)
+
+pub some_pieces : (words : List (Bor (List ℕ))) → 1 ≤ length words → each_of piece_of (seen words) ≡ pieces_of (seen words)
+some_pieces [] some = absurd (omega (arith, some))
+some_pieces (w ∷ words) some = refl
 
 -- ---- the wrong number of words
 
@@ -31,17 +37,30 @@ too_many_for_damage (n ∷ k ∷ o ∷ []) many = refl
 too_many_for_damage (n ∷ k ∷ o ∷ b ∷ []) many = absurd (omega (arith, many))
 too_many_for_damage (n ∷ k ∷ o ∷ b ∷ x ∷ words) many = refl
 
+pub too_few_to_open : (words : List (Bor (List ℕ))) → length words < 2 → open_of (seen words) ≡ None
+too_few_to_open [] few = refl
+too_few_to_open (s ∷ []) few = refl
+too_few_to_open (s ∷ p ∷ words) few = absurd (omega (arith, few))
+
 -- ---- a word of a line that is none, whatever those in front of it are
 
-pub damage_without_offset : (node : Option NodeWord) (key : Option KeyWord) (offset byte : Option ℕ) → offset ≡ None
-    → None ≡ (node >>= λ n. key >>= λ k. offset >>= λ o. byte >>= λ b. Some (command.Damage n k o b))
-damage_without_offset None key offset byte none = refl
-damage_without_offset (Some n) None offset byte none = refl
-damage_without_offset (Some n) (Some k) offset byte none = rw none refl
+-- the parts of a damage
+abbrev damaged : Option NodeWord → Option KeyWord → Option ℕ → Option ℕ → Option Command
+damaged node key offset byte = node >>= λ n. key >>= λ k. offset >>= λ o. byte >>= λ b. Some (command.Damage n k o b)
 
-pub damage_without_byte : (node : Option NodeWord) (key : Option KeyWord) (offset byte : Option ℕ) → byte ≡ None
-    → None ≡ (node >>= λ n. key >>= λ k. offset >>= λ o. byte >>= λ b. Some (command.Damage n k o b))
-damage_without_byte None key offset byte none = refl
-damage_without_byte (Some n) None offset byte none = refl
-damage_without_byte (Some n) (Some k) None byte none = refl
-damage_without_byte (Some n) (Some k) (Some o) byte none = rw none refl
+no_offset : (node : Option NodeWord) (key : Option KeyWord) (byte : Option ℕ) → damaged node key None byte ≡ None
+no_offset None key byte = refl
+no_offset (Some n) None byte = refl
+no_offset (Some n) (Some k) byte = refl
+
+damage_parts : (words : List (Bor (List ℕ))) (d : Bor (List ℕ)) → length words ≡ 4
+    → damage_of (seen words) ≡ damaged (node_of (get_or words 0 d).now) (key_of (get_or words 1 d).now) (number_below (2 ^ 64) (get_or words 2 d).now) (byte_of (get_or words 3 d).now)
+damage_parts [] d four = absurd (omega (arith, four))
+damage_parts (n ∷ []) d four = absurd (omega (arith, four))
+damage_parts (n ∷ k ∷ []) d four = absurd (omega (arith, four))
+damage_parts (n ∷ k ∷ o ∷ []) d four = absurd (omega (arith, four))
+damage_parts (n ∷ k ∷ o ∷ b ∷ []) d four = refl
+damage_parts (n ∷ k ∷ o ∷ b ∷ x ∷ words) d four = absurd (omega (arith, four))
+
+pub damage_without_offset : (words : List (Bor (List ℕ))) (d : Bor (List ℕ)) → length words ≡ 4 → number_below (2 ^ 64) (get_or words 2 d).now ≡ None → None ≡ damage_of (seen words)
+damage_without_offset words d four none = rw (damage_parts words d four, none) (sym (no_offset (node_of (get_or words 0 d).now) (key_of (get_or words 1 d).now) (byte_of (get_or words 3 d).now)))

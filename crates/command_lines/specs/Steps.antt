@@ -1,12 +1,18 @@
 -- Parts of the definitions of `script_model`, one for each function that reads such a part.
-use Rattle.std.specs.Prelude.{ℕ, ◌^◌, nat_eq, List, [], ◌∷◌, drop, codes, Option, Some, if◌then◌else◌}
+use Rattle.std.specs.Prelude.{ℕ, ◌^◌, nat_eq, List, [], ◌∷◌, drop, codes, Option, Some, None, if◌then◌else◌}
 use Rattle.std.specs.List.{starts_with}
 use Rattle.script_model.specs.declared.command.Piece.{Piece}
 use Rattle.script_model.specs.declared.command.Piece.TheVariants as piece
 use Rattle.script_model.specs.declared.command.KeyWord.{KeyWord}
 use Rattle.script_model.specs.declared.command.Command.{Command}
 use Rattle.script_model.specs.declared.command.Command.TheVariants as command
-use Rattle.script_model.specs.Words.{◌>>=◌, name_of, parts_at, of_number, text_of, opaque_of, of_raw, key_of, key_of_parts}
+use Rattle.script_model.specs.Words.{names_of, parts_at, number_below, of_number, text_of, opaque_of, of_raw, each_of, piece_of, key_of, key_of_parts}
+use Rattle.command_lines.specs.declared.pieces.Short.{Short}
+use Rattle.command_lines.specs.declared.pieces.Short.TheVariants as short
+use Rattle.command_lines.specs.declared.pieces.Long.{Long}
+use Rattle.command_lines.specs.declared.pieces.Long.TheVariants as long
+use Rattle.command_lines.specs.declared.agents.Asked.{Asked}
+use Rattle.command_lines.specs.declared.agents.Asked.TheVariants.{Snap, Restart, Order, Work, Finish}
 
 -- a piece of a message that is no call
 abbrev pub data_of : List ℕ → Option Piece
@@ -20,15 +26,42 @@ data_of word =
     else if starts_with nat_eq word (codes "v:") then of_number (2 ^ 64) piece.VerifierOf (drop 2 word)
     else of_raw word
 
+-- a piece of a number of four bytes, and one of eight
+abbrev pub short_piece : Short → ℕ → Piece
+short_piece short.Word = piece.Word
+short_piece short.Mode = piece.Mode
+
+abbrev pub long_piece : Long → ℕ → Piece
+long_piece long.Word = piece.DoubleWord
+long_piece long.Handle = piece.HandleOf
+long_piece long.Verifier = piece.VerifierOf
+
+-- how many groups stand behind the first
+abbrev pub groups_of : List (List ℕ) → Option ℕ
+groups_of [] = Some 0
+groups_of (k ∷ []) = number_below (2 ^ 64) k
+groups_of _ = None
+
 -- the key behind a node's place: a key by itself, or its parts
 abbrev pub key_behind : List (List ℕ) → Option KeyWord
 key_behind (word ∷ []) = key_of word
 key_behind parts = key_of_parts parts
 
--- a session that begins with those pieces
-abbrev pub begun_with : List ℕ → List ℕ → Option (List Piece) → Option Command
-begun_with s p read = do
-  session ← name_of s
-  log ← name_of p
-  pieces ← read
-  Some (command.Open session log pieces)
+-- one piece at least, and each word is one
+abbrev pub pieces_of : List (List ℕ) → Option (List Piece)
+pieces_of [] = None
+pieces_of words = each_of piece_of words
+
+-- no names, or those that the only word is
+abbrev pub former_of : List (List ℕ) → Option (List (List ℕ))
+former_of [] = Some []
+former_of (f ∷ []) = names_of f
+former_of _ = None
+
+-- what is asked of a name alone
+abbrev pub command_asked : Asked → List ℕ → Command
+command_asked Snap = command.Snap
+command_asked Restart = command.Restart
+command_asked Order = command.Order
+command_asked Work = command.Work
+command_asked Finish = command.Finish

@@ -1,32 +1,34 @@
 //! The lines of a participant's agent.
 
 ghost use Rattle.std.specs.Prelude.{◌≡◌, IfOk, map};
-ghost use Rattle.script_model.specs.declared.command.Command.TheVariants as command;
 ghost use Rattle.script_model.specs.Lines.{of_log, kept_of, keep_of};
+ghost use Rattle.command_lines.specs.Steps.{command_asked};
 
 use crate::names::name;
 use crate::numbers::number_u64;
+use crate::words::is;
 use ivy_base::{Bytes, Memory};
 use script_model::Command;
 use std::alloc::Global;
 
-/// `snap P`, of the words behind the first. The error is want of memory.
-pub fn snap(alloc: Global, words: &[&[u8]]) -> Result<Option<Command>, Memory>
-    ensures { IfOk result (λ read. read ≡ of_log command.Snap (map (λ word. word.now) words.now)) }
-{
-    let [log] = words else {
-        return Ok(None);
-    };
-    let Some(log) = name(log) else {
-        return Ok(None);
-    };
-    let log = Bytes::copy_of(alloc, log)?;
-    Ok(Some(Command::Snap { log }))
+/// What a line asks of the one participant or session that it names.
+#[derive(Drop)]
+pub enum Asked {
+    /// `snap P`.
+    Snap,
+    /// `restart P`.
+    Restart,
+    /// `order P`.
+    Order,
+    /// `work P`.
+    Work,
+    /// `end S`.
+    Finish,
 }
 
-/// `restart P`, of the words behind the first. The error is want of memory.
-pub fn restart(alloc: Global, words: &[&[u8]]) -> Result<Option<Command>, Memory>
-    ensures { IfOk result (λ read. read ≡ of_log command.Restart (map (λ word. word.now) words.now)) }
+/// The line that asks this and nothing more, of the words behind the first. The error is want of memory.
+pub fn ask(alloc: Global, asked: Asked, words: &[&[u8]]) -> Result<Option<Command>, Memory>
+    ensures { IfOk result (λ command. command ≡ of_log (command_asked asked) (map (λ word. word.now) words.now)) }
 {
     let [log] = words else {
         return Ok(None);
@@ -35,44 +37,22 @@ pub fn restart(alloc: Global, words: &[&[u8]]) -> Result<Option<Command>, Memory
         return Ok(None);
     };
     let log = Bytes::copy_of(alloc, log)?;
-    Ok(Some(Command::Restart { log }))
-}
-
-/// `order P`, of the words behind the first. The error is want of memory.
-pub fn order(alloc: Global, words: &[&[u8]]) -> Result<Option<Command>, Memory>
-    ensures { IfOk result (λ read. read ≡ of_log command.Order (map (λ word. word.now) words.now)) }
-{
-    let [log] = words else {
-        return Ok(None);
-    };
-    let Some(log) = name(log) else {
-        return Ok(None);
-    };
-    let log = Bytes::copy_of(alloc, log)?;
-    Ok(Some(Command::Order { log }))
-}
-
-/// `work P`, of the words behind the first. The error is want of memory.
-pub fn work(alloc: Global, words: &[&[u8]]) -> Result<Option<Command>, Memory>
-    ensures { IfOk result (λ read. read ≡ of_log command.Work (map (λ word. word.now) words.now)) }
-{
-    let [log] = words else {
-        return Ok(None);
-    };
-    let Some(log) = name(log) else {
-        return Ok(None);
-    };
-    let log = Bytes::copy_of(alloc, log)?;
-    Ok(Some(Command::Work { log }))
+    Ok(Some(match asked {
+        Asked::Snap => Command::Snap { log },
+        Asked::Restart => Command::Restart { log },
+        Asked::Order => Command::Order { log },
+        Asked::Work => Command::Work { log },
+        Asked::Finish => Command::Finish { session: log },
+    }))
 }
 
 /// Whether a save that fails leaves the new bytes, of the word for it.
 fn kept(word: &[u8]) -> Option<bool>
     ensures { result ≡ kept_of word.now }
 {
-    if word == b"new".as_slice() {
+    if is(word, b"new") {
         Some(true)
-    } else if word == b"old".as_slice() {
+    } else if is(word, b"old") {
         Some(false)
     } else {
         None

@@ -12,8 +12,12 @@ use std::alloc::Global;
 pub fn are_lower_hex(word: &[u8]) -> bool
     ensures { result ≡ list_all is_lower_hex word.now }
 {
-    word.iter()
-        .all(|byte| matches!(byte, b'a'..=b'f' | b'0'..=b'9'))
+    for byte in word {
+        if !matches!(byte, b'a'..=b'f' | b'0'..=b'9') {
+            return false;
+        }
+    }
+    true
 }
 
 /// So many hexadecimal digits, if the word is one or more of them and not too many: zeros are filled in on the left.

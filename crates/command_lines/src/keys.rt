@@ -2,65 +2,41 @@
 
 ghost use Rattle.std.specs.Prelude.{◌≡◌, ◌^◌, [], ◌∷◌, true, length, IfOk, map};
 ghost use Rattle.std.specs.List.{list_all};
-ghost use Rattle.script_model.specs.declared.command.KeyWord.TheVariants as key;
 ghost use Rattle.script_model.specs.Words.{is_lower_hex, key_of_name, key_of_parts, itself_of, key_of, parts_at, owner_node, numbered_node, node_of};
 ghost use Rattle.command_lines.specs.Steps.{key_behind};
 
 use crate::hex_digits::{is_key_text, key_bytes};
 use crate::names::name;
 use crate::numbers::{number_u32, number_u64};
-use crate::words::parts;
+use crate::words::{is, parts};
 use ivy_base::{Bytes, Key, Memory};
 use script_model::{KeyWord, NodeWord};
 use std::alloc::Global;
 
-/// The key of a log's head. The error is want of memory.
-fn head_of(alloc: Global, log: &[u8]) -> Result<Option<KeyWord>, Memory>
-    ensures { IfOk result (λ named. named ≡ Some (key.HeadOf log.now)) }
+/// The key of a log's head, of a view, or of a participant's last snapshot, by the word and whose it is.
+fn key_of_name(word: &[u8], name: Bytes) -> Option<KeyWord>
+    ensures { result ≡ key_of_name word.now name }
 {
-    let log = Bytes::copy_of(alloc, log)?;
-    Ok(Some(KeyWord::HeadOf { log }))
-}
-
-/// The key of a view. The error is want of memory.
-fn view_of(alloc: Global, view: &[u8]) -> Result<Option<KeyWord>, Memory>
-    ensures { IfOk result (λ named. named ≡ Some (key.ViewOf view.now)) }
-{
-    let view = Bytes::copy_of(alloc, view)?;
-    Ok(Some(KeyWord::ViewOf { view }))
-}
-
-/// The key of a participant's last snapshot. The error is want of memory.
-fn snapshot_of(alloc: Global, log: &[u8]) -> Result<Option<KeyWord>, Memory>
-    ensures { IfOk result (λ named. named ≡ Some (key.SnapshotOf log.now)) }
-{
-    let log = Bytes::copy_of(alloc, log)?;
-    Ok(Some(KeyWord::SnapshotOf { log }))
-}
-
-/// The key of a log's head, of a view, or of a participant's last snapshot, by the word and whose it is. The error is want of memory.
-fn key_of_name(alloc: Global, word: &[u8], whose: &[u8]) -> Result<Option<KeyWord>, Memory>
-    ensures { IfOk result (λ key. key ≡ key_of_name word.now whose.now) }
-{
-    if word == b"head".as_slice() {
-        head_of(alloc, whose)
-    } else if word == b"view".as_slice() {
-        view_of(alloc, whose)
-    } else if word == b"snap".as_slice() {
-        snapshot_of(alloc, whose)
+    if is(word, b"head") {
+        Some(KeyWord::HeadOf { log: name })
+    } else if is(word, b"view") {
+        Some(KeyWord::ViewOf { view: name })
+    } else if is(word, b"snap") {
+        Some(KeyWord::SnapshotOf { log: name })
     } else {
-        Ok(None)
+        None
     }
 }
 
 /// The key of a word and a name. The error is want of memory.
-fn key_of_two(alloc: Global, word: &[u8], log: &[u8]) -> Result<Option<KeyWord>, Memory>
-    ensures { IfOk result (λ key. key ≡ key_of_parts (word.now ∷ log.now ∷ [])) }
+fn key_of_two(alloc: Global, word: &[u8], whose: &[u8]) -> Result<Option<KeyWord>, Memory>
+    ensures { IfOk result (λ key. key ≡ key_of_parts (word.now ∷ whose.now ∷ [])) }
 {
-    let Some(log) = name(log) else {
+    let Some(whose) = name(whose) else {
         return Ok(None);
     };
-    key_of_name(alloc, word, log)
+    let whose = Bytes::copy_of(alloc, whose)?;
+    Ok(key_of_name(word, whose))
 }
 
 /// The key of a log's record, of `rec`, a name and a number. The error is want of memory.
@@ -78,7 +54,7 @@ fn key_of_three(
     let Some(seq) = number_u64(seq) else {
         return Ok(None);
     };
-    if word != b"rec".as_slice() {
+    if !is(word, b"rec") {
         return Ok(None);
     }
     let log = Bytes::copy_of(alloc, log)?;

@@ -1,13 +1,13 @@
 //! Which command a line is.
 
 ghost use Rattle.std.specs.Prelude.{◌≡◌, IfOk, map};
-ghost use Rattle.script_model.specs.Lines.{setup_command, call_command, ring_command, command_of_words, is_comment, command_of};
+ghost use Rattle.script_model.specs.Lines.{call_command, command_of_words, is_comment, command_of};
 
-use crate::agents::{keep, order, restart, snap, work};
+use crate::agents::{Asked, ask, keep};
 use crate::calls::{begin, call, end, step};
 use crate::nodes::{damage, holds, join, lose, round, stop};
 use crate::setup::{enter, log, moment, ring, view};
-use crate::words::parts;
+use crate::words::{is, parts};
 use ivy_base::Memory;
 use script_model::Command;
 use std::alloc::Global;
@@ -15,82 +15,66 @@ use std::alloc::Global;
 /// The most bytes of a line, without its newline.
 const LINE_LIMIT: usize = 32_768;
 
-/// A command that makes nodes, logs and views, or sets the moment. The error is want of memory.
-fn setup_command(alloc: Global, word: &[u8], words: &[&[u8]]) -> Result<Option<Command>, Memory>
-    ensures { IfOk result (λ command. command ≡ setup_command word.now (map (λ word. word.now) words.now)) }
+/// A command of a call or a session, or one that makes nodes, logs and views, or sets the moment. The error is want of
+/// memory.
+fn call_command(alloc: Global, word: &[u8], words: &[&[u8]]) -> Result<Option<Command>, Memory>
+    ensures { IfOk result (λ command. command ≡ call_command word.now (map (λ word. word.now) words.now)) }
 {
-    if word == b"ring".as_slice() {
+    if is(word, b"as") {
+        call(alloc, words)
+    } else if is(word, b"open") {
+        begin(alloc, words)
+    } else if is(word, b"step") {
+        step(alloc, words)
+    } else if is(word, b"end") {
+        end(alloc, words)
+    } else if is(word, b"ring") {
         Ok(ring(words))
-    } else if word == b"log".as_slice() {
+    } else if is(word, b"log") {
         log(alloc, words)
-    } else if word == b"view".as_slice() {
+    } else if is(word, b"view") {
         view(alloc, words)
-    } else if word == b"use".as_slice() {
+    } else if is(word, b"use") {
         enter(alloc, words)
-    } else if word == b"at".as_slice() {
+    } else if is(word, b"at") {
         Ok(moment(words))
     } else {
         Ok(None)
     }
 }
 
-/// A command of a call or a session, or one of those above. The error is want of memory.
-fn call_command(alloc: Global, word: &[u8], words: &[&[u8]]) -> Result<Option<Command>, Memory>
-    ensures { IfOk result (λ command. command ≡ call_command word.now (map (λ word. word.now) words.now)) }
-{
-    if word == b"as".as_slice() {
-        call(alloc, words)
-    } else if word == b"open".as_slice() {
-        begin(alloc, words)
-    } else if word == b"step".as_slice() {
-        step(alloc, words)
-    } else if word == b"end".as_slice() {
-        end(alloc, words)
-    } else {
-        setup_command(alloc, word, words)
-    }
-}
-
-/// A command of nodes and their blocks, or one of those above. The error is want of memory.
-fn ring_command(alloc: Global, word: &[u8], words: &[&[u8]]) -> Result<Option<Command>, Memory>
-    ensures { IfOk result (λ command. command ≡ ring_command word.now (map (λ word. word.now) words.now)) }
-{
-    if word == b"join".as_slice() {
-        Ok(join(words))
-    } else if word == b"stop".as_slice() {
-        stop(alloc, words)
-    } else if word == b"round".as_slice() {
-        Ok(round(words))
-    } else if word == b"lose".as_slice() {
-        Ok(lose(words))
-    } else if word == b"damage".as_slice() {
-        damage(alloc, words)
-    } else if word == b"holds".as_slice() {
-        holds(alloc, words)
-    } else {
-        call_command(alloc, word, words)
-    }
-}
-
-/// The command that these words are, if they are one. The error is want of memory.
+/// The command that these words are, if they are one: one of agents, of nodes and their blocks, or one of those above.
+/// The error is want of memory.
 fn command(alloc: Global, words: &[&[u8]]) -> Result<Option<Command>, Memory>
     ensures { IfOk result (λ command. command ≡ command_of_words (map (λ word. word.now) words.now)) }
 {
     let [first, rest @ ..] = words else {
         return Ok(None);
     };
-    if *first == b"snap".as_slice() {
-        snap(alloc, rest)
-    } else if *first == b"restart".as_slice() {
-        restart(alloc, rest)
-    } else if *first == b"keep".as_slice() {
+    if is(first, b"snap") {
+        ask(alloc, Asked::Snap, rest)
+    } else if is(first, b"restart") {
+        ask(alloc, Asked::Restart, rest)
+    } else if is(first, b"keep") {
         keep(alloc, rest)
-    } else if *first == b"order".as_slice() {
-        order(alloc, rest)
-    } else if *first == b"work".as_slice() {
-        work(alloc, rest)
+    } else if is(first, b"order") {
+        ask(alloc, Asked::Order, rest)
+    } else if is(first, b"work") {
+        ask(alloc, Asked::Work, rest)
+    } else if is(first, b"join") {
+        Ok(join(rest))
+    } else if is(first, b"stop") {
+        stop(alloc, rest)
+    } else if is(first, b"round") {
+        Ok(round(rest))
+    } else if is(first, b"lose") {
+        Ok(lose(rest))
+    } else if is(first, b"damage") {
+        damage(alloc, rest)
+    } else if is(first, b"holds") {
+        holds(alloc, rest)
     } else {
-        ring_command(alloc, first, rest)
+        call_command(alloc, first, rest)
     }
 }
 

@@ -17,8 +17,12 @@ const NAME_LIMIT: usize = 16;
 fn are_name_bytes(word: &[u8]) -> bool
     ensures { result ≡ list_all is_name_byte word.now }
 {
-    word.iter()
-        .all(|byte| matches!(byte, b'a'..=b'z' | b'0'..=b'9'))
+    for byte in word {
+        if !matches!(byte, b'a'..=b'z' | b'0'..=b'9') {
+            return false;
+        }
+    }
+    true
 }
 
 /// The word, if it is a name: 1 to 16 lower-case letters and digits.

@@ -1,6 +1,6 @@
 //! The lines of nodes and of their blocks.
 
-ghost use Rattle.std.specs.Prelude.{◌≡◌, IfOk, map, [], ◌∷◌};
+ghost use Rattle.std.specs.Prelude.{◌≡◌, IfOk, map};
 ghost use Rattle.script_model.specs.Lines.{join_of, stop_of, round_of, lose_of, damage_of, holds_of};
 
 use crate::hex_digits::byte;
@@ -56,26 +56,23 @@ pub fn lose(words: &[&[u8]]) -> Option<Command>
     Some(Command::Lose { count })
 }
 
-/// The damage to a block that these words name. The error is want of memory.
-fn damage_of_words(
-    alloc: Global,
-    node_word: &[u8],
-    key_word: &[u8],
-    offset: &[u8],
-    digits: &[u8],
-) -> Result<Option<Command>, Memory>
-    ensures { IfOk result (λ command. command ≡ damage_of (node_word.now ∷ key_word.now ∷ offset.now ∷ digits.now ∷ [])) }
+/// `damage NODE KEY OFFSET BYTE`, of the words behind the first. The error is want of memory.
+pub fn damage(alloc: Global, words: &[&[u8]]) -> Result<Option<Command>, Memory>
+    ensures { IfOk result (λ command. command ≡ damage_of (map (λ word. word.now) words.now)) }
 {
+    let [node_word, key_word, offset, digits] = words else {
+        return Ok(None);
+    };
     let Some(offset) = number_u64(offset) else {
         return Ok(None);
     };
     let Some(byte) = byte(digits) else {
         return Ok(None);
     };
-    let Some(node) = node(alloc, node_word)? else {
+    let Some(key) = key(alloc, key_word)? else {
         return Ok(None);
     };
-    let Some(key) = key(alloc, key_word)? else {
+    let Some(node) = node(alloc, node_word)? else {
         return Ok(None);
     };
     Ok(Some(Command::Damage {
@@ -84,16 +81,6 @@ fn damage_of_words(
         offset,
         byte,
     }))
-}
-
-/// `damage NODE KEY OFFSET BYTE`, of the words behind the first. The error is want of memory.
-pub fn damage(alloc: Global, words: &[&[u8]]) -> Result<Option<Command>, Memory>
-    ensures { IfOk result (λ command. command ≡ damage_of (map (λ word. word.now) words.now)) }
-{
-    match words {
-        [node, key, offset, digits] => damage_of_words(alloc, node, key, offset, digits),
-        _ => Ok(None),
-    }
 }
 
 /// `holds NODE`, of the words behind the first. The error is want of memory.

@@ -1,30 +1,16 @@
 //! The pieces of a call's message.
 
-ghost use Rattle.std.specs.Prelude.{◌≡◌, ◌+◌, ◌^◌, [], ◌∷◌, nat_lt, IfOk, map};
+ghost use Rattle.std.specs.Prelude.{◌≡◌, ◌+◌, ◌^◌, nat_lt, IfOk, map};
 ghost use Rattle.std.specs.List.{list_all};
-ghost use Rattle.script_model.specs.declared.command.Piece.TheVariants as piece;
-ghost use Rattle.script_model.specs.Words.{is_printable, parts_at, of_number, call_of, text_of, opaque_of, of_raw, piece_of, each_of};
-ghost use Rattle.command_lines.specs.Steps.{data_of};
+ghost use Rattle.script_model.specs.Words.{is_printable, parts_at, of_number, call_of, text_of, opaque_of, of_raw, piece_of};
+ghost use Rattle.command_lines.specs.Steps.{short_piece, long_piece, data_of, groups_of, pieces_of};
 
 use crate::hex_digits::{byte, raw};
 use crate::numbers::{number_u32, number_u64};
-use crate::words::{behind, parts};
+use crate::words::{behind, is, parts};
 use ivy_base::{Bytes, Memory};
 use script_model::{Piece, Pieces};
 use std::alloc::Global;
-
-/// The head of a call by that user and group alone.
-fn call_of_one_group(mount: bool, procedure: &[u8], uid: &[u8], gid: &[u8]) -> Option<Piece>
-    ensures { result ≡ call_of mount (procedure.now ∷ uid.now ∷ gid.now ∷ []) }
-{
-    Some(Piece::Call {
-        mount,
-        procedure: number_u32(procedure)?,
-        uid: number_u32(uid)?,
-        gid: number_u32(gid)?,
-        groups: 0,
-    })
-}
 
 /// Whether the last of so many groups behind a group is a number of 32 bits.
 fn is_last_group_small(gid: u32, groups: u64) -> bool
@@ -33,42 +19,38 @@ fn is_last_group_small(gid: u32, groups: u64) -> bool
     groups <= u64::from(u32::MAX - gid)
 }
 
-/// The head of a call by that user and group, and by so many groups behind it: the last is a number of 32 bits.
-fn call_of_groups(
-    mount: bool,
-    procedure: &[u8],
-    uid: &[u8],
-    gid: &[u8],
-    groups: &[u8],
-) -> Option<Piece>
-    ensures { result ≡ call_of mount (procedure.now ∷ uid.now ∷ gid.now ∷ groups.now ∷ []) }
+/// How many groups stand behind the first, of the words for it: none where there is no word.
+fn further_groups(words: &[&[u8]]) -> Option<u64>
+    ensures { result ≡ groups_of (map (λ word. word.now) words.now) }
 {
-    let procedure = number_u32(procedure)?;
-    let uid = number_u32(uid)?;
-    let gid = number_u32(gid)?;
-    let groups = number_u64(groups)?;
-    if is_last_group_small(gid, groups) {
-        Some(Piece::Call {
-            mount,
-            procedure,
-            uid,
-            gid,
-            groups,
-        })
-    } else {
-        None
+    match words {
+        [] => Some(0),
+        [groups] => number_u64(groups),
+        _ => None,
     }
 }
 
-/// The head of a call, of its three or four numbers.
+/// The head of a call, of its three or four numbers: the last of its groups is a number of 32 bits.
 fn call_of_numbers(mount: bool, numbers: &[&[u8]]) -> Option<Piece>
     ensures { result ≡ call_of mount (map (λ number. number.now) numbers.now) }
 {
-    match numbers {
-        [procedure, uid, gid] => call_of_one_group(mount, procedure, uid, gid),
-        [procedure, uid, gid, groups] => call_of_groups(mount, procedure, uid, gid, groups),
-        _ => None,
+    let [procedure, uid, gid, rest @ ..] = numbers else {
+        return None;
+    };
+    let procedure = number_u32(procedure)?;
+    let uid = number_u32(uid)?;
+    let gid = number_u32(gid)?;
+    let groups = further_groups(rest)?;
+    if !is_last_group_small(gid, groups) {
+        return None;
     }
+    Some(Piece::Call {
+        mount,
+        procedure,
+        uid,
+        gid,
+        groups,
+    })
 }
 
 /// The head of a call, of the text behind the program's name. The error is want of memory.
@@ -79,51 +61,59 @@ fn call(alloc: Global, mount: bool, text: &[u8]) -> Result<Option<Piece>, Memory
     Ok(call_of_numbers(mount, &numbers))
 }
 
-/// The file handle of a reply, of the number behind `h:`.
-fn handle(digits: &[u8]) -> Option<Piece>
-    ensures { result ≡ of_number (2 ^ 64) piece.HandleOf digits.now }
-{
-    let reply = number_u64(digits)?;
-    Some(Piece::HandleOf { reply })
+/// A piece of a number of four bytes.
+#[derive(Drop)]
+enum Short {
+    /// The number itself, of the digits behind `u:`.
+    Word,
+    /// Attributes with that mode, of the digits behind `sa:`.
+    Mode,
 }
 
-/// The verifier of a reply, of the number behind `v:`.
-fn verifier(digits: &[u8]) -> Option<Piece>
-    ensures { result ≡ of_number (2 ^ 64) piece.VerifierOf digits.now }
-{
-    let reply = number_u64(digits)?;
-    Some(Piece::VerifierOf { reply })
+/// A piece of a number of eight bytes.
+#[derive(Drop)]
+enum Long {
+    /// The number itself, of the digits behind `w:`.
+    Word,
+    /// The file handle of the reply of that number, of the digits behind `h:`.
+    Handle,
+    /// The verifier of the reply of that number, of the digits behind `v:`.
+    Verifier,
 }
 
-/// Attributes with a mode, of the number behind `sa:`.
-fn mode(digits: &[u8]) -> Option<Piece>
-    ensures { result ≡ of_number (2 ^ 32) piece.Mode digits.now }
-{
-    let mode = number_u32(digits)?;
-    Some(Piece::Mode { mode })
-}
-
-/// A number of four bytes, of the digits behind `u:`.
-fn word_piece(digits: &[u8]) -> Option<Piece>
-    ensures { result ≡ of_number (2 ^ 32) piece.Word digits.now }
+/// That piece, of its digits.
+fn short_piece(kind: Short, digits: &[u8]) -> Option<Piece>
+    ensures { result ≡ of_number (2 ^ 32) (short_piece kind) digits.now }
 {
     let number = number_u32(digits)?;
-    Some(Piece::Word { number })
+    Some(match kind {
+        Short::Word => Piece::Word { number },
+        Short::Mode => Piece::Mode { mode: number },
+    })
 }
 
-/// A number of eight bytes, of the digits behind `w:`.
-fn double_word(digits: &[u8]) -> Option<Piece>
-    ensures { result ≡ of_number (2 ^ 64) piece.DoubleWord digits.now }
+/// That piece, of its digits.
+fn long_piece(kind: Long, digits: &[u8]) -> Option<Piece>
+    ensures { result ≡ of_number (2 ^ 64) (long_piece kind) digits.now }
 {
     let number = number_u64(digits)?;
-    Some(Piece::DoubleWord { number })
+    Some(match kind {
+        Long::Word => Piece::DoubleWord { number },
+        Long::Handle => Piece::HandleOf { reply: number },
+        Long::Verifier => Piece::VerifierOf { reply: number },
+    })
 }
 
 /// Whether all bytes are printable ASCII without blanks.
 fn are_printable(text: &[u8]) -> bool
     ensures { result ≡ list_all is_printable text.now }
 {
-    text.iter().all(|byte| byte.is_ascii_graphic())
+    for byte in text {
+        if !byte.is_ascii_graphic() {
+            return false;
+        }
+    }
+    true
 }
 
 /// A string, of the text behind `s:`. The error is want of memory.
@@ -173,19 +163,19 @@ fn data_piece(alloc: Global, word: &[u8]) -> Result<Option<Piece>, Memory>
     ensures { IfOk result (λ piece. piece ≡ data_of word.now) }
 {
     if let Some(digits) = behind(word, b"u:".as_slice()) {
-        Ok(word_piece(digits))
+        Ok(short_piece(Short::Word, digits))
     } else if let Some(digits) = behind(word, b"w:".as_slice()) {
-        Ok(double_word(digits))
+        Ok(long_piece(Long::Word, digits))
     } else if let Some(string) = behind(word, b"s:".as_slice()) {
         text(alloc, string)
     } else if let Some(parts) = behind(word, b"o:".as_slice()) {
         opaque(alloc, parts)
     } else if let Some(digits) = behind(word, b"sa:".as_slice()) {
-        Ok(mode(digits))
+        Ok(short_piece(Short::Mode, digits))
     } else if let Some(digits) = behind(word, b"h:".as_slice()) {
-        Ok(handle(digits))
+        Ok(long_piece(Long::Handle, digits))
     } else if let Some(digits) = behind(word, b"v:".as_slice()) {
-        Ok(verifier(digits))
+        Ok(long_piece(Long::Verifier, digits))
     } else {
         raw_piece(alloc, word)
     }
@@ -195,7 +185,7 @@ fn data_piece(alloc: Global, word: &[u8]) -> Result<Option<Piece>, Memory>
 fn piece(alloc: Global, word: &[u8]) -> Result<Option<Piece>, Memory>
     ensures { IfOk result (λ piece. piece ≡ piece_of word.now) }
 {
-    if word == b"root".as_slice() {
+    if is(word, b"root") {
         Ok(Some(Piece::Root))
     } else if let Some(numbers) = behind(word, b"nfs:".as_slice()) {
         call(alloc, false, numbers)
@@ -206,10 +196,13 @@ fn piece(alloc: Global, word: &[u8]) -> Result<Option<Piece>, Memory>
     }
 }
 
-/// The pieces that these words are, if each is one. The error is want of memory.
+/// The pieces that these words are, if there is one at least and each is one. The error is want of memory.
 pub fn pieces(alloc: Global, words: &[&[u8]]) -> Result<Option<Pieces>, Memory>
-    ensures { IfOk result (λ pieces. pieces ≡ each_of piece_of (map (λ word. word.now) words.now)) }
+    ensures { IfOk result (λ pieces. pieces ≡ pieces_of (map (λ word. word.now) words.now)) }
 {
+    if words.is_empty() {
+        return Ok(None);
+    }
     let mut pieces = Vec::new(alloc);
     for word in words {
         let Some(piece) = piece(alloc, word)? else {

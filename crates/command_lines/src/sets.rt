@@ -1,12 +1,12 @@
 //! The parameter sets of a key.
 
 ghost use Rattle.std.specs.Prelude.{◌≡◌, IfOk, map};
-ghost use Rattle.std.specs.Option.{option_map};
 ghost use Rattle.script_model.specs.Words.{set_of, each_of, sets_of};
 
-use crate::words::parts;
+use crate::words::{is, parts};
 use hash_signature_model::{Height, Set, Width};
 use ivy_base::Memory;
+use script_model::SetWords;
 use std::alloc::Global;
 
 /// The most levels of a key.
@@ -16,22 +16,22 @@ const LEVEL_LIMIT: usize = 3;
 fn named_set(word: &[u8]) -> Option<Set>
     ensures { result ≡ set_of word.now }
 {
-    if word == b"w4h5".as_slice() {
+    if is(word, b"w4h5") {
         Some(Set {
             w: Width::W4,
             h: Height::H5,
         })
-    } else if word == b"w4h10".as_slice() {
+    } else if is(word, b"w4h10") {
         Some(Set {
             w: Width::W4,
             h: Height::H10,
         })
-    } else if word == b"w8h5".as_slice() {
+    } else if is(word, b"w8h5") {
         Some(Set {
             w: Width::W8,
             h: Height::H5,
         })
-    } else if word == b"w8h10".as_slice() {
+    } else if is(word, b"w8h10") {
         Some(Set {
             w: Width::W8,
             h: Height::H10,
@@ -42,8 +42,8 @@ fn named_set(word: &[u8]) -> Option<Set>
 }
 
 /// The sets that these words name, if each names one. The error is want of memory.
-fn all_sets(alloc: Global, words: &[&[u8]]) -> Result<Option<Vec<Set>>, Memory>
-    ensures { IfOk result (λ sets. option_map (λ s. s.items) sets ≡ each_of set_of (map (λ word. word.now) words.now)) }
+fn all_sets(alloc: Global, words: &[&[u8]]) -> Result<Option<SetWords>, Memory>
+    ensures { IfOk result (λ sets. sets ≡ each_of set_of (map (λ word. word.now) words.now)) }
 {
     let mut sets = Vec::new(alloc);
     for word in words {
@@ -52,13 +52,13 @@ fn all_sets(alloc: Global, words: &[&[u8]]) -> Result<Option<Vec<Set>>, Memory>
         };
         sets.push(set)?;
     }
-    Ok(Some(sets))
+    Ok(Some(SetWords::of(sets)))
 }
 
 /// The sets that a word names, the top level's first, if it is one to three names of sets joined by commas. The error is
 /// want of memory.
-pub fn key_sets(alloc: Global, word: &[u8]) -> Result<Option<Vec<Set>>, Memory>
-    ensures { IfOk result (λ sets. option_map (λ s. s.items) sets ≡ sets_of word.now) }
+pub fn key_sets(alloc: Global, word: &[u8]) -> Result<Option<SetWords>, Memory>
+    ensures { IfOk result (λ sets. sets ≡ sets_of word.now) }
 {
     let words = parts(alloc, word, b',')?;
     if words.len() > LEVEL_LIMIT {

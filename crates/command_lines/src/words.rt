@@ -1,6 +1,6 @@
 //! The parts of a line and of a word.
 
-ghost use Rattle.std.specs.Prelude.{◌≡◌, ◌==◌, nat_eq, true, false, length, drop, IfOk, MatchOption, map};
+ghost use Rattle.std.specs.Prelude.{◌≡◌, ◌==◌, nat_eq, true, false, length, drop, IfOk, MatchOption, map, bytes_eq};
 ghost use Rattle.std.specs.List.{slice_split, starts_with};
 
 use ivy_base::Memory;
@@ -11,6 +11,13 @@ pub fn parts(alloc: Global, text: &[u8], separator: u8) -> Result<Vec<&[u8]>, Me
     ensures { IfOk result (λ parts. map (λ part. part.now) parts.items ≡ slice_split (λ b. b == separator) text.now) }
 {
     Ok(text.split(|byte| *byte == separator).collect(alloc)?)
+}
+
+/// Whether the word is that text.
+pub fn is(word: &[u8], text: &[u8]) -> bool
+    ensures { result ≡ bytes_eq word.now text.now }
+{
+    *word == *text
 }
 
 /// What stands behind the prefix, if the word begins with it.

@@ -11,4 +11,4 @@ pub returns-in_default : goal.returns-in_default
 returns-in_default c = each_stops set_of c.args.words.now c.loop-word.word-index _ c.loop-word.sets.items c.loop-word.invariant c.loop-word-test.true (sym c.named_set.ensures ∙ (search rules))
 
 pub returns : goal.returns
-returns c = each_ends set_of c.args.words.now c.loop-word.word-index c.loop-word.sets.items c.loop-word.invariant c.loop-word-test.false
+returns c = rw c.of.ensures (each_ends set_of c.args.words.now c.loop-word.word-index c.loop-word.sets.items c.loop-word.invariant c.loop-word-test.false)
