@@ -1,10 +1,13 @@
 -- Reading words one after the other, each as a value.
-use Rattle.std.proofs.Common.{◌≡◌, ℕ, ◌^◌, ◌<◌, ◌≤◌, List, [], ◌∷◌, ◌++◌, length, get_or, map, Option, Some, None, Bor, refl, sym, arith}
+use Rattle.std.proofs.Common.{◌≡◌, ℕ, ◌^◌, ◌<◌, ◌≤◌, List, [], ◌∷◌, ◌++◌, length, get_or, map, Option, Some, None, Bor, refl, sym, ap, ◌∙◌, nat_le, if◌then◌else◌, arith}
+use Rattle.std.proofs.lemmas.Bool.{le-leb}
+use Rattle.std.proofs.lemmas.List.{length-map}
+use Rattle.hash_signature_model.specs.declared.set.Set.{Set}
 use Rattle.script_model.specs.declared.command.NodeWord.{NodeWord}
 use Rattle.script_model.specs.declared.command.KeyWord.{KeyWord}
 use Rattle.script_model.specs.declared.command.Command.{Command}
 use Rattle.script_model.specs.declared.command.Command.TheVariants as command
-use Rattle.script_model.specs.Words.{◌>>=◌, each_of, piece_of, number_below, node_of, key_of, byte_of}
+use Rattle.script_model.specs.Words.{◌>>=◌, each_of, piece_of, parts_at, set_of, sets_of, number_below, node_of, key_of, byte_of}
 use Rattle.script_model.specs.Lines.{damage_of, open_of}
 use Rattle.command_lines.specs.Steps.{pieces_of}
 
@@ -16,6 +19,16 @@ abbrev pub behind : {A : Type 0} → List A → Option (List A) → Option (List
 behind values None = None
 behind values (Some others) = Some (values ++ others)
 
+abbrev sets_in : List (List ℕ) → Option (List Set)
+sets_in parts = if nat_le (length parts) 3 then each_of set_of parts else None
+
+-- three sets at most
+pub few_sets : (words : List (Bor (List ℕ))) (word : List ℕ) → seen words ≡ parts_at 44 word → length words ≤ 3 → each_of set_of (seen words) ≡ sets_of word
+few_sets words word are few =
+    let here : sets_in (seen words) ≡ each_of set_of (seen words) = rw (le-leb (length (seen words)) 3 (omega (arith, few, length-map words (λ (w : Bor (List ℕ)). w.now)))) refl in
+    sym here ∙ ap sets_in are
+
+-- one piece at least
 pub some_pieces : (words : List (Bor (List ℕ))) → 1 ≤ length words → each_of piece_of (seen words) ≡ pieces_of (seen words)
 some_pieces [] some = absurd (omega (arith, some))
 some_pieces (w ∷ words) some = refl

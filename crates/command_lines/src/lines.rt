@@ -51,30 +51,31 @@ fn command(alloc: Global, words: &[&[u8]]) -> Result<Option<Command>, Memory>
     let [first, rest @ ..] = words else {
         return Ok(None);
     };
-    if is(first, b"snap") {
+    let word = *first;
+    if is(word, b"snap") {
         ask(alloc, Asked::Snap, rest)
-    } else if is(first, b"restart") {
+    } else if is(word, b"restart") {
         ask(alloc, Asked::Restart, rest)
-    } else if is(first, b"keep") {
+    } else if is(word, b"keep") {
         keep(alloc, rest)
-    } else if is(first, b"order") {
+    } else if is(word, b"order") {
         ask(alloc, Asked::Order, rest)
-    } else if is(first, b"work") {
+    } else if is(word, b"work") {
         ask(alloc, Asked::Work, rest)
-    } else if is(first, b"join") {
+    } else if is(word, b"join") {
         Ok(join(rest))
-    } else if is(first, b"stop") {
+    } else if is(word, b"stop") {
         stop(alloc, rest)
-    } else if is(first, b"round") {
+    } else if is(word, b"round") {
         Ok(round(rest))
-    } else if is(first, b"lose") {
+    } else if is(word, b"lose") {
         Ok(lose(rest))
-    } else if is(first, b"damage") {
+    } else if is(word, b"damage") {
         damage(alloc, rest)
-    } else if is(first, b"holds") {
+    } else if is(word, b"holds") {
         holds(alloc, rest)
     } else {
-        call_command(alloc, first, rest)
+        call_command(alloc, word, rest)
     }
 }
 

@@ -1,9 +1,9 @@
 //! Names of logs, views and sessions.
 
-ghost use Rattle.std.specs.Prelude.{◌≡◌, IfOk, map};
+ghost use Rattle.std.specs.Prelude.{◌≡◌, IfOk};
 ghost use Rattle.std.specs.List.{list_all};
 ghost use Rattle.std.specs.Option.{option_map};
-ghost use Rattle.script_model.specs.Words.{name_of, is_name_byte, each_of, names_of};
+ghost use Rattle.script_model.specs.Words.{name_of, is_name_byte, names_of};
 
 use crate::words::parts;
 use ivy_base::{Bytes, Memory};
@@ -18,7 +18,7 @@ fn are_name_bytes(word: &[u8]) -> bool
     ensures { result ≡ list_all is_name_byte word.now }
 {
     for byte in word {
-        if !matches!(byte, b'a'..=b'z' | b'0'..=b'9') {
+        if !byte.is_ascii_lowercase() && !byte.is_ascii_digit() {
             return false;
         }
     }
@@ -36,25 +36,18 @@ pub fn name(word: &[u8]) -> Option<&[u8]>
     }
 }
 
-/// The names that these words are, if each is one. The error is want of memory.
-fn all_names(alloc: Global, words: &[&[u8]]) -> Result<Option<Names>, Memory>
-    ensures { IfOk result (λ names. names ≡ each_of name_of (map (λ word. word.now) words.now)) }
-{
-    let mut names = Vec::new(alloc);
-    for word in words {
-        let Some(name) = name(word) else {
-            return Ok(None);
-        };
-        names.push(Bytes::copy_of(alloc, name)?)?;
-    }
-    Ok(Some(Names::of(names)))
-}
-
 /// The names that stand in a word, in its order, if it is names joined by commas; they are copied. There is one at
 /// least: neither the empty word nor an empty part between commas is a name. The error is want of memory.
 pub fn names(alloc: Global, word: &[u8]) -> Result<Option<Names>, Memory>
     ensures { IfOk result (λ names. names ≡ names_of word.now) }
 {
-    let words = parts(alloc, word, b',')?;
-    all_names(alloc, &words)
+    let parts = parts(alloc, word, b',')?;
+    let mut names = Vec::new(alloc);
+    for part in &parts {
+        let Some(name) = name(part) else {
+            return Ok(None);
+        };
+        names.push(Bytes::copy_of(alloc, name)?)?;
+    }
+    Ok(Some(Names::of(names)))
 }

@@ -1,7 +1,7 @@
 //! The parameter sets of a key.
 
-ghost use Rattle.std.specs.Prelude.{◌≡◌, IfOk, map};
-ghost use Rattle.script_model.specs.Words.{set_of, each_of, sets_of};
+ghost use Rattle.std.specs.Prelude.{◌≡◌, IfOk};
+ghost use Rattle.script_model.specs.Words.{set_of, sets_of};
 
 use crate::words::{is, parts};
 use hash_signature_model::{Height, Set, Width};
@@ -41,28 +41,21 @@ fn named_set(word: &[u8]) -> Option<Set>
     }
 }
 
-/// The sets that these words name, if each names one. The error is want of memory.
-fn all_sets(alloc: Global, words: &[&[u8]]) -> Result<Option<SetWords>, Memory>
-    ensures { IfOk result (λ sets. sets ≡ each_of set_of (map (λ word. word.now) words.now)) }
-{
-    let mut sets = Vec::new(alloc);
-    for word in words {
-        let Some(set) = named_set(word) else {
-            return Ok(None);
-        };
-        sets.push(set)?;
-    }
-    Ok(Some(SetWords::of(sets)))
-}
-
 /// The sets that a word names, the top level's first, if it is one to three names of sets joined by commas. The error is
 /// want of memory.
 pub fn key_sets(alloc: Global, word: &[u8]) -> Result<Option<SetWords>, Memory>
     ensures { IfOk result (λ sets. sets ≡ sets_of word.now) }
 {
-    let words = parts(alloc, word, b',')?;
-    if words.len() > LEVEL_LIMIT {
+    let parts = parts(alloc, word, b',')?;
+    if parts.len() > LEVEL_LIMIT {
         return Ok(None);
     }
-    all_sets(alloc, &words)
+    let mut sets = Vec::new(alloc);
+    for part in &parts {
+        let Some(set) = named_set(part) else {
+            return Ok(None);
+        };
+        sets.push(set)?;
+    }
+    Ok(Some(SetWords::of(sets)))
 }
