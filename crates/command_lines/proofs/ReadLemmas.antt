@@ -9,7 +9,9 @@ use Rattle.script_model.specs.declared.command.Command.{Command}
 use Rattle.script_model.specs.declared.command.Command.TheVariants as command
 use Rattle.script_model.specs.Words.{◌>>=◌, each_of, piece_of, parts_at, set_of, sets_of, number_below, node_of, key_of, byte_of}
 use Rattle.script_model.specs.Lines.{damage_of, open_of}
-use Rattle.command_lines.specs.Steps.{pieces_of}
+use Rattle.command_lines.specs.declared.nodes.NodeAsked.{NodeAsked}
+use Rattle.command_lines.specs.declared.nodes.NodeAsked.TheVariants as asks
+use Rattle.command_lines.specs.Steps.{pieces_of, node_line}
 
 abbrev pub seen : List (Bor (List ℕ)) → List (List ℕ)
 seen words = map (λ w. w.now) words
@@ -77,3 +79,22 @@ damage_parts (n ∷ k ∷ o ∷ b ∷ x ∷ words) d four = absurd (omega (arith
 
 pub damage_without_offset : (words : List (Bor (List ℕ))) (d : Bor (List ℕ)) → length words ≡ 4 → number_below (2 ^ 64) (get_or words 2 d).now ≡ None → None ≡ damage_of (seen words)
 damage_without_offset words d four none = rw (damage_parts words d four, none) (sym (no_offset (node_of (get_or words 0 d).now) (key_of (get_or words 1 d).now) (byte_of (get_or words 3 d).now)))
+
+-- ---- a line of one node
+
+pub too_few_for_node : (asked : NodeAsked) (words : List (Bor (List ℕ))) → length words < 1 → node_line asked (seen words) ≡ None
+too_few_for_node asks.Stop [] few = refl
+too_few_for_node asks.Holds [] few = refl
+too_few_for_node asked (n ∷ words) few = absurd (omega (arith, few))
+
+pub too_many_for_node : (asked : NodeAsked) (words : List (Bor (List ℕ))) → 2 ≤ length words → node_line asked (seen words) ≡ None
+too_many_for_node asked [] many = absurd (omega (arith, many))
+too_many_for_node asked (n ∷ []) many = absurd (omega (arith, many))
+too_many_for_node asks.Stop (n ∷ x ∷ words) many = refl
+too_many_for_node asks.Holds (n ∷ x ∷ words) many = refl
+
+pub without_node : (asked : NodeAsked) (words : List (Bor (List ℕ))) (d : Bor (List ℕ)) → length words ≡ 1 → node_of (get_or words 0 d).now ≡ None → node_line asked (seen words) ≡ None
+without_node asked [] d one none = absurd (omega (arith, one))
+without_node asks.Stop (n ∷ []) d one none = rw none refl
+without_node asks.Holds (n ∷ []) d one none = rw none refl
+without_node asked (n ∷ x ∷ words) d one none = absurd (omega (arith, one))

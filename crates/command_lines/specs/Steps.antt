@@ -13,6 +13,9 @@ use Rattle.command_lines.specs.declared.pieces.Long.{Long}
 use Rattle.command_lines.specs.declared.pieces.Long.TheVariants as long
 use Rattle.command_lines.specs.declared.agents.Asked.{Asked}
 use Rattle.command_lines.specs.declared.agents.Asked.TheVariants.{Snap, Restart, Order, Work, Finish}
+use Rattle.script_model.specs.Lines.{stop_of, holds_of}
+use Rattle.command_lines.specs.declared.nodes.NodeAsked.{NodeAsked}
+use Rattle.command_lines.specs.declared.nodes.NodeAsked.TheVariants as asks
 
 -- a piece of a message that is no call
 abbrev pub data_of : List ℕ → Option Piece
@@ -65,3 +68,8 @@ command_asked Restart = command.Restart
 command_asked Order = command.Order
 command_asked Work = command.Work
 command_asked Finish = command.Finish
+
+-- what is asked of a node alone
+abbrev pub node_line : NodeAsked → List (List ℕ) → Option Command
+node_line asks.Stop = stop_of
+node_line asks.Holds = holds_of

@@ -13,7 +13,7 @@ pub fn are_lower_hex(word: &[u8]) -> bool
     ensures { result ≡ list_all is_lower_hex word.now }
 {
     for byte in word {
-        if !matches!(byte, b'a'..=b'f' | b'0'..=b'9') {
+        if !matches!(byte, b'a'..=b'f') && !byte.is_ascii_digit() {
             return false;
         }
     }

@@ -5,7 +5,7 @@ ghost use Rattle.script_model.specs.Lines.{call_command, command_of_words, is_co
 
 use crate::agents::{Asked, ask, keep};
 use crate::calls::{begin, call, end, step};
-use crate::nodes::{damage, holds, join, lose, round, stop};
+use crate::nodes::{NodeAsked, ask_node, damage, join, lose, round};
 use crate::setup::{enter, log, moment, ring, view};
 use crate::words::{is, parts};
 use ivy_base::Memory;
@@ -65,7 +65,7 @@ fn command(alloc: Global, words: &[&[u8]]) -> Result<Option<Command>, Memory>
     } else if is(word, b"join") {
         Ok(join(rest))
     } else if is(word, b"stop") {
-        stop(alloc, rest)
+        ask_node(alloc, NodeAsked::Stop, rest)
     } else if is(word, b"round") {
         Ok(round(rest))
     } else if is(word, b"lose") {
@@ -73,7 +73,7 @@ fn command(alloc: Global, words: &[&[u8]]) -> Result<Option<Command>, Memory>
     } else if is(word, b"damage") {
         damage(alloc, rest)
     } else if is(word, b"holds") {
-        holds(alloc, rest)
+        ask_node(alloc, NodeAsked::Holds, rest)
     } else {
         call_command(alloc, word, rest)
     }

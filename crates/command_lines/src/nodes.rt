@@ -1,7 +1,8 @@
 //! The lines of nodes and of their blocks.
 
 ghost use Rattle.std.specs.Prelude.{◌≡◌, IfOk, map};
-ghost use Rattle.script_model.specs.Lines.{join_of, stop_of, round_of, lose_of, damage_of, holds_of};
+ghost use Rattle.script_model.specs.Lines.{join_of, round_of, lose_of, damage_of};
+ghost use Rattle.command_lines.specs.Steps.{node_line};
 
 use crate::hex_digits::byte;
 use crate::keys::{key, node};
@@ -21,9 +22,18 @@ pub fn join(words: &[&[u8]]) -> Option<Command>
     Some(Command::Join { node })
 }
 
-/// `stop NODE`, of the words behind the first. The error is want of memory.
-pub fn stop(alloc: Global, words: &[&[u8]]) -> Result<Option<Command>, Memory>
-    ensures { IfOk result (λ command. command ≡ stop_of (map (λ word. word.now) words.now)) }
+/// What a line asks of the one node that it names.
+#[derive(Drop)]
+pub enum NodeAsked {
+    /// `stop NODE`.
+    Stop,
+    /// `holds NODE`.
+    Holds,
+}
+
+/// The line that asks this and nothing more, of the words behind the first. The error is want of memory.
+pub fn ask_node(alloc: Global, asked: NodeAsked, words: &[&[u8]]) -> Result<Option<Command>, Memory>
+    ensures { IfOk result (λ command. command ≡ node_line asked (map (λ word. word.now) words.now)) }
 {
     let [word] = words else {
         return Ok(None);
@@ -31,7 +41,10 @@ pub fn stop(alloc: Global, words: &[&[u8]]) -> Result<Option<Command>, Memory>
     let Some(node) = node(alloc, word)? else {
         return Ok(None);
     };
-    Ok(Some(Command::Stop { node }))
+    Ok(Some(match asked {
+        NodeAsked::Stop => Command::Stop { node },
+        NodeAsked::Holds => Command::Holds { node },
+    }))
 }
 
 /// `round`, of the words behind the first.
@@ -81,17 +94,4 @@ pub fn damage(alloc: Global, words: &[&[u8]]) -> Result<Option<Command>, Memory>
         offset,
         byte,
     }))
-}
-
-/// `holds NODE`, of the words behind the first. The error is want of memory.
-pub fn holds(alloc: Global, words: &[&[u8]]) -> Result<Option<Command>, Memory>
-    ensures { IfOk result (λ command. command ≡ holds_of (map (λ word. word.now) words.now)) }
-{
-    let [word] = words else {
-        return Ok(None);
-    };
-    let Some(node) = node(alloc, word)? else {
-        return Ok(None);
-    };
-    Ok(Some(Command::Holds { node }))
 }
