@@ -1,5 +1,5 @@
 -- A tree at its top: its entries are those of the left side, its own and those of the right side.
-use Rattle.std.proofs.Common.{◌≡◌, ◌⊎◌, inl, inr, ℕ, suc, ◌+◌, ◌^◌, ◌<◌, ◌≤◌, T, true, not, List, [], ◌∷◌, ◌++◌, length, length-append, drop, Some, Result, refl, sym, ap, ◌∙◌, subst, arith}
+use Rattle.std.proofs.Common.{◌≡◌, ◌⊎◌, inl, inr, ℕ, suc, ◌+◌, ◌^◌, ◌<◌, ◌≤◌, T, true, not, List, [], ◌∷◌, ◌++◌, length, length-append, drop, Option, Some, None, Result, refl, sym, ap, ◌∙◌, subst, arith}
 use Rattle.std.specs.Prelude.{IfOk}
 use Rattle.std.specs.Ordering.{eq_by_cmp, is_le}
 use Rattle.std.specs.Cmp.{IsTotalOrder}
@@ -7,11 +7,28 @@ use Rattle.std.specs.declared.cmp.Ordering.{Ordering}
 use Rattle.std.specs.declared.cmp.Ordering.TheVariants.{Less, Equal, Greater}
 use Rattle.std.specs.FinMap.Entries.{find as value_at, put, where_key, is_sorted}
 use Rattle.shared_map.specs.declared.tree.Fork.{Fork}
-use Rattle.shared_map.specs.Trees.{seen, IsBalanced, IsTree, IsLow, IsCopy, IsNear}
+use Rattle.shared_map.specs.declared.tree.Side.{Side}
+use Rattle.shared_map.specs.declared.tree.Side.TheVariants.{Left, Right}
+use Rattle.shared_map.specs.Trees.{seen, side_on, side_to, opposite, in_order, IsBalanced, IsTree, IsLow, IsCopy, IsNear}
 use Rattle.shared_map.proofs.Sides as sides
 
 pub near_is : {A E : Type 0} {B : Type 0} (r : Result (List (A × B) × ℕ) E) (es fs : List (A × B)) (h i : ℕ) → es ≡ fs → h ≡ i → IfOk r (IsNear es h) → IfOk r (IsNear fs i)
 near_is r es fs h i e f n = subst (λ j. IfOk r (IsNear fs j)) f (subst (λ l. IfOk r (IsNear l h)) e n)
+
+less_is : (o : Ordering) → side_to o ≡ Some Left → o ≡ Less
+less_is Less e = refl
+less_is Equal e = cc e
+less_is Greater e = cc e
+
+greater_is : (o : Ordering) → side_to o ≡ Some Right → o ≡ Greater
+greater_is Less e = cc e
+greater_is Equal e = cc e
+greater_is Greater e = refl
+
+pub equal_is : (o : Ordering) → side_to o ≡ None → o ≡ Equal
+equal_is Less e = cc e
+equal_is Equal e = refl
+equal_is Greater e = cc e
 
 module _ {K V : Type 0} (f : Fork K V) (now : List (K × V) × ℕ) (is : seen (Some f) ≡ now) where
   pub entries_are : f.left.0 ++ (f.key, f.value.value) ∷ f.right.0 ≡ now.0
@@ -26,28 +43,26 @@ module _ {K V : Type 0} (f : Fork K V) (now : List (K × V) × ℕ) (is : seen (
   pub shorter : (length f.left.0 < length now.0) × (length f.right.0 < length now.0)
   shorter = (omega (arith, lengths), omega (arith, lengths))
 
-  -- a side that was made anew
-  pub near_left : {E : Type 0} (es goal : List (K × V)) (t : List (K × V) × ℕ) → IsNear es f.left.1 t → es ++ (f.key, f.value.value) ∷ f.right.0 ≡ goal → (r : Result (List (K × V) × ℕ) E)
-      → IfOk r (IsNear (t.0 ++ (f.key, f.value.value) ∷ f.right.0) f.height) → IfOk r (IsNear goal now.1)
-  near_left es goal t n e r = near_is r _ _ _ _ (ap (λ l. l ++ (f.key, f.value.value) ∷ f.right.0) n.0 ∙ e) height_is
+  -- ---- a side, whichever it is
 
-  pub near_right : {E : Type 0} (es goal : List (K × V)) (t : List (K × V) × ℕ) → IsNear es f.right.1 t → f.left.0 ++ (f.key, f.value.value) ∷ es ≡ goal → (r : Result (List (K × V) × ℕ) E)
-      → IfOk r (IsNear (f.left.0 ++ (f.key, f.value.value) ∷ t.0) f.height) → IfOk r (IsNear goal now.1)
-  near_right es goal t n e r = near_is r _ _ _ _ (ap (λ l. f.left.0 ++ (f.key, f.value.value) ∷ l) n.0 ∙ e) height_is
+  pub side_lengths : (on : Side) → length (side_on on f).0 + suc (length (side_on (opposite on) f).0) ≡ length now.0
+  side_lengths Left = lengths
+  side_lengths Right = omega (arith, lengths)
 
-  -- ---- no more entries than can be counted
+  pub shorter_side : (on : Side) → length (side_on on f).0 < length now.0
+  shorter_side on = omega (arith, side_lengths on)
 
-  pub few_left : (es : List (K × V)) (t : List (K × V) × ℕ) → IsNear es f.left.1 t → length es ≤ length f.left.0 + 1 → length now.0 + 1 < 2 ^ 64 → length t.0 + length f.right.0 + 1 < 2 ^ 64
-  few_left es t n short few = omega (arith, lengths, ap length n.0, short, few)
+  -- one that was made anew
+  pub near_side : {E : Type 0} (on : Side) (es goal : List (K × V)) (t : List (K × V) × ℕ) → IsNear es (side_on on f).1 t → in_order on es (f.key, f.value.value) (side_on (opposite on) f).0 ≡ goal → (r : Result (List (K × V) × ℕ) E)
+      → IfOk r (IsNear (in_order on t.0 (f.key, f.value.value) (side_on (opposite on) f).0) f.height) → IfOk r (IsNear goal now.1)
+  near_side on es goal t n e r = near_is r _ _ _ _ (ap (λ l. in_order on l (f.key, f.value.value) (side_on (opposite on) f).0) n.0 ∙ e) height_is
 
-  pub few_right : (es : List (K × V)) (t : List (K × V) × ℕ) → IsNear es f.right.1 t → length es ≤ length f.right.0 + 1 → length now.0 + 1 < 2 ^ 64 → length f.left.0 + length t.0 + 1 < 2 ^ 64
-  few_right es t n short few = omega (arith, lengths, ap length n.0, short, few)
+  -- no more entries than can be counted
+  pub few_side : (on : Side) (es : List (K × V)) (t : List (K × V) × ℕ) → IsNear es (side_on on f).1 t → length es ≤ length (side_on on f).0 + 1 → length now.0 + 1 < 2 ^ 64 → length t.0 + length (side_on (opposite on) f).0 + 1 < 2 ^ 64
+  few_side on es t n short few = omega (arith, side_lengths on, ap length n.0, short, few)
 
-  pub fewer_left : (es : List (K × V)) (t : List (K × V) × ℕ) → IsNear es f.left.1 t → length es ≤ length f.left.0 → length now.0 < 2 ^ 64 → length t.0 + length f.right.0 + 1 < 2 ^ 64
-  fewer_left es t n short few = omega (arith, lengths, ap length n.0, short, few)
-
-  pub fewer_right : (es : List (K × V)) (t : List (K × V) × ℕ) → IsNear es f.right.1 t → length es ≤ length f.right.0 → length now.0 < 2 ^ 64 → length f.left.0 + length t.0 + 1 < 2 ^ 64
-  fewer_right es t n short few = omega (arith, lengths, ap length n.0, short, few)
+  pub fewer_side : (on : Side) (es : List (K × V)) (t : List (K × V) × ℕ) → IsNear es (side_on on f).1 t → length es ≤ length (side_on on f).0 → length now.0 < 2 ^ 64 → length t.0 + length (side_on (opposite on) f).0 + 1 < 2 ^ 64
+  fewer_side on es t n short few = omega (arith, side_lengths on, ap length n.0, short, few)
 
   pub few_sides : length now.0 < 2 ^ 64 → length f.left.0 + length f.right.0 + 1 < 2 ^ 64
   few_sides few = omega (arith, lengths, few)
@@ -77,6 +92,10 @@ module _ {K V : Type 0} (f : Fork K V) (now : List (K × V) × ℕ) (is : seen (
     pub sorted_sides : T (is_sorted R f.left.0) × T (is_sorted R f.right.0)
     sorted_sides = (sides.sorted_left R f.left.0 _ whole, sides.sorted_right R f.left.0 f.right.0 _ whole)
 
+    pub sorted_side : (on : Side) → T (is_sorted R (side_on on f).0)
+    sorted_side Left = sorted_sides.0
+    sorted_side Right = sorted_sides.1
+
     module _ (k : K) where
       pub found_left : R k f.key ≡ Less → value_at R k f.left.0 ≡ value_at R k now.0
       found_left lt = sym (sides.find_left R o k f.left.0 f.right.0 _ whole lt) ∙ ap (λ l. value_at R k l) entries_are
@@ -104,6 +123,22 @@ module _ {K V : Type 0} (f : Fork K V) (now : List (K × V) × ℕ) (is : seen (
 
       pub without_right : R k f.key ≡ Greater → f.left.0 ++ (f.key, f.value.value) ∷ where_key R (λ x. not (eq_by_cmp R k x)) f.right.0 ≡ where_key R (λ x. not (eq_by_cmp R k x)) now.0
       without_right gt = sym (sides.without_right R o k f.left.0 f.right.0 _ whole gt) ∙ ap (λ l. where_key R (λ x. not (eq_by_cmp R k x)) l) entries_are
+
+      -- a key that is on one side, or the node's own
+      module _ (to : Option Side) (goes : to ≡ side_to (R k f.key)) where
+        pub put_side : (v : V) (on : Side) → to ≡ Some on → in_order on (put R k v (side_on on f).0) (f.key, f.value.value) (side_on (opposite on) f).0 ≡ put R k v now.0
+        put_side v Left e = put_left v (less_is _ (sym goes ∙ e))
+        put_side v Right e = put_right v (greater_is _ (sym goes ∙ e))
+
+        pub put_own : (v : V) → to ≡ None → f.left.0 ++ (f.key, v) ∷ f.right.0 ≡ put R k v now.0
+        put_own v e = put_here v (equal_is _ (sym goes ∙ e))
+
+        pub without_side : (on : Side) → to ≡ Some on → in_order on (where_key R (λ x. not (eq_by_cmp R k x)) (side_on on f).0) (f.key, f.value.value) (side_on (opposite on) f).0 ≡ where_key R (λ x. not (eq_by_cmp R k x)) now.0
+        without_side Left e = without_left (less_is _ (sym goes ∙ e))
+        without_side Right e = without_right (greater_is _ (sym goes ∙ e))
+
+        pub without_own : to ≡ None → f.left.0 ++ f.right.0 ≡ where_key R (λ x. not (eq_by_cmp R k x)) now.0
+        without_own e = without_here (equal_is _ (sym goes ∙ e))
 
       pub from_left : is_le (R k f.key) ≡ true → where_key R (λ x. is_le (R k x)) f.left.0 ++ (f.key, f.value.value) ∷ f.right.0 ≡ where_key R (λ x. is_le (R k x)) now.0
       from_left le = sym (sides.from_left R o k f.left.0 f.right.0 _ whole (R k f.key) refl le) ∙ ap (λ l. where_key R (λ x. is_le (R k x)) l) entries_are

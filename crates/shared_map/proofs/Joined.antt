@@ -4,8 +4,10 @@ use Rattle.std.specs.Prelude.{max, IfOk}
 use Rattle.std.specs.declared.sync.Arc.{Arc}
 use Rattle.std.proofs.lemmas.Bool.{cases_lt}
 use Rattle.shared_map.specs.declared.tree.Fork.{Fork}
-use Rattle.shared_map.specs.Trees.{seen, IsBalanced, IsNear, IsSettled, DifferByAtMost}
-use Rattle.shared_map.proofs.Forks.{entries_are, lengths}
+use Rattle.shared_map.specs.declared.tree.Side.{Side}
+use Rattle.shared_map.specs.declared.tree.Side.TheVariants.{Left, Right}
+use Rattle.shared_map.specs.Trees.{seen, side_on, opposite, in_order, IsBalanced, IsNear, IsSettled, DifferByAtMost}
+use Rattle.shared_map.proofs.Forks.{side_lengths}
 
 pub if_ok : {A E : Type 0} {P Q : A → Type 0} (r : Result A E) → ((x : A) → P x → Q x) → IfOk r P → IfOk r Q
 if_ok (Ok x) f h = f x h
@@ -42,184 +44,130 @@ module _ (outer inner p q h s : ℕ) (is : h ≡ inner + 1) (level : inner ≤ o
   pub twice_height : (n m : ℕ) → n ≡ max outer p + 1 → m ≡ max q s + 1 → (h ≤ max n m + 1) × (max n m + 1 ≤ h + 1)
   twice_height n m d e = (omega (arith, is, level, leans, sides, near.0, near.1, high.0, high.1, d, e), omega (arith, is, level, leans, sides, near.0, near.1, high.0, high.1, d, e))
 
--- ---- entries with one between them
+-- ---- entries with one between them, on this side and on the other
 
-module _ {K V : Type 0} (l r t : List (K × V) × ℕ) (e : K × V) (is : t ≡ (l.0 ++ e ∷ r.0, max l.1 r.1 + 1)) where
+pub assoc : {A : Type 0} (on : Side) (xs ys zs : List A) (f e : A) → in_order on (in_order on xs f ys) e zs ≡ in_order on xs f (in_order on ys e zs)
+assoc Left xs ys zs f e = append_assoc xs (f ∷ ys) (e ∷ zs)
+assoc Right xs ys zs f e = sym (append_assoc zs (e ∷ ys) (f ∷ xs))
+
+pub length_on : {A : Type 0} (on : Side) (xs : List A) (e : A) (ys : List A) → length (in_order on xs e ys) ≡ length xs + suc (length ys)
+length_on Left xs e ys = length-append xs (e ∷ ys)
+length_on Right xs e ys = omega (arith, length-append ys (e ∷ xs))
+
+module _ {K V : Type 0} (on : Side) (f : Fork K V) where
+  pub seen_on : in_order on (side_on on f).0 (f.key, f.value.value) (side_on (opposite on) f).0 ≡ (seen (Some f)).0
+  seen_on = by_side on
+    where
+      by_side : (on : Side) → in_order on (side_on on f).0 (f.key, f.value.value) (side_on (opposite on) f).0 ≡ (seen (Some f)).0
+      by_side Left = refl
+      by_side Right = refl
+
+  pub lengths_on : length (side_on on f).0 + suc (length (side_on (opposite on) f).0) ≡ length (seen (Some f)).0
+  lengths_on = side_lengths f _ refl on
+
+  pub balanced_on : IsBalanced (Some f) → (f.height ≡ max (side_on on f).1 (side_on (opposite on) f).1 + 1) × DifferByAtMost 2 (side_on on f).1 (side_on (opposite on) f).1
+  balanced_on b = by_side on
+    where
+      by_side : (on : Side) → (f.height ≡ max (side_on on f).1 (side_on (opposite on) f).1 + 1) × DifferByAtMost 2 (side_on on f).1 (side_on (opposite on) f).1
+      by_side Left = b
+      by_side Right = (omega (arith, b.0), (b.1.1, b.1.0))
+
+module _ {K V : Type 0} (on : Side) (l r t : List (K × V) × ℕ) (e : K × V) (is : t ≡ (in_order on l.0 e r.0, max l.1 r.1 + 1)) where
   joined_length : length l.0 + suc (length r.0) ≡ length t.0
-  joined_length = sym (length-append l.0 (e ∷ r.0)) ∙ sym (ap (λ (x : List (K × V) × ℕ). length x.0) is)
+  joined_length = sym (length_on on l.0 e r.0) ∙ sym (ap (λ (x : List (K × V) × ℕ). length x.0) is)
 
   joined_height : t.1 ≡ max l.1 r.1 + 1
   joined_height = ap (λ (x : List (K × V) × ℕ). x.1) is
 
-  joined_entries : t.0 ≡ l.0 ++ e ∷ r.0
+  joined_entries : t.0 ≡ in_order on l.0 e r.0
   joined_entries = ap (λ (x : List (K × V) × ℕ). x.0) is
 
-module _ {K V : Type 0} (l r : List (K × V) × ℕ) (e : K × V) where
-  -- of copies of two sides
-  pub of_copies : {E : Type 0} (a b : List (K × V) × ℕ) (x : Result (List (K × V) × ℕ) E) → a ≡ l → b ≡ r → IfOk x (λ t. t ≡ (a.0 ++ e ∷ b.0, max a.1 b.1 + 1)) → IfOk x (λ t. t ≡ (l.0 ++ e ∷ r.0, max l.1 r.1 + 1))
-  of_copies a b x p q = if_ok x (λ t is. is ∙ ap (λ (y : List (K × V) × ℕ). (y.0 ++ e ∷ b.0, max y.1 b.1 + 1)) p ∙ ap (λ (y : List (K × V) × ℕ). (l.0 ++ e ∷ y.0, max l.1 y.1 + 1)) q)
+module _ {K V : Type 0} (on : Side) (l r t : List (K × V) × ℕ) (e : K × V) where
+  pub of_side : (a : List (K × V) × ℕ) → a ≡ l → t ≡ (in_order on a.0 e r.0, max a.1 r.1 + 1) → t ≡ (in_order on l.0 e r.0, max l.1 r.1 + 1)
+  of_side a p is = is ∙ ap (λ (y : List (K × V) × ℕ). (in_order on y.0 e r.0, max y.1 r.1 + 1)) p
 
-module _ {K V : Type 0} (l r t : List (K × V) × ℕ) (e : K × V) where
-  pub of_left : (a : List (K × V) × ℕ) → a ≡ l → t ≡ (a.0 ++ e ∷ r.0, max a.1 r.1 + 1) → t ≡ (l.0 ++ e ∷ r.0, max l.1 r.1 + 1)
-  of_left a p is = is ∙ ap (λ (y : List (K × V) × ℕ). (y.0 ++ e ∷ r.0, max y.1 r.1 + 1)) p
+  pub of_other : (b : List (K × V) × ℕ) → b ≡ r → t ≡ (in_order on l.0 e b.0, max l.1 b.1 + 1) → t ≡ (in_order on l.0 e r.0, max l.1 r.1 + 1)
+  of_other b q is = is ∙ ap (λ (y : List (K × V) × ℕ). (in_order on l.0 e y.0, max l.1 y.1 + 1)) q
 
-  pub of_right : (b : List (K × V) × ℕ) → b ≡ r → t ≡ (l.0 ++ e ∷ b.0, max l.1 b.1 + 1) → t ≡ (l.0 ++ e ∷ r.0, max l.1 r.1 + 1)
-  of_right b q is = is ∙ ap (λ (y : List (K × V) × ℕ). (l.0 ++ e ∷ y.0, max l.1 y.1 + 1)) q
+-- the sides in the other order
+pub other_order : {K V E : Type 0} (r : Result (List (K × V) × ℕ) E) (es : List (K × V)) (a b : ℕ) → IfOk r (λ t. t ≡ (es, max a b + 1)) → IfOk r (λ t. t ≡ (es, max b a + 1))
+other_order r es a b = if_ok r (λ t is. let same : max a b + 1 ≡ max b a + 1 = omega arith in is ∙ ap (λ (n : ℕ). (es, n)) same)
 
--- ---- a node f, and an entry e with a tree s beside it, which is two or three lower
+-- ---- a node f, and an entry e with a tree s on the side away from this one, which is two or three lower
 
-module _ {K V : Type 0} (f : Fork K V) (e : K × V) (s : List (K × V) × ℕ) (b : IsBalanced (Some f)) (high : (s.1 + 2 ≤ f.height) × (f.height ≤ s.1 + 3)) where
-  -- the other is behind the node, and is joined with a copy c of its right side first
-  module _ (leans : f.right.1 ≤ f.left.1) (few : length (seen (Some f)).0 + length s.0 + 1 < 2 ^ 64) (c : List (K × V) × ℕ) (copied : c ≡ f.right) where
-    left_is : f.height ≡ f.left.1 + 1
-    left_is = omega (arith, b.0, leans)
+module _ {K V : Type 0} (on : Side) (f : Fork K V) (e : K × V) (s : List (K × V) × ℕ) (b : IsBalanced (Some f)) (high : (s.1 + 2 ≤ f.height) × (f.height ≤ s.1 + 3)) (few : length (seen (Some f)).0 + length s.0 + 1 < 2 ^ 64) where
+  -- the tree is joined with the node's other side first
+  module _ (leans : (side_on (opposite on) f).1 ≤ (side_on on f).1) where
+    once_is : f.height ≡ (side_on on f).1 + 1
+    once_is = omega (arith, (balanced_on on f b).0, leans)
 
-    pub left_once : DifferByAtMost 2 c.1 s.1 × (length c.0 + length s.0 + 1 < 2 ^ 64)
-    left_once = rw copied (once_below f.left.1 f.right.1 f.height s.1 left_is b.1.0 leans high, omega (arith, lengths f _ refl, few))
+    pub once : DifferByAtMost 2 (side_on (opposite on) f).1 s.1 × (length (side_on (opposite on) f).0 + length s.0 + 1 < 2 ^ 64)
+    once = (once_below (side_on on f).1 (side_on (opposite on) f).1 f.height s.1 once_is (balanced_on on f b).1.0 leans high, omega (arith, lengths_on on f, few))
 
-    module _ (t : List (K × V) × ℕ) (below : t ≡ (c.0 ++ e ∷ s.0, max c.1 s.1 + 1)) (d : List (K × V) × ℕ) (copied2 : d ≡ f.left) where
-      left_below : t ≡ (f.right.0 ++ e ∷ s.0, max f.right.1 s.1 + 1)
-      left_below = of_left f.right s t e c copied below
+    module _ (t : List (K × V) × ℕ) (below : t ≡ (in_order on (side_on (opposite on) f).0 e s.0, max (side_on (opposite on) f).1 s.1 + 1)) where
+      once_tall : t.1 ≡ max (side_on (opposite on) f).1 s.1 + 1
+      once_tall = joined_height on _ _ t e below
 
-      pub left_once_next : DifferByAtMost 2 d.1 t.1 × (length d.0 + length t.0 + 1 < 2 ^ 64)
-      left_once_next = rw copied2 (once_above f.left.1 f.right.1 f.height s.1 left_is b.1.0 leans high t.1 (joined_height _ _ t e left_below), omega (arith, lengths f _ refl, joined_length _ _ t e left_below, few))
+      pub once_next : DifferByAtMost 2 (side_on on f).1 t.1 × (length (side_on on f).0 + length t.0 + 1 < 2 ^ 64)
+      once_next = (once_above (side_on on f).1 (side_on (opposite on) f).1 f.height s.1 once_is (balanced_on on f b).1.0 leans high t.1 once_tall, omega (arith, lengths_on on f, joined_length on _ _ t e below, few))
 
-      pub left_once_is : {E : Type 0} (r : Result (List (K × V) × ℕ) E) → IfOk r (λ u. u ≡ (d.0 ++ (f.key, f.value.value) ∷ t.0, max d.1 t.1 + 1))
-          → IfOk r (λ u. (u.0 ≡ (seen (Some f)).0 ++ e ∷ s.0) × (f.height ≤ u.1) × (u.1 ≤ f.height + 1))
-      left_once_is r = if_ok r (λ u is.
-          let above = of_left f.left t u (f.key, f.value.value) d copied2 is in
-          let tall = once_height f.left.1 f.right.1 f.height s.1 left_is b.1.0 leans high t.1 (joined_height _ _ t e left_below) in
-          let same : u.1 ≡ max f.left.1 t.1 + 1 = joined_height _ _ u _ above in (
-            joined_entries _ _ u _ above ∙ ap (λ (l : List (K × V)). f.left.0 ++ (f.key, f.value.value) ∷ l) (joined_entries _ _ t e left_below) ∙ sym (append_assoc f.left.0 ((f.key, f.value.value) ∷ f.right.0) (e ∷ s.0)),
+      pub once_joined : {E : Type 0} (r : Result (List (K × V) × ℕ) E) → IfOk r (λ u. u ≡ (in_order on (side_on on f).0 (f.key, f.value.value) t.0, max (side_on on f).1 t.1 + 1))
+          → IfOk r (λ u. (u.0 ≡ in_order on (seen (Some f)).0 e s.0) × (f.height ≤ u.1) × (u.1 ≤ f.height + 1))
+      once_joined r = if_ok r (λ u is.
+          let tall = once_height (side_on on f).1 (side_on (opposite on) f).1 f.height s.1 once_is (balanced_on on f b).1.0 leans high t.1 once_tall in
+          let same : u.1 ≡ max (side_on on f).1 t.1 + 1 = joined_height on _ _ u _ is in (
+            joined_entries on _ _ u _ is ∙ ap (in_order on (side_on on f).0 (f.key, f.value.value)) (joined_entries on _ _ t e below)
+                ∙ sym (assoc on (side_on on f).0 (side_on (opposite on) f).0 s.0 (f.key, f.value.value) e) ∙ ap (λ (l : List (K × V)). in_order on l e s.0) (seen_on on f),
             omega (arith, tall.0, same),
             omega (arith, tall.1, same),
           ))
 
-  -- the other is before the node, and is joined with a copy c of its left side first
-  module _ (leans : f.left.1 ≤ f.right.1) (few : length s.0 + length (seen (Some f)).0 + 1 < 2 ^ 64) (c : List (K × V) × ℕ) (copied : c ≡ f.left) where
-    right_is : f.height ≡ f.right.1 + 1
-    right_is = omega (arith, b.0, leans)
+  -- the two are joined with the sides of the node i, which is at the top of the node's other side
+  module _ (leans : (side_on on f).1 < (side_on (opposite on) f).1) (i : Fork K V) (bi : IsBalanced (Some i)) (top : seen (Some i) ≡ side_on (opposite on) f) where
+    twice_inner : i.height ≡ (side_on (opposite on) f).1
+    twice_inner = ap (λ (x : List (K × V) × ℕ). x.1) top
 
-    pub right_once : DifferByAtMost 2 s.1 c.1 × (length s.0 + length c.0 + 1 < 2 ^ 64)
-    right_once =
-        let near = once_below f.right.1 f.left.1 f.height s.1 right_is b.1.1 leans high in
-        rw copied ((near.1, near.0), omega (arith, lengths f _ refl, few))
+    twice_is : f.height ≡ i.height + 1
+    twice_is = omega (arith, (balanced_on on f b).0, leans, twice_inner)
 
-    module _ (t : List (K × V) × ℕ) (below : t ≡ (s.0 ++ e ∷ c.0, max s.1 c.1 + 1)) (d : List (K × V) × ℕ) (copied2 : d ≡ f.right) where
-      right_below : t ≡ (s.0 ++ e ∷ f.left.0, max s.1 f.left.1 + 1)
-      right_below = of_right s f.left t e c copied below
+    twice_near : (i.height ≤ (side_on on f).1 + 2) × ((side_on on f).1 < i.height)
+    twice_near = (omega (arith, (balanced_on on f b).1.1, twice_inner), omega (arith, leans, twice_inner))
 
-      right_tall : t.1 ≡ max f.left.1 s.1 + 1
-      right_tall = omega (arith, joined_height _ _ t e right_below)
+    twice_length : length (side_on on i).0 + suc (length (side_on (opposite on) i).0) ≡ length (side_on (opposite on) f).0
+    twice_length = lengths_on on i ∙ ap (λ (x : List (K × V) × ℕ). length x.0) top
 
-      pub right_once_next : DifferByAtMost 2 t.1 d.1 × (length t.0 + length d.0 + 1 < 2 ^ 64)
-      right_once_next =
-          let near = once_above f.right.1 f.left.1 f.height s.1 right_is b.1.1 leans high t.1 right_tall in
-          rw copied2 ((near.1, near.0), omega (arith, lengths f _ refl, joined_length _ _ t e right_below, few))
+    twice_level : DifferByAtMost 2 (side_on on f).1 (side_on on i).1 × DifferByAtMost 2 (side_on (opposite on) i).1 s.1
+    twice_level = twice_below (side_on on f).1 i.height (side_on on i).1 (side_on (opposite on) i).1 f.height s.1 twice_is twice_near.0 twice_near.1 (balanced_on on i bi).0 (balanced_on on i bi).1 high
 
-      pub right_once_is : {E : Type 0} (r : Result (List (K × V) × ℕ) E) → IfOk r (λ u. u ≡ (t.0 ++ (f.key, f.value.value) ∷ d.0, max t.1 d.1 + 1))
-          → IfOk r (λ u. (u.0 ≡ s.0 ++ e ∷ (seen (Some f)).0) × (f.height ≤ u.1) × (u.1 ≤ f.height + 1))
-      right_once_is r = if_ok r (λ u is.
-          let above = of_right t f.right u (f.key, f.value.value) d copied2 is in
-          let tall = once_height f.right.1 f.left.1 f.height s.1 right_is b.1.1 leans high t.1 right_tall in
-          let same : u.1 ≡ max t.1 f.right.1 + 1 = joined_height _ _ u _ above in (
-            joined_entries _ _ u _ above ∙ ap (λ (l : List (K × V)). l ++ (f.key, f.value.value) ∷ f.right.0) (joined_entries _ _ t e right_below) ∙ append_assoc s.0 (e ∷ f.left.0) ((f.key, f.value.value) ∷ f.right.0),
+    pub twice : DifferByAtMost 2 (side_on (opposite on) i).1 s.1 × (length (side_on (opposite on) i).0 + length s.0 + 1 < 2 ^ 64)
+    twice = (twice_level.1, omega (arith, lengths_on on f, twice_length, few))
+
+    pub twice_other : DifferByAtMost 2 (side_on on f).1 (side_on on i).1 × (length (side_on on f).0 + length (side_on on i).0 + 1 < 2 ^ 64)
+    twice_other = (twice_level.0, omega (arith, lengths_on on f, twice_length, few))
+
+    module _ (m n : List (K × V) × ℕ) (behind : m ≡ (in_order on (side_on (opposite on) i).0 e s.0, max (side_on (opposite on) i).1 s.1 + 1)) (before : n ≡ (in_order on (side_on on f).0 (f.key, f.value.value) (side_on on i).0, max (side_on on f).1 (side_on on i).1 + 1)) where
+      pub twice_next : DifferByAtMost 2 n.1 m.1 × (length n.0 + length m.0 + 1 < 2 ^ 64)
+      twice_next = (
+        twice_above (side_on on f).1 i.height (side_on on i).1 (side_on (opposite on) i).1 f.height s.1 twice_is twice_near.0 twice_near.1 (balanced_on on i bi).0 (balanced_on on i bi).1 high n.1 m.1 (joined_height on _ _ n _ before) (joined_height on _ _ m e behind),
+        omega (arith, lengths_on on f, twice_length, joined_length on _ _ n _ before, joined_length on _ _ m e behind, few),
+      )
+
+      pub twice_joined : {E : Type 0} (r : Result (List (K × V) × ℕ) E) → IfOk r (λ u. u ≡ (in_order on n.0 (i.key, i.value.value) m.0, max n.1 m.1 + 1))
+          → IfOk r (λ u. (u.0 ≡ in_order on (seen (Some f)).0 e s.0) × (f.height ≤ u.1) × (u.1 ≤ f.height + 1))
+      twice_joined r = if_ok r (λ u is.
+          let tall = twice_height (side_on on f).1 i.height (side_on on i).1 (side_on (opposite on) i).1 f.height s.1 twice_is twice_near.0 twice_near.1 (balanced_on on i bi).0 (balanced_on on i bi).1 high n.1 m.1 (joined_height on _ _ n _ before) (joined_height on _ _ m e behind) in
+          let same : u.1 ≡ max n.1 m.1 + 1 = joined_height on _ _ u _ is in
+          let middle : in_order on (side_on on i).0 (i.key, i.value.value) (side_on (opposite on) i).0 ≡ (side_on (opposite on) f).0 = seen_on on i ∙ ap (λ (x : List (K × V) × ℕ). x.0) top in (
+            joined_entries on _ _ u _ is ∙ ap (λ (l : List (K × V)). in_order on l (i.key, i.value.value) m.0) (joined_entries on _ _ n _ before)
+                ∙ ap (in_order on (in_order on (side_on on f).0 (f.key, f.value.value) (side_on on i).0) (i.key, i.value.value)) (joined_entries on _ _ m e behind)
+                ∙ assoc on (side_on on f).0 (side_on on i).0 (in_order on (side_on (opposite on) i).0 e s.0) (f.key, f.value.value) (i.key, i.value.value)
+                ∙ ap (in_order on (side_on on f).0 (f.key, f.value.value)) (sym (assoc on (side_on on i).0 (side_on (opposite on) i).0 s.0 (i.key, i.value.value) e))
+                ∙ sym (assoc on (side_on on f).0 (in_order on (side_on on i).0 (i.key, i.value.value) (side_on (opposite on) i).0) s.0 (f.key, f.value.value) e)
+                ∙ ap (λ (l : List (K × V)). in_order on (in_order on (side_on on f).0 (f.key, f.value.value) l) e s.0) middle
+                ∙ ap (λ (l : List (K × V)). in_order on l e s.0) (seen_on on f),
             omega (arith, tall.0, same),
             omega (arith, tall.1, same),
           ))
-
-  module _ (i : Fork K V) (bi : IsBalanced (Some i)) where
-    -- the same where the node i on its right is the higher one, and is parted
-    module _ (top : seen (Some i) ≡ f.right) (leans : f.left.1 < f.right.1) (few : length (seen (Some f)).0 + length s.0 + 1 < 2 ^ 64) (c : List (K × V) × ℕ) (copied : c ≡ i.right) where
-      inner_right : i.height ≡ f.right.1
-      inner_right = ap (λ (x : List (K × V) × ℕ). x.1) top
-
-      left_high : f.height ≡ i.height + 1
-      left_high = omega (arith, b.0, leans, inner_right)
-
-      left_near : (i.height ≤ f.left.1 + 2) × (f.left.1 < i.height)
-      left_near = (omega (arith, b.1.1, inner_right), omega (arith, leans, inner_right))
-
-      pub left_twice : DifferByAtMost 2 c.1 s.1 × (length c.0 + length s.0 + 1 < 2 ^ 64)
-      left_twice = rw copied ((twice_below f.left.1 i.height i.left.1 i.right.1 f.height s.1 left_high left_near.0 left_near.1 bi.0 bi.1 high).1, omega (arith, lengths f _ refl, lengths i _ top, few))
-
-      pub left_twice_other : DifferByAtMost 2 f.left.1 i.left.1 × (length f.left.0 + length i.left.0 + 1 < 2 ^ 64)
-      left_twice_other = ((twice_below f.left.1 i.height i.left.1 i.right.1 f.height s.1 left_high left_near.0 left_near.1 bi.0 bi.1 high).0, omega (arith, lengths f _ refl, lengths i _ top, few))
-
-      module _ (m n : List (K × V) × ℕ) (behind : m ≡ (c.0 ++ e ∷ s.0, max c.1 s.1 + 1)) (before : n ≡ (f.left.0 ++ (f.key, f.value.value) ∷ i.left.0, max f.left.1 i.left.1 + 1)) where
-        left_behind : m ≡ (i.right.0 ++ e ∷ s.0, max i.right.1 s.1 + 1)
-        left_behind = of_left i.right s m e c copied behind
-
-        pub left_twice_next : DifferByAtMost 2 n.1 m.1 × (length n.0 + length m.0 + 1 < 2 ^ 64)
-        left_twice_next = (
-          twice_above f.left.1 i.height i.left.1 i.right.1 f.height s.1 left_high left_near.0 left_near.1 bi.0 bi.1 high n.1 m.1 (joined_height _ _ n _ before) (joined_height _ _ m e left_behind),
-          omega (arith, lengths f _ refl, lengths i _ top, joined_length _ _ n _ before, joined_length _ _ m e left_behind, few),
-        )
-
-        pub left_twice_is : {E : Type 0} (r : Result (List (K × V) × ℕ) E) → IfOk r (λ u. u ≡ (n.0 ++ (i.key, i.value.value) ∷ m.0, max n.1 m.1 + 1))
-            → IfOk r (λ u. (u.0 ≡ (seen (Some f)).0 ++ e ∷ s.0) × (f.height ≤ u.1) × (u.1 ≤ f.height + 1))
-        left_twice_is r = if_ok r (λ u is.
-            let tall = twice_height f.left.1 i.height i.left.1 i.right.1 f.height s.1 left_high left_near.0 left_near.1 bi.0 bi.1 high n.1 m.1 (joined_height _ _ n _ before) (joined_height _ _ m e left_behind) in
-            let same : u.1 ≡ max n.1 m.1 + 1 = joined_height _ _ u _ is in (
-              joined_entries _ _ u _ is ∙ ap (λ (l : List (K × V)). l ++ (i.key, i.value.value) ∷ m.0) (joined_entries _ _ n _ before)
-                  ∙ ap (λ (l : List (K × V)). (f.left.0 ++ (f.key, f.value.value) ∷ i.left.0) ++ (i.key, i.value.value) ∷ l) (joined_entries _ _ m e left_behind)
-                  ∙ sym (append_assoc (f.left.0 ++ (f.key, f.value.value) ∷ i.left.0) ((i.key, i.value.value) ∷ i.right.0) (e ∷ s.0))
-                  ∙ ap (λ (l : List (K × V)). l ++ e ∷ s.0) (append_assoc f.left.0 ((f.key, f.value.value) ∷ i.left.0) ((i.key, i.value.value) ∷ i.right.0))
-                  ∙ ap (λ (l : List (K × V)). (f.left.0 ++ (f.key, f.value.value) ∷ l) ++ e ∷ s.0) (ap (λ (x : List (K × V) × ℕ). x.0) top),
-              omega (arith, tall.0, same),
-              omega (arith, tall.1, same),
-            ))
-
-    -- and where the one on its left is
-    module _ (top : seen (Some i) ≡ f.left) (leans : f.right.1 < f.left.1) (few : length s.0 + length (seen (Some f)).0 + 1 < 2 ^ 64) (c : List (K × V) × ℕ) (copied : c ≡ i.left) where
-      inner_left : i.height ≡ f.left.1
-      inner_left = ap (λ (x : List (K × V) × ℕ). x.1) top
-
-      right_high : f.height ≡ i.height + 1
-      right_high = omega (arith, b.0, leans, inner_left)
-
-      right_near : (i.height ≤ f.right.1 + 2) × (f.right.1 < i.height)
-      right_near = (omega (arith, b.1.0, inner_left), omega (arith, leans, inner_left))
-
-      right_sides : i.height ≡ max i.right.1 i.left.1 + 1
-      right_sides = omega (arith, bi.0)
-
-      pub right_twice : DifferByAtMost 2 s.1 c.1 × (length s.0 + length c.0 + 1 < 2 ^ 64)
-      right_twice =
-          let near = (twice_below f.right.1 i.height i.right.1 i.left.1 f.height s.1 right_high right_near.0 right_near.1 right_sides (bi.1.1, bi.1.0) high).1 in
-          rw copied ((near.1, near.0), omega (arith, lengths f _ refl, lengths i _ top, few))
-
-      pub right_twice_other : DifferByAtMost 2 i.right.1 f.right.1 × (length i.right.0 + length f.right.0 + 1 < 2 ^ 64)
-      right_twice_other =
-          let near = (twice_below f.right.1 i.height i.right.1 i.left.1 f.height s.1 right_high right_near.0 right_near.1 right_sides (bi.1.1, bi.1.0) high).0 in
-          ((near.1, near.0), omega (arith, lengths f _ refl, lengths i _ top, few))
-
-      module _ (m n : List (K × V) × ℕ) (before : m ≡ (s.0 ++ e ∷ c.0, max s.1 c.1 + 1)) (behind : n ≡ (i.right.0 ++ (f.key, f.value.value) ∷ f.right.0, max i.right.1 f.right.1 + 1)) where
-        right_before : m ≡ (s.0 ++ e ∷ i.left.0, max s.1 i.left.1 + 1)
-        right_before = of_right s i.left m e c copied before
-
-        right_heights : (n.1 ≡ max f.right.1 i.right.1 + 1) × (m.1 ≡ max i.left.1 s.1 + 1)
-        right_heights = (omega (arith, joined_height _ _ n _ behind), omega (arith, joined_height _ _ m e right_before))
-
-        pub right_twice_next : DifferByAtMost 2 m.1 n.1 × (length m.0 + length n.0 + 1 < 2 ^ 64)
-        right_twice_next =
-            let near = twice_above f.right.1 i.height i.right.1 i.left.1 f.height s.1 right_high right_near.0 right_near.1 right_sides (bi.1.1, bi.1.0) high n.1 m.1 right_heights.0 right_heights.1 in
-            ((near.1, near.0), omega (arith, lengths f _ refl, lengths i _ top, joined_length _ _ n _ behind, joined_length _ _ m e right_before, few))
-
-        pub right_twice_is : {E : Type 0} (r : Result (List (K × V) × ℕ) E) → IfOk r (λ u. u ≡ (m.0 ++ (i.key, i.value.value) ∷ n.0, max m.1 n.1 + 1))
-            → IfOk r (λ u. (u.0 ≡ s.0 ++ e ∷ (seen (Some f)).0) × (f.height ≤ u.1) × (u.1 ≤ f.height + 1))
-        right_twice_is r = if_ok r (λ u is.
-            let tall = twice_height f.right.1 i.height i.right.1 i.left.1 f.height s.1 right_high right_near.0 right_near.1 right_sides (bi.1.1, bi.1.0) high n.1 m.1 right_heights.0 right_heights.1 in
-            let same : u.1 ≡ max m.1 n.1 + 1 = joined_height _ _ u _ is in
-            let rest : i.left.0 ++ ((i.key, i.value.value) ∷ (i.right.0 ++ (f.key, f.value.value) ∷ f.right.0)) ≡ f.left.0 ++ (f.key, f.value.value) ∷ f.right.0 =
-            sym (append_assoc i.left.0 ((i.key, i.value.value) ∷ i.right.0) ((f.key, f.value.value) ∷ f.right.0)) ∙ ap (λ (l : List (K × V)). l ++ (f.key, f.value.value) ∷ f.right.0) (entries_are i f.left top) in (
-              joined_entries _ _ u _ is ∙ ap (λ (l : List (K × V)). l ++ (i.key, i.value.value) ∷ n.0) (joined_entries _ _ m e right_before)
-                  ∙ ap (λ (l : List (K × V)). (s.0 ++ e ∷ i.left.0) ++ (i.key, i.value.value) ∷ l) (joined_entries _ _ n _ behind)
-                  ∙ append_assoc s.0 (e ∷ i.left.0) ((i.key, i.value.value) ∷ (i.right.0 ++ (f.key, f.value.value) ∷ f.right.0))
-                  ∙ ap (λ (l : List (K × V)). s.0 ++ e ∷ l) rest,
-              omega (arith, tall.0, same),
-              omega (arith, tall.1, same),
-            ))
 
 -- ---- a side of a node that has changed by one level at most
 
@@ -234,20 +182,12 @@ near_height side other old now h is level near within exact = elim (cases_lt now
   | inr ge ↦ (omega (arith, is, ge, near.0, near.1, within.0, within.1), omega (arith, is, ge, near.0, near.1, within.0, within.1))
 ]
 
-module _ {K V : Type 0} (f : Fork K V) (b : IsBalanced (Some f)) where
-  module _ (t c : List (K × V) × ℕ) (copied : c ≡ f.right) (level : DifferByAtMost 1 t.1 f.left.1) where
-    pub with_left_level : DifferByAtMost 3 t.1 c.1
-    with_left_level = rw copied (omega (arith, b.1.0, b.1.1, level.0, level.1), omega (arith, b.1.0, b.1.1, level.0, level.1))
+module _ {K V : Type 0} (f : Fork K V) (b : IsBalanced (Some f)) (on : Side) (t c : List (K × V) × ℕ) (copied : c ≡ side_on (opposite on) f) (level : DifferByAtMost 1 t.1 (side_on on f).1) where
+  pub with_side_level : DifferByAtMost 3 t.1 c.1
+  with_side_level =
+      let d = (balanced_on on f b).1 in
+      let high : c.1 ≡ (side_on (opposite on) f).1 = ap (λ (x : List (K × V) × ℕ). x.1) copied in
+      (omega (arith, d.0, d.1, high, level.0, level.1), omega (arith, d.0, d.1, high, level.0, level.1))
 
-    pub with_left_near : {E : Type 0} (v : V) (r : Result (List (K × V) × ℕ) E) → IfOk r (λ u. (u.0 ≡ t.0 ++ (f.key, v) ∷ c.0) × IsSettled t.1 c.1 u.1) → IfOk r (IsNear (t.0 ++ (f.key, v) ∷ f.right.0) f.height)
-    with_left_near v r = rw copied (if_ok r (λ u h. (h.0, near_height f.left.1 f.right.1 f.height t.1 u.1 b.0 b.1 level (h.1.0, h.1.1) h.1.2)))
-
-  module _ (t c : List (K × V) × ℕ) (copied : c ≡ f.left) (level : DifferByAtMost 1 t.1 f.right.1) where
-    pub with_right_level : DifferByAtMost 3 c.1 t.1
-    with_right_level = rw copied (omega (arith, b.1.0, b.1.1, level.0, level.1), omega (arith, b.1.0, b.1.1, level.0, level.1))
-
-    pub with_right_near : {E : Type 0} (k : K) (v : V) (r : Result (List (K × V) × ℕ) E) → IfOk r (λ u. (u.0 ≡ c.0 ++ (k, v) ∷ t.0) × IsSettled c.1 t.1 u.1) → IfOk r (IsNear (f.left.0 ++ (k, v) ∷ t.0) f.height)
-    with_right_near k v r = rw copied (if_ok r (λ u h. (
-      h.0,
-      near_height f.right.1 f.left.1 f.height t.1 u.1 (omega (arith, b.0)) (b.1.1, b.1.0) level (omega (arith, h.1.0), omega (arith, h.1.1)) (λ d. omega (arith, h.1.2 (d.1, d.0))),
-    )))
+  pub with_side_near : {E : Type 0} (e : K × V) (r : Result (List (K × V) × ℕ) E) → IfOk r (λ u. (u.0 ≡ in_order on t.0 e c.0) × IsSettled t.1 c.1 u.1) → IfOk r (IsNear (in_order on t.0 e (side_on (opposite on) f).0) f.height)
+  with_side_near e r = rw copied (if_ok r (λ u h. (h.0, near_height (side_on on f).1 (side_on (opposite on) f).1 f.height t.1 u.1 (balanced_on on f b).0 (balanced_on on f b).1 level (h.1.0, h.1.1) h.1.2)))

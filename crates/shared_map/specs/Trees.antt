@@ -2,7 +2,11 @@
 use Rattle.std.specs.Prelude.{◌≡◌, ℕ, ◌+◌, ◌*◌, ◌^◌, ◌≤◌, max, List, [], ◌∷◌, ◌++◌, length, Option, Some, None}
 use Rattle.std.specs.declared.alloc.Global.{Global}
 use Rattle.std.specs.declared.sync.Arc.{Arc}
+use Rattle.std.specs.declared.cmp.Ordering.{Ordering}
+use Rattle.std.specs.declared.cmp.Ordering.TheVariants.{Less, Equal, Greater}
 use Rattle.shared_map.specs.declared.tree.Fork.{Fork}
+use Rattle.shared_map.specs.declared.tree.Side.{Side}
+use Rattle.shared_map.specs.declared.tree.Side.TheVariants.{Left, Right}
 
 -- neither height is more than this above the other
 abbrev pub DifferByAtMost : ℕ → ℕ → ℕ → Type 0
@@ -16,7 +20,42 @@ IsLow entries height = 2 ^ height ≤ (entries + 1) * (entries + 1)
 abbrev pub IsSettled : ℕ → ℕ → ℕ → Type 0
 IsSettled l r h = (max l r ≤ h) × (h ≤ max l r + 1) × (DifferByAtMost 1 l r → h ≡ max l r + 1)
 
+-- the other side
+abbrev pub opposite : Side → Side
+opposite Left = Right
+opposite Right = Left
+
+-- on which side of an entry a key is that compares so with the entry's
+abbrev pub side_to : Ordering → Option Side
+side_to Less = Some Left
+side_to Equal = None
+side_to Greater = Some Right
+
+-- the entries xs on this side, an entry, and those on the other side, in order
+abbrev pub in_order : {A : Type 0} → Side → List A → A → List A → List A
+in_order Left xs e ys = xs ++ e ∷ ys
+in_order Right xs e ys = ys ++ e ∷ xs
+
+-- the heights o and n of the sides of a node that was of height h, and that may be turned away from the side of height o
+abbrev pub IsStraight : ℕ → ℕ → ℕ → Type 0
+IsStraight h o n = (h ≤ o + 2) × (o + 1 ≤ h) × (h ≤ n + 4) × (n + 1 ≤ h) × (h ≤ max o (n + 1) + 1)
+
 module _ {K V : Type 0} where
+  -- this side of a node
+  abbrev pub side_on : Side → Fork K V → List (K × V) × ℕ
+  side_on Left f = f.left
+  side_on Right f = f.right
+
+  -- the node with another side there
+  abbrev pub with_side : Side → List (K × V) × ℕ → Fork K V → Fork K V
+  with_side Left t f = record f { left = t }
+  with_side Right t f = record f { right = t }
+
+  -- the node with o on this side and n on the other one
+  abbrev pub of_parts : Side → List (K × V) × ℕ → K → Arc V Global → ℕ → List (K × V) × ℕ → Fork K V
+  of_parts Left o k v h n = record { left = o; key = k; value = v; height = h; right = n }
+  of_parts Right o k v h n = record { left = n; key = k; value = v; height = h; right = o }
+
   -- the entries in order, and the height
   abbrev pub seen : Option (Fork K V) → List (K × V) × ℕ
   seen None = ([], 0)

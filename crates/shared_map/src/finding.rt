@@ -6,9 +6,9 @@ ghost use Rattle.std.specs.Ordering.{eq_by_cmp, is_le};
 ghost use Rattle.std.specs.FinMap.Entries.{find as value_at, put, where_key, is_sorted};
 ghost use Rattle.shared_map.specs.Trees.{IsBalanced, IsNear};
 
-use crate::joining::{balanced, joined, with_left, with_right, with_value};
+use crate::joining::{joined, with_side, with_value};
 use crate::key::{MapKey, Sought};
-use crate::tree::{Fork, Tree};
+use crate::tree::{Fork, Side, Tree};
 use ivy_base::Memory;
 use std::alloc::Global;
 use std::cmp::Ordering;
@@ -50,17 +50,11 @@ impl<K: MapKey + Drop, V: Drop> Tree<K, V> {
         let Some(at) = self.top() else {
             return alone(alloc, key, value);
         };
-        match key.compare(&at.key) {
-            Ordering::Less => {
-                let left = at.left.with(alloc, key, value)?;
-                with_left(alloc, at, left)
-            }
-            Ordering::Equal => with_value(alloc, at, value),
-            Ordering::Greater => {
-                let right = at.right.with(alloc, key, value)?;
-                with_right(alloc, at, right)
-            }
-        }
+        let Some(on) = Side::to(key.compare(&at.key)) else {
+            return with_value(alloc, at, value);
+        };
+        let side = at.on(on).with(alloc, key, value)?;
+        with_side(alloc, at, on, side, &at.key, &at.value)
     }
 
     /// The entries but the one of that key. The error is want of memory.
@@ -72,17 +66,11 @@ impl<K: MapKey + Drop, V: Drop> Tree<K, V> {
         let Some(at) = self.top() else {
             return Ok(Tree::new());
         };
-        match key.compare_with(&at.key) {
-            Ordering::Less => {
-                let left = at.left.without(alloc, key)?;
-                with_left(alloc, at, left)
-            }
-            Ordering::Equal => without_top(alloc, at),
-            Ordering::Greater => {
-                let right = at.right.without(alloc, key)?;
-                with_right(alloc, at, right)
-            }
-        }
+        let Some(on) = Side::to(key.compare_with(&at.key)) else {
+            return without_top(alloc, at);
+        };
+        let side = at.on(on).without(alloc, key)?;
+        with_side(alloc, at, on, side, &at.key, &at.value)
     }
 }
 
@@ -113,7 +101,7 @@ impl<K: MapKey + Drop, V: Drop> Tree<K, V> {
             return at.right.copy();
         };
         let left = at.left.without_first(alloc)?;
-        with_left(alloc, at, left)
+        with_side(alloc, at, Side::Left, left, &at.key, &at.value)
     }
 }
 
@@ -141,5 +129,5 @@ fn without_top<K: MapKey + Drop, V: Drop>(
         return at.left.copy();
     };
     let right = at.right.without_first(alloc)?;
-    balanced(alloc, at.left.copy()?, key, value, right)
+    with_side(alloc, at, Side::Right, right, key, value)
 }

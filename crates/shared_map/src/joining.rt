@@ -1,40 +1,34 @@
 //! Nodes over two sides: how trees are put together so that they stay balanced.
+//!
+//! What is done on the left is done on the right in the same way, so functions are told which side is meant: a tree stands
+//! on that side, and the other tree on the other one.
 
 ghost use Rattle.std.specs.Prelude.{◌≡◌, ◌+◌, ◌^◌, ◌<◌, ◌≤◌, max, ◌∷◌, ◌++◌, length, IfOk, Some};
-ghost use Rattle.shared_map.specs.Trees.{seen, IsBalanced, IsLow, IsNear, IsSettled, DifferByAtMost};
+ghost use Rattle.shared_map.specs.Trees.{seen, side_on, opposite, in_order, IsBalanced, IsLow, IsNear, IsSettled, DifferByAtMost};
 
 use crate::key::MapKey;
-use crate::tree::{Fork, Tree};
+use crate::tree::{Fork, Side, Tree};
 use ivy_base::Memory;
 use std::alloc::Global;
 use std::sync::Arc;
 
-/// The node's entries with others before its own. The error is want of memory.
-pub fn with_left<K: MapKey + Drop, V: Drop>(
+/// The entries of one tree on that side of a node, those on its other side, and one between them, which is shared. The
+/// error is want of memory.
+pub fn with_side<K: MapKey + Drop, V: Drop>(
     alloc: Global,
     at: &Fork<K, V>,
-    left: Tree<K, V>,
+    on: Side,
+    side: Tree<K, V>,
+    key: &K,
+    value: &Arc<V>,
 ) -> Result<Tree<K, V>, Memory>
     requires sides { IsBalanced (Some at.now) }
-    requires level { DifferByAtMost 1 left.1 at.now.left.1 }
-    requires few { length left.0 + length at.now.right.0 + 1 < 2 ^ 64 }
-    ensures { IfOk result (IsNear (left.0 ++ (at.now.key, at.now.value.value) ∷ at.now.right.0) at.now.height) }
+    requires level { DifferByAtMost 1 side.1 (side_on on at.now).1 }
+    requires few { length side.0 + length (side_on (opposite on) at.now).0 + 1 < 2 ^ 64 }
+    ensures { IfOk result (IsNear (in_order on side.0 (key.now, value.now.value) (side_on (opposite on) at.now).0) at.now.height) }
 {
-    balanced(alloc, left, &at.key, &at.value, at.right.copy()?)
-}
-
-/// The node's entries with others behind its own. The error is want of memory.
-pub fn with_right<K: MapKey + Drop, V: Drop>(
-    alloc: Global,
-    at: &Fork<K, V>,
-    right: Tree<K, V>,
-) -> Result<Tree<K, V>, Memory>
-    requires sides { IsBalanced (Some at.now) }
-    requires level { DifferByAtMost 1 right.1 at.now.right.1 }
-    requires few { length at.now.left.0 + length right.0 + 1 < 2 ^ 64 }
-    ensures { IfOk result (IsNear (at.now.left.0 ++ (at.now.key, at.now.value.value) ∷ right.0) at.now.height) }
-{
-    balanced(alloc, at.left.copy()?, &at.key, &at.value, right)
+    let other = at.on(on.other()).copy()?;
+    balanced(alloc, on, side, key, value, other)
 }
 
 /// The node's entries with another value under its key. The error is want of memory.
@@ -47,7 +41,7 @@ pub fn with_value<K: MapKey + Drop, V: Drop>(
     requires few { length at.now.left.0 + length at.now.right.0 + 1 < 2 ^ 64 }
     ensures { IfOk result (IsNear (at.now.left.0 ++ (at.now.key, value.now.value) ∷ at.now.right.0) at.now.height) }
 {
-    joined_anew(alloc, &at.left, &at.key, value, &at.right)
+    joined_anew(alloc, Side::Left, &at.left, &at.key, value, &at.right)
 }
 
 /// One above the higher of two sides that one node can have.
@@ -93,162 +87,143 @@ fn shared_entry<K: MapKey + Drop, V: Drop>(key: &K, value: &Arc<V>) -> Result<(K
     Ok((key.share()?, value.clone()?))
 }
 
-// The entries of two sides of about one height, all of which is shared, with one between them. The error is want of memory.
+// The same, of a tree on that side and another one.
+fn joined_on<K: MapKey + Drop, V: Drop>(
+    alloc: Global,
+    on: Side,
+    side: Tree<K, V>,
+    key: &K,
+    value: &Arc<V>,
+    other: Tree<K, V>,
+) -> Result<Tree<K, V>, Memory>
+    requires level { DifferByAtMost 2 side.1 other.1 }
+    requires few { length side.0 + length other.0 + 1 < 2 ^ 64 }
+    ensures { IfOk result (λ t. t ≡ (in_order on side.0 (key.now, value.now.value) other.0, max side.1 other.1 + 1)) }
+{
+    match on {
+        Side::Left => joined(alloc, side, key, value, other),
+        Side::Right => joined(alloc, other, key, value, side),
+    }
+}
+
+// The same, where the tree on that side is shared.
+fn joined_beside<K: MapKey + Drop, V: Drop>(
+    alloc: Global,
+    on: Side,
+    side: &Tree<K, V>,
+    key: &K,
+    value: &Arc<V>,
+    other: Tree<K, V>,
+) -> Result<Tree<K, V>, Memory>
+    requires level { DifferByAtMost 2 side.now.1 other.1 }
+    requires few { length side.now.0 + length other.0 + 1 < 2 ^ 64 }
+    ensures { IfOk result (λ t. t ≡ (in_order on side.now.0 (key.now, value.now.value) other.0, max side.now.1 other.1 + 1)) }
+{
+    let side = side.copy()?;
+    joined_on(alloc, on, side, key, value, other)
+}
+
+// The same, where both are shared.
 fn joined_anew<K: MapKey + Drop, V: Drop>(
     alloc: Global,
-    left: &Tree<K, V>,
+    on: Side,
+    side: &Tree<K, V>,
     key: &K,
     value: &Arc<V>,
-    right: &Tree<K, V>,
+    other: &Tree<K, V>,
 ) -> Result<Tree<K, V>, Memory>
-    requires level { DifferByAtMost 2 left.now.1 right.now.1 }
-    requires few { length left.now.0 + length right.now.0 + 1 < 2 ^ 64 }
-    ensures { IfOk result (λ t. t ≡ (left.now.0 ++ (key.now, value.now.value) ∷ right.now.0, max left.now.1 right.now.1 + 1)) }
+    requires level { DifferByAtMost 2 side.now.1 other.now.1 }
+    requires few { length side.now.0 + length other.now.0 + 1 < 2 ^ 64 }
+    ensures { IfOk result (λ t. t ≡ (in_order on side.now.0 (key.now, value.now.value) other.now.0, max side.now.1 other.now.1 + 1)) }
 {
-    joined(alloc, left.copy()?, key, value, right.copy()?)
+    let other = other.copy()?;
+    joined_beside(alloc, on, side, key, value, other)
 }
 
-/// The entries of two sides whose heights differ by three at most, with one between them, which is shared. The error is
-/// want of memory.
+/// The entries of a tree on that side and of another one, whose heights differ by three at most, with one between them,
+/// which is shared. The error is want of memory.
 pub fn balanced<K: MapKey + Drop, V: Drop>(
     alloc: Global,
-    left: Tree<K, V>,
+    on: Side,
+    side: Tree<K, V>,
     key: &K,
     value: &Arc<V>,
-    right: Tree<K, V>,
+    other: Tree<K, V>,
 ) -> Result<Tree<K, V>, Memory>
-    requires level { DifferByAtMost 3 left.1 right.1 }
-    requires few { length left.0 + length right.0 + 1 < 2 ^ 64 }
-    ensures { IfOk result (λ t. (t.0 ≡ left.0 ++ (key.now, value.now.value) ∷ right.0) × IsSettled left.1 right.1 t.1) }
+    requires level { DifferByAtMost 3 side.1 other.1 }
+    requires few { length side.0 + length other.0 + 1 < 2 ^ 64 }
+    ensures { IfOk result (λ t. (t.0 ≡ in_order on side.0 (key.now, value.now.value) other.0) × IsSettled side.1 other.1 t.1) }
 {
-    let (on_left, on_right) = (left.height(), right.height());
-    if on_left > on_right.saturating_add(1) {
-        from_left(alloc, &left, key, value, right)
-    } else if on_right > on_left.saturating_add(1) {
-        from_right(alloc, left, key, value, &right)
+    let (height, beside) = (side.height(), other.height());
+    if height > beside.saturating_add(1) {
+        lowered(alloc, on, &side, key, value, other)
+    } else if beside > height.saturating_add(1) {
+        lowered(alloc, on.other(), &other, key, value, side)
     } else {
-        joined(alloc, left, key, value, right)
+        joined_on(alloc, on, side, key, value, other)
     }
 }
 
-// The same, of a left side that is two or three higher. The error is want of memory.
-fn from_left<K: MapKey + Drop, V: Drop>(
+// The same, of a tree that is two or three higher than the other one.
+fn lowered<K: MapKey + Drop, V: Drop>(
     alloc: Global,
-    left: &Tree<K, V>,
+    on: Side,
+    side: &Tree<K, V>,
     key: &K,
     value: &Arc<V>,
-    right: Tree<K, V>,
+    other: Tree<K, V>,
 ) -> Result<Tree<K, V>, Memory>
-    requires higher { (right.1 + 2 ≤ left.now.1) × (left.now.1 ≤ right.1 + 3) }
-    requires few { length left.now.0 + length right.0 + 1 < 2 ^ 64 }
-    ensures { IfOk result (λ t. (t.0 ≡ left.now.0 ++ (key.now, value.now.value) ∷ right.0) × (left.now.1 ≤ t.1) × (t.1 ≤ left.now.1 + 1)) }
+    requires higher { (other.1 + 2 ≤ side.now.1) × (side.now.1 ≤ other.1 + 3) }
+    requires few { length side.now.0 + length other.0 + 1 < 2 ^ 64 }
+    ensures { IfOk result (λ t. (t.0 ≡ in_order on side.now.0 (key.now, value.now.value) other.0) × (side.now.1 ≤ t.1) × (t.1 ≤ side.now.1 + 1)) }
 {
-    let Some(at) = left.top() else { unreachable!() };
-    if at.left.height() < at.right.height() {
-        from_left_twice(alloc, at, key, value, right)
+    let Some(at) = side.top() else { unreachable!() };
+    if at.on(on).height() < at.on(on.other()).height() {
+        lowered_twice(alloc, on, at, key, value, other)
     } else {
-        from_left_once(alloc, at, key, value, right)
+        lowered_once(alloc, on, at, key, value, other)
     }
 }
 
-// The same, of that side's node, whose left side is as high as its right one or higher.
-fn from_left_once<K: MapKey + Drop, V: Drop>(
+// The same, of that tree's node, which isn't higher towards the other tree.
+fn lowered_once<K: MapKey + Drop, V: Drop>(
     alloc: Global,
+    on: Side,
     at: &Fork<K, V>,
     key: &K,
     value: &Arc<V>,
-    right: Tree<K, V>,
+    other: Tree<K, V>,
 ) -> Result<Tree<K, V>, Memory>
     requires balanced { IsBalanced (Some at.now) }
-    requires higher { (right.1 + 2 ≤ at.now.height) × (at.now.height ≤ right.1 + 3) }
-    requires leans { at.now.right.1 ≤ at.now.left.1 }
-    requires few { length (seen (Some at.now)).0 + length right.0 + 1 < 2 ^ 64 }
-    ensures { IfOk result (λ t. (t.0 ≡ (seen (Some at.now)).0 ++ (key.now, value.now.value) ∷ right.0) × (at.now.height ≤ t.1) × (t.1 ≤ at.now.height + 1)) }
+    requires higher { (other.1 + 2 ≤ at.now.height) × (at.now.height ≤ other.1 + 3) }
+    requires leans { (side_on (opposite on) at.now).1 ≤ (side_on on at.now).1 }
+    requires few { length (seen (Some at.now)).0 + length other.0 + 1 < 2 ^ 64 }
+    ensures { IfOk result (λ t. (t.0 ≡ in_order on (seen (Some at.now)).0 (key.now, value.now.value) other.0) × (at.now.height ≤ t.1) × (t.1 ≤ at.now.height + 1)) }
 {
-    let right = joined(alloc, at.right.copy()?, key, value, right)?;
-    joined(alloc, at.left.copy()?, &at.key, &at.value, right)
+    let other = joined_beside(alloc, on, at.on(on.other()), key, value, other)?;
+    joined_beside(alloc, on, at.on(on), &at.key, &at.value, other)
 }
 
-// The same, of that side's node, whose right side is higher than its left one.
-fn from_left_twice<K: MapKey + Drop, V: Drop>(
+// The same, of that tree's node, which is higher towards the other tree.
+fn lowered_twice<K: MapKey + Drop, V: Drop>(
     alloc: Global,
+    on: Side,
     at: &Fork<K, V>,
     key: &K,
     value: &Arc<V>,
-    right: Tree<K, V>,
+    other: Tree<K, V>,
 ) -> Result<Tree<K, V>, Memory>
     requires balanced { IsBalanced (Some at.now) }
-    requires higher { (right.1 + 2 ≤ at.now.height) × (at.now.height ≤ right.1 + 3) }
-    requires leans { at.now.left.1 < at.now.right.1 }
-    requires few { length (seen (Some at.now)).0 + length right.0 + 1 < 2 ^ 64 }
-    ensures { IfOk result (λ t. (t.0 ≡ (seen (Some at.now)).0 ++ (key.now, value.now.value) ∷ right.0) × (at.now.height ≤ t.1) × (t.1 ≤ at.now.height + 1)) }
+    requires higher { (other.1 + 2 ≤ at.now.height) × (at.now.height ≤ other.1 + 3) }
+    requires leans { (side_on on at.now).1 < (side_on (opposite on) at.now).1 }
+    requires few { length (seen (Some at.now)).0 + length other.0 + 1 < 2 ^ 64 }
+    ensures { IfOk result (λ t. (t.0 ≡ in_order on (seen (Some at.now)).0 (key.now, value.now.value) other.0) × (at.now.height ≤ t.1) × (t.1 ≤ at.now.height + 1)) }
 {
-    let Some(inner) = at.right.top() else {
+    let away = on.other();
+    let Some(inner) = at.on(away).top() else {
         unreachable!()
     };
-    let right = joined(alloc, inner.right.copy()?, key, value, right)?;
-    let left = joined_anew(alloc, &at.left, &at.key, &at.value, &inner.left)?;
-    joined(alloc, left, &inner.key, &inner.value, right)
-}
-
-// The same, of a right side that is two or three higher. The error is want of memory.
-fn from_right<K: MapKey + Drop, V: Drop>(
-    alloc: Global,
-    left: Tree<K, V>,
-    key: &K,
-    value: &Arc<V>,
-    right: &Tree<K, V>,
-) -> Result<Tree<K, V>, Memory>
-    requires higher { (left.1 + 2 ≤ right.now.1) × (right.now.1 ≤ left.1 + 3) }
-    requires few { length left.0 + length right.now.0 + 1 < 2 ^ 64 }
-    ensures { IfOk result (λ t. (t.0 ≡ left.0 ++ (key.now, value.now.value) ∷ right.now.0) × (right.now.1 ≤ t.1) × (t.1 ≤ right.now.1 + 1)) }
-{
-    let Some(at) = right.top() else {
-        unreachable!()
-    };
-    if at.right.height() < at.left.height() {
-        from_right_twice(alloc, left, key, value, at)
-    } else {
-        from_right_once(alloc, left, key, value, at)
-    }
-}
-
-// The same, of that side's node, whose right side is as high as its left one or higher.
-fn from_right_once<K: MapKey + Drop, V: Drop>(
-    alloc: Global,
-    left: Tree<K, V>,
-    key: &K,
-    value: &Arc<V>,
-    at: &Fork<K, V>,
-) -> Result<Tree<K, V>, Memory>
-    requires balanced { IsBalanced (Some at.now) }
-    requires higher { (left.1 + 2 ≤ at.now.height) × (at.now.height ≤ left.1 + 3) }
-    requires leans { at.now.left.1 ≤ at.now.right.1 }
-    requires few { length left.0 + length (seen (Some at.now)).0 + 1 < 2 ^ 64 }
-    ensures { IfOk result (λ t. (t.0 ≡ left.0 ++ (key.now, value.now.value) ∷ (seen (Some at.now)).0) × (at.now.height ≤ t.1) × (t.1 ≤ at.now.height + 1)) }
-{
-    let left = joined(alloc, left, key, value, at.left.copy()?)?;
-    joined(alloc, left, &at.key, &at.value, at.right.copy()?)
-}
-
-// The same, of that side's node, whose left side is higher than its right one.
-fn from_right_twice<K: MapKey + Drop, V: Drop>(
-    alloc: Global,
-    left: Tree<K, V>,
-    key: &K,
-    value: &Arc<V>,
-    at: &Fork<K, V>,
-) -> Result<Tree<K, V>, Memory>
-    requires balanced { IsBalanced (Some at.now) }
-    requires higher { (left.1 + 2 ≤ at.now.height) × (at.now.height ≤ left.1 + 3) }
-    requires leans { at.now.right.1 < at.now.left.1 }
-    requires few { length left.0 + length (seen (Some at.now)).0 + 1 < 2 ^ 64 }
-    ensures { IfOk result (λ t. (t.0 ≡ left.0 ++ (key.now, value.now.value) ∷ (seen (Some at.now)).0) × (at.now.height ≤ t.1) × (t.1 ≤ at.now.height + 1)) }
-{
-    let Some(inner) = at.left.top() else {
-        unreachable!()
-    };
-    let left = joined(alloc, left, key, value, inner.left.copy()?)?;
-    let right = joined_anew(alloc, &inner.right, &at.key, &at.value, &at.right)?;
-    joined(alloc, left, &inner.key, &inner.value, right)
+    let other = joined_beside(alloc, on, inner.on(away), key, value, other)?;
+    let side = joined_anew(alloc, on, at.on(on), &at.key, &at.value, inner.on(on))?;
+    joined_on(alloc, on, side, &inner.key, &inner.value, other)
 }

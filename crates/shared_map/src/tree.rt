@@ -2,12 +2,14 @@
 
 ghost use Rattle.std.specs.Prelude.{◌≡◌, [], length, IfOk, Some};
 ghost use Rattle.std.specs.Option.{option_copied};
-ghost use Rattle.shared_map.specs.Trees.{seen, top as top_of, IsBalanced, IsLow};
+ghost use Rattle.shared_map.specs.Trees.{seen, top as top_of, side_on, with_side, opposite, side_to, IsBalanced, IsLow};
 
 use crate::key::MapKey;
 use ivy_base::Memory;
 use std::alloc::{AllocError, Global};
+use std::cmp::Ordering;
 use std::marker::Model;
+use std::mem;
 use std::sync::Arc;
 
 /// Entries in order, as a tree; seen as their list, and the tree's height.
@@ -26,6 +28,38 @@ pub struct Fork<K, V> {
     pub value: Arc<V>,
     pub height: u8,
     pub right: Tree<K, V>,
+}
+
+/// A side of a node.
+#[derive(Clone, Copy)]
+pub enum Side {
+    /// Where the entries before the node's own are.
+    Left,
+    /// Where those behind it are.
+    Right,
+}
+
+impl Side {
+    /// The side of an entry on which a key is that compares so with the entry's, unless they are equal.
+    pub fn to(order: Ordering) -> Option<Side>
+        ensures { result ≡ side_to order }
+    {
+        match order {
+            Ordering::Less => Some(Side::Left),
+            Ordering::Equal => None,
+            Ordering::Greater => Some(Side::Right),
+        }
+    }
+
+    /// The other side.
+    pub fn other(self) -> Side
+        ensures { result ≡ opposite self }
+    {
+        match self {
+            Side::Left => Side::Right,
+            Side::Right => Side::Left,
+        }
+    }
 }
 
 impl<K, V> Model for Tree<K, V> {
@@ -87,6 +121,16 @@ impl<K: Drop, V: Drop> Tree<K, V> {
         self.root.take()
     }
 
+    /// The node at the top, without the tree around it.
+    pub fn into_top(self) -> Option<Arc<Fork<K, V>>>
+        ensures top { seen (top_of result) ≡ self }
+        ensures balanced { IsBalanced (top_of result) }
+        ensures low { IsLow (length self.0) self.1 }
+    {
+        let Tree { root } = self;
+        root
+    }
+
     /// How high the tree is.
     pub fn height(&self) -> u8
         ensures height { result ≡ self.now.1 }
@@ -105,6 +149,39 @@ impl<K: Drop, V: Drop> Tree<K, V> {
         ensures { result ≡ seen (Some fork.value) }
     {
         Tree { root: Some(fork) }
+    }
+}
+
+impl<K: Drop, V: Drop> Fork<K, V> {
+    /// This side.
+    pub fn on(&self, side: Side) -> &Tree<K, V>
+        ensures { result.now ≡ side_on side self.now }
+    {
+        match side {
+            Side::Left => &self.left,
+            Side::Right => &self.right,
+        }
+    }
+
+    /// Takes this side out, so that nothing is left there.
+    pub fn take(&mut self, side: Side) -> Tree<K, V>
+        ensures side { result ≡ side_on side self.old }
+        ensures rest { self.new ≡ with_side side ([], 0) self.old }
+    {
+        match side {
+            Side::Left => mem::replace(&mut self.left, Tree::new()),
+            Side::Right => mem::replace(&mut self.right, Tree::new()),
+        }
+    }
+
+    /// Puts the tree on this side.
+    pub fn set(&mut self, side: Side, tree: Tree<K, V>)
+        ensures { self.new ≡ with_side side tree self.old }
+    {
+        match side {
+            Side::Left => self.left = tree,
+            Side::Right => self.right = tree,
+        }
     }
 }
 

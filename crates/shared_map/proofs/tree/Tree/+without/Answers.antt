@@ -1,59 +1,35 @@
-use Rattle.std.proofs.Common.{rules, not, sym, arith}
+use Rattle.std.proofs.Common.{rules, ◌≡◌, ◌<◌, T, not, length, ap, subst, ◌∙◌, arith}
 use Rattle.std.specs.Ordering.{eq_by_cmp}
+use Rattle.std.specs.FinMap.Entries.{where_key, is_sorted}
+use Rattle.shared_map.specs.Trees.{side_on, side_to, IsNear}
 use Rattle.shared_map.proofs.Sides.{length_where}
-use Rattle.shared_map.proofs.Forks.{shorter, sorted_sides, without_left, without_here, without_right, near_is, near_left, near_right, fewer_left, fewer_right, few_sides, height_is}
+use Rattle.shared_map.proofs.Forks.{shorter_side, sorted_side, without_side, without_own, near_is, near_side, fewer_side, few_sides, height_is}
 use Rattle.shared_map.proofs.tree.Tree.+without.Goals as goal
-
-pub without-requires : goal.without-requires
-without-requires g t c =
-    let f = c.in-Some.at.now in
-    let short = shorter f c.args.self.now c.in-Some.ensures.top in
-    let sorted = sorted_sides f c.args.self.now c.in-Some.ensures.top g.K.MapKey.order g.met.K.MapKey.total c.requires.ordered in
-    λ κs h. (search rules, (h.0, (h.1.0, (h.1.1, (sorted.0, omega (arith, short.0, c.requires.few))))))
-
-pub without-requires-in-Greater : goal.without-requires-in-Greater
-without-requires-in-Greater g t c =
-    let f = c.in-Some.at.now in
-    let short = shorter f c.args.self.now c.in-Some.ensures.top in
-    let sorted = sorted_sides f c.args.self.now c.in-Some.ensures.top g.K.MapKey.order g.met.K.MapKey.total c.requires.ordered in
-    λ κs h. (search rules, (h.0, (h.1.0, (h.1.1, (sorted.1, omega (arith, short.1, c.requires.few))))))
-
-pub with_left-requires : goal.with_left-requires
-with_left-requires g t c =
-    let near = c.in_ok-left-in-Less.ensures in
-    record {
-      sides = c.in-Some.ensures.balanced;
-      level = near.1;
-      few = fewer_left c.in-Some.at.now c.args.self.now c.in-Some.ensures.top _ c.in_ok-left-in-Less.left near (length_where g.K.MapKey.order (λ x. not (eq_by_cmp g.K.MapKey.order (g.Q.Sought.key c.args.key.now) x)) _) c.requires.few;
-    }
 
 pub without_top-requires : goal.without_top-requires
 without_top-requires g t c = record { sides = c.in-Some.ensures.balanced; few = few_sides c.in-Some.at.now c.args.self.now c.in-Some.ensures.top c.requires.few }
 
-pub with_right-requires : goal.with_right-requires
-with_right-requires g t c =
-    let near = c.in_ok-right-in-Greater.ensures in
+pub without-requires : goal.without-requires
+without-requires g t c =
+    let is : c.on.result.now ≡ side_on c.in-Some-to.on c.in-Some.at.now = c.on.ensures in
+    let short : length c.on.result.now.0 < length c.args.self.now.0 = omega (arith, shorter_side c.in-Some.at.now c.args.self.now c.in-Some.ensures.top c.in-Some-to.on, ap (λ x. length x.0) is) in
+    let sorted : T (is_sorted g.K.MapKey.order c.on.result.now.0) = rw is (sorted_side c.in-Some.at.now c.args.self.now c.in-Some.ensures.top g.K.MapKey.order g.met.K.MapKey.total c.requires.ordered c.in-Some-to.on) in
+    λ κs h. (search rules, (h.0, (h.1.0, (h.1.1, (sorted, omega (arith, short, c.requires.few))))))
+
+pub with_side-requires : goal.with_side-requires
+with_side-requires g t c =
+    let near = subst (λ x. IsNear (where_key g.K.MapKey.order (λ k. not (eq_by_cmp g.K.MapKey.order (g.Q.Sought.key c.args.key.now) k)) x.0) x.1 c.in_ok-side.side) c.on.ensures c.in_ok-side.ensures in
     record {
       sides = c.in-Some.ensures.balanced;
       level = near.1;
-      few = fewer_right c.in-Some.at.now c.args.self.now c.in-Some.ensures.top _ c.in_ok-right-in-Greater.right near (length_where g.K.MapKey.order (λ x. not (eq_by_cmp g.K.MapKey.order (g.Q.Sought.key c.args.key.now) x)) _) c.requires.few;
+      few = fewer_side c.in-Some.at.now c.args.self.now c.in-Some.ensures.top c.in-Some-to.on _ c.in_ok-side.side near (length_where g.K.MapKey.order (λ x. not (eq_by_cmp g.K.MapKey.order (g.Q.Sought.key c.args.key.now) x)) _) c.requires.few;
     }
 
-pub returns-in_ok-left-in-Less : goal.returns-in_ok-left-in-Less
-returns-in_ok-left-in-Less g t c =
-    let lt = sym c.in-Less.ensures in
-    near_left c.in-Some.at.now c.args.self.now c.in-Some.ensures.top _ _ c.in_ok-left-in-Less.left c.in_ok-left-in-Less.ensures
-    (without_left c.in-Some.at.now c.args.self.now c.in-Some.ensures.top g.K.MapKey.order g.met.K.MapKey.total c.requires.ordered (g.Q.Sought.key c.args.key.now) lt) c.with_left.result c.with_left.ensures
+pub returns-in_default-to : goal.returns-in_default-to
+returns-in_default-to g t c =
+    near_is c.without_top.result _ _ _ _ (without_own c.in-Some.at.now c.args.self.now c.in-Some.ensures.top g.K.MapKey.order g.met.K.MapKey.total c.requires.ordered (g.Q.Sought.key c.args.key.now) c.to.result (c.to.ensures ∙ ap side_to c.compare_with.ensures) c.in_default-to.is) (height_is c.in-Some.at.now c.args.self.now c.in-Some.ensures.top) c.without_top.ensures
 
-pub returns-in-Equal : goal.returns-in-Equal
-returns-in-Equal g t c =
-    let eq = sym c.in-Equal.ensures in
-    near_is c.without_top.result _ _ _ _
-    (without_here c.in-Some.at.now c.args.self.now c.in-Some.ensures.top g.K.MapKey.order g.met.K.MapKey.total c.requires.ordered (g.Q.Sought.key c.args.key.now) eq)
-    (height_is c.in-Some.at.now c.args.self.now c.in-Some.ensures.top) c.without_top.ensures
-
-pub returns-in_ok-right-in-Greater : goal.returns-in_ok-right-in-Greater
-returns-in_ok-right-in-Greater g t c =
-    let gt = sym c.in-Greater.ensures in
-    near_right c.in-Some.at.now c.args.self.now c.in-Some.ensures.top _ _ c.in_ok-right-in-Greater.right c.in_ok-right-in-Greater.ensures
-    (without_right c.in-Some.at.now c.args.self.now c.in-Some.ensures.top g.K.MapKey.order g.met.K.MapKey.total c.requires.ordered (g.Q.Sought.key c.args.key.now) gt) c.with_right.result c.with_right.ensures
+pub returns : goal.returns
+returns g t c =
+    let near = subst (λ x. IsNear (where_key g.K.MapKey.order (λ k. not (eq_by_cmp g.K.MapKey.order (g.Q.Sought.key c.args.key.now) k)) x.0) x.1 c.in_ok-side.side) c.on.ensures c.in_ok-side.ensures in
+    near_side c.in-Some.at.now c.args.self.now c.in-Some.ensures.top c.in-Some-to.on _ _ c.in_ok-side.side near (without_side c.in-Some.at.now c.args.self.now c.in-Some.ensures.top g.K.MapKey.order g.met.K.MapKey.total c.requires.ordered (g.Q.Sought.key c.args.key.now) c.to.result (c.to.ensures ∙ ap side_to c.compare_with.ensures) c.in-Some-to.on c.in-Some-to.is) c.with_side.result c.with_side.ensures
