@@ -115,7 +115,7 @@ impl<K: MapKey + Drop, V: Drop> SharedMap<K, V> {
             return Err(Memory);
         }
         let value = Arc::new(alloc, value)?;
-        let old = self.tree.insert(alloc, key, value, rest)?;
+        let old = self.tree.insert(alloc, &key, &value, rest)?;
         if old.is_none() {
             self.count += 1;
         }

@@ -38,17 +38,17 @@ impl<K: MapKey + Drop, V: Drop> Tree<K, V> {
     pub fn insert<P: Attempt>(
         &mut self,
         alloc: Global,
-        key: K,
-        value: Arc<V>,
+        key: &K,
+        value: &Arc<V>,
         rest: &mut P,
     ) -> Result<Option<Arc<V>>, Memory>
         requires ordered { T (is_sorted K.order self.old.0) }
         requires few { length self.old.0 + 1 < 2 ^ 64 }
-        ensures before { IfOk result (λ before. option_map (λ v. v.value) before ≡ value_at K.order key self.old.0) }
-        ensures ok { OnOk result ((self.new.0 ≡ put K.order key value.value self.old.0) × P.makes rest.old rest.new) }
+        ensures before { IfOk result (λ before. option_map (λ v. v.value) before ≡ value_at K.order key.now self.old.0) }
+        ensures ok { OnOk result ((self.new.0 ≡ put K.order key.now value.now.value self.old.0) × P.makes rest.old rest.new) }
         ensures err { OnErr result ((self.new.0 ≡ self.old.0) × (rest.new ≡ rest.old)) }
     {
-        match put(alloc, self, &key, &value, rest) {
+        match put(alloc, self, key, value, rest) {
             Ok(before) => Ok(before),
             Err(_) => self.insert_anew(alloc, key, value, rest),
         }
@@ -58,18 +58,18 @@ impl<K: MapKey + Drop, V: Drop> Tree<K, V> {
     fn insert_anew<P: Attempt>(
         &mut self,
         alloc: Global,
-        key: K,
-        value: Arc<V>,
+        key: &K,
+        value: &Arc<V>,
         rest: &mut P,
     ) -> Result<Option<Arc<V>>, Memory>
         requires ordered { T (is_sorted K.order self.old.0) }
         requires few { length self.old.0 + 1 < 2 ^ 64 }
-        ensures before { IfOk result (λ before. option_map (λ v. v.value) before ≡ value_at K.order key self.old.0) }
-        ensures ok { OnOk result ((self.new.0 ≡ put K.order key value.value self.old.0) × P.makes rest.old rest.new) }
+        ensures before { IfOk result (λ before. option_map (λ v. v.value) before ≡ value_at K.order key.now self.old.0) }
+        ensures ok { OnOk result ((self.new.0 ≡ put K.order key.now value.now.value self.old.0) × P.makes rest.old rest.new) }
         ensures err { OnErr result ((self.new.0 ≡ self.old.0) × (rest.new ≡ rest.old)) }
     {
-        let before = self.shared(&key)?;
-        let tree = self.with(alloc, &key, &value)?;
+        let before = self.shared(key)?;
+        let tree = self.with(alloc, key, value)?;
         rest.attempt(alloc)?;
         *self = tree;
         Ok(before)

@@ -1,4 +1,4 @@
-use Rattle.std.proofs.Common.{◌≡◌, length, ap, ◌∙◌, arith}
+use Rattle.std.proofs.Common.{◌≡◌, length, ap, arith}
 use Rattle.shared_map.specs.Trees.{side_on, opposite}
 use Rattle.shared_map.proofs.joining.lowered.Goals as goal
 

@@ -1,6 +1,5 @@
-use Rattle.std.proofs.Common.{◌≡◌, length, Some, refl, ap, ◌∙◌, arith}
-use Rattle.shared_map.specs.Trees.{seen, side_on, opposite, IsBalanced}
-use Rattle.shared_map.proofs.Forks.{lengths}
+use Rattle.std.proofs.Common.{◌≡◌, Some, ap, ◌∙◌}
+use Rattle.shared_map.specs.Trees.{seen, side_on, IsBalanced}
 use Rattle.shared_map.proofs.Turned.{when_true, when_false, put_back, still_level, still_high, few_in, side_tree, straight_on, straight_fits, turned_entries, turned_level, turned_height}
 use Rattle.shared_map.proofs.settling.lower.Goals as goal
 

@@ -1,4 +1,4 @@
-use Rattle.std.proofs.Common.{◌≡◌, ◌<◌, Some, refl, ap, ◌∙◌, arith}
+use Rattle.std.proofs.Common.{◌≡◌, Some, refl, ap, ◌∙◌, arith}
 use Rattle.shared_map.specs.Trees.{seen, side_on, opposite, IsBalanced}
 use Rattle.shared_map.proofs.Turned.{level_straight, leaning_fits, turned_entries, turned_straight}
 use Rattle.shared_map.proofs.settling.straighten.Goals as goal

@@ -1,4 +1,4 @@
-use Rattle.std.proofs.Common.{rules, ◌≡◌, ◌+◌, ◌<◌, T, length, ap, subst, ◌∙◌, arith}
+use Rattle.std.proofs.Common.{rules, ◌≡◌, ◌<◌, T, length, ap, subst, ◌∙◌, arith}
 use Rattle.std.specs.FinMap.Entries.{put, is_sorted}
 use Rattle.shared_map.specs.Trees.{side_on, side_to, IsNear}
 use Rattle.shared_map.proofs.Sides.{length_put}
