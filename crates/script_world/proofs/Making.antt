@@ -21,8 +21,8 @@ use Rattle.ring_nodes.specs.Looking.{PutsSo}
 use Rattle.ring_nodes.specs.NodesState.{IsNodesOf, NodesState, with_nodes}
 use Rattle.script_participants.specs.ParticipantState.{HasParticipants, ParticipantState, state_of}
 use Rattle.script_world.specs.Made.{IsMade, view_of_keys}
-use Rattle.script_world.specs.declared.making.Made.{Made}
-use Rattle.script_world.specs.declared.making.Made.TheVariants as made
+use Rattle.script_world.specs.declared.made_views.Made.{Made}
+use Rattle.script_world.specs.declared.made_views.Made.TheVariants as made
 use Rattle.script_world.specs.PartsState.{AreKept, GoesOn, HasParts, PartsState}
 use Rattle.script_world.specs.Views.{MakesOf, PutsView}
 

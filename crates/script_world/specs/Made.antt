@@ -3,8 +3,8 @@ use Rattle.std.specs.Prelude.{◌≡◌, ◌⊎◌, ◌<◌, ◌≤◌, List, �
 use Rattle.ivy_base.specs.declared.key.PubKey.{PubKey}
 use Rattle.log_model.specs.View.{View, have_own_head_keys}
 use Rattle.world_model.specs.Logs.{in_key_order}
-use Rattle.script_world.specs.declared.making.Made.{Made as Given}
-use Rattle.script_world.specs.declared.making.Made.TheVariants.{Refused, TooMany, View as Viewed}
+use Rattle.script_world.specs.declared.made_views.Made.{Made as Given}
+use Rattle.script_world.specs.declared.made_views.Made.TheVariants.{Refused, TooMany, View as Viewed}
 
 -- the view of these keys, in ascending order
 abbrev pub view_of_keys : List PubKey → List PubKey → View

@@ -5,8 +5,8 @@ use Rattle.log_model.specs.View.{View, view_block, view_name}
 use Rattle.dht_ids.specs.declared.ask.Ask.TheVariants as ask
 use Rattle.dht_ids.specs.declared.judge.Judged.{Judged}
 use Rattle.script_driver.specs.Run.{Goes, Refuses, Exceeds}
-use Rattle.script_world.specs.declared.making.Made.{Made}
-use Rattle.script_world.specs.declared.making.Made.TheVariants as made
+use Rattle.script_world.specs.declared.made_views.Made.{Made}
+use Rattle.script_world.specs.declared.made_views.Made.TheVariants as made
 use Rattle.world_model.specs.Fates.{Puts}
 use Rattle.world_model.specs.Logs.{Played, ViewLine, keys_of, with_view}
 use Rattle.world_model.specs.World.{World}

@@ -16,7 +16,7 @@
 //! or all up to the end, from each scene under way in such a world (`IsSceneIn`), which lead to one whose world has the parts then
 //! and the same open sessions (`StepsOnIn`, `RunsOutIn`). [`Parts::publish`] is all that a participant publishes (`PublishesIn`), and
 //! [`Parts::take_reply`] what is left to later lines by a session that is over (`RepliesIn`).
-//! Within, `making` makes of public keys, in any order, the view of these keys in ascending order, or says why there is none
+//! Within, `made_views` makes of public keys, in any order, the view of these keys in ascending order, or says why there is none
 //! (`specs/Made.antt`); that such a view may be made is proved in `world_laws` (`proofs/MadeViews.antt`), which the proofs here cite.
 //! Definitions: `specs/*.antt`, and `world_model`'s `specs/Logs.antt`, `specs/Ring.antt`, `specs/Rounds.antt` and
 //! `specs/Faults.antt`.
@@ -31,7 +31,7 @@
 
 mod faults;
 mod joining;
-mod making;
+mod made_views;
 mod naming;
 mod newcomers;
 mod parts;

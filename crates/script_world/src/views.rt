@@ -2,7 +2,7 @@
 
 ghost use Rattle.std.specs.Prelude.{◌≡◌, ◌≢◌, ◌++◌, [], ◌∷◌, IfOk, OnOk};
 
-use crate::making::{Made, make_view};
+use crate::made_views::{Made, make_view};
 use crate::parts::{NamedView, Parts};
 use dht_ids::Judge;
 use ivy_base::{Bytes, Memory};

@@ -6,7 +6,7 @@ use Rattle.std.proofs.lemmas.Iterator.Consumers.{YieldsList-from_chain, YieldsLi
 use Rattle.ivy_base.specs.Naming.{key_cmp}
 use Rattle.log_model.specs.View.{have_own_head_keys, is_log_of}
 use Rattle.script_world.proofs.Apart.{held_more, stands_twice, still_own, was_new, was_there}
-use Rattle.script_world.proofs.making.have_own_heads.Goals as goal
+use Rattle.script_world.proofs.made_views.have_own_heads.Goals as goal
 
 pub returns-then-not-branch : goal.returns-then-not-branch
 returns-then-not-branch c =

@@ -3,7 +3,7 @@ use Rattle.std.specs.BTreeSet.{contains}
 use Rattle.ivy_base.specs.declared.key.Key.{Key}
 use Rattle.ivy_base.specs.Naming.{key_cmp}
 use Rattle.log_model.specs.View.{have_own_head_keys, is_log_of}
-use Rattle.script_world.proofs.making.have_own_heads.Given as goal
+use Rattle.script_world.proofs.made_views.have_own_heads.Given as goal
 
 abbrev pub invariant-loop-key : goal.invariant-loop-key
 invariant-loop-key l = record {

@@ -1,6 +1,6 @@
 use Rattle.std.proofs.Common.{◌∙◌}
 use Rattle.script_world.proofs.Passing.{only_memory}
-use Rattle.script_world.proofs.making.view_in_order.Goals as goal
+use Rattle.script_world.proofs.made_views.view_in_order.Goals as goal
 
 pub unreachable-requires : goal.unreachable-requires
 unreachable-requires c =
