@@ -9,10 +9,10 @@ ghost use Rattle.play_trials.specs.UnderWay.{GoesOn, MayHear, MayTurn, MayWant, 
 use crate::sessions::showing::{show_answer, show_end, show_question, show_settled};
 use crate::sessions::table::Table;
 use crate::text::Text;
-use ivy_agent::Turns;
 use block_cache::BlockCache;
 use dht_ids::{Ask, Peer, Posts};
 use hss_keys::Hss;
+use ivy_agent::Turns;
 use ivy_base::Moment;
 use ivy_io::MemKeeper;
 use ivy_session::{Next, Session};
