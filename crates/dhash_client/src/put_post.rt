@@ -46,9 +46,9 @@ impl PutPost {
     ) -> Result<PutPost, Memory>
         ensures { IfOk result (λ put. put ≡ put_begun (put_kind post.kind) post.bytes post.key replicas entries.now) }
     {
-        let what = put_kind(post.kind);
+        let (what, key) = (put_kind(post.kind), post.key);
         Ok(PutPost {
-            put: Put::start(alloc, what, post.key, post.bytes, replicas, entries)?,
+            put: Put::start(alloc, what, key, post.into_bytes(), replicas, entries)?,
         })
     }
 

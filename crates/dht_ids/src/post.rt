@@ -17,7 +17,6 @@ pub enum PostKind {
 }
 
 /// A block that is to be put at its owners.
-#[derive(Drop)]
 pub struct Post {
     /// The key whose owners are to hold it.
     pub key: Key,
@@ -27,7 +26,30 @@ pub struct Post {
     pub kind: PostKind,
 }
 
+// Written out, so that whatever drops one calls this and isn't proved over all of its parts once more.
+impl Drop for Post {
+    fn drop(self) {
+        let Post {
+            key: _,
+            bytes: _,
+            kind: _,
+        } = self;
+    }
+}
+
 impl Post {
+    /// The block, which is not copied.
+    pub fn into_bytes(self) -> Bytes
+        ensures { result ≡ self.bytes }
+    {
+        let Post {
+            key: _,
+            bytes,
+            kind: _,
+        } = self;
+        bytes
+    }
+
     /// A copy of this post and of its bytes. The error is want of memory.
     pub fn copy(&self, alloc: Global) -> Result<Post, Memory>
         ensures { IfOk result (λ copy. copy ≡ self.now) }

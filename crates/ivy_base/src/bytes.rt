@@ -5,9 +5,15 @@ use std::alloc::Global;
 use std::marker::Model;
 
 /// Bytes that are owned, which contracts see as the list of their values.
-#[derive(Drop)]
 pub struct Bytes {
     bytes: Vec<u8>,
+}
+
+// Written out, so that whatever drops one calls this and isn't proved over all of its parts once more.
+impl Drop for Bytes {
+    fn drop(self) {
+        let Bytes { bytes: _ } = self;
+    }
 }
 
 impl Model for Bytes {
@@ -30,7 +36,8 @@ impl Bytes {
     pub fn into_vec(self) -> Vec<u8>
         ensures { result.items ≡ self }
     {
-        self.bytes
+        let Bytes { bytes } = self;
+        bytes
     }
 
     /// The bytes as a slice.

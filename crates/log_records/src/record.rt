@@ -30,7 +30,6 @@ const LONGEST_RECORD: usize = 12_288;
 pub(crate) const NO_NAME: Key = Key([0; 20]);
 
 /// A record of a log (Ivy): one step of its owner's, written once.
-#[derive(Drop)]
 pub struct Record {
     /// The public key of the log's owner.
     pub owner: PubKey,
@@ -44,6 +43,20 @@ pub struct Record {
     pub moment: Moment,
     /// What it does.
     pub op: Op,
+}
+
+// Written out, so that whatever drops one calls this and isn't proved over all of its parts once more.
+impl Drop for Record {
+    fn drop(self) {
+        let Record {
+            owner: _,
+            seq: _,
+            prev: _,
+            vector: _,
+            moment: _,
+            op: _,
+        } = self;
+    }
 }
 
 impl Record {

@@ -8,9 +8,15 @@ use std::alloc::Global;
 use std::marker::Model;
 
 /// Records in a row.
-#[derive(Drop)]
 pub struct Records {
     records: Vec<Record>,
+}
+
+// Written out, so that whatever drops one calls this and isn't proved over all of its parts once more.
+impl Drop for Records {
+    fn drop(self) {
+        let Records { records: _ } = self;
+    }
 }
 
 impl Model for Records {
@@ -34,7 +40,8 @@ impl Records {
     pub fn into_vec(self) -> Vec<Record>
         ensures { result.items ≡ self }
     {
-        self.records
+        let Records { records } = self;
+        records
     }
 
     /// The records as a slice.
