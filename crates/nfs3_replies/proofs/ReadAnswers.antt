@@ -22,9 +22,10 @@ use Rattle.nfs_model.specs.Replies.{IsFattr, IsWcc, IsTail, IsReplyTo, tail_form
 use Rattle.nfs_model.proofs.OneReplies.{status_fits, is_no_ok, statuses_apart, begins_zero, one_fattr, one_wcc, one_post_attributes}
 use Rattle.std.proofs.lemmas.Bool.{eqb-true, leb-true}
 use Rattle.nfs3_replies.specs.Reading.{IsProcedure, IsReply}
-use Rattle.nfs3_replies.specs.ReadParts.{Told, Reads, IsOptional, AreTwoCaches, two_caches, AreAttributesAndCache, attributes_and_cache, status_or_ok, IsDone, after_status, IsTailOf, IsOfForms, IsAnswer, tail_form_at, result_form_at, tail_form_for, result_form_for}
-use Rattle.nfs3_replies.proofs.Made.{MadeOf, Made, one_made}
-use Rattle.nfs3_replies.proofs.PartByPart.{◌▸◌, part, made_read, number_read, number_missed}
+use Rattle.wire_model.specs.Parts.{Told, Reads, IsOptional}
+use Rattle.nfs3_replies.specs.ReadParts.{AreTwoCaches, two_caches, AreAttributesAndCache, attributes_and_cache, status_or_ok, IsDone, after_status, IsTailOf, IsOfForms, IsAnswer, tail_form_at, result_form_at, tail_form_for, result_form_for}
+use Rattle.wire_model.proofs.Made.{MadeOf, Made, one_made}
+use Rattle.wire_model.proofs.PartByPart.{◌▸◌, part, made_read, number_read, number_missed}
 use Rattle.nfs3_replies.proofs.ReadForms.{one_attributes_and_cache, one_two_caches, one_found, one_allowed, one_link_text, one_content, one_written, one_committed, one_made_object, one_numbered, made_attributes, made_changed, made_found, made_allowed, made_text, made_content, made_written, made_object, made_renamed, made_linked, space_words, made_space, limits_words, made_limits, paths_words, made_paths, made_committed}
 use Rattle.nfs3_replies.proofs.ReadPages.{one_directory, made_directory, made_directory_plus}
 use Rattle.nfs3_replies.proofs.ReadMounts.{nothing_read, one_nothing, one_of_mount}

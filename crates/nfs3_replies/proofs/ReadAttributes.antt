@@ -9,8 +9,9 @@ use Rattle.nfs_model.specs.declared.replies.Fattr.{Fattr}
 use Rattle.nfs_model.specs.declared.replies.WccBefore.{WccBefore}
 use Rattle.nfs_model.specs.Results.{fattr, before, wcc}
 use Rattle.nfs_model.specs.Replies.{IsFattr, IsBefore, IsWcc}
-use Rattle.nfs3_replies.specs.ReadParts.{constant, kind_word, IsOptional}
-use Rattle.nfs3_replies.proofs.Made.{Made}
+use Rattle.wire_model.specs.Parts.{IsOptional}
+use Rattle.nfs3_replies.specs.ReadParts.{constant, kind_word}
+use Rattle.wire_model.proofs.Made.{Made}
 
 pub kind_below : (k : Kind) → kind_number k < 2 ^ 32
 kind_below Reg = omega arith

@@ -6,7 +6,8 @@ use Rattle.std.proofs.lemmas.List.{append_cancel_left, take_all, take_more, flat
 use Rattle.wire_model.specs.Xdr.{word, IsWord, IsAny}
 use Rattle.wire_model.specs.OneReading.{ReadsOne, IsFront, HasNoFront}
 use Rattle.wire_model.proofs.OneReading.{one_word, always, regrouped}
-use Rattle.nfs3_replies.specs.ReadParts.{Told, Reads, constant}
+use Rattle.wire_model.specs.Parts.{Told, Reads}
+use Rattle.nfs3_replies.specs.ReadParts.{constant}
 
 pub one_constant : (words : List ℕ) → ReadsOne IsAny (constant words)
 one_constant words = always (constant words tt)

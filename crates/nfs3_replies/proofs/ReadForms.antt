@@ -1,5 +1,5 @@
 -- Results after status 0 are read part by part.
-use Rattle.std.proofs.Common.{ℕ, ◌^◌, List, [], ◌∷◌, ◌++◌, Option, refl, ◌∙◌, arith, append_assoc}
+use Rattle.std.proofs.Common.{ℕ, ◌^◌, List, [], ◌∷◌, ◌++◌, Option, Some, None, refl, ◌∙◌, arith, append_assoc}
 use Rattle.wire_model.specs.Xdr.{word, double_word, opaque, optional, IsAny, IsUpTo}
 use Rattle.wire_model.specs.OneReading.{ReadsOne, IsFront, HasNoFront}
 use Rattle.wire_model.proofs.OneReading.{◌▷◌, one_word, one_boolean}
@@ -12,8 +12,10 @@ use Rattle.nfs_model.specs.Results.{fattr, wcc, many, write_verifier}
 use Rattle.nfs_model.specs.Replies.{IsFattr, IsWcc, IsText}
 use Rattle.nfs_model.proofs.OneArguments.{one_handle}
 use Rattle.nfs_model.proofs.OneReplies.{one_wcc, one_post_attributes, one_text}
-use Rattle.nfs3_replies.specs.ReadParts.{constant, IsOptional, AreAttributesAndCache, attributes_and_cache, AreTwoCaches, two_caches, given_handle, Found, IsFound, found, IsAllowedParts, allowed_parts, IsLinkText, link_text, Content, IsContent, content, IsWrittenParts, written_parts, IsCommittedParts, committed_parts, IsNumbered, numbered, IsDone, after_status}
-use Rattle.nfs3_replies.proofs.Made.{MadeOf, Made, one_made}
+use Rattle.wire_model.specs.Parts.{Told, Reads, IsOptional}
+use Rattle.nfs3_replies.specs.ReadParts.{constant, AreAttributesAndCache, attributes_and_cache, AreTwoCaches, two_caches, given_handle, Found, IsFound, found, IsAllowedParts, allowed_parts, IsLinkText, link_text, Content, IsContent, content, IsWrittenParts, written_parts, IsCommittedParts, committed_parts, IsNumbered, numbered, IsDone, after_status}
+use Rattle.wire_model.proofs.PartByPart.{Read}
+use Rattle.wire_model.proofs.Made.{MadeOf, Made, one_made}
 use Rattle.nfs3_replies.proofs.ReadConstants.{one_constant}
 
 -- ---- parts
@@ -69,6 +71,14 @@ long_text absent = record { none = λ x rest f. absent.none x rest (record { fit
 
 pub text_front : {b rest text : List ℕ} → IsFront (IsUpTo 4294967295) opaque b text rest → IsFront IsText opaque b text rest
 text_front f = record { fits = omega (arith, f.fits); spelled = f.spelled }
+
+pub text_read : {a b : Option (List ℕ)} {x : List ℕ} → Reads (IsUpTo 4294967295) opaque a x b → Read IsText opaque a x b
+text_read {a} {b} {x} f = record { one = one_text; reads = record { told = cases a b f.told } }
+  where
+    cases : (a b : Option (List ℕ)) → Told (IsUpTo 4294967295) opaque a x b → Told IsText opaque a x b
+    cases None b p = p
+    cases (Some a) None p = long_text p
+    cases (Some a) (Some b) p = text_front p
 
 -- ---- results of each form
 

@@ -9,8 +9,9 @@ use Rattle.nfs_model.specs.declared.replies.Reply.TheVariants as reply
 use Rattle.nfs_model.specs.Results.{result}
 use Rattle.nfs_model.proofs.OneArguments.{one_handle}
 use Rattle.nfs_model.proofs.OneReplies.{tail_below}
-use Rattle.nfs3_replies.specs.ReadParts.{Told, Reads, constant, IsMountedParts, mounted_parts, IsAnswer, mount_form_at}
-use Rattle.nfs3_replies.proofs.Made.{MadeOf, Made, one_made}
+use Rattle.wire_model.specs.Parts.{Told, Reads}
+use Rattle.nfs3_replies.specs.ReadParts.{constant, IsMountedParts, mounted_parts, IsAnswer, mount_form_at}
+use Rattle.wire_model.proofs.Made.{MadeOf, Made, one_made}
 use Rattle.nfs3_replies.proofs.ReadConstants.{one_constant}
 
 pub one_mounted : ReadsOne IsMountedParts mounted_parts

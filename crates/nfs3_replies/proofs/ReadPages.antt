@@ -16,9 +16,10 @@ use Rattle.nfs_model.specs.Results.{fattr}
 use Rattle.nfs_model.specs.Replies.{IsFattr, IsPlainEntry, IsPlusEntry}
 use Rattle.nfs_model.proofs.OneArguments.{one_verifier}
 use Rattle.nfs_model.proofs.OneReplies.{one_post_attributes, one_plain, one_plus, one_page}
-use Rattle.nfs3_replies.specs.ReadParts.{Told, Reads, IsOptional, given_handle, as_it_stands, EntryParts, AreEntryParts, entry_parts, IsEntry, entry_body, flagged_entry, ArePage, page_bytes, directory_form, IsPageHead, page_head, IsDone, after_status}
-use Rattle.nfs3_replies.proofs.Made.{MadeOf, Made}
-use Rattle.nfs3_replies.proofs.PartByPart.{◌▸◌, part, made_read}
+use Rattle.wire_model.specs.Parts.{Told, Reads, IsOptional, as_it_stands}
+use Rattle.nfs3_replies.specs.ReadParts.{given_handle, EntryParts, AreEntryParts, entry_parts, IsEntry, entry_body, flagged_entry, ArePage, page_bytes, directory_form, IsPageHead, page_head, IsDone, after_status}
+use Rattle.wire_model.proofs.Made.{MadeOf, Made}
+use Rattle.wire_model.proofs.PartByPart.{◌▸◌, part, made_read}
 
 -- ---- verifiers
 

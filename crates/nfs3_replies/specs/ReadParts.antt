@@ -4,7 +4,7 @@ use Rattle.std.specs.List.{flat_map, AllByRecursion}
 use Rattle.ivy_base.specs.declared.operation.Kind.{Kind}
 use Rattle.log_model.specs.Spelling.{kind_number}
 use Rattle.wire_model.specs.Xdr.{word, double_word, boolean, opaque, optional, IsWord, IsDoubleWord, IsAny}
-use Rattle.wire_model.specs.OneReading.{IsFront, HasNoFront}
+use Rattle.wire_model.specs.Parts.{IsOptional, as_it_stands}
 use Rattle.nfs_model.specs.declared.replies.NfsStatus.{NfsStatus}
 use Rattle.nfs_model.specs.declared.replies.Fattr.{Fattr}
 use Rattle.nfs_model.specs.declared.replies.Wcc.{Wcc}
@@ -15,16 +15,6 @@ use Rattle.nfs_model.specs.declared.replies.Reply.TheVariants as reply
 use Rattle.nfs_model.specs.Arguments.{IsHandle, IsVerifier, mount_program}
 use Rattle.nfs_model.specs.Results.{status_number, fattr, wcc, result, many}
 use Rattle.nfs_model.specs.Replies.{IsFattr, IsWcc, IsTail, IsText, IsPlainEntry, IsPlusEntry, ReplyFits, tail_form, result_form}
-
--- what is told of a part by the bytes that were left before it and those that are left behind it: it stands at their front, or there is
--- none; and where a part was missed before, nothing
-abbrev pub Told : {A : Type 0} → (A → Type 0) → (A → List ℕ) → Option (List ℕ) → A → Option (List ℕ) → Type 0
-Told Fits spell None x now = now ≡ None
-Told Fits spell (Some bytes) x None = HasNoFront Fits spell bytes
-Told Fits spell (Some bytes) x (Some rest) = IsFront Fits spell bytes x rest
-
-pub record Reads {A : Type 0} (Fits : A → Type 0) (spell : A → List ℕ) (before : Option (List ℕ)) (x : A) (now : Option (List ℕ)) : Type 0 where
-  pub told : Told Fits spell before x now
 
 -- ---- parts
 
@@ -37,13 +27,6 @@ kind_word kind = word (kind_number kind)
 
 abbrev pub status_word : NfsStatus → List ℕ
 status_word status = word (status_number status)
-
-abbrev pub IsOptional : {A : Type 0} → (A → Type 0) → Option A → Type 0
-IsOptional Fits o = IfSome o Fits
-
--- bytes as they stand
-abbrev pub as_it_stands : List ℕ → List ℕ
-as_it_stands bytes = bytes
 
 -- ---- results
 

@@ -6,12 +6,13 @@ ghost use Rattle.log_model.specs.Spelling.{kind_number};
 ghost use Rattle.wire_model.specs.Xdr.{optional, moment, IsWordMoment, IsAny};
 ghost use Rattle.nfs_model.specs.Results.{fattr, before, wcc};
 ghost use Rattle.nfs_model.specs.Replies.{IsFattr, IsBefore, IsWcc};
-ghost use Rattle.nfs3_replies.specs.ReadParts.{Reads, constant, kind_word, IsOptional};
+ghost use Rattle.wire_model.specs.Parts.{Reads, IsOptional};
+ghost use Rattle.nfs3_replies.specs.ReadParts.{constant, kind_word};
 
 use crate::constants::NO_DEVICE;
-use crate::parts::Parts;
 use ivy_base::{Kind, Moment};
 use nfs_model::{Fattr, Wcc, WccBefore};
+use xdr_codec::Parts;
 
 /// Words that are the same in each result.
 pub fn read_constant(parts: &mut Parts, words: &[u32])

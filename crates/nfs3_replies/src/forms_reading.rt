@@ -3,14 +3,15 @@
 
 ghost use Rattle.std.specs.Prelude.{◌≡◌, IfOk};
 ghost use Rattle.nfs_model.specs.Arguments.{IsHandle};
-ghost use Rattle.nfs3_replies.specs.ReadParts.{Reads, given_handle, IsNumbered, numbered, IsDone, after_status};
+ghost use Rattle.wire_model.specs.Parts.{Reads};
+ghost use Rattle.nfs3_replies.specs.ReadParts.{given_handle, IsNumbered, numbered, IsDone, after_status};
 
 use crate::attributes_reading::{read_constant, read_optional_fattr, read_wcc};
 use crate::constants::{GIVEN, MOST_HANDLE, STORED, WRITE_VERIFIER};
-use crate::parts::Parts;
 use ivy_base::{Bytes, Memory};
 use nfs_model::{Fattr, Reply};
 use std::alloc::Global;
+use xdr_codec::Parts;
 
 /// SETATTR, REMOVE and RMDIR (sections 3.3.2, 3.3.12 and 3.3.13).
 pub fn read_changed(parts: &mut Parts) -> Reply

@@ -30,7 +30,6 @@ mod forms_reading;
 mod mount_reading;
 mod pages;
 mod pages_reading;
-mod parts;
 mod reading;
 mod reply;
 mod room;

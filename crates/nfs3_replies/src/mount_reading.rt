@@ -2,14 +2,15 @@
 
 ghost use Rattle.std.specs.Prelude.{◌≡◌, ◌<◌, IfOk};
 ghost use Rattle.nfs_model.specs.Results.{result as bytes_of};
-ghost use Rattle.nfs3_replies.specs.ReadParts.{Reads, IsAnswer, mount_form_at};
+ghost use Rattle.wire_model.specs.Parts.{Reads};
+ghost use Rattle.nfs3_replies.specs.ReadParts.{IsAnswer, mount_form_at};
 
 use crate::attributes_reading::read_constant;
 use crate::constants::{EXPORTS, FLAVOURS, MOST_HANDLE, NO_MOUNTS, NO_SUCH_PATH, OK};
-use crate::parts::Parts;
 use ivy_base::{Bytes, Memory};
 use nfs_model::Reply;
 use std::alloc::Global;
+use xdr_codec::Parts;
 
 /// A result of MOUNT's.
 pub fn read_mount_result(alloc: Global, parts: &mut Parts, procedure: u32) -> Result<Reply, Memory>

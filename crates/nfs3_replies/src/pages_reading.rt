@@ -1,21 +1,22 @@
 //! Reading pages of directories: READDIR and READDIRPLUS (RFC 1813, sections 3.3.16 and 3.3.17).
 
 ghost use Rattle.std.specs.Prelude.{◌≡◌, true, false, IfOk};
-ghost use Rattle.nfs3_replies.specs.ReadParts.{Reads, IsEntry, entry_body, ArePage, page_bytes, directory_form, IsDone, after_status};
+ghost use Rattle.wire_model.specs.Parts.{Reads};
+ghost use Rattle.nfs3_replies.specs.ReadParts.{IsEntry, entry_body, ArePage, page_bytes, directory_form, IsDone, after_status};
 
 use crate::attributes_reading::read_optional_fattr;
 use crate::forms_reading::read_given_handle;
-use crate::parts::Parts;
 use ivy_base::{Bytes, Memory};
 use nfs_model::{Listed, Page, Reply};
 use std::alloc::Global;
+use xdr_codec::Parts;
 
 /// READDIRPLUS (section 3.3.17), or else READDIR (section 3.3.16).
 pub fn read_directory(alloc: Global, parts: &mut Parts, plus: bool) -> Result<Reply, Memory>
     ensures { IfOk result (λ r. Reads (IsDone (directory_form plus)) after_status parts.old r parts.new) }
 {
     let dir = read_optional_fattr(parts);
-    let verifier = parts.verifier();
+    let verifier = parts.eight();
     let page = read_page(alloc, parts, plus)?;
     let eof = parts.boolean();
     if plus {

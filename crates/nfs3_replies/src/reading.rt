@@ -5,7 +5,8 @@ ghost use Rattle.wire_model.specs.Xdr.{IsAny};
 ghost use Rattle.nfs_model.specs.declared.replies.NfsStatus.{NfsStatus as AnyStatus};
 ghost use Rattle.nfs_model.specs.Results.{result as bytes_of, tail as tail_bytes, status_number};
 ghost use Rattle.nfs3_replies.specs.Reading.{IsProcedure, IsReply, NoReply};
-ghost use Rattle.nfs3_replies.specs.ReadParts.{Reads, status_or_ok, IsDone, after_status, IsTailOf, IsAnswer, tail_form_at, result_form_at, tail_form_for, result_form_for};
+ghost use Rattle.wire_model.specs.Parts.{Reads};
+ghost use Rattle.nfs3_replies.specs.ReadParts.{status_or_ok, IsDone, after_status, IsTailOf, IsAnswer, tail_form_at, result_form_at, tail_form_for, result_form_for};
 
 use crate::attributes_reading::{read_fattr, read_optional_fattr, read_wcc};
 use crate::constants::{LIMITS, PATHS, SPACE};
@@ -15,10 +16,10 @@ use crate::forms_reading::{
 };
 use crate::mount_reading::read_mount_result;
 use crate::pages_reading::read_directory;
-use crate::parts::Parts;
 use ivy_base::Memory;
 use nfs_model::{ArgsFault, NfsStatus, Reply, Tail};
 use std::alloc::Global;
+use xdr_codec::Parts;
 
 /// The program of MOUNT (RFC 1813, section 5.2).
 const MOUNT_PROGRAM: u32 = 100_005;

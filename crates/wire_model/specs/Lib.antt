@@ -1,4 +1,5 @@
 pub mod Xdr
 pub mod Rpc
 pub mod OneReading
+pub mod Parts
 pub mod Laws

@@ -4,10 +4,10 @@
 //! their contracts in its words: a message is a call where `IsCall` holds of it, its caller is the one of
 //! `IsCaller`, and a reply is the bytes of `reply`. That each of these spellings can be read in one way only
 //! is the law of [`readings_are_one`]; its lemmas, for other formats over the same items, are in
-//! `proofs/OneReading.antt`.
+//! `proofs/OneReading.antt`, and those of values that are read part by part in `proofs/PartByPart.antt`.
 //!
 //! Definitions: `specs/Xdr.antt` (items), `specs/Rpc.antt` (messages), `specs/OneReading.antt` (what it means
-//! that a spelling has one value), `specs/Laws.antt`.
+//! that a spelling has one value), `specs/Parts.antt` (what a reader tells that keeps in mind that a part was missed), `specs/Laws.antt`.
 #![tactic(auto)]
 
 ghost use Rattle.wire_model.specs.Laws.{NumbersAreOne, ItemsAreOne, CallsAreOne, CallersAreOne};

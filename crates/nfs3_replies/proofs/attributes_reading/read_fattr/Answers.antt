@@ -3,7 +3,7 @@ use Rattle.wire_model.proofs.OneReading.{one_word, one_double_word, one_moment}
 use Rattle.nfs_model.proofs.OneReplies.{one_kind}
 use Rattle.nfs3_replies.proofs.ReadAttributes.{made_fattr}
 use Rattle.nfs3_replies.proofs.ReadConstants.{one_constant}
-use Rattle.nfs3_replies.proofs.PartByPart.{◌▸◌, part, made_read}
+use Rattle.wire_model.proofs.PartByPart.{◌▸◌, part, made_read}
 use Rattle.nfs3_replies.proofs.attributes_reading.read_fattr.Goals as goal
 
 pub returns : goal.returns

@@ -1,6 +1,6 @@
 use Rattle.log_model.specs.Spelling.{kind_number}
 use Rattle.nfs3_replies.proofs.ReadAttributes.{kind_below, kind_spelled}
-use Rattle.nfs3_replies.proofs.PartByPart.{number_read, number_missed}
+use Rattle.wire_model.proofs.PartByPart.{number_read, number_missed}
 use Rattle.nfs3_replies.proofs.attributes_reading.read_kind.Goals as goal
 
 pub returns-in-Some : goal.returns-in-Some

@@ -1,4 +1,4 @@
-use Rattle.nfs3_replies.proofs.PartByPart.{no_optional, some_optional}
+use Rattle.wire_model.proofs.PartByPart.{no_optional, some_optional}
 use Rattle.nfs3_replies.proofs.attributes_reading.read_optional_before.Goals as goal
 
 pub returns-then-boolean : goal.returns-then-boolean

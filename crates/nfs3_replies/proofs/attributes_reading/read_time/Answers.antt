@@ -1,6 +1,6 @@
 use Rattle.wire_model.proofs.OneReading.{one_word}
 use Rattle.nfs3_replies.proofs.ReadAttributes.{made_moment}
-use Rattle.nfs3_replies.proofs.PartByPart.{◌▸◌, part, made_read}
+use Rattle.wire_model.proofs.PartByPart.{◌▸◌, part, made_read}
 use Rattle.nfs3_replies.proofs.attributes_reading.read_time.Goals as goal
 
 pub returns : goal.returns

@@ -1,7 +1,7 @@
 use Rattle.wire_model.proofs.OneReading.{one_optional}
 use Rattle.nfs_model.proofs.OneReplies.{one_before, one_fattr}
 use Rattle.nfs3_replies.proofs.ReadAttributes.{made_wcc}
-use Rattle.nfs3_replies.proofs.PartByPart.{◌▸◌, part, made_read}
+use Rattle.wire_model.proofs.PartByPart.{◌▸◌, part, made_read}
 use Rattle.nfs3_replies.proofs.attributes_reading.read_wcc.Goals as goal
 
 pub returns : goal.returns

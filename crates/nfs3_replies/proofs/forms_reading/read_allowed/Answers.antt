@@ -1,7 +1,7 @@
 use Rattle.wire_model.proofs.OneReading.{one_word}
 use Rattle.nfs_model.proofs.OneReplies.{one_post_attributes}
 use Rattle.nfs3_replies.proofs.ReadForms.{made_allowed}
-use Rattle.nfs3_replies.proofs.PartByPart.{◌▸◌, part, made_read}
+use Rattle.wire_model.proofs.PartByPart.{◌▸◌, part, made_read}
 use Rattle.nfs3_replies.proofs.forms_reading.read_allowed.Goals as goal
 
 pub returns : goal.returns

@@ -1,7 +1,7 @@
 use Rattle.wire_model.proofs.OneReading.{one_word, one_boolean}
 use Rattle.nfs_model.proofs.OneReplies.{one_post_attributes}
-use Rattle.nfs3_replies.proofs.ReadForms.{made_content}
-use Rattle.nfs3_replies.proofs.PartByPart.{◌▸◌, part, made_read, text_read}
+use Rattle.nfs3_replies.proofs.ReadForms.{text_read, made_content}
+use Rattle.wire_model.proofs.PartByPart.{◌▸◌, part, made_read}
 use Rattle.nfs3_replies.proofs.forms_reading.read_content.Goals as goal
 
 pub returns : goal.returns

@@ -1,7 +1,7 @@
 use Rattle.nfs_model.proofs.OneArguments.{one_handle}
 use Rattle.nfs_model.proofs.OneReplies.{one_post_attributes}
 use Rattle.nfs3_replies.proofs.ReadForms.{made_found}
-use Rattle.nfs3_replies.proofs.PartByPart.{◌▸◌, part, made_read}
+use Rattle.wire_model.proofs.PartByPart.{◌▸◌, part, made_read}
 use Rattle.nfs3_replies.proofs.forms_reading.read_found.Goals as goal
 
 pub returns : goal.returns

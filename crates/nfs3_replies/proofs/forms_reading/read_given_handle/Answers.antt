@@ -2,7 +2,7 @@ use Rattle.std.proofs.Common.{[], ◌∷◌}
 use Rattle.nfs_model.proofs.OneArguments.{one_handle}
 use Rattle.nfs3_replies.proofs.ReadConstants.{one_constant}
 use Rattle.nfs3_replies.proofs.ReadForms.{made_given}
-use Rattle.nfs3_replies.proofs.PartByPart.{◌▸◌, part, made_read}
+use Rattle.wire_model.proofs.PartByPart.{◌▸◌, part, made_read}
 use Rattle.nfs3_replies.proofs.forms_reading.read_given_handle.Goals as goal
 
 pub returns : goal.returns

@@ -1,6 +1,6 @@
 use Rattle.nfs_model.proofs.OneReplies.{one_post_attributes}
 use Rattle.nfs3_replies.proofs.ReadConstants.{one_constant}
-use Rattle.nfs3_replies.proofs.PartByPart.{◌▸◌, part}
+use Rattle.wire_model.proofs.PartByPart.{◌▸◌, part}
 use Rattle.nfs3_replies.proofs.forms_reading.read_numbered.Goals as goal
 
 pub returns : goal.returns

@@ -1,6 +1,6 @@
 use Rattle.nfs_model.proofs.OneReplies.{one_post_attributes}
-use Rattle.nfs3_replies.proofs.ReadForms.{made_text}
-use Rattle.nfs3_replies.proofs.PartByPart.{◌▸◌, part, made_read, text_read}
+use Rattle.nfs3_replies.proofs.ReadForms.{text_read, made_text}
+use Rattle.wire_model.proofs.PartByPart.{◌▸◌, part, made_read}
 use Rattle.nfs3_replies.proofs.forms_reading.read_text.Goals as goal
 
 pub returns : goal.returns

@@ -3,7 +3,7 @@ use Rattle.wire_model.proofs.OneReading.{one_word}
 use Rattle.nfs_model.proofs.OneReplies.{one_wcc}
 use Rattle.nfs3_replies.proofs.ReadConstants.{one_constant}
 use Rattle.nfs3_replies.proofs.ReadForms.{made_written}
-use Rattle.nfs3_replies.proofs.PartByPart.{◌▸◌, part, made_read}
+use Rattle.wire_model.proofs.PartByPart.{◌▸◌, part, made_read}
 use Rattle.nfs3_replies.proofs.forms_reading.read_written.Goals as goal
 
 pub returns : goal.returns

@@ -2,7 +2,7 @@ use Rattle.std.proofs.Common.{[], ◌∷◌}
 use Rattle.nfs_model.proofs.OneArguments.{one_handle}
 use Rattle.nfs3_replies.proofs.ReadConstants.{one_constant}
 use Rattle.nfs3_replies.proofs.ReadMounts.{mount_read, no_path_read, other_status}
-use Rattle.nfs3_replies.proofs.PartByPart.{◌▸◌, part}
+use Rattle.wire_model.proofs.PartByPart.{◌▸◌, part}
 use Rattle.nfs3_replies.proofs.mount_reading.read_mount.Goals as goal
 
 pub returns-in_ok-handle : goal.returns-in_ok-handle

@@ -1,7 +1,7 @@
 use Rattle.std.proofs.Common.{[], ◌∷◌}
 use Rattle.nfs3_replies.proofs.ReadConstants.{one_constant}
 use Rattle.nfs3_replies.proofs.ReadMounts.{made_no_mounts}
-use Rattle.nfs3_replies.proofs.PartByPart.{part, made_read}
+use Rattle.wire_model.proofs.PartByPart.{part, made_read}
 use Rattle.nfs3_replies.proofs.mount_reading.read_no_mounts.Goals as goal
 
 pub returns : goal.returns

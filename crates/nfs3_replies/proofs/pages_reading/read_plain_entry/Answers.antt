@@ -1,6 +1,7 @@
 use Rattle.wire_model.proofs.OneReading.{one_double_word}
 use Rattle.nfs3_replies.proofs.ReadPages.{made_plain}
-use Rattle.nfs3_replies.proofs.PartByPart.{◌▸◌, part, made_read, text_read}
+use Rattle.nfs3_replies.proofs.ReadForms.{text_read}
+use Rattle.wire_model.proofs.PartByPart.{◌▸◌, part, made_read}
 use Rattle.nfs3_replies.proofs.pages_reading.read_plain_entry.Goals as goal
 
 pub returns : goal.returns

@@ -1,8 +1,8 @@
 use Rattle.wire_model.proofs.OneReading.{one_double_word}
 use Rattle.nfs_model.proofs.OneReplies.{one_post_attributes}
-use Rattle.nfs3_replies.proofs.ReadForms.{one_given_handle}
+use Rattle.nfs3_replies.proofs.ReadForms.{text_read, one_given_handle}
 use Rattle.nfs3_replies.proofs.ReadPages.{made_plus}
-use Rattle.nfs3_replies.proofs.PartByPart.{◌▸◌, part, made_read, text_read}
+use Rattle.wire_model.proofs.PartByPart.{◌▸◌, part, made_read}
 use Rattle.nfs3_replies.proofs.pages_reading.read_plus_entry.Goals as goal
 
 pub returns : goal.returns

@@ -1,5 +1,5 @@
 use Rattle.nfs_model.proofs.OneReplies.{one_fattr}
-use Rattle.nfs3_replies.proofs.PartByPart.{part, made_read}
+use Rattle.wire_model.proofs.PartByPart.{part, made_read}
 use Rattle.nfs3_replies.proofs.ReadForms.{one_numbered, made_attributes, space_words, made_space, limits_words, made_limits, paths_words, made_paths}
 use Rattle.nfs3_replies.proofs.ReadAnswers.{done_at}
 use Rattle.nfs3_replies.proofs.reading.read_done.Goals as goal

@@ -1,5 +1,5 @@
 use Rattle.nfs3_replies.specs.ReadParts.{tail_form_at, result_form_at}
-use Rattle.nfs3_replies.proofs.Made.{if_ok_by}
+use Rattle.wire_model.proofs.Made.{if_ok_by}
 use Rattle.nfs3_replies.proofs.ReadAnswers.{bounded, done_read, refusal_read}
 use Rattle.nfs3_replies.proofs.reading.read_result.Goals as goal
 

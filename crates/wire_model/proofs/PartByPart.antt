@@ -1,31 +1,12 @@
 -- Parts are read one behind the other, and the first that is missed is kept in mind.
 use Rattle.std.proofs.Common.{◌≡◌, ℕ, ◌<◌, ◌^◌, Bool, true, false, List, ◌++◌, Option, Some, None, refl, sym, ap, ◌∙◌, append_assoc}
-use Rattle.std.specs.Prelude.{◌≢◌, if◌then◌else◌}
-use Rattle.wire_model.specs.Xdr.{word, boolean, optional, opaque, IsWord, IsAny, IsUpTo}
+use Rattle.std.specs.Prelude.{◌≢◌}
+use Rattle.wire_model.specs.Xdr.{word, boolean, optional, IsWord, IsAny}
 use Rattle.wire_model.specs.OneReading.{ReadsOne, IsFront, HasNoFront}
 use Rattle.wire_model.proofs.OneReading.{◌▷◌, one_word}
 use Rattle.wire_model.proofs.Fronts.{both, no_first, no_second}
-use Rattle.nfs_model.specs.Replies.{IsText}
-use Rattle.nfs_model.proofs.OneReplies.{one_text}
-use Rattle.nfs3_replies.specs.ReadParts.{Told, Reads, IsOptional}
-use Rattle.nfs3_replies.proofs.Made.{Made, made_front, none_made, one_made, no_flag, no_item}
-use Rattle.nfs3_replies.proofs.ReadForms.{long_text, text_front}
-
--- ---- by what is left and whether a part was missed
-
-pub at_front : {A : Type 0} {Fits : A → Type 0} {spell : A → List ℕ} (missed : Bool) {bytes rest : List ℕ} {x : A} → IsFront Fits spell bytes x rest
-    → Reads Fits spell (if missed then None else Some bytes) x (if missed then None else Some rest)
-at_front true f = record { told = refl }
-at_front false f = record { told = f }
-
-pub not_there : {A : Type 0} {Fits : A → Type 0} {spell : A → List ℕ} (missed : Bool) {bytes : List ℕ} {x : A} {now : Option (List ℕ)} → HasNoFront Fits spell bytes → now ≡ None
-    → Reads Fits spell (if missed then None else Some bytes) x now
-not_there {Fits = Fits} {spell = spell} missed {bytes = bytes} {x = x} {now = now} absent gone = record { told = cases missed now gone }
-  where
-    cases : (missed : Bool) (now : Option (List ℕ)) → now ≡ None → Told Fits spell (if missed then None else Some bytes) x now
-    cases true now gone = gone
-    cases false None gone = absent
-    cases false (Some rest) gone = absurd (cc gone)
+use Rattle.wire_model.specs.Parts.{Told, Reads, IsOptional}
+use Rattle.wire_model.proofs.Made.{Made, made_front, none_made, one_made, no_flag, no_item}
 
 -- ---- a part, of which there is one reading
 
@@ -65,15 +46,6 @@ made_read {A} {B} {Fits} {spell} {Whole} {written} {make} {a} {b} {x} m f = reco
     cases (Some a) (Some b) p = made_front m p
 
 -- ---- XDR's items
-
--- a text's length is any word
-pub text_read : {a b : Option (List ℕ)} {x : List ℕ} → Reads (IsUpTo 4294967295) opaque a x b → Read IsText opaque a x b
-text_read {a} {b} {x} f = record { one = one_text; reads = record { told = cases a b f.told } }
-  where
-    cases : (a b : Option (List ℕ)) → Told (IsUpTo 4294967295) opaque a x b → Told IsText opaque a x b
-    cases None b p = p
-    cases (Some a) None p = long_text p
-    cases (Some a) (Some b) p = text_front p
 
 module _ {A : Type 0} {Fits : A → Type 0} {item : A → List ℕ} where
   pub no_optional : {a b : Option (List ℕ)} {flag : Bool} → Reads IsAny boolean a flag b → flag ≡ false → Reads (IsOptional Fits) (optional item) a None b

@@ -1,14 +1,13 @@
-//! The parts of a result, which are read one behind the other.
+//! The parts of a message, which are read one behind the other.
 
 ghost use Rattle.std.specs.Prelude.{◌≡◌, ◌≢◌, true, false, [], Some, None, length};
-ghost use Rattle.wire_model.specs.Xdr.{word, double_word, boolean, opaque, IsWord, IsDoubleWord, IsAny, IsUpTo};
-ghost use Rattle.nfs_model.specs.Arguments.{IsVerifier};
-ghost use Rattle.nfs3_replies.specs.ReadParts.{Reads, as_it_stands};
+ghost use Rattle.wire_model.specs.Xdr.{word, double_word, boolean, opaque, IsWord, IsDoubleWord, IsAny, IsOfLength, IsUpTo};
+ghost use Rattle.wire_model.specs.Parts.{Reads, as_it_stands};
 
+use crate::read::XdrRead;
 use std::marker::Model;
-use xdr_codec::XdrRead;
 
-/// The bytes that are left of a result.
+/// The bytes that are left of a message.
 ///
 /// That a part isn't there is kept in mind, so a reader of many parts doesn't ask after each. From then on contracts see
 /// nothing that is left, no flag is set, and what else is read has no meaning.
@@ -105,12 +104,12 @@ impl<'a> Parts<'a> {
         }
     }
 
-    /// A verifier: eight bytes.
-    pub fn verifier(&mut self) -> [u8; 8]
-        ensures { Reads IsVerifier as_it_stands self.old result self.new }
+    /// Eight bytes, as they stand.
+    pub fn eight(&mut self) -> [u8; 8]
+        ensures { Reads (IsOfLength 8) as_it_stands self.old result self.new }
     {
         match self.left.fixed(8) {
-            Ok(bytes) => verifier_of(bytes),
+            Ok(bytes) => array_of(bytes),
             Err(_) => {
                 self.miss();
                 [0; 8]
@@ -120,11 +119,11 @@ impl<'a> Parts<'a> {
 }
 
 /// The bytes as an array.
-fn verifier_of(bytes: &[u8]) -> [u8; 8]
+fn array_of(bytes: &[u8]) -> [u8; 8]
     requires { length bytes.now ≡ 8 }
     ensures { result ≡ bytes.now }
 {
-    let mut verifier = [0; 8];
-    verifier.copy_from_slice(bytes);
-    verifier
+    let mut array = [0; 8];
+    array.copy_from_slice(bytes);
+    array
 }

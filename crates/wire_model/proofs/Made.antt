@@ -4,7 +4,7 @@ use Rattle.std.specs.Prelude.{Result, Ok, Err, IfOk}
 use Rattle.wire_model.specs.Xdr.{boolean, optional, IsAny}
 use Rattle.wire_model.specs.OneReading.{ReadsOne, IsFront, HasNoFront}
 use Rattle.wire_model.proofs.OneReading.{one_boolean}
-use Rattle.nfs3_replies.specs.ReadParts.{IsOptional}
+use Rattle.wire_model.specs.Parts.{IsOptional}
 
 -- the parts of a value
 pub record MadeOf {A B : Type 0} (Fits : A → Type 0) (make : A → B) (x : B) : Type 0 where
