@@ -9,8 +9,8 @@ use Rattle.log_model.specs.View.{IsView}
 use Rattle.log_model.specs.Vector.{Stamp, Vector, stamp_at, seq_of}
 use Rattle.agent_model.specs.Standing as agent
 use Rattle.session_model.specs.Brought.{Brought}
-use Rattle.log_walks.specs.Order.{AreToTry}
-use Rattle.log_walks.specs.Trying.{Trying, HasTried, trial_left}
+use Rattle.log_fetch.specs.Order.{AreToTry}
+use Rattle.log_fetch.specs.Trying.{Trying, HasTried, trial_left}
 use Rattle.log_fetch.specs.declared.gather.Known.{Known}
 use Rattle.log_fetch.specs.declared.gather.Passed.{Passed}
 use Rattle.log_fetch.specs.declared.gather.Stage.{Stage}

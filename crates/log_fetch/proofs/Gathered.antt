@@ -15,9 +15,9 @@ use Rattle.session_model.specs.Walks.{Tries, AreTried, LogEnd, Lacks, Stops}
 use Rattle.session_model.specs.Refreshing.{Note, note_of, floors_own, RefreshEnd, Needs, FailsBy, Done, end_of_log, chains_of, Fetches, FetchesAll}
 use Rattle.session_model.specs.Refreshing.Fetches.{wants_heads, no_heads, of_heads, of_own as own_log}
 use Rattle.session_model.specs.Refreshing.FetchesAll.{all as all_done, stays, goes_on as one_more}
-use Rattle.log_walks.specs.Walking.{wanted_of}
-use Rattle.log_walks.specs.Trying.{Trying, first_of}
-use Rattle.log_walks.proofs.Driven.{log_wants, log_stops}
+use Rattle.log_fetch.specs.Walking.{wanted_of}
+use Rattle.log_fetch.specs.Trying.{Trying, first_of}
+use Rattle.log_fetch.proofs.Driven.{log_wants, log_stops}
 use Rattle.log_fetch.specs.declared.gather.Stage.TheVariants as stage
 use Rattle.log_fetch.specs.Gathering.{HeadsCame, StandsSo, noted_for}
 use Rattle.log_fetch.specs.Standings.{note_of as kept_note}

@@ -13,7 +13,7 @@ use Rattle.session_model.specs.Brought.{Brought}
 use Rattle.session_model.specs.Walks.{Walks, WalkEnd, Tries, LogEnd, Lacks, Stops, Gives, GivesNone}
 use Rattle.session_model.specs.Walks.Walks.{came as all_came, wants as next_wanted, misses as one_misses, garbled as one_garbled, back as one_back}
 use Rattle.session_model.specs.Walks.Tries.{none as none_left, wants as head_wants, misses as head_misses, gives as head_gives, passes as head_passes, garbled as head_garbled}
-use Rattle.log_walks.proofs.Lists.{each_reverse}
+use Rattle.log_fetch.proofs.Lists.{each_reverse}
 
 are_owned : (owner : PubKey) {n : ℕ} {key : Key} {brought : List Brought} {records : List Record} {end : WalkEnd} → Walks owner n key brought records end → AllByRecursion (λ r. r.owner ≡ owner) records
 are_owned owner all_came = tt

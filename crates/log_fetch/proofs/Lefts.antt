@@ -3,11 +3,11 @@ use Rattle.std.proofs.Common.{◌≡◌, ℕ, zero, suc, ◌+◌, ◌-◌, ◌*�
 use Rattle.std.specs.Prelude.{◌≢◌}
 use Rattle.ivy_base.specs.declared.key.Key.{Key}
 use Rattle.ivy_base.specs.declared.memory.Memory.{Memory}
-use Rattle.log_walks.specs.declared.trial.Settled.{Settled}
-use Rattle.log_walks.specs.declared.trial.Settled.TheVariants as settled
-use Rattle.log_walks.specs.Concluding.{LeavesNoMore}
-use Rattle.log_walks.specs.Walking.{wanted_at}
-use Rattle.log_walks.specs.Trying.{Trying, trial_left}
+use Rattle.log_fetch.specs.declared.trial.Settled.{Settled}
+use Rattle.log_fetch.specs.declared.trial.Settled.TheVariants as settled
+use Rattle.log_fetch.specs.Concluding.{LeavesNoMore}
+use Rattle.log_fetch.specs.Walking.{wanted_at}
+use Rattle.log_fetch.specs.Trying.{Trying, trial_left}
 use Rattle.log_fetch.specs.declared.gather.Stage.{Stage}
 use Rattle.log_fetch.specs.declared.gather.Stage.TheVariants as stage
 use Rattle.log_fetch.specs.Gathering.{Gathering, heads_wanted, block_wanted, stage_left, gets_in, waits_left}

@@ -12,3 +12,9 @@ pub mod Stepping
 pub mod Nothing
 pub mod Falling
 pub mod Fetching
+pub mod Places
+pub mod Further
+pub mod Lists
+pub mod Trying
+pub mod Placing
+pub mod Driven

@@ -18,10 +18,10 @@ use Rattle.session_model.specs.Brought.{Brought, BlockOf}
 use Rattle.session_model.specs.Refreshing as session
 use Rattle.session_model.specs.Refreshing.{RefreshEnd, FetchesAll, end_of_log, chains_of}
 use Rattle.session_model.specs.Walks.{Tries, LogEnd, Lacks, Stops, Gives, GivesNone}
-use Rattle.log_walks.specs.declared.trial.Settled.{Settled}
-use Rattle.log_walks.specs.declared.trial.Settled.TheVariants as settled
-use Rattle.log_walks.specs.Order.{AreToTry}
-use Rattle.log_walks.specs.Trying.{Trying, HasTried, GivesTo}
+use Rattle.log_fetch.specs.declared.trial.Settled.{Settled}
+use Rattle.log_fetch.specs.declared.trial.Settled.TheVariants as settled
+use Rattle.log_fetch.specs.Order.{AreToTry}
+use Rattle.log_fetch.specs.Trying.{Trying, HasTried, GivesTo}
 use Rattle.log_fetch.specs.declared.gather.Known.{Known}
 use Rattle.log_fetch.specs.declared.gather.Passed.{Passed}
 use Rattle.log_fetch.specs.declared.note.Note.{Note}

@@ -13,8 +13,8 @@ use Rattle.agent_model.specs.Standing.{chain_of}
 use Rattle.session_model.specs.Brought.{Brought, HeadsOf, BlockOf, Heads, Content}
 use Rattle.session_model.specs.Refreshing as session
 use Rattle.session_model.specs.Refreshing.{RefreshEnd, Needs, FailsBy, Done, FetchesAll}
-use Rattle.log_walks.specs.Walking.{wanted_at, wanted_of}
-use Rattle.log_walks.specs.Trying.{Trying}
+use Rattle.log_fetch.specs.Walking.{wanted_at, wanted_of}
+use Rattle.log_fetch.specs.Trying.{Trying}
 use Rattle.log_fetch.specs.declared.fetch.Fetched.{Fetched}
 use Rattle.log_fetch.specs.declared.fetch.State.TheVariants as state
 use Rattle.log_fetch.specs.declared.fetch.Step.TheVariants as step

@@ -11,12 +11,12 @@ use Rattle.log_records.specs.Batches.{Batch}
 use Rattle.session_model.specs.Brought.{Brought, BlockOf}
 use Rattle.session_model.specs.Walks.{Tries, GivesNone}
 use Rattle.session_model.specs.Walks.Tries.{none as none_left}
-use Rattle.log_walks.specs.declared.trial.Settled.{Settled}
-use Rattle.log_walks.specs.declared.trial.Settled.TheVariants as settled
-use Rattle.log_walks.specs.Trying.{Trying, HasTried, IsBegunAt, HasBeenTold}
-use Rattle.log_walks.specs.Concluding.{SettlesAs}
-use Rattle.log_walks.proofs.Driven.{tries_first}
-use Rattle.log_walks.specs.Order.{AreToTry}
+use Rattle.log_fetch.specs.declared.trial.Settled.{Settled}
+use Rattle.log_fetch.specs.declared.trial.Settled.TheVariants as settled
+use Rattle.log_fetch.specs.Trying.{Trying, HasTried, IsBegunAt, HasBeenTold}
+use Rattle.log_fetch.specs.Concluding.{SettlesAs}
+use Rattle.log_fetch.proofs.Driven.{tries_first}
+use Rattle.log_fetch.specs.Order.{AreToTry}
 use Rattle.log_fetch.specs.Edges.{edge_in}
 use Rattle.log_fetch.specs.Logs.{StandsAt, Opens, GoesOn}
 

@@ -12,10 +12,10 @@ use Rattle.dht_ids.specs.declared.judge.Judged.{Judged}
 use Rattle.session_model.specs.Brought.{Brought, HeadsOf, BlockOf, stamp_of}
 use Rattle.log_records.specs.declared.chain_fault.ChainFault.{ChainFault}
 use Rattle.log_records.specs.Batches.{Batch}
-use Rattle.log_walks.specs.declared.trial.Settled.{Settled}
-use Rattle.log_walks.specs.Order.{AreToTry}
-use Rattle.log_walks.specs.Walking.{wanted_at}
-use Rattle.log_walks.specs.Trying.{Trying, HasTried, trial_left}
+use Rattle.log_fetch.specs.declared.trial.Settled.{Settled}
+use Rattle.log_fetch.specs.Order.{AreToTry}
+use Rattle.log_fetch.specs.Walking.{wanted_at}
+use Rattle.log_fetch.specs.Trying.{Trying, HasTried, trial_left}
 use Rattle.log_fetch.specs.declared.gather.Known.{Known}
 use Rattle.log_fetch.specs.declared.gather.Passed.{Passed}
 use Rattle.log_fetch.specs.declared.gather.Stage.{Stage}

@@ -15,11 +15,11 @@ use Rattle.session_model.specs.Brought.{Brought, HeadsOf, BlockOf, stamp_of}
 use Rattle.session_model.specs.Refreshing as session
 use Rattle.session_model.specs.Refreshing.{RefreshEnd, FetchesAll}
 use Rattle.session_model.specs.Walks.{Tries, LogEnd}
-use Rattle.log_walks.specs.declared.trial.Settled.{Settled}
-use Rattle.log_walks.specs.declared.trial.Settled.TheVariants as settled
-use Rattle.log_walks.specs.Order.{AreToTry}
-use Rattle.log_walks.specs.Walking.{wanted_of}
-use Rattle.log_walks.specs.Trying.{Trying, HasTried, GivesTo, trial_left}
+use Rattle.log_fetch.specs.declared.trial.Settled.{Settled}
+use Rattle.log_fetch.specs.declared.trial.Settled.TheVariants as settled
+use Rattle.log_fetch.specs.Order.{AreToTry}
+use Rattle.log_fetch.specs.Walking.{wanted_of}
+use Rattle.log_fetch.specs.Trying.{Trying, HasTried, GivesTo, trial_left}
 use Rattle.log_fetch.specs.declared.gather.Known.{Known}
 use Rattle.log_fetch.specs.declared.gather.Passed.{Passed}
 use Rattle.log_fetch.specs.declared.gather.Stage.{Stage}

@@ -9,10 +9,10 @@ use Rattle.log_records.specs.declared.chain_fault.ChainFault.{ChainFault}
 use Rattle.log_records.specs.Batches.{Batch}
 use Rattle.session_model.specs.Brought.{Brought, BlockOf}
 use Rattle.session_model.specs.Walks.{Tries, LogEnd}
-use Rattle.log_walks.specs.declared.trial.Settled.{Settled}
-use Rattle.log_walks.specs.declared.trial.Settled.TheVariants as settled
-use Rattle.log_walks.specs.Order.{AreToTry}
-use Rattle.log_walks.specs.Trying.{Trying, HasTried, first_of, GivesTo, trial_left}
+use Rattle.log_fetch.specs.declared.trial.Settled.{Settled}
+use Rattle.log_fetch.specs.declared.trial.Settled.TheVariants as settled
+use Rattle.log_fetch.specs.Order.{AreToTry}
+use Rattle.log_fetch.specs.Trying.{Trying, HasTried, first_of, GivesTo, trial_left}
 
 -- of these heads of the owner's log, after this was brought for them: a block is wanted, or the log is through
 abbrev pub StandsAt : View → PubKey → Option Edge → List Stamp → List Brought → Batch → Batch → Settled → Type 0

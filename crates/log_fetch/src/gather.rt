@@ -4,7 +4,7 @@ ghost use Rattle.std.specs.Prelude.{◌≡◌, ◌≢◌, ◌*◌, ◌+◌, ◌^
 ghost use Rattle.ivy_base.specs.declared.key.PubKey.{PubKey};
 ghost use Rattle.ivy_base.specs.Naming.{head_key_of};
 ghost use Rattle.session_model.specs.Brought.{stamp_of};
-ghost use Rattle.log_walks.specs.Trying.{trial_left};
+ghost use Rattle.log_fetch.specs.Trying.{trial_left};
 ghost use Rattle.log_fetch.specs.Logs.{settled_left};
 ghost use Rattle.log_fetch.specs.Gathering.{known_of, none_passed, IsNext, IsPassing, PassesAs, BeginsLog, GoesOnLog, Advances, HeadsTaken, BlockTaken, Gathers, HeadsGathered, BlockGathered, IsGathering, gathering_of, heads_wanted, block_wanted, GivesBack, noted_for, noted_at, at_behind, waits_left, gets_in};
 
@@ -15,7 +15,7 @@ use crate::standing::Standing;
 use dht_ids::{Heads, Judged};
 use ivy_base::{Key, Memory, PubKey, head_key};
 use log_records::{Batch, ChainFault};
-use log_walks::{Settled, Trial};
+use crate::{Settled, Trial};
 use std::alloc::Global;
 use std::marker::Model;
 use std::mem;

@@ -1,6 +1,6 @@
 //! What a refresh starts from, what it brings and notes, and how it is brought: the fetch of all logs of a view.
 //!
-//! Layer: over `log_walks`, which tries the heads of a log, `log_records`, whose batches carry the chains, `dhash_client`,
+//! Layer: over the definitions of `session_model`, `log_records`, whose batches test and carry the chains, `dhash_client`,
 //! whose gets ask the ring, `fs_tree`, `view_blocks`, `version_vectors`, `dht_ids`, `rpc_wire` and `nfs_model`; below agents,
 //! which give standings and take refreshes, and below sessions.
 //! For the layers above: a [`Standing`], a [`Refresh`] and an [`Asked`] are those of the definitions in `agent_model` and
@@ -18,6 +18,18 @@
 //! isn't loaded here. A [`Get`] can be driven alone, too, as those of a snapshot's blocks are: [`Progress`] says whether it is
 //! over, and a [`Waiting`] keeps the ask that is to be heard, since a get that was asked for it again could be over.
 //!
+//! One log is fetched backwards by names from each of its heads, until the records of one of them are a chain that goes on
+//! from what is held. No machine of these asks a node: each says which block it wants, and is given it, wherever it came
+//! from. [`heads_to_try`] gives the heads in the order in which they are tried, and behind them the floor's entry. A [`Trial`]
+//! goes through them: it wants one block after the other, and [`Trial::settle`] puts the records of a head whose walk is over
+//! into a batch, or passes it over with its fault, until a block is wanted or the log is through. A [`Walk`] is the way back
+//! under one head. Whatever they were brought, how far they have come is the definitions' `Tries` and `Walks`
+//! (`specs/Walking.antt`, `specs/Trying.antt`, `specs/Concluding.antt`, `specs/Order.antt`; inside `specs/Reading.antt`), and
+//! `proofs/Driven.antt` has what a driver cites: how a log's fetch begins, which block it wants then, and that it stops where
+//! that can't be had. Each block given leaves fewer records to come, and each head passed over fewer heads: `trial_left`
+//! bounds the blocks that may still be wanted, and both make it less. A record that makes an inode of another number than it
+//! may is fetched through, as the definitions have it, though it can be in no chain; only what isn't of the grammar ends a walk.
+//!
 //! Within: [`log::open`] begins with a log whose heads were got and [`log::go_on`] goes on with a block that was wanted, by
 //! `session_model`'s `Tries` (`specs/Logs.antt`). `gather` goes over the members, whatever is brought and however it came:
 //! how far it is behind that is `Gathers` in `specs/Gathering.antt`. A [`Get`] gets what is wanted of the ring: the trail of
@@ -26,7 +38,9 @@
 //! (`specs/Stepping.antt`).
 //!
 //! Costs: view, floor and edges are copied once at the start. An edge is looked for among those of at most sixteen logs,
-//! and copied for each head that is tested. A block that a get brought is read where it is, and not copied.
+//! and copied for each head that is tested. A block that a get brought is read where it is, once, and not copied. A head's
+//! records are hashed once more when they are tested, since a record doesn't keep its name. Heads are few, and are put in order
+//! one by one.
 #![tactic(auto)]
 
 pub mod asked;
@@ -36,15 +50,22 @@ mod gather;
 pub mod get;
 pub mod log;
 pub mod note;
+mod order;
+mod reading;
 pub mod refresh;
 pub mod standing;
+pub mod trial;
 pub mod turned;
+pub mod walk;
 
 pub use asked::Asked;
 pub use edges::{Edge, Edges};
 pub use fetch::{Fetch, Fetched};
 pub use get::{Came, Get, Progress, Waiting};
 pub use note::{Note, Notes};
+pub use order::heads_to_try;
 pub use refresh::Refresh;
 pub use standing::Standing;
+pub use trial::{Concluded, Settled, Trial};
 pub use turned::{TurnFault, Turned};
+pub use walk::Walk;

@@ -4,7 +4,7 @@ ghost use Rattle.std.specs.Prelude.{◌≡◌, ◌≢◌, ◌<◌, ◌^◌, Cont
 ghost use Rattle.ivy_base.specs.Naming.{head_key_of};
 ghost use Rattle.log_records.specs.Batches.{owners_in};
 ghost use Rattle.session_model.specs.Brought.{stamp_of};
-ghost use Rattle.log_walks.specs.Trying.{trial_left};
+ghost use Rattle.log_fetch.specs.Trying.{trial_left};
 ghost use Rattle.log_fetch.specs.Edges.{edge_in};
 ghost use Rattle.log_fetch.specs.Logs.{Opens, GoesOn, settled_left};
 
@@ -12,7 +12,7 @@ use crate::edges::Edges;
 use dht_ids::Judged;
 use ivy_base::{Memory, PubKey, head_key};
 use log_records::Batch;
-use log_walks::{Settled, Trial, heads_to_try};
+use crate::{Settled, Trial, heads_to_try};
 use std::alloc::Global;
 use version_vectors::Vector;
 use view_blocks::View;

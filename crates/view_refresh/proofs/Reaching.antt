@@ -8,8 +8,8 @@ use Rattle.agent_model.specs.Standing.{chain_of}
 use Rattle.session_model.specs.Brought.{Brought, Heads, Content}
 use Rattle.session_model.specs.Refreshing as session
 use Rattle.session_model.specs.Refreshing.{RefreshEnd, Needs, Done, FetchesAll}
-use Rattle.log_walks.specs.Trying.{Trying}
-use Rattle.log_walks.specs.Walking.{wanted_at, wanted_of}
+use Rattle.log_fetch.specs.Trying.{Trying}
+use Rattle.log_fetch.specs.Walking.{wanted_at, wanted_of}
 use Rattle.log_fetch.specs.declared.gather.Stage.{Stage}
 use Rattle.log_fetch.specs.declared.gather.Stage.TheVariants as stage
 use Rattle.log_fetch.specs.Fetching.{IsSeen}

@@ -1,7 +1,7 @@
 use Rattle.std.proofs.Common.{[], ◌<◌, ◌≤◌, length, subst, Option, List, get_or, refl, ◌^◌, arith}
 use Rattle.std.proofs.lemmas.Bool.{false≢true}
 use Rattle.ivy_base.specs.declared.key.PubKey.{PubKey}
-use Rattle.log_walks.specs.Trying.{Trying}
+use Rattle.log_fetch.specs.Trying.{Trying}
 use Rattle.log_fetch.specs.Gathering.{BeginsLog, waits_left}
 use Rattle.log_fetch.proofs.Advancing.{next_at, to_heads, to_block, to_next, to_end}
 use Rattle.log_fetch.proofs.gather.advance.Goals as goal

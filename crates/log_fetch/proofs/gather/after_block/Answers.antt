@@ -1,6 +1,6 @@
 use Rattle.std.proofs.Common.{[], ◌<◌, sym, subst, refl, length, List, get_or, Option, arith}
 use Rattle.ivy_base.specs.declared.key.PubKey.{PubKey}
-use Rattle.log_walks.specs.Trying.{Trying, trial_left}
+use Rattle.log_fetch.specs.Trying.{Trying, trial_left}
 use Rattle.log_fetch.specs.Gathering.{GoesOnLog, waits_left}
 use Rattle.log_fetch.proofs.Advancing.{next_at}
 use Rattle.log_fetch.proofs.Taking.{block_within, block_waiting, block_passed}

@@ -1,6 +1,6 @@
 use Rattle.std.proofs.Common.{Option, map, subst, ◌<◌, ◌^◌}
 use Rattle.session_model.specs.Brought.{stamp_of}
-use Rattle.log_walks.specs.Trying.{Trying}
+use Rattle.log_fetch.specs.Trying.{Trying}
 use Rattle.log_fetch.specs.Gathering.{BeginsLog, waits_left}
 use Rattle.log_fetch.proofs.Taking.{heads_next, heads_waiting, heads_passed}
 use Rattle.log_fetch.proofs.gather.after_heads.Goals as goal

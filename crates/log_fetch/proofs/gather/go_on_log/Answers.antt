@@ -1,4 +1,4 @@
-use Rattle.log_walks.specs.Trying.{trial_left}
+use Rattle.log_fetch.specs.Trying.{trial_left}
 use Rattle.log_fetch.proofs.Lefts.{waits_within}
 use Rattle.log_fetch.proofs.Passing.{not_passed, goes_on_log}
 use Rattle.log_fetch.proofs.Taking.{block_wants, block_owner, block_passing}

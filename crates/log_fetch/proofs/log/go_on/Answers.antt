@@ -4,7 +4,7 @@ use Rattle.ivy_base.specs.declared.key.PubKey.{PubKey}
 use Rattle.ivy_base.specs.Naming.{head_key_of}
 use Rattle.log_model.specs.Vector.{stamp_at}
 use Rattle.log_records.specs.Batches.{owners_in}
-use Rattle.log_walks.specs.Trying.{trial_left}
+use Rattle.log_fetch.specs.Trying.{trial_left}
 use Rattle.log_fetch.proofs.Lefts.{settled_within}
 use Rattle.log_fetch.proofs.Steps.{goes_on_with}
 use Rattle.log_fetch.proofs.log.go_on.Goals as goal

@@ -1,5 +1,0 @@
-pub mod Walking
-pub mod Reading
-pub mod Trying
-pub mod Concluding
-pub mod Order
