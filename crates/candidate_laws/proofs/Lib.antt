@@ -7,3 +7,7 @@ pub mod OneChain
 pub mod OneCandidate
 pub mod Taken
 pub mod Backed
+pub mod Deciding
+pub mod Calls
+pub mod Callers
+pub mod Arguments

@@ -30,7 +30,7 @@ use Rattle.log_records.proofs.Frames.{one_frame}
 use Rattle.block_parts.proofs.OneParts.{one_block, one_key, one_at_most, one_time, one_kind, one_name, one_size}
 use Rattle.log_records.proofs.OneBody.{change_of_parts, change_parts, one_change, target_fits}
 use Rattle.log_records.proofs.OneRecord.{one_of_parts, parts_in, record_with, is_record, misplaced}
-use Rattle.reading_laws.proofs.Deciding.{Reads, IsReadable, HasParts, ◌then◌, a_word, a_double_word, a_moment, a_front, a_data, a_raw, an_array, an_optional, reads_then, reads_then_by, reads_fewer, reads_parts, reads_either, fronts, whole_or_not, same_or_not}
+use Rattle.candidate_laws.proofs.Deciding.{Reads, IsReadable, HasParts, ◌then◌, a_word, a_double_word, a_moment, a_front, a_data, a_raw, an_array, an_optional, reads_then, reads_then_by, reads_fewer, reads_parts, reads_either, fronts, whole_or_not, same_or_not}
 
 -- ---- what is decided of a value
 

@@ -26,7 +26,7 @@ use Rattle.log_model.proofs.Sets.{in_order_ascends, in_order_in, in_order_has, s
 use Rattle.log_records.proofs.OneRecord.{one_record}
 use Rattle.turn_model.specs.Turn.{Candidate, IsPrefixOf, IsAtHand}
 use Rattle.turn_model.specs.Candidates.{IsCandidate, own_log, newest, as_known}
-use Rattle.reading_laws.proofs.Deciding.{same_or_not}
+use Rattle.candidate_laws.proofs.Deciding.{same_or_not}
 use Rattle.candidate_laws.specs.Some.{ThereIsALargestPart}
 use Rattle.candidate_laws.proofs.RecordReading.{Known, both_known}
 use Rattle.candidate_laws.proofs.SomeChain.{some_in}

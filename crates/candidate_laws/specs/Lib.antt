@@ -1,3 +1,4 @@
 pub mod One
 pub mod Verified
 pub mod Some
+pub mod Reading

@@ -16,7 +16,7 @@ use Rattle.nfs_model.specs.declared.arguments.Node.{Node}
 use Rattle.nfs_model.specs.declared.arguments.Node.TheVariants.{Plain, Device, Other}
 use Rattle.nfs_model.specs.Arguments.{nfs_program, program_of, procedure_of, arguments, set_time, set_what, create_how, special_node, IsHandle, IsShortText, IsTime, IsSetWhat, IsVerifier, IsHow, IsPlainKind, IsDeviceKind, IsOtherKind, IsNode, ArgumentsFit, AreArguments}
 use Rattle.nfs_model.proofs.OneArguments.{one_set_time, one_set_what, one_how, one_node}
-use Rattle.reading_laws.proofs.Deciding.{Reads, IsReadable, ◌then◌, HasParts, a_word, a_double_word, a_moment, a_front, a_data, a_raw, an_optional, reads_then, reads_fewer, reads_parts, reads_either, fronts, whole_or_not}
+use Rattle.candidate_laws.proofs.Deciding.{Reads, IsReadable, ◌then◌, HasParts, a_word, a_double_word, a_moment, a_front, a_data, a_raw, an_optional, reads_then, reads_fewer, reads_parts, reads_either, fronts, whole_or_not}
 
 -- ---- parts
 

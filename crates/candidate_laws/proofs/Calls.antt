@@ -3,8 +3,8 @@ use Rattle.std.proofs.Common.{◌≡◌, ◌⊎◌, inl, inr, ℕ, List, ◌++�
 use Rattle.std.proofs.lemmas.Bool.{cases_lt}
 use Rattle.wire_model.specs.Xdr.{word, opaque}
 use Rattle.wire_model.specs.Rpc.{CallMessage, IsCall, IsOtherVersion}
-use Rattle.reading_laws.specs.Laws.{EachMessageIsKnown}
-use Rattle.reading_laws.proofs.Deciding.{◌then◌, a_word, a_front, a_data}
+use Rattle.candidate_laws.specs.Reading.{EachMessageIsKnown}
+use Rattle.candidate_laws.proofs.Deciding.{◌then◌, a_word, a_front, a_data}
 
 regrouped : (front a b c d rest : List ℕ) → ((((front ++ a) ++ b) ++ c) ++ d) ++ rest ≡ ((front ++ (a ++ b)) ++ (c ++ d)) ++ rest
 regrouped front a b c d rest = simp append_assoc

@@ -1,7 +1,7 @@
-use Rattle.reading_laws.proofs.Arguments.{arguments_or_not}
-use Rattle.reading_laws.proofs.Callers.{caller_or_not}
-use Rattle.reading_laws.proofs.Calls.{known_message}
-use Rattle.reading_laws.proofs.bytes_are_known.Goals as goal
+use Rattle.candidate_laws.proofs.Arguments.{arguments_or_not}
+use Rattle.candidate_laws.proofs.Callers.{caller_or_not}
+use Rattle.candidate_laws.proofs.Calls.{known_message}
+use Rattle.candidate_laws.proofs.bytes_are_known.Goals as goal
 
 pub returns-clause-messages : goal.returns-clause-messages
 returns-clause-messages c = known_message

@@ -3,7 +3,7 @@ use Rattle.std.proofs.Common.{◌⊎◌, inl, inr, ℕ, List, sym, subst, arith}
 use Rattle.std.proofs.lemmas.Bool.{cases_eq}
 use Rattle.wire_model.specs.Rpc.{Auth, Identity, nobody, IsCaller, none, system}
 use Rattle.wire_model.proofs.OneReading.{caller_cases}
-use Rattle.reading_laws.proofs.Deciding.{◌then◌, a_word, a_data, an_array, whole_or_not}
+use Rattle.candidate_laws.proofs.Deciding.{◌then◌, a_word, a_data, an_array, whole_or_not}
 
 abbrev HasCaller : Auth → Type 0
 HasCaller a = (who : Identity) × IsCaller a who

@@ -1,4 +1,0 @@
-pub mod Deciding
-pub mod Calls
-pub mod Callers
-pub mod Arguments
