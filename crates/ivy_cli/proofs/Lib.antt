@@ -1,3 +1,8 @@
 pub mod NumberLemmas
 pub mod LoadLemmas
 pub mod RunLemmas
+pub mod GeneratorLemmas
+pub mod Ascending
+pub mod FrontLemmas
+mod Examples
+mod ReplyLemmas

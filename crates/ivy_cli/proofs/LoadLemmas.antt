@@ -9,8 +9,8 @@ use Rattle.script_driver.specs.Run.{Ran, Ending, Ended, RefusedAt, LimitAt}
 use Rattle.script_driver.specs.Told.{ran_of, TellsAll, TellsFront, TellsLess}
 use Rattle.ivy_play.specs.Playing.{ivy_runs, IsFullOrTells, IsPlayed}
 use Rattle.ivy_play.specs.Status.{status_of}
-use Rattle.load_script.specs.Generator.{script_of}
-use Rattle.load_script.specs.Summary.{summary_text}
+use Rattle.ivy_cli.specs.Generator.{script_of}
+use Rattle.ivy_cli.specs.Summary.{summary_text}
 use Rattle.ivy_cli.specs.Loads.{told_of, told_run, load_runs, IsLoaded, GivesSummary, GivesNone, IsLoad}
 
 -- ---- bytes and statuses

@@ -1,3 +1,6 @@
 pub mod Words
 pub mod Loads
 pub mod Runs
+pub mod Generator
+pub mod Summary
+pub mod Laws

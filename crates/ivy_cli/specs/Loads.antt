@@ -6,8 +6,8 @@ use Rattle.script_driver.specs.Run.{Ran, Ending, Ended, RefusedAt, LimitAt}
 use Rattle.script_driver.specs.Told.{ran_of, TellsAll, TellsFront, TellsLess}
 use Rattle.ivy_play.specs.Playing.{ivy_runs, IsFullOrTells}
 use Rattle.ivy_play.specs.Status.{status_of}
-use Rattle.load_script.specs.Generator.{script_of}
-use Rattle.load_script.specs.Summary.{summary_text}
+use Rattle.ivy_cli.specs.Generator.{script_of}
+use Rattle.ivy_cli.specs.Summary.{summary_text}
 
 -- what is told of a text: its summary where the script was played to its line `end`, and else nothing
 abbrev pub told_of : ℕ → List ℕ → Ending → List ℕ

@@ -6,10 +6,11 @@ ghost use Rattle.ivy_io.specs.Known.{then};
 ghost use Rattle.ivy_cli.specs.Loads.{GivesNone, GivesSummary, IsLoad};
 
 use crate::memory::{Script, Shown};
+use crate::script::generate;
+use crate::summing::summary;
 use ivy_base::{Bytes, Memory};
 use ivy_io::{Sink, SinkFault, write_all};
 use ivy_play::{Status, play};
-use load_script::{generate, summary};
 use std::alloc::Global;
 
 /// The status of a program that did what it was asked for.

@@ -1,5 +1,5 @@
 use Rattle.std.proofs.Common.{◌∙◌, ap}
-use Rattle.load_script.specs.Summary.{summary_text}
+use Rattle.ivy_cli.specs.Summary.{summary_text}
 use Rattle.ivy_cli.proofs.LoadLemmas.{gives_summary, gives_none}
 use Rattle.ivy_cli.proofs.loading.summed_up.Goals as goal
 

@@ -1,7 +1,0 @@
-use Rattle.std.proofs.Common.{◌≡◌, ◌*◌}
-use Rattle.load_script.specs.Generator.{state}
-use Rattle.load_script.proofs.GeneratorLemmas.{script_before}
-use Rattle.load_script.proofs.script.generate.Given as goal
-
-abbrev pub invariant-calls : goal.invariant-calls
-invariant-calls l = record { draws : l.draws ≡ state l.seed (3 * l.before); script : l.script.items ≡ script_before l.seed l.before }

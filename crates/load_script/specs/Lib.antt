@@ -1,3 +1,0 @@
-pub mod Generator
-pub mod Summary
-pub mod Laws
