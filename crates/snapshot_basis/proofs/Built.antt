@@ -18,10 +18,10 @@ use Rattle.snapshot_model.specs.Blocks.{InodeBlock, most_bytes}
 use Rattle.snapshot_model.specs.Reading.{IsWholeTree}
 use Rattle.snapshot_model.proofs.SameNames.{names_there, shown, sorted_same}
 use Rattle.snapshot_loading.proofs.Order.{listed_ascend}
-use Rattle.tree_building.specs.declared.parts.InodeParts.{InodeParts}
-use Rattle.tree_building.specs.Parts.{HasBody, IsBody, names_of, numbered, tree_of}
-use Rattle.tree_building.specs.Steps.{NamesAscend}
-use Rattle.tree_building.proofs.Ordered.{sorted_names}
+use Rattle.snapshot_basis.specs.declared.parts.InodeParts.{InodeParts}
+use Rattle.snapshot_basis.specs.Parts.{HasBody, IsBody, names_of, numbered, tree_of}
+use Rattle.snapshot_basis.specs.Steps.{NamesAscend}
+use Rattle.snapshot_basis.proofs.Ordered.{sorted_names}
 use Rattle.snapshot_basis.specs.Picks.{Blocks}
 use Rattle.snapshot_basis.specs.Contents.{HasContents}
 use Rattle.snapshot_basis.specs.Inodes.{Item, contained, item_in, items_in, AreInodes}

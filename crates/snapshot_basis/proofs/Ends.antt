@@ -24,8 +24,8 @@ use Rattle.snapshot_wholes.proofs.OneForest.{read_is_forest}
 use Rattle.snapshot_wholes.proofs.Canon.{loaded_is_shown}
 use Rattle.snapshot_wholes.proofs.OneBasis.{snapshot_is_one}
 use Rattle.snapshot_wholes.proofs.Whole.{whole_trees_are_sound}
-use Rattle.tree_building.specs.declared.parts.InodeParts.{InodeParts}
-use Rattle.tree_building.specs.Parts.{IsTreeOf, tree_of}
+use Rattle.snapshot_basis.specs.declared.parts.InodeParts.{InodeParts}
+use Rattle.snapshot_basis.specs.Parts.{IsTreeOf, tree_of}
 use Rattle.snapshot_basis.specs.Picks.{Blocks, inodes_in}
 use Rattle.snapshot_basis.specs.Evenness.{is_even}
 use Rattle.snapshot_basis.specs.Inodes.{AreInodes, items_in}

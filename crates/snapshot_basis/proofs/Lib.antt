@@ -8,3 +8,10 @@ pub mod Bounds
 pub mod Built
 pub mod Steps
 pub mod Ends
+pub mod Sorted
+pub mod Made
+pub mod Added
+pub mod Linked
+pub mod Settled
+pub mod Ordered
+pub mod Whole

@@ -6,7 +6,7 @@ use Rattle.std.proofs.lemmas.List.{append-nil, append_assoc, map-append}
 use Rattle.ivy_base.specs.declared.key.Key.{Key}
 use Rattle.wire_model.proofs.OneReading.{whole}
 use Rattle.tree_model.proofs.Sound.{both_true}
-use Rattle.tree_building.proofs.Sorted.{next_taken, split_next}
+use Rattle.snapshot_basis.proofs.Sorted.{next_taken, split_next}
 use Rattle.log_model.proofs.Lists.{both, each_right}
 use Rattle.snapshot_model.specs.Blocks.{AreEntries, Says, entries_block}
 use Rattle.snapshot_model.proofs.OneBlock.{one_entries}

@@ -2,7 +2,7 @@
 use Rattle.std.proofs.Common.{◌≡◌, ℕ, Bool, true, List, [], ◌∷◌, ◌++◌, map, sym, ap, ◌∙◌, subst}
 use Rattle.std.specs.Prelude.{if◌then◌else◌}
 use Rattle.std.proofs.lemmas.List.{append_assoc, map-append}
-use Rattle.tree_building.specs.declared.parts.InodeParts.{InodeParts}
+use Rattle.snapshot_basis.specs.declared.parts.InodeParts.{InodeParts}
 use Rattle.snapshot_model.specs.Reading.{Part}
 use Rattle.snapshot_loading.specs.declared.load.Read.{Read}
 use Rattle.snapshot_loading.specs.Roles.{part_of}

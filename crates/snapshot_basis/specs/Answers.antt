@@ -5,8 +5,8 @@ use Rattle.ivy_base.specs.declared.operation.Kind.{Kind}
 use Rattle.turn_model.specs.Basis.{Basis}
 use Rattle.fs_tree.specs.Bases.{basis_of}
 use Rattle.fs_tree.specs.declared.basis.Basis.{Basis as Kept}
-use Rattle.tree_building.specs.declared.parts.InodeParts.{InodeParts}
-use Rattle.tree_building.specs.Parts.{numbered}
+use Rattle.snapshot_basis.specs.declared.parts.InodeParts.{InodeParts}
+use Rattle.snapshot_basis.specs.Parts.{numbered}
 use Rattle.snapshot_model.specs.Blocks.{InodeBlock}
 use Rattle.snapshot_loading.specs.declared.load.Read.{Read}
 use Rattle.snapshot_loading.specs.Loading.{HasRead, root_alone}

@@ -4,3 +4,5 @@ pub mod Contents
 pub mod Inodes
 pub mod Ends
 pub mod Answers
+pub mod Parts
+pub mod Steps

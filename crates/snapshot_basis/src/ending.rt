@@ -8,6 +8,7 @@ ghost use Rattle.snapshot_wholes.specs.Laws.{blocks_read};
 ghost use Rattle.snapshot_basis.specs.Answers.{AreReadFrom, IsABasis, loaded_basis};
 ghost use Rattle.snapshot_basis.specs.Ends.{AreOfBasis};
 
+use crate::building::build;
 use crate::evenness::is_even;
 use crate::inodes::all_inodes;
 use fs_tree::Basis;
@@ -15,7 +16,6 @@ use ivy_base::Memory;
 use snapshot_blocks::{BlockFault, RootBlock};
 use snapshot_loading::{Load, Read};
 use std::alloc::Global;
-use tree_building::build;
 
 /// The basis that loading has come to; none where it has come to none. The error is want of memory.
 pub fn loaded(alloc: Global, load: Load) -> Result<Option<Basis>, Memory>

@@ -9,12 +9,12 @@ ghost use Rattle.snapshot_basis.specs.Answers.{AreContentsOf, IsAnInode};
 
 use crate::entries::all_entries;
 use crate::evenness::{are_full, is_even};
+use crate::parts::InodeParts;
 use crate::picking::pick;
 use ivy_base::{Bytes, Key, Kind, Memory};
 use snapshot_blocks::InodeBlock;
 use snapshot_loading::Read;
 use std::alloc::Global;
-use tree_building::InodeParts;
 
 /// How many bytes a piece of a file has, but for the last one.
 const PIECE: usize = 8192;

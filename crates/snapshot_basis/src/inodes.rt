@@ -7,11 +7,11 @@ ghost use Rattle.snapshot_basis.specs.Picks.{inodes_in, is_inode, within};
 ghost use Rattle.snapshot_basis.specs.Answers.{AreAllInodes};
 
 use crate::inode::inode;
+use crate::parts::InodeParts;
 use crate::picking::of_inodes;
 use ivy_base::Memory;
 use snapshot_loading::{Item, Read, Role};
 use std::alloc::Global;
-use tree_building::InodeParts;
 
 /// All inodes among the blocks, in their order; none where one isn't an inode with what it contains. The error is want of
 /// memory.

@@ -2,8 +2,8 @@ use Rattle.std.proofs.Common.{List, refl, sym, ◌∙◌, subst}
 use Rattle.std.specs.List.{AllByRecursion}
 use Rattle.snapshot_blocks.specs.Parsed.{root_of}
 use Rattle.snapshot_wholes.specs.Laws.{blocks_read}
-use Rattle.tree_building.specs.declared.parts.InodeParts.{InodeParts}
-use Rattle.tree_building.specs.Parts.{HasBody}
+use Rattle.snapshot_basis.specs.declared.parts.InodeParts.{InodeParts}
+use Rattle.snapshot_basis.specs.Parts.{HasBody}
 use Rattle.snapshot_basis.specs.Picks.{inodes_in}
 use Rattle.snapshot_basis.proofs.Built.{bodies_fit}
 use Rattle.snapshot_basis.proofs.Ends.{no_tree, not_even, told}

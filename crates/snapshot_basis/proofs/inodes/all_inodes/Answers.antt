@@ -1,6 +1,6 @@
 use Rattle.std.proofs.Common.{List, sym, ◌∙◌, subst}
 use Rattle.snapshot_wholes.specs.Laws.{blocks_read}
-use Rattle.tree_building.specs.declared.parts.InodeParts.{InodeParts}
+use Rattle.snapshot_basis.specs.declared.parts.InodeParts.{InodeParts}
 use Rattle.snapshot_basis.proofs.Steps.{AreSoFar, none_read, one_read}
 use Rattle.snapshot_basis.proofs.inodes.all_inodes.Goals as goal
 
