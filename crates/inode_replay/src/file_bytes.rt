@@ -4,9 +4,9 @@ ghost use Rattle.std.specs.Prelude.{◌≡◌, ◌+◌, ◌^◌, ◌<◌, Some, 
 ghost use Rattle.tree_model.specs.Apply.{overwritten, resized};
 ghost use Rattle.inode_replay.specs.Kept.{places_written, places_below};
 
+use crate::bytes::SharedBytes;
+use crate::marks::SharedMarks;
 use ivy_base::{Bytes, Memory};
-use shared_bytes::SharedBytes;
-use shared_marks::SharedMarks;
 use std::alloc::Global;
 
 /// Bytes, and a mark for each of them, which copies share.

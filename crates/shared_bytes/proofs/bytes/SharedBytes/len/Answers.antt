@@ -1,7 +1,0 @@
-use Rattle.std.proofs.Common.{arith}
-use Rattle.shared_bytes.specs.Pieces.{piece_size, pieces_in}
-use Rattle.shared_bytes.proofs.Rows.{size_is}
-use Rattle.shared_bytes.proofs.bytes.SharedBytes.len.Goals as goal
-
-pub returns : goal.returns
-returns c = size_is piece_size (omega arith) (pieces_in c.self.inside.pieces.map) c.self.inside.size c.args.self.now c.self.view_is

@@ -1,9 +1,0 @@
-use Rattle.std.proofs.Common.{◌∙◌, ap}
-use Rattle.shared_bytes.specs.Pieces.{overwritten}
-use Rattle.shared_bytes.proofs.Found.{put_one}
-use Rattle.shared_bytes.proofs.pieces.Pieces.write.Goals as goal
-
-pub returns-clause-ok : goal.returns-clause-ok
-returns-clause-ok c =
-    let one = put_one c.args.number c.args.self.now.map c.in_ok-piece.piece in
-    rw c.in_ok-insert.ensures.ok (one.0 ∙ c.in_ok-piece.ensures ∙ ap (λ xs. overwritten xs c.args.start c.args.part.now) c.piece.ensures, one.1)

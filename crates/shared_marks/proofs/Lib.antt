@@ -1,4 +1,0 @@
-mod Changes
-mod Found
-mod Places
-mod Steps
