@@ -1,73 +1,143 @@
 -- What stands in a message is what its parts say.
-use Rattle.std.proofs.Common.{◌≡◌, ◌≢◌, ℕ, ◌<◌, ◌≤◌, ◌^◌, List, [], ◌++◌, length, take, Option, Some, None, Result, Ok, Err, refl, sym, ap, ◌∙◌, subst, inl, inr, arith, append_assoc}
-use Rattle.std.specs.Prelude.{OnErr}
-use Rattle.std.specs.List.{AllByRecursion}
-use Rattle.std.proofs.lemmas.List.{append-nil}
-use Rattle.wire_model.specs.Xdr.{word, opaque, array, IsWord, IsUpTo}
+use Rattle.std.proofs.Common.{◌≡◌, ◌≢◌, ℕ, ◌<◌, ◌≤◌, List, [], ◌∷◌, ◌++◌, ◌+◌, length, take, set, Option, Some, None, refl, sym, ap, ◌∙◌, subst, inl, inr, arith, append_assoc}
+use Rattle.std.specs.List.{AllByRecursion, flat_map}
+use Rattle.std.proofs.lemmas.List.{append-nil, length-take-le, take_more_set}
+use Rattle.wire_model.specs.Xdr.{word, opaque, array, IsWord, IsUpTo, AreSoMany}
+use Rattle.wire_model.specs.Parts.{Told, Reads}
 use Rattle.wire_model.specs.OneReading.{ReadsOne, IsFront, HasNoFront}
-use Rattle.wire_model.specs.Rpc.{Auth, auth, AuthFits, CallMessage, call, CallFits, IsCall, IsOtherVersion, IsCaller, Identity, IsIdentity, nobody, none, system as of_system, system_body}
-use Rattle.wire_model.proofs.OneReading.{◌▷◌, one_word, one_short_opaque, one_array, one_auth, of_fewer, caller_cases}
-use Rattle.wire_model.proofs.Fronts.{both, no_first, no_second}
-use Rattle.xdr_codec.specs.declared.fault.XdrFault.{XdrFault}
-use Rattle.xdr_codec.specs.declared.fault.XdrFault.TheVariants.{Short, TooLong, Padding, NotBool, Trailing}
-use Rattle.xdr_codec.specs.Reading.{EndFault}
+use Rattle.wire_model.specs.Rpc.{Auth, auth, CallMessage, IsCall, IsOtherVersion, IsCaller, Identity, IsIdentity, nobody, none, system as of_system, system_body}
+use Rattle.wire_model.proofs.OneReading.{◌▷◌, one_word, one_short_opaque, one_array, of_fewer, caller_cases}
+use Rattle.wire_model.proofs.Arrays.{no_items, more_items, no_next, counted, no_count, too_many, no_counted}
 use Rattle.rpc_wire.specs.declared.call.Caller.{Caller}
-use Rattle.rpc_wire.specs.Parts.{Words, AreWords, words, Body, BodyFits, body, User, UserFits, user, AreGroups, System, SystemFits, system}
+use Rattle.rpc_wire.specs.Parts.{Words, AreWords, words, Body, BodyFits, body, UserFits, user, AreGroups, System, SystemFits, system}
 use Rattle.rpc_wire.specs.Callers.{identity_of, IsCallerOf, IsSystemCallerOf, IsNoCall}
-
--- what holds anyway holds of an error
-pub on_err : {T E : Type 0} (r : Result T E) (P : Type 0) → P → OnErr r P
-on_err (Ok x) P p = tt
-on_err (Err e) P p = p
 
 -- ---- each part can be read in one way only
 
 pub one_words : ReadsOne AreWords words
 one_words = one_word ▷ one_word ▷ one_word
 
-one_name : ReadsOne (IsUpTo 255) opaque
+pub one_name : ReadsOne (IsUpTo 255) opaque
 one_name = one_short_opaque 255 (omega arith)
 
 pub one_user : ReadsOne UserFits user
 one_user = one_word ▷ one_name ▷ one_word ▷ one_word
 
-one_groups : ReadsOne AreGroups (array word)
+pub one_groups : ReadsOne AreGroups (array word)
 one_groups = of_fewer (λ groups f. (omega (arith, f.0), f.1)) (one_array one_word)
 
 one_system : ReadsOne SystemFits system
 one_system = one_user ▷ one_groups
 
--- ---- parts that are missing
+-- ---- what was left before a part, and is left now
 
-pub no_uid : {bytes m n : List ℕ} {stamp : ℕ} {machine : List ℕ} → IsFront IsWord word bytes stamp m → IsFront (IsUpTo 255) opaque m machine n
-    → HasNoFront IsWord word n → HasNoFront UserFits user bytes
-no_uid f g absent = no_first IsWord word (no_second (one_word ▷ one_name) (both f g) absent)
+pub there : {A : Type 0} {Fits : A → Type 0} {spell : A → List ℕ} {before now : Option (List ℕ)} {bytes rest : List ℕ} {x : A}
+    → Reads Fits spell before x now → before ≡ Some bytes → now ≡ Some rest → IsFront Fits spell bytes x rest
+there {Fits = Fits} {spell = spell} {before = before} {now = now} {bytes = bytes} {rest = rest} {x = x} f was is = cases before now f.told was is
+  where
+    cases : (before now : Option (List ℕ)) → Told Fits spell before x now → before ≡ Some bytes → now ≡ Some rest → IsFront Fits spell bytes x rest
+    cases None now p was is = absurd (cc was)
+    cases (Some b) None p was is = absurd (cc is)
+    cases (Some b) (Some r) p was is = record { fits = p.fits; spelled = sym (cc was) ∙ p.spelled ∙ ap (λ (s : List ℕ). spell x ++ s) (cc is) }
 
-pub no_gid : {bytes m n o : List ℕ} {stamp uid : ℕ} {machine : List ℕ} → IsFront IsWord word bytes stamp m → IsFront (IsUpTo 255) opaque m machine n
-    → IsFront IsWord word n uid o → HasNoFront IsWord word o → HasNoFront UserFits user bytes
-no_gid f g h absent = no_second (one_word ▷ one_name ▷ one_word) (both (both f g) h) absent
+pub not_there : {A : Type 0} {Fits : A → Type 0} {spell : A → List ℕ} {before now : Option (List ℕ)} {bytes : List ℕ} {x : A}
+    → Reads Fits spell before x now → before ≡ Some bytes → now ≡ None → HasNoFront Fits spell bytes
+not_there {Fits = Fits} {spell = spell} {before = before} {now = now} {bytes = bytes} {x = x} f was gone = cases before now f.told was gone
+  where
+    cases : (before now : Option (List ℕ)) → Told Fits spell before x now → before ≡ Some bytes → now ≡ None → HasNoFront Fits spell bytes
+    cases None now p was gone = absurd (cc was)
+    cases (Some b) (Some r) p was gone = absurd (cc gone)
+    cases (Some b) None p was gone = record { none = λ y r g. p.none y r (record { fits = g.fits; spelled = cc was ∙ g.spelled }) }
 
-pub no_groups : {bytes m : List ℕ} {u : User} → IsFront UserFits user bytes u m → HasNoFront AreGroups (array word) m → HasNoFront SystemFits system bytes
-no_groups f absent = no_second one_user f absent
+-- ---- groups, read one by one
 
-pub no_words : {bytes : List ℕ} → HasNoFront AreWords words bytes → HasNoFront BodyFits body bytes
-no_words absent = no_first AuthFits auth (no_first AuthFits auth absent)
+-- how far so many groups are read, by what was left before them and what is left now: those so far, or not all are there
+abbrev SoFar : ℕ → Option (List ℕ) → List ℕ → Option (List ℕ) → Type 0
+SoFar count None groups now = now ≡ None
+SoFar count (Some bytes) groups None = HasNoFront (AreSoMany IsWord count) (flat_map word) bytes
+SoFar count (Some bytes) groups (Some rest) = IsFront (AllByRecursion IsWord) (flat_map word) bytes groups rest
 
-pub no_verifier : {bytes m n : List ℕ} {w : Words} {credential : Auth} → IsFront AreWords words bytes w m → IsFront AuthFits auth m credential n
-    → HasNoFront AuthFits auth n → HasNoFront BodyFits body bytes
-no_verifier f g absent = no_second (one_words ▷ one_auth) (both f g) absent
+pub record GroupsSoFar (count : ℕ) (before : Option (List ℕ)) (groups : List ℕ) (now : Option (List ℕ)) : Type 0 where
+  so_far : SoFar count before groups now
 
--- something follows
-pub trails : (bytes : List ℕ) (fault : XdrFault) → EndFault bytes fault → bytes ≢ []
-trails bytes Trailing h = h
-trails bytes Short h = absurd h
-trails bytes TooLong h = absurd h
-trails bytes Padding h = absurd h
-trails bytes NotBool h = absurd h
+pub no_groups_yet : (count : ℕ) (start : Option (List ℕ)) → GroupsSoFar count start [] start
+no_groups_yet count start = record { so_far = cases start }
+  where
+    cases : (start : Option (List ℕ)) → SoFar count start [] start
+    cases None = refl
+    cases (Some bytes) = no_items one_word bytes
 
-pub not_whole : {bytes rest : List ℕ} {s : System} → IsFront SystemFits system bytes s rest → rest ≢ [] → (other : System) → SystemFits other → bytes ≢ system other
-not_whole {rest} {s} f more other fits same =
-    more (one_system.one s other rest [] f.fits fits (sym f.spelled ∙ same ∙ sym (append-nil (system other)))).1
+group_more : {count group : ℕ} {groups : List ℕ} {a b c : Option (List ℕ)} → GroupsSoFar count a groups b → length groups < count → Reads IsWord word b group c
+    → GroupsSoFar count a (groups ++ group ∷ []) c
+group_more {count} {group} {groups} {a} {b} {c} f short g = record { so_far = cases a b c f.so_far g.told }
+  where
+    cases : (a b c : Option (List ℕ)) → SoFar count a groups b → Told IsWord word b group c → SoFar count a (groups ++ group ∷ []) c
+    cases None None c p q = q
+    cases None (Some b) c p q = absurd (cc p)
+    cases (Some a) None None p q = p
+    cases (Some a) None (Some c) p q = absurd (cc q)
+    cases (Some a) (Some b) None p q = no_next one_word p short q
+    cases (Some a) (Some b) (Some c) p q = more_items one_word p q
+
+these_groups : {count : ℕ} {groups : List ℕ} {a b : Option (List ℕ)} → GroupsSoFar count a groups b → length groups ≡ count → Reads (AreSoMany IsWord count) (flat_map word) a groups b
+these_groups {count} {groups} {a} {b} f size = record { told = cases a b f.so_far }
+  where
+    cases : (a b : Option (List ℕ)) → SoFar count a groups b → Told (AreSoMany IsWord count) (flat_map word) a groups b
+    cases None b p = p
+    cases (Some a) None p = p
+    cases (Some a) (Some b) p = record { fits = record { each = p.fits; size = size }; spelled = p.spelled }
+
+-- one more is read, at its place
+pub next_group : {count i group : ℕ} (gids : List ℕ) {a b c : Option (List ℕ)} → GroupsSoFar count a (take i gids) b → length gids ≡ 16 → i < count → count ≤ 16 → Reads IsWord word b group c
+    → GroupsSoFar count a (take (i + 1) (set gids i group)) c
+next_group {count} {i} {group} gids {a} {b} {c} f size short few g =
+    subst (λ groups. GroupsSoFar count a groups c) (sym (take_more_set gids i group (omega (arith, size, short, few))))
+    (group_more f (omega (arith, length-take-le i gids (omega (arith, size, short, few)), short)) g)
+
+pub all_groups : {count i : ℕ} (gids : List ℕ) {a b : Option (List ℕ)} → GroupsSoFar count a (take i gids) b → i ≡ count → count ≤ 16 → length gids ≡ 16
+    → Reads (AreSoMany IsWord count) (flat_map word) a (take count gids) b
+all_groups {count} {i} gids {a} {b} f whole few size =
+    these_groups (subst (λ n. GroupsSoFar count a (take n gids) b) whole f) (length-take-le count gids (omega (arith, few, size)))
+
+-- the count, and as many groups
+pub counted_groups : {count : ℕ} {groups : List ℕ} {a b c : Option (List ℕ)} → Reads IsWord word a count b → count ≤ 16 → Reads (AreSoMany IsWord count) (flat_map word) b groups c
+    → Reads AreGroups (array word) a groups c
+counted_groups {count} {groups} {a} {b} {c} f few g = record { told = cases a b c f.told g.told }
+  where
+    cases : (a b c : Option (List ℕ)) → Told IsWord word a count b → Told (AreSoMany IsWord count) (flat_map word) b groups c → Told AreGroups (array word) a groups c
+    cases None None c p q = q
+    cases None (Some b) c p q = absurd (cc p)
+    cases (Some a) None None p q = no_count one_word 16 (omega arith) p
+    cases (Some a) None (Some c) p q = absurd (cc q)
+    cases (Some a) (Some b) None p q = no_counted one_word 16 (omega arith) p q
+    cases (Some a) (Some b) (Some c) p q = counted one_word p few (record { fits = q.fits.each; spelled = q.spelled }) q.fits.size
+
+pub too_many_groups : {count : ℕ} {groups : List ℕ} {a b c : Option (List ℕ)} → Reads IsWord word a count b → 16 < count → c ≡ None → Reads AreGroups (array word) a groups c
+too_many_groups {count} {groups} {a} {b} {c} f many gone = record { told = cases a b c f.told gone }
+  where
+    cases : (a b c : Option (List ℕ)) → Told IsWord word a count b → c ≡ None → Told AreGroups (array word) a groups c
+    cases a b (Some c) p gone = absurd (cc gone)
+    cases None b None p gone = refl
+    cases (Some a) None None p gone = no_count one_word 16 (omega arith) p
+    cases (Some a) (Some b) None p gone = too_many one_word 16 (omega arith) p many
+
+-- ---- the body of AUTH_SYS, with nothing behind it
+
+pub whole_system : {bytes : List ℕ} {s : System} {now : Option (List ℕ)} → Reads SystemFits system (Some bytes) s now → now ≡ Some [] → SystemFits s × (bytes ≡ system s)
+whole_system {bytes} {s} {now} f all = cases now f.told all
+  where
+    cases : (now : Option (List ℕ)) → Told SystemFits system (Some bytes) s now → now ≡ Some [] → SystemFits s × (bytes ≡ system s)
+    cases None p all = absurd (cc all)
+    cases (Some rest) p all = (p.fits, p.spelled ∙ ap (λ (r : List ℕ). system s ++ r) (cc all) ∙ append-nil (system s))
+
+pub no_whole_system : {bytes : List ℕ} {s : System} {now : Option (List ℕ)} → Reads SystemFits system (Some bytes) s now → now ≢ Some [] → (other : System) → SystemFits other → bytes ≢ system other
+no_whole_system {bytes} {s} {now} f more other fits same = cases now f.told more
+  where
+    cases : (now : Option (List ℕ)) → Told SystemFits system (Some bytes) s now → now ≢ Some [] → ⊥
+    cases None p more = p.none other [] (record { fits = fits; spelled = same ∙ sym (append-nil (system other)) })
+    cases (Some rest) p more =
+        let nothing : rest ≡ [] = (one_system.one s other rest [] p.fits fits (sym p.spelled ∙ same ∙ sym (append-nil (system other)))).1 in
+        more (ap (λ (r : List ℕ). Some r) nothing)
 
 -- ---- callers
 
@@ -109,6 +179,18 @@ pub nothing_opens : {m : List ℕ} → HasNoFront AreWords words m → IsNoCall 
 nothing_opens absent = record {
   none = λ c is. absent.none ((c.xid, 0), 2) (body (body_of c) ++ c.arguments) (call_opens is);
   no_other = λ xid is. absent.none ((xid, 0), is.0) is.1 (other_opens is);
+}
+
+pub other_kind : {m rest : List ℕ} {xid kind version : ℕ} → IsFront AreWords words m ((xid, kind), version) rest → kind ≢ 0 → IsNoCall m
+other_kind {rest} {xid} {kind} {version} f other = record {
+  none = λ c is.
+      let g = call_opens is in
+      let p = one_words.one ((xid, kind), version) ((c.xid, 0), 2) rest (body (body_of c) ++ c.arguments) f.fits g.fits (sym f.spelled ∙ g.spelled) in
+      other (ap (λ (w : Words). w.0.1) p.0);
+  no_other = λ x is.
+      let g = other_opens is in
+      let p = one_words.one ((xid, kind), version) ((x, 0), is.0) rest is.1 f.fits g.fits (sym f.spelled ∙ g.spelled) in
+      other (ap (λ (w : Words). w.0.1) p.0);
 }
 
 pub other_version : {m rest : List ℕ} {xid kind version : ℕ} → IsFront AreWords words m ((xid, kind), version) rest → kind ≡ 0 → version ≢ 2 → IsOtherVersion m xid

@@ -1,5 +1,5 @@
 -- The parts of a call, in the order in which they are read.
-use Rattle.std.specs.Prelude.{◌≡◌, ℕ, ◌≤◌, List, ◌++◌, length}
+use Rattle.std.specs.Prelude.{ℕ, ◌≤◌, List, ◌++◌, length}
 use Rattle.std.specs.List.{AllByRecursion}
 use Rattle.wire_model.specs.Xdr.{word, opaque, array, IsWord, IsUpTo}
 use Rattle.wire_model.specs.Rpc.{Auth, auth, AuthFits}

@@ -1,14 +1,14 @@
 //! Calls: who calls which procedure, and the bytes of its arguments.
 
-ghost use Rattle.std.specs.Prelude.{◌≡◌, ◌≤◌, ℕ, List, length, take, IfOk, IfSome, OnErr};
-ghost use Rattle.std.specs.List.{AllByRecursion, flat_map};
+ghost use Rattle.std.specs.Prelude.{◌≡◌, ◌≤◌, ℕ, List, length, take, IfSome};
+ghost use Rattle.std.specs.List.{flat_map};
 ghost use Rattle.wire_model.specs.Xdr.{word, array, IsWord, AreSoMany};
-ghost use Rattle.wire_model.specs.OneReading.{IsFront, HasNoFront};
+ghost use Rattle.wire_model.specs.Parts.{Reads};
 ghost use Rattle.wire_model.specs.Rpc.{Auth, auth, AuthFits};
 ghost use Rattle.rpc_wire.specs.Parts.{AreWords, words, BodyFits, body, auth_of, UserFits, user, AreGroups, SystemFits, system};
 ghost use Rattle.rpc_wire.specs.Callers.{IsHeading, HasFewGroups, IsCallerOf, IsSystemCallerOf};
 
-use xdr_codec::{XdrFault, XdrRead};
+use xdr_codec::Parts;
 
 /// The version of RPC that is spoken here (RFC 5531, section 9).
 const RPC_VERSION: u32 = 2;
@@ -82,16 +82,9 @@ pub fn read_call(message: &[u8]) -> Heading<'_>
     ensures heading { IsHeading message.now result }
     ensures groups { HasFewGroups result }
 {
-    let mut reader = XdrRead::new(message);
-    read_heading(&mut reader)
-}
-
-/// What the bytes that are left are.
-fn read_heading<'a>(reader: &mut XdrRead<'a>) -> Heading<'a>
-    ensures heading { IsHeading reader.old result }
-    ensures groups { HasFewGroups result }
-{
-    let Ok((xid, kind, version)) = read_words(reader) else {
+    let mut parts = Parts::of(message);
+    let (xid, kind, version) = read_words(&mut parts);
+    let Some(_) = parts.left() else {
         return Heading::NotACall;
     };
     if kind != CALL {
@@ -100,49 +93,47 @@ fn read_heading<'a>(reader: &mut XdrRead<'a>) -> Heading<'a>
     if version != RPC_VERSION {
         return Heading::Mismatch { xid };
     }
-    match read_body(reader) {
-        Ok((program, version, procedure, credential)) => Heading::Good(Call {
+    let (program, version, procedure, credential) = read_body(&mut parts);
+    match parts.left() {
+        Some(args) => Heading::Good(Call {
             xid,
             program,
             version,
             procedure,
             caller: caller_of(&credential),
-            args: reader.rest(),
+            args,
         }),
-        Err(_) => Heading::NotACall,
+        None => Heading::NotACall,
     }
 }
 
 /// Three words.
-fn read_words(reader: &mut XdrRead<'_>) -> Result<(u32, u32, u32), XdrFault>
-    ensures ok { IfOk result (λ w. IsFront AreWords words reader.old ((w.0, w.1), w.2) reader.new) }
-    ensures none { OnErr result (HasNoFront AreWords words reader.old) }
+fn read_words(parts: &mut Parts<'_>) -> (u32, u32, u32)
+    ensures { Reads AreWords words parts.old ((result.0, result.1), result.2) parts.new }
 {
-    let first = reader.u32()?;
-    let second = reader.u32()?;
-    let third = reader.u32()?;
-    Ok((first, second, third))
+    let first = parts.u32();
+    let second = parts.u32();
+    let third = parts.u32();
+    (first, second, third)
 }
 
 /// What follows up to the arguments: program, version, procedure and credential, and a verifier that isn't kept.
-fn read_body<'a>(reader: &mut XdrRead<'a>) -> Result<(u32, u32, u32, Credential<'a>), XdrFault>
-    ensures ok { IfOk result (λ b. (verifier : Auth) × IsFront BodyFits body reader.old ((((b.0, b.1), b.2), auth_of b.3), verifier) reader.new) }
-    ensures none { OnErr result (HasNoFront BodyFits body reader.old) }
+fn read_body<'a>(parts: &mut Parts<'a>) -> (u32, u32, u32, Credential<'a>)
+    ensures { (verifier : Auth) × Reads BodyFits body parts.old ((((result.0, result.1), result.2), auth_of result.3), verifier) parts.new }
 {
-    let (program, version, procedure) = read_words(reader)?;
-    let credential = read_credential(reader)?;
-    let _verifier = read_credential(reader)?;
-    Ok((program, version, procedure, credential))
+    let (program, version, procedure) = read_words(parts);
+    let credential = read_credential(parts);
+    let _verifier = read_credential(parts);
+    (program, version, procedure, credential)
 }
 
 /// A credential or a verifier.
-fn read_credential<'a>(reader: &mut XdrRead<'a>) -> Result<Credential<'a>, XdrFault>
-    ensures ok { IfOk result (λ c. IsFront AuthFits auth reader.old (auth_of c) reader.new) }
-    ensures none { OnErr result (HasNoFront AuthFits auth reader.old) }
+fn read_credential<'a>(parts: &mut Parts<'a>) -> Credential<'a>
+    ensures { Reads AuthFits auth parts.old (auth_of result) parts.new }
 {
-    let flavour = reader.u32()?;
-    let body = reader.opaque(MOST_AUTH)?;
-    Ok(Credential { flavour, body })
+    let flavour = parts.u32();
+    let body = parts.opaque(MOST_AUTH);
+    Credential { flavour, body }
 }
 
 /// Whose call a credential makes it.
@@ -157,34 +148,23 @@ fn caller_of(credential: &Credential<'_>) -> Option<Caller>
             gids: [0; 16],
             count: 0,
         }),
-        AUTH_SYS => read_whole_system(&mut XdrRead::new(credential.body)),
+        AUTH_SYS => read_system(credential.body),
         _ => None,
     }
 }
 
 /// The caller that a body of AUTH_SYS spells, with nothing behind it.
-fn read_whole_system(reader: &mut XdrRead<'_>) -> Option<Caller>
-    ensures caller { IsSystemCallerOf reader.old result }
+fn read_system(body: &[u8]) -> Option<Caller>
+    ensures caller { IsSystemCallerOf body.now result }
     ensures few { IfSome result (λ c. c.count ≤ 16) }
 {
-    let Ok(caller) = read_system(reader) else {
+    let mut parts = Parts::of(body);
+    let (uid, gid) = read_user(&mut parts);
+    let (gids, count) = read_groups(&mut parts);
+    if !parts.are_read() {
         return None;
-    };
-    match reader.finish() {
-        Ok(()) => Some(caller),
-        Err(_) => None,
     }
-}
-
-/// The caller that a body of AUTH_SYS spells at the front.
-fn read_system(reader: &mut XdrRead<'_>) -> Result<Caller, XdrFault>
-    ensures ok { IfOk result (λ c. (stamp : ℕ) × (machine : List ℕ) × IsFront SystemFits system reader.old ((((stamp, machine), c.uid), c.gid), take c.count c.gids) reader.new) }
-    ensures few { IfOk result (λ c. c.count ≤ 16) }
-    ensures none { OnErr result (HasNoFront SystemFits system reader.old) }
-{
-    let (uid, gid) = read_user(reader)?;
-    let (gids, count) = read_groups(reader)?;
-    Ok(Caller {
+    Some(Caller {
         uid,
         gid,
         gids,
@@ -193,40 +173,38 @@ fn read_system(reader: &mut XdrRead<'_>) -> Result<Caller, XdrFault>
 }
 
 /// A stamp and a machine's name, which aren't kept, and a user and a group.
-fn read_user(reader: &mut XdrRead<'_>) -> Result<(u32, u32), XdrFault>
-    ensures ok { IfOk result (λ u. (stamp : ℕ) × (machine : List ℕ) × IsFront UserFits user reader.old (((stamp, machine), u.0), u.1) reader.new) }
-    ensures none { OnErr result (HasNoFront UserFits user reader.old) }
+fn read_user(parts: &mut Parts<'_>) -> (u32, u32)
+    ensures { (stamp : ℕ) × (machine : List ℕ) × Reads UserFits user parts.old (((stamp, machine), result.0), result.1) parts.new }
 {
-    let _stamp = reader.u32()?;
-    let _machine = reader.opaque(MOST_NAME)?;
-    let uid = reader.u32()?;
-    let gid = reader.u32()?;
-    Ok((uid, gid))
+    let _stamp = parts.u32();
+    let _machine = parts.opaque(MOST_NAME);
+    let uid = parts.u32();
+    let gid = parts.u32();
+    (uid, gid)
 }
 
 /// An array of at most 16 groups, and how many there are.
-fn read_groups(reader: &mut XdrRead<'_>) -> Result<([u32; 16], u32), XdrFault>
-    ensures ok { IfOk result (λ g. IsFront AreGroups (array word) reader.old (take g.1 g.0) reader.new) }
-    ensures few { IfOk result (λ g. g.1 ≤ 16) }
-    ensures none { OnErr result (HasNoFront AreGroups (array word) reader.old) }
+fn read_groups(parts: &mut Parts<'_>) -> ([u32; 16], u32)
+    ensures reads { Reads AreGroups (array word) parts.old (take result.1 result.0) parts.new }
+    ensures few { result.1 ≤ 16 }
 {
-    let count = reader.u32()?;
+    let count = parts.u32();
     if count > MOST_GROUPS {
-        return Err(XdrFault::TooLong);
+        parts.miss();
+        return ([0; 16], 0);
     }
-    let gids = read_each_group(reader, count)?;
-    Ok((gids, count))
+    (read_each_group(parts, count), count)
 }
 
 /// So many groups, at most 16.
-fn read_each_group(reader: &mut XdrRead<'_>, count: u32) -> Result<[u32; 16], XdrFault>
+fn read_each_group(parts: &mut Parts<'_>, count: u32) -> [u32; 16]
     requires { count ≤ 16 }
-    ensures ok { IfOk result (λ gids. IsFront (AllByRecursion IsWord) (flat_map word) reader.old (take count gids) reader.new × (length (take count gids) ≡ count)) }
-    ensures none { OnErr result (HasNoFront (AreSoMany IsWord count) (flat_map word) reader.old) }
+    ensures reads { Reads (AreSoMany IsWord count) (flat_map word) parts.old (take count result) parts.new }
+    ensures size { length (take count result) ≡ count }
 {
     let mut gids = [0; 16];
     'groups: for i in 0..count {
-        gids[i as usize] = reader.u32()?;
+        gids[i as usize] = parts.u32();
     }
-    Ok(gids)
+    gids
 }

@@ -1,6 +1,6 @@
 //! The parts of a message, which are read one behind the other.
 
-ghost use Rattle.std.specs.Prelude.{◌≡◌, ◌≢◌, true, false, [], Some, None, length};
+ghost use Rattle.std.specs.Prelude.{◌≡◌, ◌≢◌, true, false, [], Some, None, length, MatchOption};
 ghost use Rattle.wire_model.specs.Xdr.{word, double_word, boolean, opaque, IsWord, IsDoubleWord, IsAny, IsOfLength, IsUpTo};
 ghost use Rattle.wire_model.specs.Parts.{Reads, as_it_stands};
 
@@ -49,6 +49,17 @@ impl<'a> Parts<'a> {
         ensures more { result ≡ false → self.now ≢ Some [] }
     {
         !self.missed && self.left.rest().is_empty()
+    }
+
+    /// What is left, where each part was there.
+    pub fn left(&self) -> Option<&'a [u8]>
+        ensures { MatchOption result (self.now ≡ None) (λ rest. self.now ≡ Some rest.now) }
+    {
+        if self.missed {
+            None
+        } else {
+            Some(self.left.rest())
+        }
     }
 
     /// A number of four bytes.

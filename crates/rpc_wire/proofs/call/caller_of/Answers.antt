@@ -1,5 +1,3 @@
-use Rattle.std.proofs.Common.{List, ℕ, subst}
-use Rattle.rpc_wire.specs.Callers.{IsSystemCallerOf}
 use Rattle.rpc_wire.proofs.Calls.{is_nobody, by_system}
 use Rattle.rpc_wire.proofs.call.caller_of.Goals as goal
 
@@ -7,5 +5,4 @@ pub returns-in-0-clause-caller : goal.returns-in-0-clause-caller
 returns-in-0-clause-caller c = is_nobody _ c.in-0.is
 
 pub returns-in-1-clause-caller : goal.returns-in-1-clause-caller
-returns-in-1-clause-caller c = by_system _ c.read_whole_system.result c.in-1.is
-    (subst (λ (bytes : List ℕ). IsSystemCallerOf bytes c.read_whole_system.result) c.new.ensures c.read_whole_system.ensures.caller)
+returns-in-1-clause-caller c = by_system _ c.read_system.result c.in-1.is c.read_system.ensures.caller

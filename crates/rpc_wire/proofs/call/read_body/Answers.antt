@@ -1,9 +1,8 @@
-use Rattle.rpc_wire.proofs.Calls.{on_err, no_words, no_verifier}
+use Rattle.wire_model.proofs.OneReading.{one_auth}
+use Rattle.wire_model.proofs.PartByPart.{◌▸◌, part}
+use Rattle.rpc_wire.specs.Parts.{auth_of}
+use Rattle.rpc_wire.proofs.Calls.{one_words}
 use Rattle.rpc_wire.proofs.call.read_body.Goals as goal
 
-pub returns-in_err-program-clause-none : goal.returns-in_err-program-clause-none
-returns-in_err-program-clause-none c = on_err c.from_residual.result _ (no_words c.in_err-program.ensures.none)
-
-pub returns-in_err-_verifier-clause-none : goal.returns-in_err-_verifier-clause-none
-returns-in_err-_verifier-clause-none c =
-    on_err c.from_residual-in_err-_verifier.result _ (no_verifier c.in_ok-program.ensures.ok c.in_ok-credential.ensures.ok c.in_err-_verifier.ensures.none)
+pub returns : goal.returns
+returns c = (auth_of c.read_credential-verifier.result, (part one_words c.read_words-program.ensures ▸ part one_auth c.read_credential-credential.ensures ▸ part one_auth c.read_credential-verifier.ensures).reads)

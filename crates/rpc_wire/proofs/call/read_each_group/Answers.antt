@@ -1,10 +1,16 @@
-use Rattle.std.proofs.Common.{arith}
-use Rattle.wire_model.proofs.OneReading.{one_word}
-use Rattle.rpc_wire.proofs.Calls.{on_err}
-use Rattle.wire_model.proofs.Arrays.{no_next}
-use Rattle.std.proofs.lemmas.List.{length-take-le}
+use Rattle.std.proofs.Common.{refl, ◌∙◌, arith}
+use Rattle.std.proofs.lemmas.List.{length-set}
+use Rattle.rpc_wire.proofs.Calls.{no_groups_yet, next_group, all_groups}
 use Rattle.rpc_wire.proofs.call.read_each_group.Goals as goal
 
-pub returns-in_err-gids-clause-none : goal.returns-in_err-gids-clause-none
-returns-in_err-gids-clause-none c =
-    on_err c.from_residual.result _ (no_next one_word c.groups.invariant.front (omega (arith, c.groups-test.true, length-take-le c.groups.i c.groups.gids (omega (arith, c.groups-test.true, c.groups.invariant.size, c.requires)))) c.in_err-gids.ensures.none)
+pub groups-init : goal.groups-init
+groups-init c = record { far = no_groups_yet _ _; size = refl }
+
+pub groups-preserved : goal.groups-preserved
+groups-preserved c = record {
+  far = next_group c.groups.gids c.groups.invariant.far c.groups.invariant.size c.groups-test.true c.requires c.u32.ensures;
+  size = length-set c.groups.gids c.groups.i c.u32.result ∙ c.groups.invariant.size;
+}
+
+pub returns-clause-reads : goal.returns-clause-reads
+returns-clause-reads c = all_groups c.groups.gids c.groups.invariant.far (omega (arith, c.groups.auto.i-end, c.groups-test.false)) c.requires c.groups.invariant.size
