@@ -28,13 +28,13 @@ use Rattle.dht_ids.specs.declared.post.Post.{Post}
 use Rattle.turn_model.specs.Basis.{Basis, Holding, kept_tree}
 use Rattle.turn_model.specs.Turn.{Asked}
 use Rattle.turn_model.specs.Work.{applied_between}
-use Rattle.turn_answers.specs.Appended.{MayBeCited, written_over}
-use Rattle.turn_answers.specs.Newest.{newest_stamp, with_newest}
-use Rattle.turn_answers.specs.Serving.{Replies, Writes, serve_on}
-use Rattle.turn_answers.proofs.Cited.{with_newest_may_be_cited}
-use Rattle.turn_answers.proofs.Closing.{written_is_closed}
-use Rattle.turn_answers.proofs.Fronts.{held_front, newest_is_reached}
-use Rattle.turn_answers.proofs.Records.{written_are_next}
+use Rattle.ivy_agent.specs.Appended.{MayBeCited, written_over}
+use Rattle.ivy_agent.specs.Newest.{newest_stamp, with_newest}
+use Rattle.ivy_agent.specs.Serving.{Replies, Writes, serve_on}
+use Rattle.ivy_agent.proofs.Cited.{with_newest_may_be_cited}
+use Rattle.ivy_agent.proofs.Closing.{written_is_closed}
+use Rattle.ivy_agent.proofs.Fronts.{held_front, newest_is_reached}
+use Rattle.ivy_agent.proofs.Records.{written_are_next}
 use Rattle.turn_taking.specs.Taking.{IsWithin}
 use Rattle.replay_engine.specs.Engines.{Engine, holding}
 use Rattle.agent_model.specs.Agent.{Agent, Kept as Saved, Signing, failed, joined, kept_of, own_key, own_reach}

@@ -13,7 +13,7 @@ use Rattle.snapshot_model.specs.Blocks.{IsVectorSpelled}
 use Rattle.turn_laws.proofs.Entries.{at_stamp, each_join}
 use Rattle.turn_laws.proofs.Heads.{short_named}
 use Rattle.turn_laws.proofs.Whole.{at_entry}
-use Rattle.turn_answers.specs.Appended.{MayBeCited}
+use Rattle.ivy_agent.specs.Appended.{MayBeCited}
 
 pub spelled : (view : View) (v : Vector) → IsView view → MayBeCited view v → IsVectorSpelled v
 spelled view v well cited =

@@ -19,11 +19,11 @@ use Rattle.nfs_model.specs.declared.replies.Reply.{Reply}
 use Rattle.turn_model.specs.Basis.{Basis, Holding, HoldsAll, Knows, kept_tree}
 use Rattle.turn_model.specs.Turn.{Agent as Inputs, Asked, Turned, appended, own_seq, turn_on}
 use Rattle.turn_model.proofs.Kept.{kept_tree_is_replay}
-use Rattle.turn_answers.specs.Appended.{written_over}
-use Rattle.turn_answers.specs.Laws.{with_save}
-use Rattle.turn_answers.specs.Serving.{Served, Replies, Writes, serve_on, turned_by}
-use Rattle.turn_answers.proofs.Records.{written_is_appended}
-use Rattle.turn_answers.proofs.Turns.{inputs_with_save, replies_whatever_is_saved, writes_are_saved}
+use Rattle.ivy_agent.specs.Appended.{written_over}
+use Rattle.ivy_agent.specs.Laws.{with_save}
+use Rattle.ivy_agent.specs.Serving.{Served, Replies, Writes, serve_on, turned_by}
+use Rattle.ivy_agent.proofs.Records.{written_is_appended}
+use Rattle.ivy_agent.proofs.ServedTurns.{inputs_with_save, replies_whatever_is_saved, writes_are_saved}
 use Rattle.agent_model.specs.Agent.{Agent, Signing, joined, own}
 use Rattle.agent_model.specs.Candidates.{MayTurn}
 use Rattle.agent_model.specs.Standing.{Standing, going_on}

@@ -12,11 +12,11 @@ use Rattle.log_model.specs.Vector.{Stamp, Vector, join, seq_of}
 use Rattle.std.proofs.lemmas.List.{length-map}
 use Rattle.log_records.specs.Records.{record_of, records_of}
 use Rattle.dht_ids.specs.declared.post.Post.{Post}
-use Rattle.turn_answers.specs.Appended.{written_over}
-use Rattle.turn_answers.specs.Newest.{newest_stamp, stamp_of, with_newest}
-use Rattle.turn_answers.specs.declared.written.Before.{Before}
-use Rattle.turn_answers.proofs.Fronts.{newest_is_last, newest_is_reached}
-use Rattle.turn_answers.proofs.Records.{written_are_next}
+use Rattle.ivy_agent.specs.Appended.{written_over}
+use Rattle.ivy_agent.specs.Newest.{newest_stamp, stamp_of, with_newest}
+use Rattle.ivy_agent.specs.declared.written.Before.{Before}
+use Rattle.ivy_agent.proofs.Fronts.{newest_is_last, newest_is_reached}
+use Rattle.ivy_agent.proofs.Records.{written_are_next}
 use Rattle.agent_model.specs.Agent.{Signing, own_key, record_post}
 use Rattle.ivy_agent.specs.Drafts.{IsDraft, IsSigned}
 use Rattle.ivy_agent.specs.declared.saving.Kept.{Kept}

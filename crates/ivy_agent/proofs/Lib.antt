@@ -33,3 +33,9 @@ pub mod Snapped
 pub mod Told
 pub mod Views
 pub mod Bounds
+pub mod ServedTurns
+pub mod Fronts
+pub mod Records
+pub mod Closing
+pub mod Cited
+mod NewestRecords

@@ -19,11 +19,11 @@ use Rattle.version_vectors.specs.Vectors.{IsVector}
 use Rattle.turn_model.specs.Basis.{Holding, kept_tree}
 use Rattle.turn_model.specs.Turn.{Asked}
 use Rattle.replay_engine.specs.Places.{AreBehind}
-use Rattle.turn_answers.specs.Appended.{written_over}
-use Rattle.turn_answers.specs.Laws.{IsPlanned}
-use Rattle.turn_answers.specs.Serving.{Replies, Writes}
-use Rattle.turn_answers.proofs.Records.{writes_may_stand, written_are_good, written_go_behind}
-use Rattle.turn_answers.proofs.Turns.{writes_are_planned}
+use Rattle.ivy_agent.specs.Appended.{written_over}
+use Rattle.ivy_agent.specs.Laws.{IsPlanned}
+use Rattle.ivy_agent.specs.Serving.{Replies, Writes}
+use Rattle.ivy_agent.proofs.Records.{writes_may_stand, written_are_good, written_go_behind}
+use Rattle.ivy_agent.proofs.ServedTurns.{writes_are_planned}
 use Rattle.agent_model.specs.Agent.{Signing, joined, own_key}
 use Rattle.ivy_agent.specs.Answering.{Answers, IsCall, MayGoOn, goes_by, served_on, replies, writes}
 use Rattle.nfs_model.specs.declared.replies.Reply.{Reply}

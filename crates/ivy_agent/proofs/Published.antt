@@ -10,7 +10,7 @@ use Rattle.snapshot_model.proofs.MadeLists.{is_key}
 use Rattle.dht_ids.specs.declared.post.Post.{Post}
 use Rattle.agent_model.specs.Agent.{Signing, head_post, is_head, own_key, record_post, with_posts}
 use Rattle.agent_model.specs.SavedBytes.{AreOpaque, ArePostsSpelled, HasItsName}
-use Rattle.turn_answers.proofs.Records.{posts_are_named}
+use Rattle.ivy_agent.proofs.Records.{posts_are_named}
 use Rattle.ivy_agent.proofs.Settled.{some_spelled}
 
 abbrev IsPost : Post → Type 0

@@ -13,7 +13,7 @@ use Rattle.nfs_model.specs.Arguments.{ArgumentsFit}
 use Rattle.nfs_model.specs.declared.replies.Reply.{Reply}
 use Rattle.turn_model.specs.Basis.{Holding, kept_tree}
 use Rattle.turn_model.specs.Turn.{Agent as Inputs, Asked}
-use Rattle.turn_answers.specs.Serving.{Served, Replies, Writes as IsToWrite, serve_on}
+use Rattle.ivy_agent.specs.Serving.{Served, Replies, Writes as IsToWrite, serve_on}
 use Rattle.agent_model.specs.Agent.{Signing, own_key}
 use Rattle.ivy_agent.specs.Bounds.{HasBounds}
 use Rattle.ivy_agent.specs.Outcomes.{Gives, kept_to}

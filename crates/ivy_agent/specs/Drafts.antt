@@ -7,8 +7,8 @@ use Rattle.log_model.specs.Rank.{own_entry}
 use Rattle.log_model.specs.Record.{Record}
 use Rattle.log_model.specs.Vector.{Stamp, Vector, join}
 use Rattle.log_records.specs.Records.{records_of}
-use Rattle.turn_answers.specs.Appended.{written_over}
-use Rattle.turn_answers.specs.Newest.{newest_stamp, with_newest}
+use Rattle.ivy_agent.specs.Appended.{written_over}
+use Rattle.ivy_agent.specs.Newest.{newest_stamp, with_newest}
 use Rattle.dht_ids.specs.declared.post.Post.{Post}
 use Rattle.agent_model.specs.Agent.{Signing, head_post, own_key, record_post, with_posts}
 use Rattle.agent_model.specs.SavedBytes.{AreOpaque}

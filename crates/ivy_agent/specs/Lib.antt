@@ -14,3 +14,8 @@ pub mod Turns
 pub mod Restarting
 pub mod Snapping
 pub mod Calls
+pub mod Serving
+pub mod Given
+pub mod Newest
+pub mod Laws
+pub mod Appended

@@ -6,7 +6,7 @@ ghost use Rattle.log_model.specs.Record.{Record as Seen};
 ghost use Rattle.log_model.specs.Spelling.{most_records};
 ghost use Rattle.log_model.specs.Vector.{join, seq_of};
 ghost use Rattle.log_records.specs.Records.{records_of};
-ghost use Rattle.turn_answers.specs.Newest.{stamp_of, with_newest};
+ghost use Rattle.ivy_agent.specs.Newest.{stamp_of, with_newest};
 ghost use Rattle.agent_model.specs.Agent.{head_post, own_key, record_post};
 ghost use Rattle.ivy_agent.specs.Holders.{signing};
 ghost use Rattle.agent_model.specs.SavedBytes.{kept_bytes};
@@ -15,6 +15,7 @@ ghost use Rattle.ivy_agent.specs.Drafts.{IsDraft, IsSigned, kept_with};
 
 use crate::posting::posts_with;
 use crate::saving::{Kept, SaveFault, save};
+use crate::written::{Before, front_with, newest_of, write_over};
 use dht_ids::{Post, PostKind, Posts};
 use hss_keys::Signs;
 use ivy_base::{Key, Memory, Moment, Op, PubKey};
@@ -23,7 +24,6 @@ use log_heads::seal;
 use log_records::Record;
 use std::alloc::Global;
 use std::mem::swap;
-use turn_answers::{Before, front_with, newest_of, write_over};
 use version_vectors::Vector;
 
 /// What takes the place of what is kept.

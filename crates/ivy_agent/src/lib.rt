@@ -4,7 +4,7 @@
 //! Layer: over `agent_model`, whose definitions the contracts cite, `ivy_io`, whose [`ivy_io::Keeper`] saves, `hss_keys`,
 //! whose [`hss_keys::Signs`] signs, `agent_saves`, which reads what was saved, `replay_engine`, which holds records and their
 //! tree, `log_fetch`, whose standings sessions begin with and whose refreshes turns take, `turn_taking`, which tells what is
-//! new, and `turn_answers`, which answers and writes; below whatever drives agents.
+//! new, and `nfs3_reads` and `nfs3_writes`, which answer and plan on a tree; below whatever drives agents.
 //! For the layers above: contracts see an [`Agent`] as the agent of the definitions and its keeper (`specs/Holders.antt`).
 //! [`Agent::create`] signs one head, and gives the agent that opens its log only once it is saved; [`Agent::enter`] is
 //! `entering` of the definitions, for some answer to whether the save fails, with what is saved (`specs/Making.antt`,
@@ -23,6 +23,19 @@
 //! applied. Want of memory, which is tied to no cause, leaves the agent and the keeper as they were; it also comes where the
 //! saved key, a block or a list has 2^32 parts or more, which no word counts, and in a turn where the front of what it took
 //! doesn't end in the own log where the floor does, which takes names that clash.
+//!
+//! What a turn answers on the tree that it took: [`serve`] says of a call what its turn replies without writing, or which
+//! operations it is to write (`serve_on`, `specs/Serving.antt`). It goes by the tree, by how far the own log goes and by what
+//! `turn_model`'s turn goes by, and by no set; [`turns_are_served`] is the law that a turn of `turn_model` on a set (`turn_on`) is
+//! what is served on its replay. Whether a save fails is seen only once it is tried: where nothing is to be written the reply is
+//! the same whichever comes, and where something is, a save that fails makes the reply the fault of the server and leaves the set.
+//! [`write_records`] makes of the operations the records of `turn_model` (`linked`) and the posts of `agent_model`
+//! (`record_post`), [`write_over`] those over a front (`written_over`, `specs/Appended.antt`). Whether or not names tell apart,
+//! these are good records, the next ones of the own log, and go behind all that is held, which stays closed; and where all of a
+//! set is held, the set with what its turn appends is held then ([`written_records_go_on`]). [`front_with`] is the front with the
+//! newest of them ([`newest_of`]), which is the front of the set, and of what is held, with all of them
+//! ([`fronts_have_the_newest`]). Where memory is short nothing was made. `specs/Newest.antt`, `specs/Given.antt` (what the code's
+//! types stand for), `specs/Laws.antt`.
 //!
 //! [`Turns`] is what a session wants of its agent, by a pass: a standing, a turn, and the settling of what was published. Which
 //! agent a pass comes to may be open, as others may have been there before; each call is that call of one agent to which it may
@@ -47,7 +60,8 @@
 //! Entering a view and starting again make an empty tree; the latter also grows the key's trees. A standing copies the
 //! view, the vectors and the pending posts, looks at the owner of each held record, and hashes each log's key once. A snapshot
 //! copies all that is held once, and compares each of its blocks with each pending one. Settling hashes a post only where an acknowledgement has its key, and
-//! takes no memory.
+//! takes no memory. A call is answered, or planned, once; the tree isn't copied. Each record is written and hashed once: its name
+//! goes into the next record and its post, and its block into the post.
 #![tactic(auto)]
 
 pub mod agent;
@@ -57,10 +71,12 @@ mod entering;
 pub mod fault;
 mod grounds;
 mod keys;
+pub mod laws;
 mod opening;
 mod outcome;
 mod posting;
 mod saving;
+pub mod serving;
 mod settling;
 mod single;
 mod snapping;
@@ -68,8 +84,12 @@ mod standing;
 mod taking;
 mod turns;
 pub mod writing;
+pub mod written;
 
 pub use agent::Agent;
 pub use fault::{EnterFault, MakeFault, RestartFault, SnapFault};
+pub use laws::{fronts_have_the_newest, turns_are_served, written_records_go_on};
+pub use serving::{On, Served, serve};
 pub use single::Single;
 pub use turns::Turns;
+pub use written::{Before, Written, front_with, newest_of, write_over, write_records};

@@ -7,8 +7,8 @@ ghost use Rattle.log_model.specs.Spelling.{most_records};
 ghost use Rattle.log_model.specs.Vector.{seq_of};
 ghost use Rattle.record_sets.specs.Rows.{IsRow};
 ghost use Rattle.replay_engine.specs.Engines.{holding};
-ghost use Rattle.turn_answers.specs.Given.{served_of};
-ghost use Rattle.turn_answers.specs.Serving.{Writes as IsToWrite};
+ghost use Rattle.ivy_agent.specs.Given.{served_of};
+ghost use Rattle.ivy_agent.specs.Serving.{Writes as IsToWrite};
 ghost use Rattle.agent_model.specs.Agent.{joined, own_key};
 ghost use Rattle.ivy_agent.specs.Holders.{signing};
 ghost use Rattle.ivy_agent.specs.Answering.{Answers, IsCall, MayGoOn, served_on};
@@ -17,6 +17,7 @@ ghost use Rattle.ivy_agent.specs.Writing.{StandsAs};
 
 use crate::answering::reply;
 use crate::saving::Kept;
+use crate::serving::{On, Served, serve};
 use crate::writing::{Done, write};
 use hss_keys::Signs;
 use ivy_base::{Memory, Moment, Steps};
@@ -27,7 +28,6 @@ use nfs3_writes::Ops;
 use replay_engine::Engine;
 use std::alloc::Global;
 use std::sync::ledger::Ledger;
-use turn_answers::{On, Served, serve};
 use version_vectors::Vector;
 
 /// What is served on what is held, whose front is given. The error is want of memory.

@@ -12,7 +12,7 @@ ghost use Rattle.nfs_model.specs.Changing.{finish};
 ghost use Rattle.nfs_model.specs.Results.{result as bytes_of};
 ghost use Rattle.turn_model.specs.Basis.{kept_tree};
 ghost use Rattle.turn_model.specs.Turn.{bare_tail};
-ghost use Rattle.turn_answers.specs.Appended.{written_over};
+ghost use Rattle.ivy_agent.specs.Appended.{written_over};
 ghost use Rattle.replay_engine.specs.Engines.{holding, taken_in, undone};
 ghost use Rattle.agent_model.specs.Agent.{joined, own_key};
 ghost use Rattle.agent_model.specs.SavedBytes.{kept_bytes};

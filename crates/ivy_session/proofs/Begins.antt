@@ -7,7 +7,7 @@ use Rattle.agent_model.specs.Standing.{Standing}
 use Rattle.session_model.specs.Replies.{IsByMessage, said_bare}
 use Rattle.session_model.specs.Sessions.{Over, Refreshing}
 use Rattle.session_model.specs.Courses.{Begins, fresh_session}
-use Rattle.call_messages.specs.Reading.{AsksWell}
+use Rattle.ivy_session.specs.Reading.{AsksWell}
 use Rattle.log_fetch.specs.declared.asked.Asked.{Asked}
 use Rattle.log_fetch.specs.declared.note.Note.{Note as Noted}
 use Rattle.log_fetch.specs.declared.standing.Standing.{Standing as Given}

@@ -17,7 +17,7 @@ use Rattle.session_model.specs.Sessions.{Cache, in_publishing_order, is_log}
 use Rattle.log_fetch.specs.declared.standing.Standing.{Standing}
 use Rattle.view_refresh.specs.declared.refresh.Refreshed.{Refreshed}
 use Rattle.view_refresh.specs.States.{Refreshing as RefreshState, most_refresh, refresh_left}
-use Rattle.post_publishing.specs.Publishing.{PublishingState, most_asks, publishing_begun, puts_left}
+use Rattle.ivy_session.specs.Publishing.{PublishingState, most_asks, publishing_begun, puts_left}
 use Rattle.ivy_session.specs.declared.served.Call.{Call}
 use Rattle.ivy_session.specs.declared.served.Served.{Served}
 use Rattle.ivy_session.specs.declared.session.Next.{Next}

@@ -21,7 +21,7 @@ use Rattle.view_refresh.specs.Steps.{AsksFor, GoesOn, IsOver, RefreshHasHeard}
 use Rattle.view_refresh.proofs.Bringing.{right_name}
 use Rattle.ivy_session.specs.States.{IsRefreshingBy}
 use Rattle.ivy_session.specs.Taking.{IsHeardTo, IsSameCall, RefreshHears, kept_back}
-use Rattle.ivy_session.proofs.Asking.{next_is_told}
+use Rattle.ivy_session.proofs.AskSteps.{next_is_told}
 use Rattle.ivy_session.proofs.Bringing.{none_kept, not_missed, one_kept}
 use Rattle.ivy_session.proofs.Refreshes.{failed_by, wants_so}
 

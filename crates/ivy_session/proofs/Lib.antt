@@ -1,5 +1,5 @@
 mod Refreshes
-mod Asking
+mod AskSteps
 mod Bringing
 mod Nobody
 mod Taken
@@ -15,3 +15,12 @@ mod InPlace
 mod Refreshed
 mod TurnsInPlace
 mod Falling
+pub mod Driven
+pub mod Ordered
+pub mod Putting
+pub mod Steps
+pub mod Unasked
+mod Admitted
+mod Callers
+mod GoodCalls
+mod Readings

@@ -17,8 +17,8 @@ use Rattle.session_model.specs.Sessions.{Cache, IsPut, IsPutOfPost, Publishing, 
 use Rattle.session_model.specs.Sessions.Hears.{puts_on, puts}
 use Rattle.session_model.specs.Sessions.Takes.{posted, cached}
 use Rattle.session_model.specs.Courses.{Fails}
-use Rattle.post_publishing.specs.Publishing.{Passes, PublishingIsAfter, PublishingIsWanted, PublishingState, PutHears as Hearing, posts_of, publishing_awaited, stage_of}
-use Rattle.post_publishing.specs.Publishing.PutHears.{puts_on as put_goes_on, puts as put_is_over}
+use Rattle.ivy_session.specs.Publishing.{Passes, PublishingIsAfter, PublishingIsWanted, PublishingState, PutHears as Hearing, posts_of, publishing_awaited, stage_of}
+use Rattle.ivy_session.specs.Publishing.PutHears.{puts_on as put_goes_on, puts as put_is_over}
 use Rattle.ask_laws.specs.Laws.{IsWholePutOfPost}
 use Rattle.ask_laws.proofs.AskedPuts.{post_next_is_not_whole}
 use Rattle.ivy_session.specs.declared.served.Served.{Served}
@@ -30,7 +30,7 @@ use Rattle.ivy_session.specs.Stepping.AsksOf.{puts as asks_of_put}
 use Rattle.ivy_session.specs.Stepping.NextIs.{asks as next_asks, settles, is_cut as next_is_cut}
 use Rattle.ivy_session.specs.Stepping.HeardIs.{hears as heard_so, is_cut as heard_is_cut}
 use Rattle.ivy_session.specs.Ending.{PutHears}
-use Rattle.ivy_session.proofs.Asking.{FirstIsNext, first_is_next, next_is_told, put_is_for_data}
+use Rattle.ivy_session.proofs.AskSteps.{FirstIsNext, first_is_next, next_is_told, put_is_for_data}
 use Rattle.ivy_session.proofs.Hears.{there_is}
 use Rattle.ivy_session.proofs.Nobody.{put_asks_somebody}
 

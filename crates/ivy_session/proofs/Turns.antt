@@ -19,7 +19,7 @@ use Rattle.log_fetch.specs.declared.turned.Turned.{Turned}
 use Rattle.log_fetch.specs.declared.turned.TurnFault.TheVariants as fault
 use Rattle.log_fetch.specs.Standings.{asked_of, notes_of, standing_of}
 use Rattle.view_refresh.specs.States.{Refreshing as RefreshState}
-use Rattle.post_publishing.specs.Publishing.{PublishingIsAfter, PublishingState, publishing_begun, stage_of}
+use Rattle.ivy_session.specs.Publishing.{PublishingIsAfter, PublishingState, publishing_begun, stage_of}
 use Rattle.ivy_session.specs.declared.served.Call.{Call}
 use Rattle.ivy_session.specs.declared.served.Served.TheVariants as served
 use Rattle.ivy_session.specs.declared.session.Stage.{Stage}

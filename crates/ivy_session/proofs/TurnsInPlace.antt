@@ -7,7 +7,7 @@ use Rattle.log_fetch.specs.declared.turned.Turned.{Turned}
 use Rattle.log_fetch.specs.declared.turned.TurnFault.{TurnFault}
 use Rattle.log_fetch.specs.declared.turned.TurnFault.TheVariants as fault
 use Rattle.view_refresh.specs.States.{Refreshing as RefreshState}
-use Rattle.post_publishing.specs.Publishing.{PublishingState, publishing_begun}
+use Rattle.ivy_session.specs.Publishing.{PublishingState, publishing_begun}
 use Rattle.ivy_session.specs.declared.served.Call.{Call}
 use Rattle.ivy_session.specs.declared.served.Served.{Served}
 use Rattle.ivy_session.specs.declared.session.Next.TheVariants as next

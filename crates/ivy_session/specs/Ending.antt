@@ -13,7 +13,7 @@ use Rattle.log_fetch.specs.Standings.{asked_of, standing_of}
 use Rattle.view_refresh.specs.declared.refresh.Refreshed.{Refreshed}
 use Rattle.view_refresh.specs.States.{Refreshing as RefreshState, has_failed, most_refresh, refresh_awaited, refresh_left}
 use Rattle.view_refresh.specs.Behind.{RefreshIsAfter}
-use Rattle.post_publishing.specs.Publishing.{PublishingState, PublishingHasHeard}
+use Rattle.ivy_session.specs.Publishing.{PublishingState, PublishingHasHeard}
 use Rattle.ivy_session.specs.declared.served.Call.{Call}
 use Rattle.ivy_session.specs.declared.served.Served.{Served}
 use Rattle.ivy_session.specs.declared.served.Served.TheVariants as served

@@ -11,7 +11,7 @@ use Rattle.session_model.specs.Sessions.{Cache}
 use Rattle.log_fetch.specs.declared.note.Note.{Note as Noted}
 use Rattle.view_refresh.specs.declared.refresh.Refreshed.{Refreshed}
 use Rattle.view_refresh.specs.States.{Refreshing as RefreshState}
-use Rattle.post_publishing.specs.Publishing.{PublishingState, PublishingIsWanted}
+use Rattle.ivy_session.specs.Publishing.{PublishingState, PublishingIsWanted}
 use Rattle.ivy_session.specs.declared.served.Call.{Call}
 use Rattle.ivy_session.specs.declared.served.Served.{Served}
 use Rattle.ivy_session.specs.declared.session.Stage.{Stage}

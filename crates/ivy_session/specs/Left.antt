@@ -1,7 +1,7 @@
 -- How much is left to a session: a number that falls with each answer, turn and settling.
 use Rattle.std.specs.Prelude.{ℕ, ◌+◌, ◌-◌, ◌*◌, ◌^◌, ◌<◌, ◌≤◌}
 use Rattle.view_refresh.specs.States.{most_refresh, refresh_left}
-use Rattle.post_publishing.specs.Publishing.{most_asks, puts_left}
+use Rattle.ivy_session.specs.Publishing.{most_asks, puts_left}
 use Rattle.ivy_session.specs.declared.session.Next.{Next}
 use Rattle.ivy_session.specs.declared.session.Next.TheVariants as next
 use Rattle.ivy_session.specs.declared.session.Stage.{Stage}

@@ -4,3 +4,8 @@ pub mod Left
 pub mod Taking
 pub mod Ending
 pub mod InPlace
+pub mod Kinds
+pub mod Putting
+pub mod Publishing
+pub mod Admitting
+pub mod Reading

@@ -16,7 +16,7 @@ use Rattle.log_fetch.specs.declared.note.Note.{Note as Noted}
 use Rattle.log_fetch.specs.Standings.{asked_of, notes_of}
 use Rattle.view_refresh.specs.States.{Refreshing as RefreshState, has_failed, refresh_awaited}
 use Rattle.view_refresh.specs.Behind.{RefreshIsAfter}
-use Rattle.post_publishing.specs.Publishing.{PublishingState, PublishingIsAfter, publishing_awaited, stage_of}
+use Rattle.ivy_session.specs.Publishing.{PublishingState, PublishingIsAfter, publishing_awaited, stage_of}
 use Rattle.ivy_session.specs.declared.served.Call.{Call}
 use Rattle.ivy_session.specs.declared.session.Stage.{Stage}
 use Rattle.ivy_session.specs.declared.session.Stage.TheVariants as stage

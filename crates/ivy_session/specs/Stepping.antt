@@ -30,7 +30,7 @@ use Rattle.log_fetch.specs.declared.turned.TurnFault.{TurnFault}
 use Rattle.log_fetch.specs.declared.turned.TurnFault.TheVariants as fault
 use Rattle.log_fetch.specs.Edges.{edge_in}
 use Rattle.log_fetch.specs.Standings.{notes_of, refresh_of, standing_of}
-use Rattle.post_publishing.specs.Publishing.{Passes}
+use Rattle.ivy_session.specs.Publishing.{Passes}
 use Rattle.ivy_session.specs.declared.session.Next.{Next}
 use Rattle.ivy_session.specs.declared.session.Next.TheVariants as next
 use Rattle.ivy_session.specs.declared.served.Served.{Served}

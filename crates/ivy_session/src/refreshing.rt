@@ -10,10 +10,11 @@ ghost use Rattle.ivy_session.specs.States.{BeginsAs, awaited_at, begun, is_turni
 ghost use Rattle.ivy_session.specs.Taking.{Advances, IsFailure, RefreshHears, kept_back};
 
 use crate::hand::take_all;
+use crate::reading::{Reading, read_message};
+use crate::room::ReplyRoom;
 use crate::served::{Call, Served};
 use crate::session::Stage;
 use block_cache::BlockCache;
-use call_messages::{Reading, ReplyRoom, read_message};
 use dhash_client::Miss;
 use dht_ids::{Answer, Judge, Peers, Want};
 use ivy_base::{Bytes, Key, Memory, name_of};

@@ -3,7 +3,7 @@
 ghost use Rattle.std.specs.Prelude.{◌≡◌, ◌≤◌, length};
 ghost use Rattle.ivy_session.specs.Ending.{lacking, replying};
 
-use call_messages::ReplyRoom;
+use crate::room::ReplyRoom;
 use ivy_base::Bytes;
 use log_fetch::Asked;
 

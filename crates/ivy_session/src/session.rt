@@ -13,17 +13,17 @@ ghost use Rattle.ivy_session.specs.InPlace.{EndsRefresh, FailureAt, PutHeard, Pu
 ghost use Rattle.session_model.specs.Sessions.{Cache};
 ghost use Rattle.wire_model.specs.Rpc.{SystemError, reply};
 ghost use Rattle.agent_model.specs.SavedBytes.{HasItsName};
-ghost use Rattle.post_publishing.specs.Publishing.{publishing_awaited, publishing_begun, puts_left};
+ghost use Rattle.ivy_session.specs.Publishing.{publishing_awaited, publishing_begun, puts_left};
 
+use crate::missing::missed;
+use crate::publishing::Publishing;
 use crate::refreshing::{advance, failure, first_stage, hear, refresh_for};
 use crate::served::{Call, Served, no_memory, reply_of};
 use block_cache::BlockCache;
-use call_messages::missed;
 use dhash_client::Miss;
 use dht_ids::{Acks, Answer, Ask, Judge, Peer, Peers, Post, Posts, Want};
 use ivy_base::Memory;
 use log_fetch::{Asked, Notes, Refresh, Standing, TurnFault, Turned};
-use post_publishing::Publishing;
 use std::alloc::Global;
 use std::marker::Model;
 use std::mem;

@@ -1,7 +1,7 @@
 use Rattle.std.proofs.Common.{Option, ◌≤◌, subst}
 use Rattle.std.specs.Prelude.{IfSome}
 use Rattle.log_model.specs.Spelling.{most_records}
-use Rattle.turn_answers.specs.declared.written.Before.{Before}
+use Rattle.ivy_agent.specs.declared.written.Before.{Before}
 use Rattle.ivy_agent.proofs.drafts.follow.Goals as goal
 
 pub sign-requires-clause-some : goal.sign-requires-clause-some

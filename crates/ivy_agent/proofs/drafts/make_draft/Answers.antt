@@ -1,7 +1,7 @@
 use Rattle.std.proofs.Common.{List, ap, ◌∙◌}
 use Rattle.log_records.specs.declared.record.Record.{Record}
 use Rattle.log_records.specs.Records.{records_of}
-use Rattle.turn_answers.specs.Newest.{newest_stamp}
+use Rattle.ivy_agent.specs.Newest.{newest_stamp}
 use Rattle.ivy_agent.specs.Holders.{signing}
 use Rattle.ivy_agent.proofs.Drafting.{is_draft_of, newest_some, newest_few}
 use Rattle.ivy_agent.proofs.drafts.make_draft.Goals as goal

@@ -1,5 +1,5 @@
 use Rattle.std.proofs.Common.{sym, subst}
-use Rattle.call_messages.specs.Reading.{IsReading}
+use Rattle.ivy_session.specs.Reading.{IsReading}
 use Rattle.log_fetch.specs.Standings.{standing_of}
 use Rattle.ivy_session.specs.declared.served.Served.{Served}
 use Rattle.ivy_session.specs.declared.session.Stage.TheVariants as stage

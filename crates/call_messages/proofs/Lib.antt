@@ -1,4 +1,0 @@
-mod Admitted
-mod Callers
-mod GoodCalls
-mod Readings

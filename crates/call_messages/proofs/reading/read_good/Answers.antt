@@ -1,6 +1,0 @@
-use Rattle.call_messages.proofs.Readings.{refused}
-use Rattle.call_messages.proofs.reading.read_good.Goals as goal
-
-pub returns-in-Err : goal.returns-in-Err
-returns-in-Err c = λ message good.
-    refused c.args.view.now message c.args.call.now good c.in-Err.head c.in-Err.ensures c.refused.result c.refused.ensures

@@ -1,2 +1,0 @@
-pub mod Admitting
-pub mod Reading

@@ -1,7 +1,0 @@
-use Rattle.std.proofs.Common.{◌≡◌, ◌++◌, filter, take}
-use Rattle.post_publishing.specs.Kinds.{is_kind}
-use Rattle.post_publishing.proofs.order.copy_kind.Given as goal
-
--- those of that kind were copied that were passed
-abbrev pub invariant-posts : goal.invariant-posts
-invariant-posts l = l.ordered.items ≡ l.initial.ordered.items ++ filter (λ p. is_kind l.kind p.kind) (take l.post-index l.posts)
