@@ -9,13 +9,12 @@ ghost use Rattle.log_fetch.specs.Logs.{settled_left};
 ghost use Rattle.log_fetch.specs.Gathering.{known_of, none_passed, IsNext, IsPassing, PassesAs, BeginsLog, GoesOnLog, Advances, HeadsTaken, BlockTaken, Gathers, HeadsGathered, BlockGathered, IsGathering, gathering_of, heads_wanted, block_wanted, GivesBack, noted_for, noted_at, at_behind, waits_left, gets_in};
 
 use crate::edges::Edges;
-use crate::log;
 use crate::note::{Note, Notes};
 use crate::standing::Standing;
+use crate::{Settled, Trial, log};
 use dht_ids::{Heads, Judged};
 use ivy_base::{Key, Memory, PubKey, head_key};
 use log_records::{Batch, ChainFault};
-use crate::{Settled, Trial};
 use std::alloc::Global;
 use std::marker::Model;
 use std::mem;

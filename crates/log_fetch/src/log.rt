@@ -9,10 +9,10 @@ ghost use Rattle.log_fetch.specs.Edges.{edge_in};
 ghost use Rattle.log_fetch.specs.Logs.{Opens, GoesOn, settled_left};
 
 use crate::edges::Edges;
+use crate::{Settled, Trial, heads_to_try};
 use dht_ids::Judged;
 use ivy_base::{Memory, PubKey, head_key};
 use log_records::Batch;
-use crate::{Settled, Trial, heads_to_try};
 use std::alloc::Global;
 use version_vectors::Vector;
 use view_blocks::View;
