@@ -1,22 +1,24 @@
--- Whole calls: what stands behind arguments, and procedures that aren't there.
-use Rattle.std.proofs.Common.{◌≡◌, ℕ, ◌<◌, ◌≤◌, List, [], ◌++◌, sym, ap, ◌∙◌, refl, arith}
-use Rattle.std.specs.Prelude.{◌≢◌, ⊤}
+-- Whole calls: procedures without arguments, and such as aren't there, and what stands behind arguments.
+use Rattle.std.proofs.Common.{◌≡◌, ℕ, ◌<◌, ◌≤◌, List, [], ◌∷◌, ◌++◌, Option, Some, None, refl, sym, ap, ◌∙◌, arith}
+use Rattle.std.specs.Prelude.{◌≢◌}
 use Rattle.std.proofs.lemmas.List.{append-nil}
-use Rattle.wire_model.specs.OneReading.{ReadsOne, IsFront, HasNoFront}
-use Rattle.wire_model.proofs.OneReading.{◌▷◌, one_word, always}
-use Rattle.wire_model.proofs.Dependent.{PartsOf}
-use Rattle.xdr_codec.specs.declared.fault.XdrFault.{XdrFault}
-use Rattle.xdr_codec.specs.declared.fault.XdrFault.TheVariants.{Short, TooLong, Padding, NotBool, Trailing}
-use Rattle.xdr_codec.specs.Reading.{EndFault}
+use Rattle.wire_model.specs.OneReading.{IsFront}
+use Rattle.wire_model.specs.Parts.{Told, Reads}
 use Rattle.nfs_model.specs.declared.arguments.Args.{Args}
 use Rattle.nfs_model.specs.declared.arguments.Args.TheVariants as call
 use Rattle.nfs_model.specs.Arguments.{nfs_program, mount_program, program_of, procedure_of, arguments, AreArguments}
-use Rattle.nfs_model.proofs.OneArguments.{one_handle, one_text, one_path, one_set_what, one_how, one_node}
-use Rattle.nfs_model.specs.declared.fault.ArgsFault.{ArgsFault}
-use Rattle.nfs_model.specs.declared.fault.ArgsFault.TheVariants.{Garbage, Memory}
-use Rattle.nfs3_args.specs.Reading.{AreOf, AreNfs, AreMount, Refuses, AreNoArguments, RefusesArguments}
-use Rattle.nfs3_args.proofs.PartsReading.{one_stable, one_place, one_range, one_page}
-use Rattle.nfs3_args.proofs.Procedures.{one_guard, one_data, getattr_parts, setattr_parts, lookup_parts, access_parts, readlink_parts, read_parts, write_parts, create_parts, mkdir_parts, symlink_parts, mknod_parts, remove_parts, rmdir_parts, rename_parts, link_parts, readdir_parts, readdirplus_parts, fsstat_parts, fsinfo_parts, pathconf_parts, commit_parts, mnt_parts, umnt_parts, null_parts, mount_null_parts, dump_parts, umntall_parts, export_parts}
+use Rattle.nfs_model.specs.Laws.{AreOf}
+use Rattle.nfs_model.proofs.OneArguments.{read_one}
+use Rattle.nfs3_args.specs.Reading.{AreNfs, AreMount, AreNoArguments}
+
+-- ---- procedures without arguments
+
+pub empty_read : {program procedure : ℕ} {args : Args} (a : Option (List ℕ)) → AreOf program procedure args → arguments args ≡ [] → Reads (AreOf program procedure) arguments a args a
+empty_read {program} {procedure} {args} a f none = record { told = cases a }
+  where
+    cases : (a : Option (List ℕ)) → Told (AreOf program procedure) arguments a args a
+    cases None = refl
+    cases (Some bytes) = record { fits = f; spelled = ap (λ (s : List ℕ). s ++ bytes) (sym none) }
 
 -- ---- procedures that aren't there
 
@@ -37,91 +39,53 @@ program_cases call.UmntAll f g = g refl
 program_cases call.Export f g = g refl
 program_cases a f g = f refl
 
-pub no_such_nfs : {procedure : ℕ} {bytes : List ℕ} → 21 < procedure → HasNoFront (AreNfs procedure) arguments bytes
-no_such_nfs h = record { none = λ a rest f. let e = f.fits.procedure_is in let b = nfs_bound a (sym f.fits.program_is) in omega (arith, h, e, b) }
+missed : {program procedure : ℕ} {a b : Option (List ℕ)} {args : Args} → ((other : Args) → AreOf program procedure other → ⊥) → b ≡ None → Reads (AreOf program procedure) arguments a args b
+missed {program} {procedure} {a} {b} {args} none gone = record { told = cases a b gone }
+  where
+    cases : (a b : Option (List ℕ)) → b ≡ None → Told (AreOf program procedure) arguments a args b
+    cases a (Some b) gone = absurd (cc gone)
+    cases None None gone = refl
+    cases (Some a) None gone = record { none = λ x rest f. none x f.fits }
 
-pub no_such_mount : {procedure : ℕ} {bytes : List ℕ} → 5 < procedure → HasNoFront (AreMount procedure) arguments bytes
-no_such_mount h = record { none = λ a rest f. let e = f.fits.procedure_is in let b = mount_bound a (sym f.fits.program_is) in omega (arith, h, e, b) }
+pub no_such_nfs : {procedure : ℕ} {a b : Option (List ℕ)} {args : Args} → 21 < procedure → b ≡ None → Reads (AreNfs procedure) arguments a args b
+no_such_nfs h gone = missed (λ x f. let e = f.procedure_is in let b = nfs_bound x (sym f.program_is) in omega (arith, h, e, b)) gone
 
-pub no_such_program : {program procedure : ℕ} {bytes : List ℕ} → program ≢ nfs_program → program ≢ mount_program → HasNoFront (AreOf program procedure) arguments bytes
-no_such_program f g = record { none = λ a rest h. program_cases a (λ e. f (h.fits.program_is ∙ e)) (λ e. g (h.fits.program_is ∙ e)) }
+pub no_such_mount : {procedure : ℕ} {a b : Option (List ℕ)} {args : Args} → 5 < procedure → b ≡ None → Reads (AreMount procedure) arguments a args b
+no_such_mount h gone = missed (λ x f. let e = f.procedure_is in let b = mount_bound x (sym f.program_is) in omega (arith, h, e, b)) gone
 
--- ---- what stands behind arguments
+pub no_such_program : {program procedure : ℕ} {a b : Option (List ℕ)} {args : Args} → program ≢ nfs_program → program ≢ mount_program → b ≡ None
+    → Reads (AreOf program procedure) arguments a args b
+no_such_program f g gone = missed (λ x h. program_cases x (λ e. f (h.program_is ∙ e)) (λ e. g (h.program_is ∙ e))) gone
 
--- the same, however their parts are read
-rest_of_parts : {A : Type 0} {Fits : A → Type 0} {spell : A → List ℕ} {v w : List ℕ} → ReadsOne Fits spell → PartsOf Fits spell v → PartsOf Fits spell w
-    → (r s : List ℕ) → v ++ r ≡ w ++ s → r ≡ s
-rest_of_parts reads p q r s e =
-    (reads.one p.part q.part r s p.fits q.fits (ap (λ (t : List ℕ). t ++ r) (sym p.spelled) ∙ e ∙ ap (λ (t : List ℕ). t ++ s) q.spelled)).1
+-- ---- the whole
 
-same_call : {program procedure : ℕ} {a b : Args} → AreOf program procedure a → AreOf program procedure b → AreOf (program_of a) (procedure_of a) b
-same_call f g = record { program_is = sym f.program_is ∙ g.program_is; procedure_is = sym f.procedure_is ∙ g.procedure_is; fit = g.fit }
-
-nothing : ReadsOne (λ (x : Unit {0}). ⊤) (λ x. [])
-nothing = always []
-
-rest_of : (a b : Args) → AreOf (program_of a) (procedure_of a) a → AreOf (program_of a) (procedure_of a) b → (r s : List ℕ) → arguments a ++ r ≡ arguments b ++ s → r ≡ s
-rest_of call.Null b f g r s e = rest_of_parts nothing (null_parts call.Null f) (null_parts b g) r s e
-rest_of call.MountNull b f g r s e = rest_of_parts nothing (mount_null_parts call.MountNull f) (mount_null_parts b g) r s e
-rest_of call.Dump b f g r s e = rest_of_parts nothing (dump_parts call.Dump f) (dump_parts b g) r s e
-rest_of call.UmntAll b f g r s e = rest_of_parts nothing (umntall_parts call.UmntAll f) (umntall_parts b g) r s e
-rest_of call.Export b f g r s e = rest_of_parts nothing (export_parts call.Export f) (export_parts b g) r s e
-rest_of (call.GetAttr object) b f g r s e = rest_of_parts one_handle (getattr_parts (call.GetAttr object) f) (getattr_parts b g) r s e
-rest_of (call.SetAttr object what guard) b f g r s e = rest_of_parts (one_handle ▷ one_set_what ▷ one_guard) (setattr_parts (call.SetAttr object what guard) f) (setattr_parts b g) r s e
-rest_of (call.Lookup dir name) b f g r s e = rest_of_parts one_place (lookup_parts (call.Lookup dir name) f) (lookup_parts b g) r s e
-rest_of (call.Access object bits) b f g r s e = rest_of_parts (one_handle ▷ one_word) (access_parts (call.Access object bits) f) (access_parts b g) r s e
-rest_of (call.ReadLink link) b f g r s e = rest_of_parts one_handle (readlink_parts (call.ReadLink link) f) (readlink_parts b g) r s e
-rest_of (call.Read file offset count) b f g r s e = rest_of_parts one_range (read_parts (call.Read file offset count) f) (read_parts b g) r s e
-rest_of (call.Write file offset count stable bytes) b f g r s e = rest_of_parts (one_range ▷ one_stable ▷ one_data) (write_parts (call.Write file offset count stable bytes) f) (write_parts b g) r s e
-rest_of (call.Create dir name how) b f g r s e = rest_of_parts (one_place ▷ one_how) (create_parts (call.Create dir name how) f) (create_parts b g) r s e
-rest_of (call.MkDir dir name what) b f g r s e = rest_of_parts (one_place ▷ one_set_what) (mkdir_parts (call.MkDir dir name what) f) (mkdir_parts b g) r s e
-rest_of (call.SymLink dir name what text) b f g r s e = rest_of_parts (one_place ▷ one_set_what ▷ one_text) (symlink_parts (call.SymLink dir name what text) f) (symlink_parts b g) r s e
-rest_of (call.MkNod dir name node) b f g r s e = rest_of_parts (one_place ▷ one_node) (mknod_parts (call.MkNod dir name node) f) (mknod_parts b g) r s e
-rest_of (call.Remove dir name) b f g r s e = rest_of_parts one_place (remove_parts (call.Remove dir name) f) (remove_parts b g) r s e
-rest_of (call.RmDir dir name) b f g r s e = rest_of_parts one_place (rmdir_parts (call.RmDir dir name) f) (rmdir_parts b g) r s e
-rest_of (call.Rename dir name to_dir to_name) b f g r s e = rest_of_parts (one_place ▷ one_place) (rename_parts (call.Rename dir name to_dir to_name) f) (rename_parts b g) r s e
-rest_of (call.Link file dir name) b f g r s e = rest_of_parts (one_handle ▷ one_place) (link_parts (call.Link file dir name) f) (link_parts b g) r s e
-rest_of (call.ReadDir dir cookie verifier count) b f g r s e = rest_of_parts (one_page ▷ one_word) (readdir_parts (call.ReadDir dir cookie verifier count) f) (readdir_parts b g) r s e
-rest_of (call.ReadDirPlus dir cookie verifier dircount maxcount) b f g r s e = rest_of_parts (one_page ▷ one_word ▷ one_word) (readdirplus_parts (call.ReadDirPlus dir cookie verifier dircount maxcount) f) (readdirplus_parts b g) r s e
-rest_of (call.FsStat object) b f g r s e = rest_of_parts one_handle (fsstat_parts (call.FsStat object) f) (fsstat_parts b g) r s e
-rest_of (call.FsInfo object) b f g r s e = rest_of_parts one_handle (fsinfo_parts (call.FsInfo object) f) (fsinfo_parts b g) r s e
-rest_of (call.PathConf object) b f g r s e = rest_of_parts one_handle (pathconf_parts (call.PathConf object) f) (pathconf_parts b g) r s e
-rest_of (call.Commit file offset count) b f g r s e = rest_of_parts one_range (commit_parts (call.Commit file offset count) f) (commit_parts b g) r s e
-rest_of (call.Mnt path) b f g r s e = rest_of_parts one_path (mnt_parts (call.Mnt path) f) (mnt_parts b g) r s e
-rest_of (call.Umnt path) b f g r s e = rest_of_parts one_path (umnt_parts (call.Umnt path) f) (umnt_parts b g) r s e
-
--- where nothing follows
-pub no_call : {program procedure : ℕ} {bytes : List ℕ} → HasNoFront (AreOf program procedure) arguments bytes → AreNoArguments program procedure bytes
-no_call absent = record {
-  none = λ a f. absent.none a [] (record {
-    fits = record { program_is = f.program_is; procedure_is = f.procedure_is; fit = f.fit };
-    spelled = f.spelled ∙ sym (append-nil (arguments a));
-  });
+front_of : {program procedure : ℕ} {bytes : List ℕ} {args : Args} → AreArguments program procedure bytes args → IsFront (AreOf program procedure) arguments bytes args []
+front_of {args = args} f = record {
+  fits = record { program_is = f.program_is; procedure_is = f.procedure_is; fit = f.fit };
+  spelled = f.spelled ∙ sym (append-nil (arguments args));
 }
 
-pub refused_call : (program procedure : ℕ) (bytes : List ℕ) (fault : ArgsFault) → Refuses (AreOf program procedure) arguments bytes fault → RefusesArguments program procedure bytes fault
-refused_call program procedure bytes Garbage f = no_call f
-refused_call program procedure bytes Memory f = tt
+module _ {program procedure : ℕ} {bytes : List ℕ} {now : Option (List ℕ)} {args : Args} (read : Reads (AreOf program procedure) arguments (Some bytes) args now) where
+  pub all_read : now ≡ Some [] → AreArguments program procedure bytes args
+  all_read ends = cases now ends read.told
+    where
+      cases : (now : Option (List ℕ)) → now ≡ Some [] → Told (AreOf program procedure) arguments (Some bytes) args now → AreArguments program procedure bytes args
+      cases None ends p = absurd (cc ends)
+      cases (Some []) ends p = record {
+        program_is = p.fits.program_is;
+        procedure_is = p.fits.procedure_is;
+        fit = p.fits.fit;
+        spelled = p.spelled ∙ append-nil (arguments args);
+      }
+      cases (Some (x ∷ rest)) ends p = absurd (cc ends)
 
-ended : (rest : List ℕ) (fault : XdrFault) → EndFault rest fault → rest ≢ []
-ended rest Trailing f = f
-ended rest Short f = absurd f
-ended rest TooLong f = absurd f
-ended rest Padding f = absurd f
-ended rest NotBool f = absurd f
-
-pub more_behind : {program procedure : ℕ} {bytes rest : List ℕ} {a : Args} → IsFront (AreOf program procedure) arguments bytes a rest
-    → (fault : XdrFault) → EndFault rest fault → AreNoArguments program procedure bytes
-more_behind {program} {procedure} {rest = rest} {a = a} f fault trails = record {
-  none = λ b g.
-      let h : AreOf program procedure b = record { program_is = g.program_is; procedure_is = g.procedure_is; fit = g.fit } in
-      ended rest fault trails (rest_of a b (same_call f.fits f.fits) (same_call f.fits h) rest [] (sym f.spelled ∙ g.spelled ∙ sym (append-nil (arguments b))));
-}
-
-pub all_read : {program procedure : ℕ} {bytes rest : List ℕ} {a : Args} → IsFront (AreOf program procedure) arguments bytes a rest → rest ≡ [] → AreArguments program procedure bytes a
-all_read {a = a} f e = record {
-  program_is = f.fits.program_is;
-  procedure_is = f.fits.procedure_is;
-  fit = f.fits.fit;
-  spelled = f.spelled ∙ ap (λ (s : List ℕ). arguments a ++ s) e ∙ append-nil (arguments a);
-}
+  pub not_all_read : now ≢ Some [] → AreNoArguments program procedure bytes
+  not_all_read more = record { none = cases now more read.told }
+    where
+      cases : (now : Option (List ℕ)) → now ≢ Some [] → Told (AreOf program procedure) arguments (Some bytes) args now → (other : Args) → AreArguments program procedure bytes other → ⊥
+      cases None more p other g = p.none other [] (front_of g)
+      cases (Some []) more p other g = more refl
+      cases (Some (x ∷ rest)) more p other g =
+          let h = front_of g in
+          let e : (x ∷ rest) ≡ [] = ((read_one program procedure).one args other (x ∷ rest) [] p.fits h.fits (sym p.spelled ∙ h.spelled)).1 in
+          absurd (cc e)

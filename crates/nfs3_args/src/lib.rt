@@ -7,12 +7,13 @@
 //! memory where a string has 2^32 bytes or more. What was written is read back as it was where the arguments are within
 //! the bounds of `ArgumentsFit`, since the bytes are of one value alone (`nfs_model`'s law `arguments_are_one`).
 //!
-//! Inside, bytes are read from left to right by one small function for each part: `parts` for what several procedures
-//! share, `attributes` for what is asked of attributes and for the unions, `nfs` and `mount` for each procedure;
+//! Inside, bytes are read from left to right by small functions, which keep in mind that a part was missed
+//! (`xdr_codec`'s `Parts`), so that [`read_args`] asks once, behind the last part: `parts` for what several procedures
+//! share, `attributes` for what is asked of attributes and for the unions, `nfs` and `mount` for the procedures;
 //! `part_writing`, `attribute_writing` and `write` are their counterparts.
 //!
 //! Definitions: the bytes are `arguments`, and what is read `AreArguments`, of `nfs_model`'s `specs/Arguments.antt`;
-//! `specs/Reading.antt` has when a reader refuses, `specs/Writable.antt` which arguments have bytes, `specs/Room.antt`
+//! `specs/Reading.antt` has when bytes are refused, `specs/Writable.antt` which arguments have bytes, `specs/Room.antt`
 //! the room. Of `specs/Parts.antt` only the functions inside speak.
 //!
 //! Costs: arguments are read in one pass, and each handle, name, text, path and WRITE's data is copied once, into the
@@ -22,7 +23,6 @@
 
 mod attribute_writing;
 mod attributes;
-mod fault;
 mod mount;
 mod nfs;
 mod part_writing;

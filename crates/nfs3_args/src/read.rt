@@ -1,15 +1,17 @@
 //! Reading whole arguments.
 
-ghost use Rattle.std.specs.Prelude.{IfOk, IfErr};
-ghost use Rattle.wire_model.specs.OneReading.{IsFront};
+ghost use Rattle.std.specs.Prelude.{◌≡◌, IfOk, IfErr};
+ghost use Rattle.wire_model.specs.Parts.{Reads};
 ghost use Rattle.nfs_model.specs.Arguments.{arguments, AreArguments};
-ghost use Rattle.nfs3_args.specs.Reading.{AreOf, Refuses, RefusesArguments};
+ghost use Rattle.nfs_model.specs.Laws.{AreOf};
+ghost use Rattle.nfs3_args.specs.Reading.{RefusesArguments};
 
 use crate::mount::read_mount;
 use crate::nfs::read_nfs;
+use ivy_base::Memory;
 use nfs_model::{Args, ArgsFault};
 use std::alloc::Global;
-use xdr_codec::XdrRead;
+use xdr_codec::Parts;
 
 /// The number of the program NFS (RFC 1813, section 3).
 pub const NFS_PROGRAM: u32 = 100_003;
@@ -33,26 +35,30 @@ pub fn read_args(
     ensures ok { IfOk result (λ args. AreArguments program procedure bytes.now args) }
     ensures err { IfErr result (RefusesArguments program procedure bytes.now) }
 {
-    let mut reader = XdrRead::new(bytes);
-    let args = read_procedure(alloc, &mut reader, program, procedure)?;
-    reader.finish()?;
-    Ok(args)
+    let mut parts = Parts::of(bytes);
+    let args = read_procedure(alloc, &mut parts, program, procedure)?;
+    if parts.are_read() {
+        Ok(args)
+    } else {
+        Err(ArgsFault::Garbage)
+    }
 }
 
-/// The arguments of that procedure at the front.
-#[tactic(auto, using(crate::proofs::Calls::no_such_program))]
+/// The arguments of that procedure.
 fn read_procedure(
     alloc: Global,
-    reader: &mut XdrRead,
+    parts: &mut Parts,
     program: u32,
     procedure: u32,
-) -> Result<Args, ArgsFault>
-    ensures ok { IfOk result (λ args. IsFront (AreOf program procedure) arguments reader.old args reader.new) }
-    ensures err { IfErr result (Refuses (AreOf program procedure) arguments reader.old) }
+) -> Result<Args, Memory>
+    ensures { IfOk result (λ args. Reads (AreOf program procedure) arguments parts.old args parts.new) }
 {
     match program {
-        NFS_PROGRAM => read_nfs(alloc, reader, procedure),
-        MOUNT_PROGRAM => read_mount(alloc, reader, procedure),
-        _ => Err(ArgsFault::Garbage),
+        NFS_PROGRAM => read_nfs(alloc, parts, procedure),
+        MOUNT_PROGRAM => read_mount(alloc, parts, procedure),
+        _ => {
+            parts.miss();
+            Ok(Args::Null)
+        }
     }
 }

@@ -1,23 +1,15 @@
-use Rattle.std.proofs.lemmas.Result.{err_from_is_err_and}
-use Rattle.nfs3_args.proofs.Refusing.{refused}
-use Rattle.nfs3_args.proofs.Procedures.{no_write_bytes, no_write_range, no_write_stable}
-use Rattle.nfs3_args.proofs.Fronts.{write_front}
+use Rattle.std.proofs.Common.{ℕ, List, ap}
+use Rattle.wire_model.proofs.OneReading.{one_word, one_double_word}
+use Rattle.wire_model.proofs.PartByPart.{◌▸◌, part, made_read}
+use Rattle.nfs_model.proofs.OneArguments.{one_handle}
+use Rattle.nfs3_args.proofs.PartsReading.{one_stable, data_read}
+use Rattle.nfs3_args.proofs.Procedures.{made_write}
 use Rattle.nfs3_args.proofs.nfs.read_write.Goals as goal
 
-pub returns-in_err-file-clause-err : goal.returns-in_err-file-clause-err
-returns-in_err-file-clause-err c =
-    let p = err_from_is_err_and c.from_residual.result c.from_residual.ensures.1 in
-    rw (p.1, p.2) (refused no_write_range _ c.in_err-file.ensures.err)
-
-pub returns-in_err-stable-clause-err : goal.returns-in_err-stable-clause-err
-returns-in_err-stable-clause-err c =
-    let p = err_from_is_err_and c.from_residual-in_err-stable.result c.from_residual-in_err-stable.ensures.1 in
-    rw (p.1, p.2) (no_write_stable c.in_ok-file.ensures.ok c.in_err-stable.ensures.err)
-
-pub returns-in_err-bytes-clause-err : goal.returns-in_err-bytes-clause-err
-returns-in_err-bytes-clause-err c =
-    let p = err_from_is_err_and c.from_residual-in_err-bytes.result c.from_residual-in_err-bytes.ensures.1 in
-    rw (p.1, p.2) (refused (no_write_bytes c.in_ok-file.ensures.ok c.in_ok-stable.ensures.ok) _ c.in_err-bytes.ensures.err)
-
-pub returns-clause-ok : goal.returns-clause-ok
-returns-clause-ok c = write_front c.in_ok-file.ensures.ok c.in_ok-stable.ensures.ok c.in_ok-bytes.ensures.ok
+pub returns : goal.returns
+returns c =
+    let file = ap (λ (p : List ℕ × List ℕ). p.0) c.in_ok-file.ensures in
+    let bytes = ap (λ (p : List ℕ × List ℕ). p.1) c.in_ok-file.ensures in
+    rw (file, bytes) (made_read made_write (
+    part one_handle c.opaque-file.ensures ▸ part one_double_word c.u64-offset.ensures ▸ part one_word c.u32-count.ensures ▸ part one_stable c.read_stable-stable.ensures ▸ data_read c.opaque-bytes.ensures
+    )).reads
