@@ -84,7 +84,7 @@ pub fn read_call(message: &[u8]) -> Heading<'_>
 {
     let mut parts = Parts::of(message);
     let (xid, kind, version) = read_words(&mut parts);
-    let Some(_) = parts.left() else {
+    let Some(_) = parts.rest() else {
         return Heading::NotACall;
     };
     if kind != CALL {
@@ -94,7 +94,7 @@ pub fn read_call(message: &[u8]) -> Heading<'_>
         return Heading::Mismatch { xid };
     }
     let (program, version, procedure, credential) = read_body(&mut parts);
-    match parts.left() {
+    match parts.rest() {
         Some(args) => Heading::Good(Call {
             xid,
             program,

@@ -1,6 +1,6 @@
 //! The parts of a message, which are read one behind the other.
 
-ghost use Rattle.std.specs.Prelude.{◌≡◌, ◌≢◌, true, false, [], Some, None, length, MatchOption};
+ghost use Rattle.std.specs.Prelude.{◌≡◌, ◌≢◌, ◌%◌, true, false, [], Some, None, length, MatchOption};
 ghost use Rattle.wire_model.specs.Xdr.{word, double_word, boolean, opaque, IsWord, IsDoubleWord, IsAny, IsOfLength, IsUpTo};
 ghost use Rattle.wire_model.specs.Parts.{Reads, as_it_stands};
 
@@ -49,17 +49,6 @@ impl<'a> Parts<'a> {
         ensures more { result ≡ false → self.now ≢ Some [] }
     {
         !self.missed && self.left.rest().is_empty()
-    }
-
-    /// What is left, where each part was there.
-    pub fn left(&self) -> Option<&'a [u8]>
-        ensures { MatchOption result (self.now ≡ None) (λ rest. self.now ≡ Some rest.now) }
-    {
-        if self.missed {
-            None
-        } else {
-            Some(self.left.rest())
-        }
     }
 
     /// A number of four bytes.
@@ -119,22 +108,42 @@ impl<'a> Parts<'a> {
     pub fn eight(&mut self) -> [u8; 8]
         ensures { Reads (IsOfLength 8) as_it_stands self.old result self.new }
     {
-        match self.left.fixed(8) {
+        self.bytes::<8>()
+    }
+
+    /// So many bytes, as they stand, where no zeros fill them up.
+    #[tactic(auto, using(crate::proofs::Whole::whole_front, crate::proofs::Whole::no_whole))]
+    pub fn bytes<const N: usize>(&mut self) -> [u8; N]
+        requires { N % 4 ≡ 0 }
+        ensures { Reads (IsOfLength N) as_it_stands self.old result self.new }
+    {
+        match self.left.fixed(N) {
             Ok(bytes) => array_of(bytes),
             Err(_) => {
                 self.miss();
-                [0; 8]
+                [0; N]
             }
+        }
+    }
+
+    /// The bytes that are left. There are none where a part was missed.
+    pub fn rest(&self) -> Option<&'a [u8]>
+        ensures { MatchOption result (self.now ≡ None) (λ bytes. self.now ≡ Some bytes.now) }
+    {
+        if self.missed {
+            None
+        } else {
+            Some(self.left.rest())
         }
     }
 }
 
 /// The bytes as an array.
-fn array_of(bytes: &[u8]) -> [u8; 8]
-    requires { length bytes.now ≡ 8 }
+fn array_of<const N: usize>(bytes: &[u8]) -> [u8; N]
+    requires { length bytes.now ≡ N }
     ensures { result ≡ bytes.now }
 {
-    let mut array = [0; 8];
+    let mut array = [0; N];
     array.copy_from_slice(bytes);
     array
 }

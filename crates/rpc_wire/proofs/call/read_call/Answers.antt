@@ -13,11 +13,11 @@ pub returns-then-version-ne-RPC_VERSION-clause-heading : goal.returns-then-versi
 returns-then-version-ne-RPC_VERSION-clause-heading c =
     other_version (there c.read_words-xid.ensures c.of-parts.ensures c.in-Some.ensures) c.if-kind-ne-CALL.false c.if-version-ne-RPC_VERSION.true
 
-pub returns-in-Some-left-clause-heading : goal.returns-in-Some-left-clause-heading
-returns-in-Some-left-clause-heading c = record {
-  call = message_of c.read_words-xid.result.0 ((((c.read_body-program.result.0, c.read_body-program.result.1), c.read_body-program.result.2), auth_of c.read_body-program.result.3), c.read_body-program.ensures.0) c.in-Some-left.args.now;
+pub returns-in-Some-rest-clause-heading : goal.returns-in-Some-rest-clause-heading
+returns-in-Some-rest-clause-heading c = record {
+  call = message_of c.read_words-xid.result.0 ((((c.read_body-program.result.0, c.read_body-program.result.1), c.read_body-program.result.2), auth_of c.read_body-program.result.3), c.read_body-program.ensures.0) c.in-Some-rest.args.now;
   is_call = good_call (there c.read_words-xid.ensures c.of-parts.ensures c.in-Some.ensures) c.if-kind-ne-CALL.false c.if-version-ne-RPC_VERSION.false
-      (there c.read_body-program.ensures.1 c.in-Some.ensures c.in-Some-left.ensures);
+      (there c.read_body-program.ensures.1 c.in-Some.ensures c.in-Some-rest.ensures);
   xid = refl;
   program = refl;
   version = refl;
