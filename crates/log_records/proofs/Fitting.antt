@@ -1,5 +1,5 @@
 -- What the tests of an operation tell of the whole of it.
-use Rattle.std.proofs.Common.{◌≡◌, ℕ, ◌+◌, ◌-◌, ◌<◌, ◌≤◌, ◌^◌, List, Bool, true, false, Option, Some, None, length, refl, sym, subst, arith}
+use Rattle.std.proofs.Common.{◌≡◌, ℕ, ◌+◌, ◌-◌, ◌<◌, ◌≤◌, ◌^◌, List, [], Bool, true, false, Option, Some, None, length, refl, sym, subst, arith}
 use Rattle.std.specs.Prelude.{◌↔◌, IsTrue, nat_eq}
 use Rattle.std.proofs.lemmas.Bool.{eqb-true, eq-eqb}
 use Rattle.ivy_base.specs.declared.key.Key.{Key}
@@ -9,9 +9,10 @@ use Rattle.ivy_base.specs.declared.operation.Op.{Op}
 use Rattle.ivy_base.specs.declared.operation.Op.TheVariants as op
 use Rattle.log_model.specs.Vector.{Stamp, reach}
 use Rattle.log_model.specs.Record.{Record}
-use Rattle.log_model.specs.Spelling.{IsKey, IsBlock, IsMode, IsTarget, IsChange, OperationFits, IsEndOp, HasSpelling}
+use Rattle.log_model.specs.Spelling.{IsKey, IsBlock, IsMode, IsTarget, IsChange, OperationFits, IsEndOp, HasSpelling, no_name}
 use Rattle.log_model.specs.Chain.{IsFirst}
 use Rattle.log_records.specs.Parts.{IsPlace}
+use Rattle.log_records.specs.Spelled.{IsInPlace}
 use Rattle.log_records.specs.Batches.{MayBeNext}
 
 -- ---- whether an operation fits, where it is of that form
@@ -79,6 +80,15 @@ is_end {o} is = (λ h. subst IsEndOp (sym is) tt, λ e. refl)
 
 pub is_not_end : {o : Op} → (o ≡ op.End → ⊥) → IsTrue false ↔ IsEndOp o
 is_not_end {o} other = (λ h. absurd (cc h), λ e. absurd (other (the_end o e)))
+
+-- ---- whether it stands where it may
+
+pub first_in_place : (r : Record) {b : Bool} → r.seq ≡ 1 → IsEndOp r.op → IsTrue b ↔ ((r.prev ≡ no_name) × (r.vector ≡ [])) → IsTrue b ↔ IsInPlace r
+first_in_place r first ends alone =
+    (λ h. record { ends_first = (λ e. ends, λ e. first); first_alone = λ e. alone.0 h }, λ p. alone.1 (p.first_alone first))
+
+pub no_end_first : (r : Record) {b : Bool} → r.seq ≡ 1 → b ≡ false → IsTrue b ↔ IsEndOp r.op → IsTrue b ↔ IsInPlace r
+no_end_first r first fails ends = (λ h. absurd (cc (h, fails)), λ p. ends.1 (p.ends_first.0 first))
 
 -- ---- whether a record may be next after that of a stamp
 

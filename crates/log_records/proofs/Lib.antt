@@ -16,3 +16,5 @@ pub mod KeptChains
 pub mod Batches
 pub mod LastBlock
 pub mod PlaceLemmas
+pub mod ChainTests
+pub mod Put

@@ -17,14 +17,14 @@ use Rattle.log_records.specs.declared.part_fault.PartFault.{PartFault}
 use Rattle.log_records.specs.declared.part_fault.PartFault.TheVariants as part
 use Rattle.log_records.specs.Parts.{IsOfKind}
 use Rattle.log_records.specs.Frames.{IsFrame, frame_block, AreParts, parts_block, IsWellPlaced}
+use Rattle.log_records.specs.Shapes.{IsShapeOf, IsFrameShape, AreShapes}
 use Rattle.log_records.specs.Reading.{Refuses, fault_of_part, IsSpelled, RefusesWhole}
-use Rattle.log_records.specs.Spelled.{IsInPlace}
 use Rattle.log_records.specs.Records.{ReadFault}
 use Rattle.log_records.specs.Laws.{RecordsAreOne}
-use Rattle.wire_model.proofs.Dependent.{no_first_by, no_second_by, one_by}
+use Rattle.wire_model.proofs.Dependent.{no_first_by, one_by}
 use Rattle.log_records.proofs.Chains.{refused_whole}
-use Rattle.log_records.proofs.OneBody.{one_body}
-use Rattle.log_records.proofs.Frames.{one_frame}
+use Rattle.log_records.proofs.OneBody.{one_body, one_shape, kind_shape}
+use Rattle.log_records.proofs.Frames.{one_frame, one_frame_shape, frame_shape}
 
 -- ---- a frame and an operation
 
@@ -34,12 +34,30 @@ kind_in f o = IsOfKind f.kind o
 pub one_of_parts : (log : Key) → ReadsOne (AreParts log) (parts_block log)
 one_of_parts log = one_by kind_in (one_frame log) (λ f. one_body f.kind)
 
-pub no_frame : (log : Key) (bytes : List ℕ) (fault : PartFault) → Refuses (IsFrame log) (frame_block log) bytes fault → RefusesWhole (AreParts log) (parts_block log) bytes fault
-no_frame log bytes fault f = refused_whole {Whole = AreParts log} {written = parts_block log} (λ absent. no_first_by kind_in body absent) fault f
+-- what is read of them, before their bounds are tested
+abbrev shape_in : Frame → Op → Type 0
+shape_in f o = IsShapeOf f.kind o
 
-pub no_operation : (log : Key) (bytes middle : List ℕ) (frame : Frame) → IsFront (IsFrame log) (frame_block log) bytes frame middle
-    → (fault : PartFault) → Refuses (IsOfKind frame.kind) body middle fault → RefusesWhole (AreParts log) (parts_block log) bytes fault
-no_operation log bytes middle frame front fault f = refused_whole {Whole = AreParts log} {written = parts_block log} (λ absent. no_second_by kind_in (one_frame log) front absent) fault f
+one_of_shapes : (log : Key) → ReadsOne AreShapes (parts_block log)
+one_of_shapes log = one_by shape_in (one_frame_shape log) (λ f. one_shape f.kind)
+
+parts_shape : (log : Key) (p : Frame × Op) → AreParts log p → AreShapes p
+parts_shape log p f = (frame_shape log p.0 f.0, kind_shape p.0.kind p.1 f.1)
+
+pub no_frame : (log : Key) (bytes : List ℕ) (fault : PartFault) → Refuses IsFrameShape (frame_block log) bytes fault → RefusesWhole AreShapes (parts_block log) bytes fault
+no_frame log bytes fault f = refused_whole {Whole = AreShapes} {written = parts_block log} (λ absent. no_first_by shape_in body absent) fault f
+
+pub no_operation : (log : Key) (bytes rest : List ℕ) (frame : Frame) → IsFront IsFrameShape (frame_block log) bytes frame rest
+    → (fault : PartFault) → RefusesWhole (IsShapeOf frame.kind) body rest fault → RefusesWhole AreShapes (parts_block log) bytes fault
+no_operation log bytes rest frame front part.Malformed absent = λ p g.
+    let e : frame_block log p.0 ++ body p.1 ≡ frame_block log frame ++ rest = sym g.spelled ∙ front.spelled in
+    let q = (one_frame_shape log).one p.0 frame (body p.1) rest g.fits.0 front.fits e in
+    absent p.1 (record { fits = subst (λ (f : Frame). IsShapeOf f.kind p.1) q.0 g.fits.1; spelled = sym q.1 })
+no_operation log bytes rest frame front part.Memory absent = tt
+
+pub parts_read : (log : Key) {bytes rest : List ℕ} {frame : Frame} {o : Op} → IsFront IsFrameShape (frame_block log) bytes frame rest → IsSpelled (IsShapeOf frame.kind) body rest o
+    → IsSpelled AreShapes (parts_block log) bytes (frame, o)
+parts_read log {frame = frame} f g = record { fits = (f.fits, g.fits); spelled = f.spelled ∙ ap (λ (s : List ℕ). frame_block log frame ++ s) g.spelled }
 
 -- ---- records
 
@@ -81,6 +99,10 @@ owned_parts owner r e f = subst (λ (o : PubKey). AreParts (head_key_of o) (part
 spelled_by : (owner : PubKey) (r : Record) → r.owner ≡ owner → record_block r ≡ parts_block (head_key_of owner) (parts_in r)
 spelled_by owner r e = ap (λ (o : PubKey). parts_block (head_key_of o) (parts_in r)) e
 
+-- a record is that of its parts
+as_read : (r : Record) → HasSpelling r → r ≡ record_with r.owner (parts_in r)
+as_read r f = ap (λ (n : Key). record { owner = r.owner; seq = r.seq; prev = r.prev; vector = r.vector; moment = r.moment; op = r.op; name = n }) f.named
+
 pub one_record : RecordsAreOne
 one_record owner = record {
   one = λ x y r s f g e.
@@ -89,12 +111,8 @@ one_record owner = record {
       (same x y f.1 g.1 (f.0 ∙ sym g.0) p.0, p.1);
 }
   where
-    -- a record is that of its parts
-    of_parts : (r : Record) → HasSpelling r → r ≡ record_with r.owner (parts_in r)
-    of_parts r f = ap (λ (n : Key). record { owner = r.owner; seq = r.seq; prev = r.prev; vector = r.vector; moment = r.moment; op = r.op; name = n }) f.named
-
     same : (x y : Record) → HasSpelling x → HasSpelling y → x.owner ≡ y.owner → parts_in x ≡ parts_in y → x ≡ y
-    same x y f g o e = of_parts x f ∙ ap (λ (w : PubKey). record_with w (parts_in x)) o ∙ ap (record_with y.owner) e ∙ sym (of_parts y g)
+    same x y f g o e = as_read x f ∙ ap (λ (w : PubKey). record_with w (parts_in x)) o ∙ ap (record_with y.owner) e ∙ sym (as_read y g)
 
 -- where names tell the blocks apart, of an owner's records one alone stands there under a name
 pub one_among : (owner : PubKey) (blocks : List (List ℕ)) → NamesTellApart blocks → (p q : Record) → p.owner ≡ owner → q.owner ≡ owner → HasSpelling p → HasSpelling q
@@ -117,16 +135,30 @@ well_placed : (r : Record) → HasSpelling r → IsWellPlaced (frame_in r) r.op
 well_placed r f = record { ends_first = f.ends_first; first_alone = f.first_alone }
 
 pub no_record : (owner : PubKey) (bytes : List ℕ) (log : Key) → log ≡ head_key_of owner → length bytes ≤ 12288 → (fault : PartFault)
-    → RefusesWhole (AreParts log) (parts_block log) bytes fault → ReadFault owner bytes (fault_of_part fault)
-no_record owner bytes log e short part.Malformed absent = (short, λ r f. absent (parts_in r) (rw e (record_parts owner bytes r f)))
+    → RefusesWhole AreShapes (parts_block log) bytes fault → ReadFault owner bytes (fault_of_part fault)
+no_record owner bytes log e short part.Malformed absent = (
+  short,
+  λ r f.
+      let p : IsSpelled (AreParts log) (parts_block log) bytes (parts_in r) = rw e (record_parts owner bytes r f) in
+      absent (parts_in r) (record { fits = parts_shape log (parts_in r) p.fits; spelled = p.spelled }),
+)
 no_record owner bytes log e short part.Memory absent = tt
 
--- the parts of a record keep the rules that it has as a whole exactly where it does
-pub in_place : (owner : PubKey) (p : Frame × Op) → IsWellPlaced p.0 p.1 → IsInPlace (record_with owner p)
-in_place owner p w = record { ends_first = w.ends_first; first_alone = w.first_alone }
+-- the record of what was read has no block where the bytes are that of no record
+pub unspelled : (owner : PubKey) (bytes : List ℕ) (log : Key) (p : Frame × Op) → log ≡ head_key_of owner → IsSpelled AreShapes (parts_block log) bytes p → (HasSpelling (record_with owner p) → ⊥)
+    → (r : Record) → IsRecordOf owner bytes r → ⊥
+unspelled owner bytes log p e f wrong r g =
+    let h : IsSpelled (AreParts log) (parts_block log) bytes (parts_in r) = rw e (record_parts owner bytes r g) in
+    let same : p ≡ parts_in r = whole (one_of_shapes log) p (parts_in r) f.fits (parts_shape log (parts_in r) h.fits) (sym f.spelled ∙ h.spelled) in
+    wrong (subst (λ (q : Record). HasSpelling q) (as_read r g.fits ∙ ap (λ (w : PubKey). record_with w (parts_in r)) g.owned ∙ ap (record_with owner) (sym same)) g.fits)
 
-pub placed : (owner : PubKey) (p : Frame × Op) → IsInPlace (record_with owner p) → IsWellPlaced p.0 p.1
-placed owner p i = record { ends_first = i.ends_first; first_alone = i.first_alone }
+pub spelled_record : (owner : PubKey) (bytes : List ℕ) (log : Key) (p : Frame × Op) → log ≡ head_key_of owner → IsSpelled AreShapes (parts_block log) bytes p → HasSpelling (record_with owner p)
+    → IsRecordOf owner bytes (record_with owner p)
+spelled_record owner bytes log p e f fits = record {
+  owned = refl;
+  fits = fits;
+  spelled = f.spelled ∙ ap (λ (k : Key). parts_block k p) e ∙ ap (λ (k : ℕ). parts_block (head_key_of owner) (record p.0 { kind = k }, p.1)) (sym f.fits.1.0);
+}
 
 pub misplaced : (owner : PubKey) (bytes : List ℕ) (log : Key) (p : Frame × Op) → log ≡ head_key_of owner → IsSpelled (AreParts log) (parts_block log) bytes p → (IsWellPlaced p.0 p.1 → ⊥)
     → (r : Record) → IsRecordOf owner bytes r → ⊥

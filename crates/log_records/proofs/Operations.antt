@@ -1,181 +1,247 @@
--- Where an operation of a kind stands, and where none does.
-use Rattle.std.proofs.Common.{◌≡◌, ℕ, List, ◌++◌, refl, arith, append_assoc}
+-- Operations are read part by part.
+use Rattle.std.proofs.Common.{◌≡◌, ℕ, List, [], ◌++◌, Option, Some, None, refl, ap, ◌∙◌, sym, arith, append_assoc}
+use Rattle.std.specs.Prelude.{◌≢◌}
 use Rattle.ivy_base.specs.declared.key.Key.{Key}
 use Rattle.ivy_base.specs.declared.operation.Kind.{Kind}
+use Rattle.ivy_base.specs.declared.operation.Moment.{Moment}
 use Rattle.ivy_base.specs.declared.operation.Change.{Change}
 use Rattle.ivy_base.specs.declared.operation.Op.{Op}
 use Rattle.ivy_base.specs.declared.operation.Op.TheVariants as op
-use Rattle.wire_model.specs.Xdr.{word, double_word, opaque, IsWord, IsAny}
-use Rattle.wire_model.specs.OneReading.{ReadsOne, IsFront, HasNoFront}
-use Rattle.wire_model.proofs.OneReading.{◌▷◌, one_word}
-use Rattle.wire_model.proofs.Fronts.{both, no_first, no_second, front_of_parts}
-use Rattle.log_model.specs.Spelling.{body, IsKey, IsBlock, IsTarget, IsChange}
-use Rattle.block_parts.specs.Parts.{as_it_stands, key_bytes, kind_word, IsAtMost}
-use Rattle.log_records.specs.Parts.{place_block, IsPlace, piece_block, IsPiece, change_block, IsOfKind}
-use Rattle.wire_model.proofs.Dependent.{PartsOf, both_by, none_of_some, no_first_by, no_second_by}
-use Rattle.block_parts.proofs.OneParts.{one_key, one_kind, one_at_most}
-use Rattle.log_records.proofs.OneBody.{one_place}
+use Rattle.wire_model.specs.Xdr.{word, double_word, opaque, optional, moment, IsWord, IsDoubleWord, IsWordMoment, IsOfLength, IsUpTo, IsAny}
+use Rattle.wire_model.specs.OneReading.{ReadsOne, HasNoFront}
+use Rattle.wire_model.proofs.OneReading.{one_word, one_double_word, one_moment, one_short_opaque, one_optional, one_raw}
+use Rattle.wire_model.specs.Parts.{Told, Reads, IsOptional, as_it_stands}
+use Rattle.wire_model.proofs.Made.{MadeOf, Made}
+use Rattle.wire_model.proofs.PartByPart.{◌▸◌, part, made_read}
+use Rattle.log_model.specs.Spelling.{record_kind, body}
+use Rattle.block_parts.specs.Parts.{key_bytes, kind_word}
+use Rattle.block_parts.proofs.OneParts.{one_kind}
+use Rattle.log_records.specs.Parts.{change_block}
+use Rattle.log_records.specs.Shapes.{IsKeyLong, IsNameLong, IsChangeShape, IsShapeOf}
+use Rattle.log_records.proofs.OneBody.{ChangeParts, change_parts, change_of_parts, one_change_shape}
+use Rattle.log_records.proofs.ReadParts.{one_long_key}
 
--- ---- inodes
+one_name_long : ReadsOne IsNameLong opaque
+one_name_long = one_short_opaque 255 (omega arith)
 
-abbrev Two : Type 0
-Two = Key × Kind
+-- ---- changes
 
-abbrev IsTwo : Two → Type 0
-IsTwo p = IsKey p.0 × IsAny p.1
+made_change : Made {A = ChangeParts}
+    (λ p. ((((IsOptional IsWord p.0.0.0.0.0 × IsOptional IsWord p.0.0.0.0.1) × IsOptional IsWord p.0.0.0.1) × IsOptional IsDoubleWord p.0.0.1) × IsOptional IsWordMoment p.0.1) × IsOptional IsWordMoment p.1)
+    (λ p. ((((optional word p.0.0.0.0.0 ++ optional word p.0.0.0.0.1) ++ optional word p.0.0.0.1) ++ optional double_word p.0.0.1) ++ optional moment p.0.1) ++ optional moment p.1)
+    IsChangeShape change_block change_of_parts
+made_change = record {
+  whole = λ p f. (f.0.0.0.0.0, f.0.0.0.0.1, f.0.0.0.1, f.0.0.1, f.0.1, f.1);
+  spelled = λ p. refl;
+  parts = λ c f. record { part = change_parts c; fits = (((((f.0, f.1), f.2), f.3), f.4), f.5); same = refl };
+}
 
-abbrev two : Two → List ℕ
-two p = key_bytes p.0 ++ kind_word p.1
+pub change_read : {a b c d e f g : Option (List ℕ)} {mode uid gid size : Option ℕ} {atime mtime : Option Moment}
+    → Reads (IsOptional IsWord) (optional word) a mode b → Reads (IsOptional IsWord) (optional word) b uid c → Reads (IsOptional IsWord) (optional word) c gid d
+    → Reads (IsOptional IsDoubleWord) (optional double_word) d size e → Reads (IsOptional IsWordMoment) (optional moment) e atime f → Reads (IsOptional IsWordMoment) (optional moment) f mtime g
+    → Reads IsChangeShape change_block a (record { mode = mode; uid = uid; gid = gid; size = size; atime = atime; mtime = mtime }) g
+change_read p q r s t u =
+    (made_read made_change (
+    part (one_optional one_word) p ▸ part (one_optional one_word) q ▸ part (one_optional one_word) r ▸ part (one_optional one_double_word) s ▸ part (one_optional one_moment) t ▸ part (one_optional one_moment) u
+    )).reads
 
-one_two : ReadsOne IsTwo two
-one_two = one_key ▷ one_kind
+-- ---- operations of each kind
 
-abbrev Three : Type 0
-Three = Two × ℕ
+abbrev InodeParts : Type 0
+InodeParts = ((((Key × Kind) × ℕ) × ℕ) × ℕ) × List ℕ
 
-abbrev IsThree : Three → Type 0
-IsThree p = IsTwo p.0 × IsAtMost 4095 p.1
+abbrev AreInodeParts : InodeParts → Type 0
+AreInodeParts p = ((((IsKeyLong p.0.0.0.0.0 × IsAny p.0.0.0.0.1) × IsWord p.0.0.0.1) × IsWord p.0.0.1) × IsWord p.0.1) × IsUpTo 1024 p.1
 
-abbrev three : Three → List ℕ
-three p = two p.0 ++ word p.1
+abbrev inode_bytes : InodeParts → List ℕ
+inode_bytes p = ((((key_bytes p.0.0.0.0.0 ++ kind_word p.0.0.0.0.1) ++ word p.0.0.0.1) ++ word p.0.0.1) ++ word p.0.1) ++ opaque p.1
 
-one_three : ReadsOne IsThree three
-one_three = one_two ▷ one_at_most 4095 (omega arith)
+abbrev inode_of : InodeParts → Op
+inode_of p = op.Inode p.0.0.0.0.0 p.0.0.0.0.1 p.0.0.0.1 p.0.0.1 p.0.1 p.1
 
-abbrev Five : Type 0
-Five = (Three × ℕ) × ℕ
-
-abbrev IsFive : Five → Type 0
-IsFive p = (IsThree p.0.0 × IsWord p.0.1) × IsWord p.1
-
-abbrev five : Five → List ℕ
-five p = three p.0.0 ++ word p.0.1 ++ word p.1
-
-one_five : ReadsOne IsFive five
-one_five = one_three ▷ one_word ▷ one_word
-
-abbrev IsTargetOf : Five → List ℕ → Type 0
-IsTargetOf p target = IsTarget p.0.0.0.1 target
-
-inode_parts : (o : Op) → IsOfKind 1 o → PartsOf {A = Five × List ℕ} (λ p. IsFive p.0 × IsTargetOf p.0 p.1) (λ p. five p.0 ++ opaque p.1) (body o)
+inode_parts : (o : Op) → IsShapeOf 1 o → MadeOf AreInodeParts inode_of o
 inode_parts (op.Inode number kind mode uid gid target) f =
-    record { part = (((((number, kind), mode), uid), gid), target); fits = (((((f.1.0, tt), f.1.1), f.1.2), f.1.3), f.1.4); spelled = refl }
+    record { part = (((((number, kind), mode), uid), gid), target); fits = (((((f.1.0, tt), f.1.1), f.1.2), f.1.3), f.1.4); same = refl }
 inode_parts o f = absurd (omega (arith, f.0))
 
-without_five : {bytes : List ℕ} → HasNoFront IsFive five bytes → HasNoFront (IsOfKind 1) body bytes
-without_five absent = none_of_some inode_parts (no_first_by IsTargetOf opaque absent)
+made_inode : Made AreInodeParts inode_bytes (IsShapeOf 1) body inode_of
+made_inode = record { whole = λ p f. (refl, (f.0.0.0.0.0, f.0.0.0.1, f.0.0.1, f.0.1, f.1)); spelled = λ p. refl; parts = inode_parts }
 
-without_three : {bytes : List ℕ} → HasNoFront IsThree three bytes → HasNoFront (IsOfKind 1) body bytes
-without_three absent = without_five (no_first IsWord word (no_first IsWord word absent))
+pub inode_read : {a b c d e f g : Option (List ℕ)} {number : Key} {kind : Kind} {mode uid gid : ℕ} {target copy : List ℕ}
+    → Reads IsKeyLong key_bytes a number b → Reads IsAny kind_word b kind c → Reads IsWord word c mode d → Reads IsWord word d uid e → Reads IsWord word e gid f
+    → Reads (IsUpTo 1024) opaque f target g → copy ≡ target → Reads (IsShapeOf 1) body a (op.Inode number kind mode uid gid copy) g
+inode_read p q r s t u same = rw same
+    (made_read made_inode (part one_long_key p ▸ part one_kind q ▸ part one_word r ▸ part one_word s ▸ part one_word t ▸ part (one_short_opaque 1024 (omega arith)) u)).reads
 
-pub no_inode_kind : {b0 b1 : List ℕ} {number : Key} → IsFront IsKey key_bytes b0 number b1 → HasNoFront IsAny kind_word b1 → HasNoFront (IsOfKind 1) body b0
-no_inode_kind number absent = without_three (no_first (IsAtMost 4095) word (no_second one_key number absent))
+abbrev WriteParts : Type 0
+WriteParts = (Key × ℕ) × List ℕ
 
-pub no_inode_mode : {b0 b1 b2 : List ℕ} {number : Key} {kind : Kind} → IsFront IsKey key_bytes b0 number b1 → IsFront IsAny kind_word b1 kind b2 → HasNoFront (IsAtMost 4095) word b2 → HasNoFront (IsOfKind 1) body b0
-no_inode_mode number kind absent = without_three (no_second one_two (both number kind) absent)
+abbrev AreWriteParts : WriteParts → Type 0
+AreWriteParts p = (IsKeyLong p.0.0 × IsDoubleWord p.0.1) × IsUpTo 8192 p.1
 
-pub no_inode_uid : {b0 b1 b2 b3 : List ℕ} {number : Key} {kind : Kind} {mode : ℕ}
-    → IsFront IsKey key_bytes b0 number b1 → IsFront IsAny kind_word b1 kind b2 → IsFront (IsAtMost 4095) word b2 mode b3 → HasNoFront IsWord word b3 → HasNoFront (IsOfKind 1) body b0
-no_inode_uid number kind mode absent = without_five (no_first IsWord word (no_second one_three (both (both number kind) mode) absent))
+abbrev write_bytes : WriteParts → List ℕ
+write_bytes p = (key_bytes p.0.0 ++ double_word p.0.1) ++ opaque p.1
 
-pub no_inode_gid : {b0 b1 b2 b3 b4 : List ℕ} {number : Key} {kind : Kind} {mode uid : ℕ}
-    → IsFront IsKey key_bytes b0 number b1 → IsFront IsAny kind_word b1 kind b2 → IsFront (IsAtMost 4095) word b2 mode b3 → IsFront IsWord word b3 uid b4 → HasNoFront IsWord word b4 → HasNoFront (IsOfKind 1) body b0
-no_inode_gid number kind mode uid absent = without_five (no_second (one_three ▷ one_word) (both (both (both number kind) mode) uid) absent)
+abbrev write_of : WriteParts → Op
+write_of p = op.Write p.0.0 p.0.1 p.1
 
-pub no_inode_target : {b0 b1 b2 b3 b4 b5 : List ℕ} {number : Key} {kind : Kind} {mode uid gid : ℕ}
-    → IsFront IsKey key_bytes b0 number b1 → IsFront IsAny kind_word b1 kind b2 → IsFront (IsAtMost 4095) word b2 mode b3 → IsFront IsWord word b3 uid b4 → IsFront IsWord word b4 gid b5
-    → HasNoFront (IsTarget kind) opaque b5 → HasNoFront (IsOfKind 1) body b0
-no_inode_target number kind mode uid gid absent = none_of_some inode_parts (no_second_by IsTargetOf one_five (both (both (both (both number kind) mode) uid) gid) absent)
-
-pub inode_front : {b0 b1 b2 b3 b4 b5 b6 target : List ℕ} {number : Key} {kind : Kind} {mode uid gid : ℕ}
-    → IsFront IsKey key_bytes b0 number b1 → IsFront IsAny kind_word b1 kind b2 → IsFront (IsAtMost 4095) word b2 mode b3 → IsFront IsWord word b3 uid b4 → IsFront IsWord word b4 gid b5
-    → IsFront (IsTarget kind) opaque b5 target b6 → IsFront (IsOfKind 1) body b0 (op.Inode number kind mode uid gid target) b6
-inode_front f g h i j k = front_of_parts (λ (p : Five × List ℕ). op.Inode p.0.0.0.0.0 p.0.0.0.0.1 p.0.0.0.1 p.0.0.1 p.0.1 p.1)
-    (refl, (f.fits, h.fits, i.fits, j.fits, k.fits)) refl (both_by IsTargetOf (both (both (both (both f g) h) i) j) k)
-
--- ---- writes
-
-write_parts : (o : Op) → IsOfKind 2 o → PartsOf {A = Key × (ℕ × List ℕ)} (λ p. IsKey p.0 × IsPiece p.1) (λ p. key_bytes p.0 ++ piece_block p.1) (body o)
-write_parts (op.Write number offset bytes) f =
-    record { part = (number, (offset, bytes)); fits = (f.1.0, (f.1.1, f.1.2, f.1.3)); spelled = append_assoc number.0 (double_word offset) (opaque bytes) }
+write_parts : (o : Op) → IsShapeOf 2 o → MadeOf AreWriteParts write_of o
+write_parts (op.Write number offset bytes) f = record { part = ((number, offset), bytes); fits = ((f.1.0, f.1.1), f.1.2); same = refl }
 write_parts o f = absurd (omega (arith, f.0))
 
-pub no_write_piece : {b0 b1 : List ℕ} {number : Key} → IsFront IsKey key_bytes b0 number b1 → HasNoFront IsPiece piece_block b1 → HasNoFront (IsOfKind 2) body b0
-no_write_piece number absent = none_of_some write_parts (no_second one_key number absent)
+made_write : Made AreWriteParts write_bytes (IsShapeOf 2) body write_of
+made_write = record { whole = λ p f. (refl, (f.0.0, f.0.1, f.1)); spelled = λ p. refl; parts = write_parts }
 
-pub write_front : {b0 b1 b2 : List ℕ} {number : Key} {piece : ℕ × List ℕ}
-    → IsFront IsKey key_bytes b0 number b1 → IsFront IsPiece piece_block b1 piece b2 → IsFront (IsOfKind 2) body b0 (op.Write number piece.0 piece.1) b2
-write_front {number} {piece} f g = front_of_parts (λ (p : Key × (ℕ × List ℕ)). op.Write p.0 p.1.0 p.1.1)
-    (refl, (f.fits, g.fits.0, g.fits.1, g.fits.2)) (append_assoc number.0 (double_word piece.0) (opaque piece.1)) (both f g)
+pub write_read : {a b c d : Option (List ℕ)} {number : Key} {offset : ℕ} {bytes copy : List ℕ}
+    → Reads IsKeyLong key_bytes a number b → Reads IsDoubleWord double_word b offset c → Reads (IsUpTo 8192) opaque c bytes d → copy ≡ bytes
+    → Reads (IsShapeOf 2) body a (op.Write number offset copy) d
+write_read p q r same = rw same (made_read made_write (part one_long_key p ▸ part one_double_word q ▸ part (one_short_opaque 8192 (omega arith)) r)).reads
 
--- ---- names
+abbrev LinkParts : Type 0
+LinkParts = (Key × List ℕ) × Key
 
-link_parts : (o : Op) → IsOfKind 3 o → PartsOf {A = (Key × List ℕ) × Key} (λ p. IsPlace p.0 × IsKey p.1) (λ p. place_block p.0 ++ key_bytes p.1) (body o)
-link_parts (op.Link dir name number) f = record { part = ((dir, name), number); fits = ((f.1.0, f.1.1), f.1.2); spelled = refl }
+abbrev AreLinkParts : LinkParts → Type 0
+AreLinkParts p = (IsKeyLong p.0.0 × IsNameLong p.0.1) × IsKeyLong p.1
+
+abbrev link_bytes : LinkParts → List ℕ
+link_bytes p = (key_bytes p.0.0 ++ opaque p.0.1) ++ key_bytes p.1
+
+abbrev link_of : LinkParts → Op
+link_of p = op.Link p.0.0 p.0.1 p.1
+
+link_parts : (o : Op) → IsShapeOf 3 o → MadeOf AreLinkParts link_of o
+link_parts (op.Link dir name number) f = record { part = ((dir, name), number); fits = ((f.1.0, f.1.1), f.1.2); same = refl }
 link_parts o f = absurd (omega (arith, f.0))
 
-pub no_link_place : {b0 : List ℕ} → HasNoFront IsPlace place_block b0 → HasNoFront (IsOfKind 3) body b0
-no_link_place absent = none_of_some link_parts (no_first IsKey key_bytes absent)
+made_link : Made AreLinkParts link_bytes (IsShapeOf 3) body link_of
+made_link = record { whole = λ p f. (refl, (f.0.0, f.0.1, f.1)); spelled = λ p. refl; parts = link_parts }
 
-pub no_link_number : {b0 b1 : List ℕ} {place : Key × List ℕ} → IsFront IsPlace place_block b0 place b1 → HasNoFront IsKey key_bytes b1 → HasNoFront (IsOfKind 3) body b0
-no_link_number place absent = none_of_some link_parts (no_second one_place place absent)
+pub link_read : {a b c d : Option (List ℕ)} {dir number : Key} {name copy : List ℕ}
+    → Reads IsKeyLong key_bytes a dir b → Reads IsNameLong opaque b name c → Reads IsKeyLong key_bytes c number d → copy ≡ name
+    → Reads (IsShapeOf 3) body a (op.Link dir copy number) d
+link_read p q r same = rw same (made_read made_link (part one_long_key p ▸ part one_name_long q ▸ part one_long_key r)).reads
 
-pub link_front : {b0 b1 b2 : List ℕ} {place : Key × List ℕ} {number : Key}
-    → IsFront IsPlace place_block b0 place b1 → IsFront IsKey key_bytes b1 number b2 → IsFront (IsOfKind 3) body b0 (op.Link place.0 place.1 number) b2
-link_front f g = front_of_parts (λ (p : (Key × List ℕ) × Key). op.Link p.0.0 p.0.1 p.1) (refl, (f.fits.0, f.fits.1, g.fits)) refl (both f g)
+abbrev unlink_of : Key × List ℕ → Op
+unlink_of p = op.Unlink p.0 p.1
 
-unlink_parts : (o : Op) → IsOfKind 4 o → PartsOf IsPlace place_block (body o)
-unlink_parts (op.Unlink dir name) f = record { part = (dir, name); fits = f.1; spelled = refl }
+unlink_parts : (o : Op) → IsShapeOf 4 o → MadeOf {A = Key × List ℕ} (λ p. IsKeyLong p.0 × IsNameLong p.1) unlink_of o
+unlink_parts (op.Unlink dir name) f = record { part = (dir, name); fits = f.1; same = refl }
 unlink_parts o f = absurd (omega (arith, f.0))
 
-pub no_unlink_place : {b0 : List ℕ} → HasNoFront IsPlace place_block b0 → HasNoFront (IsOfKind 4) body b0
-no_unlink_place absent = none_of_some unlink_parts absent
+made_unlink : Made {A = Key × List ℕ} (λ p. IsKeyLong p.0 × IsNameLong p.1) (λ p. key_bytes p.0 ++ opaque p.1) (IsShapeOf 4) body unlink_of
+made_unlink = record { whole = λ p f. (refl, f); spelled = λ p. refl; parts = unlink_parts }
 
-pub unlink_front : {b0 b1 : List ℕ} {place : Key × List ℕ} → IsFront IsPlace place_block b0 place b1 → IsFront (IsOfKind 4) body b0 (op.Unlink place.0 place.1) b1
-unlink_front f = front_of_parts (λ (p : Key × List ℕ). op.Unlink p.0 p.1) (refl, f.fits) refl f
+pub unlink_read : {a b c : Option (List ℕ)} {dir : Key} {name copy : List ℕ}
+    → Reads IsKeyLong key_bytes a dir b → Reads IsNameLong opaque b name c → copy ≡ name → Reads (IsShapeOf 4) body a (op.Unlink dir copy) c
+unlink_read p q same = rw same (made_read made_unlink (part one_long_key p ▸ part one_name_long q)).reads
 
-rename_parts : (o : Op) → IsOfKind 5 o → PartsOf {A = (Key × List ℕ) × (Key × List ℕ)} (λ p. IsPlace p.0 × IsPlace p.1) (λ p. place_block p.0 ++ place_block p.1) (body o)
-rename_parts (op.Rename dir name to_dir to_name) f =
-    record { part = ((dir, name), (to_dir, to_name)); fits = ((f.1.0, f.1.1), (f.1.2, f.1.3)); spelled = append_assoc (dir.0 ++ opaque name) to_dir.0 (opaque to_name) }
+abbrev RenameParts : Type 0
+RenameParts = ((Key × List ℕ) × Key) × List ℕ
+
+abbrev AreRenameParts : RenameParts → Type 0
+AreRenameParts p = ((IsKeyLong p.0.0.0 × IsNameLong p.0.0.1) × IsKeyLong p.0.1) × IsNameLong p.1
+
+abbrev rename_bytes : RenameParts → List ℕ
+rename_bytes p = ((key_bytes p.0.0.0 ++ opaque p.0.0.1) ++ key_bytes p.0.1) ++ opaque p.1
+
+abbrev rename_of : RenameParts → Op
+rename_of p = op.Rename p.0.0.0 p.0.0.1 p.0.1 p.1
+
+rename_parts : (o : Op) → IsShapeOf 5 o → MadeOf AreRenameParts rename_of o
+rename_parts (op.Rename dir name to_dir to_name) f = record { part = (((dir, name), to_dir), to_name); fits = (((f.1.0, f.1.1), f.1.2), f.1.3); same = refl }
 rename_parts o f = absurd (omega (arith, f.0))
 
-pub no_rename_place : {b0 : List ℕ} → HasNoFront IsPlace place_block b0 → HasNoFront (IsOfKind 5) body b0
-no_rename_place absent = none_of_some rename_parts (no_first IsPlace place_block absent)
+made_rename : Made AreRenameParts rename_bytes (IsShapeOf 5) body rename_of
+made_rename = record { whole = λ p f. (refl, (f.0.0.0, f.0.0.1, f.0.1, f.1)); spelled = λ p. refl; parts = rename_parts }
 
-pub no_rename_target : {b0 b1 : List ℕ} {place : Key × List ℕ} → IsFront IsPlace place_block b0 place b1 → HasNoFront IsPlace place_block b1 → HasNoFront (IsOfKind 5) body b0
-no_rename_target place absent = none_of_some rename_parts (no_second one_place place absent)
+pub rename_read : {a b c d e : Option (List ℕ)} {dir to_dir : Key} {name copy to_name to_copy : List ℕ}
+    → Reads IsKeyLong key_bytes a dir b → Reads IsNameLong opaque b name c → Reads IsKeyLong key_bytes c to_dir d → Reads IsNameLong opaque d to_name e → copy ≡ name → to_copy ≡ to_name
+    → Reads (IsShapeOf 5) body a (op.Rename dir copy to_dir to_copy) e
+rename_read p q r s same to_same = rw (same, to_same) (made_read made_rename (part one_long_key p ▸ part one_name_long q ▸ part one_long_key r ▸ part one_name_long s)).reads
 
-pub rename_front : {b0 b1 b2 : List ℕ} {place target : Key × List ℕ}
-    → IsFront IsPlace place_block b0 place b1 → IsFront IsPlace place_block b1 target b2 → IsFront (IsOfKind 5) body b0 (op.Rename place.0 place.1 target.0 target.1) b2
-rename_front {place} {target} f g = front_of_parts (λ (p : (Key × List ℕ) × (Key × List ℕ)). op.Rename p.0.0 p.0.1 p.1.0 p.1.1)
-    (refl, (f.fits.0, f.fits.1, g.fits.0, g.fits.1)) (append_assoc (place.0.0 ++ opaque place.1) target.0.0 (opaque target.1)) (both f g)
+abbrev PrepareParts : Type 0
+PrepareParts = (Key × List ℕ) × List ℕ
 
-prepare_parts : (o : Op) → IsOfKind 6 o → PartsOf {A = (Key × List ℕ) × List ℕ} (λ p. IsPlace p.0 × IsBlock 8 p.1) (λ p. place_block p.0 ++ as_it_stands p.1) (body o)
-prepare_parts (op.Prepare dir name verifier) f = record { part = ((dir, name), verifier); fits = ((f.1.0, f.1.1), f.1.2); spelled = refl }
+abbrev ArePrepareParts : PrepareParts → Type 0
+ArePrepareParts p = (IsKeyLong p.0.0 × IsNameLong p.0.1) × IsOfLength 8 p.1
+
+abbrev prepare_bytes : PrepareParts → List ℕ
+prepare_bytes p = (key_bytes p.0.0 ++ opaque p.0.1) ++ as_it_stands p.1
+
+abbrev prepare_of : PrepareParts → Op
+prepare_of p = op.Prepare p.0.0 p.0.1 p.1
+
+prepare_parts : (o : Op) → IsShapeOf 6 o → MadeOf ArePrepareParts prepare_of o
+prepare_parts (op.Prepare dir name verifier) f = record { part = ((dir, name), verifier); fits = ((f.1.0, f.1.1), f.1.2); same = refl }
 prepare_parts o f = absurd (omega (arith, f.0))
 
-pub no_prepare_place : {b0 : List ℕ} → HasNoFront IsPlace place_block b0 → HasNoFront (IsOfKind 6) body b0
-no_prepare_place absent = none_of_some prepare_parts (no_first (IsBlock 8) as_it_stands absent)
+made_prepare : Made ArePrepareParts prepare_bytes (IsShapeOf 6) body prepare_of
+made_prepare = record { whole = λ p f. (refl, (f.0.0, f.0.1, f.1)); spelled = λ p. refl; parts = prepare_parts }
 
-pub no_prepare_verifier : {b0 b1 : List ℕ} {place : Key × List ℕ} → IsFront IsPlace place_block b0 place b1 → HasNoFront (IsBlock 8) as_it_stands b1 → HasNoFront (IsOfKind 6) body b0
-no_prepare_verifier place absent = none_of_some prepare_parts (no_second one_place place absent)
+pub prepare_read : {a b c d : Option (List ℕ)} {dir : Key} {name copy verifier : List ℕ}
+    → Reads IsKeyLong key_bytes a dir b → Reads IsNameLong opaque b name c → Reads (IsOfLength 8) as_it_stands c verifier d → copy ≡ name
+    → Reads (IsShapeOf 6) body a (op.Prepare dir copy verifier) d
+prepare_read p q r same = rw same (made_read made_prepare (part one_long_key p ▸ part one_name_long q ▸ part (one_raw 8) r)).reads
 
-pub prepare_front : {b0 b1 b2 verifier : List ℕ} {place : Key × List ℕ}
-    → IsFront IsPlace place_block b0 place b1 → IsFront (IsBlock 8) as_it_stands b1 verifier b2 → IsFront (IsOfKind 6) body b0 (op.Prepare place.0 place.1 verifier) b2
-prepare_front f g = front_of_parts (λ (p : (Key × List ℕ) × List ℕ). op.Prepare p.0.0 p.0.1 p.1) (refl, (f.fits.0, f.fits.1, g.fits)) refl (both f g)
+cancel_parts : (o : Op) → IsShapeOf 7 o → MadeOf IsWord op.Cancel o
+cancel_parts (op.Cancel seq) f = record { part = seq; fits = f.1; same = refl }
+cancel_parts o f = absurd (omega (arith, f.0))
 
--- ---- attributes
+made_cancel : Made IsWord word (IsShapeOf 7) body op.Cancel
+made_cancel = record { whole = λ n f. (refl, f); spelled = λ n. refl; parts = cancel_parts }
 
-set_parts : (o : Op) → IsOfKind 8 o → PartsOf {A = Key × Change} (λ p. IsKey p.0 × IsChange p.1) (λ p. key_bytes p.0 ++ change_block p.1) (body o)
-set_parts (op.SetAttrs number change) f = record { part = (number, change); fits = f.1; spelled = simp append_assoc }
+pub cancel_read : {a b : Option (List ℕ)} {seq : ℕ} → Reads IsWord word a seq b → Reads (IsShapeOf 7) body a (op.Cancel seq) b
+cancel_read p = (made_read made_cancel (part one_word p)).reads
+
+abbrev set_of : Key × Change → Op
+set_of p = op.SetAttrs p.0 p.1
+
+set_parts : (o : Op) → IsShapeOf 8 o → MadeOf {A = Key × Change} (λ p. IsKeyLong p.0 × IsChangeShape p.1) set_of o
+set_parts (op.SetAttrs number change) f = record { part = (number, change); fits = f.1; same = refl }
 set_parts o f = absurd (omega (arith, f.0))
 
-pub no_set_change : {b0 b1 : List ℕ} {number : Key} → IsFront IsKey key_bytes b0 number b1 → HasNoFront IsChange change_block b1 → HasNoFront (IsOfKind 8) body b0
-no_set_change number absent = none_of_some set_parts (no_second one_key number absent)
-
-set_spelled : (number : Key) (change : Change) → body (op.SetAttrs number change) ≡ key_bytes number ++ change_block change
+pub set_spelled : (number : Key) (change : Change) → body (op.SetAttrs number change) ≡ key_bytes number ++ change_block change
 set_spelled number change = simp append_assoc
 
-pub set_front : {b0 b1 b2 : List ℕ} {number : Key} {change : Change}
-    → IsFront IsKey key_bytes b0 number b1 → IsFront IsChange change_block b1 change b2 → IsFront (IsOfKind 8) body b0 (op.SetAttrs number change) b2
-set_front {number} {change} f g = front_of_parts (λ (p : Key × Change). op.SetAttrs p.0 p.1) (refl, (f.fits, g.fits)) (set_spelled number change) (both f g)
+made_set : Made {A = Key × Change} (λ p. IsKeyLong p.0 × IsChangeShape p.1) (λ p. key_bytes p.0 ++ change_block p.1) (IsShapeOf 8) body set_of
+made_set = record { whole = λ p f. (refl, f); spelled = λ p. set_spelled p.0 p.1; parts = set_parts }
+
+pub set_read : {a b c : Option (List ℕ)} {number : Key} {change : Change}
+    → Reads IsKeyLong key_bytes a number b → Reads IsChangeShape change_block b change c → Reads (IsShapeOf 8) body a (op.SetAttrs number change) c
+set_read p q = (made_read made_set (part one_long_key p ▸ part one_change_shape q)).reads
+
+pub end_read : {a : Option (List ℕ)} → Reads (IsShapeOf 9) body a op.End a
+end_read {a} = record { told = cases a }
+  where
+    cases : (a : Option (List ℕ)) → Told (IsShapeOf 9) body a op.End a
+    cases None = refl
+    cases (Some a) = record { fits = (refl, tt); spelled = refl }
+
+-- ---- by the kind
+
+pub read_as : {a b : Option (List ℕ)} {o : Op} {kind n : ℕ} → kind ≡ n → Reads (IsShapeOf n) body a o b → Reads (IsShapeOf kind) body a o b
+read_as e f = rw e f
+
+-- there are nine kinds
+kinds : (o : Op) (kind : ℕ) → kind ≢ 1 → kind ≢ 2 → kind ≢ 3 → kind ≢ 4 → kind ≢ 5 → kind ≢ 6 → kind ≢ 7 → kind ≢ 8 → kind ≢ 9 → record_kind o ≢ kind
+kinds (op.Inode number kind mode uid gid target) k h1 h2 h3 h4 h5 h6 h7 h8 h9 e = h1 (sym e)
+kinds (op.Write number offset bytes) k h1 h2 h3 h4 h5 h6 h7 h8 h9 e = h2 (sym e)
+kinds (op.Link dir name number) k h1 h2 h3 h4 h5 h6 h7 h8 h9 e = h3 (sym e)
+kinds (op.Unlink dir name) k h1 h2 h3 h4 h5 h6 h7 h8 h9 e = h4 (sym e)
+kinds (op.Rename dir name to_dir to_name) k h1 h2 h3 h4 h5 h6 h7 h8 h9 e = h5 (sym e)
+kinds (op.Prepare dir name verifier) k h1 h2 h3 h4 h5 h6 h7 h8 h9 e = h6 (sym e)
+kinds (op.Cancel seq) k h1 h2 h3 h4 h5 h6 h7 h8 h9 e = h7 (sym e)
+kinds (op.SetAttrs number change) k h1 h2 h3 h4 h5 h6 h7 h8 h9 e = h8 (sym e)
+kinds op.End k h1 h2 h3 h4 h5 h6 h7 h8 h9 e = h9 (sym e)
+
+pub no_operation_read : {a b : Option (List ℕ)} {o : Op} {kind : ℕ} → kind ≢ 1 → kind ≢ 2 → kind ≢ 3 → kind ≢ 4 → kind ≢ 5 → kind ≢ 6 → kind ≢ 7 → kind ≢ 8 → kind ≢ 9 → b ≡ None
+    → Reads (IsShapeOf kind) body a o b
+no_operation_read {a} {b} {o} {kind} h1 h2 h3 h4 h5 h6 h7 h8 h9 gone = record { told = cases a b gone }
+  where
+    none : (bytes : List ℕ) → HasNoFront (IsShapeOf kind) body bytes
+    none bytes = record { none = λ x rest f. kinds x kind h1 h2 h3 h4 h5 h6 h7 h8 h9 f.fits.0 }
+
+    cases : (a b : Option (List ℕ)) → b ≡ None → Told (IsShapeOf kind) body a o b
+    cases a (Some b) gone = absurd (cc gone)
+    cases None None gone = refl
+    cases (Some a) None gone = none a

@@ -1,87 +1,143 @@
--- Where a part of a record can't be read.
-use Rattle.std.proofs.Common.{◌≡◌, ℕ, List, ◌++◌, Option, refl, sym, subst, arith}
+-- What parts that were read one behind the other tell of their bytes.
+use Rattle.std.proofs.Common.{◌≡◌, ℕ, ◌<◌, ◌^◌, List, [], ◌∷◌, ◌++◌, Option, Some, None, refl, sym, ap, ◌∙◌, subst, arith}
+use Rattle.std.specs.Prelude.{◌≢◌}
+use Rattle.std.proofs.lemmas.List.{append-nil}
 use Rattle.ivy_base.specs.declared.key.Key.{Key}
+use Rattle.ivy_base.specs.declared.operation.Kind.{Kind}
+use Rattle.ivy_base.specs.declared.operation.Kind.TheVariants.{Reg, Dir, Lnk}
 use Rattle.ivy_base.specs.declared.operation.Moment.{Moment}
-use Rattle.ivy_base.specs.declared.operation.Change.{Change}
-use Rattle.ivy_base.specs.Naming.{IsFileName}
-use Rattle.wire_model.specs.Xdr.{word, double_word, opaque, optional, moment, IsWord, IsDoubleWord, IsUpTo}
+use Rattle.wire_model.specs.Xdr.{word, moment, IsWord, IsWordMoment, IsOfLength, IsAny}
 use Rattle.wire_model.specs.OneReading.{ReadsOne, IsFront, HasNoFront}
-use Rattle.wire_model.proofs.OneReading.{◌▷◌, one_word, one_double_word, one_short_opaque, one_optional}
-use Rattle.wire_model.proofs.Fronts.{both, no_first, no_second, only_misfit, front_of_parts}
-use Rattle.log_model.specs.Spelling.{IsKey, IsMode, IsMoment, IsChange}
-use Rattle.block_parts.specs.Parts.{key_bytes, IsAtMost, IsOptional}
-use Rattle.log_records.specs.Parts.{place_block, IsPlace, piece_block, IsPiece, change_block}
-use Rattle.wire_model.proofs.Dependent.{PartsOf, none_of_some}
-use Rattle.block_parts.proofs.OneParts.{one_key, one_at_most, one_size, one_time}
-use Rattle.log_records.proofs.OneBody.{ChangeParts, change_parts}
+use Rattle.wire_model.proofs.OneReading.{one_word, one_raw}
+use Rattle.wire_model.proofs.Fronts.{none_of_fewer, only_misfit}
+use Rattle.wire_model.specs.Parts.{Told, Reads, as_it_stands}
+use Rattle.wire_model.proofs.Made.{Made}
+use Rattle.wire_model.proofs.PartByPart.{◌▸◌, part, made_read, number_read, number_missed}
+use Rattle.log_model.specs.Spelling.{IsBlock, IsKey, kind_number}
+use Rattle.block_parts.specs.Parts.{constant_bytes, key_bytes, kind_word}
+use Rattle.log_records.specs.Heads.{IsNumber}
+use Rattle.log_records.specs.Reading.{IsSpelled}
+use Rattle.log_records.specs.Shapes.{IsKeyLong}
 
-pub copied_place : {bytes middle rest name copy : List ℕ} {k : Key} → IsFront IsKey key_bytes bytes k middle → IsFront IsFileName opaque middle name rest → copy ≡ name → IsFront IsPlace place_block bytes (k, copy) rest
-copied_place {bytes} {rest = rest} {k = k} f g same = subst (λ (n : List ℕ). IsFront IsPlace place_block bytes (k, n) rest) (sym same) (both f g)
+-- ---- fewer values
 
-pub no_name_behind : {bytes middle : List ℕ} {k : Key} → IsFront IsKey key_bytes bytes k middle → HasNoFront IsFileName opaque middle → HasNoFront IsPlace place_block bytes
-no_name_behind f absent = no_second one_key f absent
+module _ {A : Type 0} {Fits Fewer : A → Type 0} {spell : A → List ℕ} (weaker : (y : A) → Fewer y → Fits y) where
+  pub fit_read : {a b : Option (List ℕ)} {x : A} → Fewer x → Reads Fits spell a x b → Reads Fewer spell a x b
+  fit_read {a} {b} {x} fits f = record { told = cases a b f.told }
+    where
+      cases : (a b : Option (List ℕ)) → Told Fits spell a x b → Told Fewer spell a x b
+      cases None b p = p
+      cases (Some a) None p = none_of_fewer weaker p
+      cases (Some a) (Some b) p = record { fits = fits; spelled = p.spelled }
 
-pub no_piece : {bytes middle rest piece : List ℕ} {offset : ℕ} → IsFront IsDoubleWord double_word bytes offset middle → IsFront (IsUpTo 8192) opaque middle piece rest
-    → (IsPiece (offset, piece) → ⊥) → HasNoFront IsPiece piece_block bytes
-no_piece {piece} {offset} f g misfit = only_misfit (one_double_word ▷ one_short_opaque 8192 (omega arith)) (both f g) (λ p h. (omega (arith, h), h.1)) misfit
+  pub misfit_read : {a b c : Option (List ℕ)} {x : A} → ReadsOne Fits spell → (Fewer x → ⊥) → c ≡ None → Reads Fits spell a x b → Reads Fewer spell a x c
+  misfit_read {a} {b} {c} {x} reads misfit gone f = record { told = cases a b c gone f.told }
+    where
+      cases : (a b c : Option (List ℕ)) → c ≡ None → Told Fits spell a x b → Told Fewer spell a x c
+      cases a b (Some c) gone p = absurd (cc gone)
+      cases None b None gone p = refl
+      cases (Some a) None None gone p = none_of_fewer weaker p
+      cases (Some a) (Some b) None gone p = only_misfit reads p weaker misfit
 
--- ---- changes
+-- ---- one value only
 
-abbrev Four : Type 0
-Four = ((Option ℕ × Option ℕ) × Option ℕ) × Option ℕ
+module _ {A : Type 0} {Fits : A → Type 0} {spell : A → List ℕ} {y : A} (fits : Fits y) where
+  none_there : {bytes : List ℕ} → HasNoFront Fits spell bytes → HasNoFront IsAny (constant_bytes (spell y)) bytes
+  none_there absent = record { none = λ u rest f. absent.none y rest (record { fits = fits; spelled = f.spelled }) }
 
-abbrev IsFour : Four → Type 0
-IsFour p = ((IsOptional IsMode p.0.0.0 × IsOptional IsWord p.0.0.1) × IsOptional IsWord p.0.1) × IsOptional (IsAtMost 16777216) p.1
+  pub same_read : {a b : Option (List ℕ)} {x : A} → x ≡ y → Reads Fits spell a x b → Reads IsAny (constant_bytes (spell y)) a tt b
+  same_read {a} {b} {x} same f = record { told = cases a b f.told }
+    where
+      cases : (a b : Option (List ℕ)) → Told Fits spell a x b → Told IsAny (constant_bytes (spell y)) a tt b
+      cases None b p = p
+      cases (Some a) None p = none_there p
+      cases (Some a) (Some b) p = record { fits = tt; spelled = p.spelled ∙ ap (λ (z : A). spell z ++ b) same }
 
-abbrev four : Four → List ℕ
-four p = optional word p.0.0.0 ++ optional word p.0.0.1 ++ optional word p.0.1 ++ optional double_word p.1
+  pub other_read : {a b c : Option (List ℕ)} {x : A} → ReadsOne Fits spell → x ≢ y → c ≡ None → Reads Fits spell a x b → Reads IsAny (constant_bytes (spell y)) a tt c
+  other_read {a} {b} {c} {x} reads other gone f = record { told = cases a b c gone f.told }
+    where
+      cases : (a b c : Option (List ℕ)) → c ≡ None → Told Fits spell a x b → Told IsAny (constant_bytes (spell y)) a tt c
+      cases a b (Some c) gone p = absurd (cc gone)
+      cases None b None gone p = refl
+      cases (Some a) None None gone p = none_there p
+      cases (Some a) (Some b) None gone p = record { none = λ u rest g. other (reads.one x y b rest p.fits fits (sym p.spelled ∙ g.spelled)).0 }
 
-one_mode : ReadsOne (IsOptional IsMode) (optional word)
-one_mode = one_optional (one_at_most 4095 (omega arith))
+-- ---- where the bytes are known
 
-one_four : ReadsOne IsFour four
-one_four = one_mode ▷ one_optional one_word ▷ one_optional one_word ▷ one_optional one_size
+module _ {A : Type 0} {Fits : A → Type 0} {spell : A → List ℕ} {bytes : List ℕ} {a b : Option (List ℕ)} {x : A} (all : a ≡ Some bytes) (f : Reads Fits spell a x b) where
+  told_of : (c : Option (List ℕ)) → b ≡ c → Told Fits spell (Some bytes) x c
+  told_of c e = subst (λ (o : Option (List ℕ)). Told Fits spell (Some bytes) x o) e (subst (λ (o : Option (List ℕ)). Told Fits spell o x b) all f.told)
 
-parts_of_change : (c : Change) → IsChange c → PartsOf {A = ChangeParts} (λ p. (IsFour p.0.0 × IsOptional IsMoment p.0.1) × IsOptional IsMoment p.1)
-    (λ p. four p.0.0 ++ optional moment p.0.1 ++ optional moment p.1) (change_block c)
-parts_of_change c f = record { part = change_parts c; fits = (((((f.mode, f.uid), f.gid), f.size), f.atime), f.mtime); spelled = refl }
+  pub is_there : {rest : List ℕ} → b ≡ Some rest → IsFront Fits spell bytes x rest
+  is_there {rest} e = told_of (Some rest) e
 
-without_four : {bytes : List ℕ} → HasNoFront IsFour four bytes → HasNoFront IsChange change_block bytes
-without_four absent = none_of_some parts_of_change (no_first (IsOptional IsMoment) (optional moment) (no_first (IsOptional IsMoment) (optional moment) absent))
+  pub is_missed : b ≡ None → HasNoFront Fits spell bytes
+  is_missed e = told_of None e
 
-pub no_mode : {b0 : List ℕ} → HasNoFront (IsOptional IsMode) (optional word) b0 → HasNoFront IsChange change_block b0
-no_mode absent = without_four (no_first (IsOptional (IsAtMost 16777216)) (optional double_word) (no_first (IsOptional IsWord) (optional word) (no_first (IsOptional IsWord) (optional word) absent)))
+  pub is_whole : b ≡ Some [] → IsSpelled Fits spell bytes x
+  is_whole e = let p : IsFront Fits spell bytes x [] = told_of (Some []) e in record { fits = p.fits; spelled = p.spelled ∙ append-nil (spell x) }
 
-pub no_uid : {b0 b1 : List ℕ} {mode : Option ℕ} → IsFront (IsOptional IsMode) (optional word) b0 mode b1 → HasNoFront (IsOptional IsWord) (optional word) b1 → HasNoFront IsChange change_block b0
-no_uid mode absent = without_four (no_first (IsOptional (IsAtMost 16777216)) (optional double_word) (no_first (IsOptional IsWord) (optional word) (no_second one_mode mode absent)))
+  pub is_not_whole : ReadsOne Fits spell → b ≢ Some [] → (y : A) → IsSpelled Fits spell bytes y → ⊥
+  is_not_whole reads more y g = cases b refl
+    where
+      front : IsFront Fits spell bytes y []
+      front = record { fits = g.fits; spelled = g.spelled ∙ sym (append-nil (spell y)) }
 
-pub no_gid : {b0 b1 b2 : List ℕ} {mode uid : Option ℕ}
-    → IsFront (IsOptional IsMode) (optional word) b0 mode b1 → IsFront (IsOptional IsWord) (optional word) b1 uid b2 → HasNoFront (IsOptional IsWord) (optional word) b2 → HasNoFront IsChange change_block b0
-no_gid mode uid absent = without_four (no_first (IsOptional (IsAtMost 16777216)) (optional double_word) (no_second (one_mode ▷ one_optional one_word) (both mode uid) absent))
+      cases : (c : Option (List ℕ)) → b ≡ c → ⊥
+      cases None e = let p : HasNoFront Fits spell bytes = told_of None e in p.none y [] front
+      cases (Some rest) e =
+          let p : IsFront Fits spell bytes x rest = told_of (Some rest) e in
+          more (e ∙ ap Some (reads.one x y rest [] p.fits g.fits (sym p.spelled ∙ front.spelled)).1)
 
-pub no_size : {b0 b1 b2 b3 : List ℕ} {mode uid gid : Option ℕ}
-    → IsFront (IsOptional IsMode) (optional word) b0 mode b1 → IsFront (IsOptional IsWord) (optional word) b1 uid b2 → IsFront (IsOptional IsWord) (optional word) b2 gid b3
-    → HasNoFront (IsOptional (IsAtMost 16777216)) (optional double_word) b3 → HasNoFront IsChange change_block b0
-no_size mode uid gid absent = without_four (no_second (one_mode ▷ one_optional one_word ▷ one_optional one_word) (both (both mode uid) gid) absent)
+-- ---- parts
 
-pub no_atime : {b0 b1 b2 b3 b4 : List ℕ} {mode uid gid size : Option ℕ}
-    → IsFront (IsOptional IsMode) (optional word) b0 mode b1 → IsFront (IsOptional IsWord) (optional word) b1 uid b2 → IsFront (IsOptional IsWord) (optional word) b2 gid b3
-    → IsFront (IsOptional (IsAtMost 16777216)) (optional double_word) b3 size b4
-    → HasNoFront (IsOptional IsMoment) (optional moment) b4 → HasNoFront IsChange change_block b0
-no_atime mode uid gid size absent =
-    none_of_some parts_of_change (no_first (IsOptional IsMoment) (optional moment) (no_second one_four (both (both (both mode uid) gid) size) absent))
+pub one_long_key : ReadsOne IsKeyLong key_bytes
+one_long_key = record { one = λ k l r s f g e. let p = (one_raw 20).one k.0 l.0 r s f g e in (ap (λ (bytes : List ℕ). record { 0 = bytes }) p.0, p.1) }
 
-pub no_mtime : {b0 b1 b2 b3 b4 b5 : List ℕ} {mode uid gid size : Option ℕ} {atime : Option Moment}
-    → IsFront (IsOptional IsMode) (optional word) b0 mode b1 → IsFront (IsOptional IsWord) (optional word) b1 uid b2 → IsFront (IsOptional IsWord) (optional word) b2 gid b3
-    → IsFront (IsOptional (IsAtMost 16777216)) (optional double_word) b3 size b4 → IsFront (IsOptional IsMoment) (optional moment) b4 atime b5
-    → HasNoFront (IsOptional IsMoment) (optional moment) b5 → HasNoFront IsChange change_block b0
-no_mtime mode uid gid size atime absent =
-    none_of_some parts_of_change (no_second (one_four ▷ one_optional one_time) (both (both (both (both mode uid) gid) size) atime) absent)
+made_key : Made (IsOfLength 20) as_it_stands IsKeyLong key_bytes (λ bytes. record { 0 = bytes })
+made_key = record { whole = λ bytes f. f; spelled = λ bytes. refl; parts = λ k f. record { part = k.0; fits = f; same = refl } }
 
--- all six
-pub change_front : {b0 b1 b2 b3 b4 b5 b6 : List ℕ} {mode uid gid size : Option ℕ} {atime mtime : Option Moment}
-    → IsFront (IsOptional IsMode) (optional word) b0 mode b1 → IsFront (IsOptional IsWord) (optional word) b1 uid b2 → IsFront (IsOptional IsWord) (optional word) b2 gid b3
-    → IsFront (IsOptional (IsAtMost 16777216)) (optional double_word) b3 size b4 → IsFront (IsOptional IsMoment) (optional moment) b4 atime b5 → IsFront (IsOptional IsMoment) (optional moment) b5 mtime b6
-    → IsFront IsChange change_block b0 (record { mode = mode; uid = uid; gid = gid; size = size; atime = atime; mtime = mtime }) b6
-change_front f g h i j k = front_of_parts (λ (p : (Four × Option Moment) × Option Moment). record { mode = p.0.0.0.0.0; uid = p.0.0.0.0.1; gid = p.0.0.0.1; size = p.0.0.1; atime = p.0.1; mtime = p.1 })
-    (record { mode = f.fits; uid = g.fits; gid = h.fits; size = i.fits; atime = j.fits; mtime = k.fits }) refl (both (both (both (both (both f g) h) i) j) k)
+pub key_read : {a b : Option (List ℕ)} {bytes : List ℕ} → Reads (IsOfLength 20) as_it_stands a bytes b → Reads IsKeyLong key_bytes a (record { 0 = bytes }) b
+key_read f = (made_read made_key (part (one_raw 20) f)).reads
+
+key_long : (k : Key) → IsKey k → IsKeyLong k
+key_long k f = f.size
+
+pub same_key_read : {a b : Option (List ℕ)} {k l : Key} → IsKey l → k ≡ l → Reads IsKeyLong key_bytes a k b → Reads IsAny (constant_bytes l.0) a tt b
+same_key_read {l = l} fits same f = same_read {y = l} (key_long l fits) same f
+
+pub other_key_read : {a b c : Option (List ℕ)} {k l : Key} → IsKey l → k ≢ l → c ≡ None → Reads IsKeyLong key_bytes a k b → Reads IsAny (constant_bytes l.0) a tt c
+other_key_read {l = l} fits other gone f = other_read {y = l} (key_long l fits) one_long_key other gone f
+
+number_below : (n : ℕ) → IsNumber n → n < 2 ^ 32
+number_below n f = omega (arith, f.1)
+
+pub some_number_read : {a b : Option (List ℕ)} {n : ℕ} → IsNumber n → Reads IsWord word a n b → Reads IsNumber word a n b
+some_number_read fits f = fit_read number_below fits f
+
+pub no_number_read : {a b c : Option (List ℕ)} {n : ℕ} → (IsNumber n → ⊥) → c ≡ None → Reads IsWord word a n b → Reads IsNumber word a n c
+no_number_read misfit gone f = misfit_read number_below one_word misfit gone f
+
+-- as many bytes, of which each is one
+pub block_read : (count : ℕ) {a b : Option (List ℕ)} {bytes : List ℕ} → IsBlock count bytes → Reads (IsOfLength count) as_it_stands a bytes b → Reads (IsBlock count) as_it_stands a bytes b
+block_read count fits f = fit_read (λ bytes g. g.size) fits f
+
+pub true_key_read : {a b : Option (List ℕ)} {k : Key} → IsKey k → Reads IsKeyLong key_bytes a k b → Reads IsKey key_bytes a k b
+true_key_read fits f = fit_read key_long fits f
+
+kind_below : (k : Kind) → kind_number k < 2 ^ 32
+kind_below Reg = omega arith
+kind_below Dir = omega arith
+kind_below Lnk = omega arith
+
+pub kind_read : {a b : Option (List ℕ)} {n : ℕ} {k : Kind} → kind_number k ≡ n → Reads IsWord word a n b → Reads IsAny kind_word a k b
+kind_read is f = number_read kind_number kind_below (λ k. refl) f is
+
+pub no_kind_read : {a b c : Option (List ℕ)} {n : ℕ} {k : Kind} → ((l : Kind) → kind_number l ≢ n) → c ≡ None → Reads IsWord word a n b → Reads IsAny kind_word a k c
+no_kind_read other gone f = number_missed kind_number kind_below (λ k. refl) f other gone
+
+made_moment : Made {A = ℕ × ℕ} (λ p. IsWord p.0 × IsWord p.1) (λ p. word p.0 ++ word p.1) IsWordMoment moment (λ p. record { sec = p.0; nsec = p.1 })
+made_moment = record { whole = λ p f. f; spelled = λ p. refl; parts = λ m f. record { part = (m.sec, m.nsec); fits = f; same = refl } }
+
+pub moment_read : {a b c : Option (List ℕ)} {sec nsec : ℕ} → Reads IsWord word a sec b → Reads IsWord word b nsec c → Reads IsWordMoment moment a (record { sec = sec; nsec = nsec }) c
+moment_read f g = (made_read made_moment (part one_word f ▸ part one_word g)).reads

@@ -32,11 +32,7 @@ AreParts log p = IsFrame log p.0 × IsOfKind p.0.kind p.1
 abbrev pub parts_block : Key → Frame × Op → List ℕ
 parts_block log p = frame_block log p.0 ++ body p.1
 
--- neither a record before it nor one of another log
-abbrev pub CitesNothing : Frame → Type 0
-CitesNothing f = (f.prev ≡ no_name) × (f.vector ≡ [])
-
 -- a log begins with End, which stands nowhere else, and its first record cites nothing
 pub record IsWellPlaced (f : Frame) (op : Op) : Type 0 where
   pub ends_first : (f.seq ≡ 1) ↔ IsEndOp op
-  pub first_alone : f.seq ≡ 1 → CitesNothing f
+  pub first_alone : f.seq ≡ 1 → (f.prev ≡ no_name) × (f.vector ≡ [])

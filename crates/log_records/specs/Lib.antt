@@ -4,6 +4,7 @@ pub mod Sizes
 pub mod Heads
 pub mod Laws
 pub mod Frames
+pub mod Shapes
 pub mod Records
 pub mod Spelled
 pub mod Batches

@@ -1,8 +1,6 @@
 -- Parts of a record's block that are read and written as one, with their bounds.
 use Rattle.std.specs.Prelude.{◌≡◌, ℕ, ◌+◌, ◌≤◌, List, ◌++◌, length}
 use Rattle.ivy_base.specs.declared.key.Key.{Key}
-use Rattle.ivy_base.specs.declared.operation.Kind.{Kind}
-use Rattle.ivy_base.specs.declared.operation.Kind.TheVariants.{Reg, Dir, Lnk}
 use Rattle.ivy_base.specs.declared.operation.Change.{Change}
 use Rattle.ivy_base.specs.declared.operation.Op.{Op}
 use Rattle.ivy_base.specs.Naming.{IsFileName}
@@ -17,9 +15,6 @@ abbrev pub IsPlace : Key × List ℕ → Type 0
 IsPlace p = IsKey p.0 × IsFileName p.1
 
 -- bytes from an offset on
-abbrev pub piece_block : ℕ × List ℕ → List ℕ
-piece_block p = double_word p.0 ++ opaque p.1
-
 abbrev pub IsPiece : ℕ × List ℕ → Type 0
 IsPiece p = (1 ≤ length p.1) × (length p.1 ≤ 8192) × (p.0 + length p.1 ≤ 16777216)
 
@@ -29,9 +24,3 @@ change_block c = optional word c.mode ++ optional word c.uid ++ optional word c.
 -- an operation of that kind
 abbrev pub IsOfKind : ℕ → Op → Type 0
 IsOfKind kind op = (record_kind op ≡ kind) × OperationFits op
-
--- the most bytes of a symbolic link's text, which other kinds haven't
-abbrev pub target_bound : Kind → ℕ
-target_bound Reg = 0
-target_bound Dir = 0
-target_bound Lnk = 1024

@@ -69,9 +69,15 @@ impl Batch {
     pub fn over(alloc: Global, held: &Vector, floor: &Vector) -> Result<Batch, Memory>
         ensures { IfOk result (λ batch. batch ≡ record { held = held.now; floor = floor.now; chains = [] }) }
     {
+        let Ok(held) = held.copy(alloc) else {
+            return Err(Memory);
+        };
+        let Ok(floor) = floor.copy(alloc) else {
+            return Err(Memory);
+        };
         Ok(Batch {
-            held: held.copy(alloc)?,
-            floor: floor.copy(alloc)?,
+            held,
+            floor,
             chains: Vec::new(alloc),
         })
     }

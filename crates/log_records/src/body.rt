@@ -1,49 +1,76 @@
-//! Reading the operation of a record.
+//! Reading the operation of a record. What bounds its parts have is tested where the record stands as a whole.
 
 ghost use Rattle.std.specs.Prelude.{◌≡◌, IfOk, IfErr};
-ghost use Rattle.wire_model.specs.OneReading.{IsFront};
+ghost use Rattle.wire_model.specs.Parts.{Reads};
 ghost use Rattle.log_model.specs.Spelling.{body};
-ghost use Rattle.log_records.specs.Parts.{IsOfKind};
-ghost use Rattle.log_records.specs.Reading.{Refuses};
+ghost use Rattle.log_records.specs.Shapes.{IsShapeOf};
+ghost use Rattle.log_records.specs.Reading.{IsSpelled, RefusesWhole};
 
 use crate::change::read_change;
 use crate::part_fault::PartFault;
-use crate::parts::{read_piece, read_place, read_target};
-use block_parts::{read_at_most, read_block, read_key, read_kind};
-use ivy_base::Op;
+use crate::parts::{read_key, read_kind};
+use ivy_base::{Bytes, Memory, Op};
 use std::alloc::Global;
-use xdr_codec::XdrRead;
+use xdr_codec::Parts;
 
-/// The operation of a record of that kind, 1 to 9.
-pub fn read_body(alloc: Global, reader: &mut XdrRead, kind: u32) -> Result<Op, PartFault>
-    ensures ok { IfOk result (λ op. IsFront (IsOfKind kind) body reader.old op reader.new) }
-    ensures err { IfErr result (Refuses (IsOfKind kind) body reader.old) }
+/// The most bytes of a name, of a symbolic link's text, and of what is written at once.
+const LONGEST_NAME: u32 = 255;
+
+const LONGEST_TARGET: u32 = 1024;
+
+const LONGEST_PIECE: u32 = 8192;
+
+/// The operation of a record of that kind, 1 to 9, that the bytes are.
+pub fn read_operation(alloc: Global, bytes: &[u8], kind: u32) -> Result<Op, PartFault>
+    ensures ok { IfOk result (λ op. IsSpelled (IsShapeOf kind) body bytes.now op) }
+    ensures err { IfErr result (RefusesWhole (IsShapeOf kind) body bytes.now) }
+{
+    let mut parts = Parts::of(bytes);
+    let Ok(op) = read_body(alloc, &mut parts, kind) else {
+        return Err(PartFault::Memory);
+    };
+    if parts.are_read() {
+        Ok(op)
+    } else {
+        Err(PartFault::Malformed)
+    }
+}
+
+/// The operation of a record of that kind. Another kind than 1 to 9 has none.
+#[tactic(auto, using(crate::proofs::Operations::no_operation_read))]
+fn read_body(alloc: Global, parts: &mut Parts, kind: u32) -> Result<Op, Memory>
+    ensures { IfOk result (λ op. Reads (IsShapeOf kind) body parts.old op parts.new) }
 {
     match kind {
-        1 => read_inode(alloc, reader),
-        2 => read_write(alloc, reader),
-        3 => read_link(alloc, reader),
-        4 => read_unlink(alloc, reader),
-        5 => read_rename(alloc, reader),
-        6 => read_prepare(alloc, reader),
-        7 => read_cancel(reader),
-        8 => read_set_attrs(reader),
+        1 => read_inode(alloc, parts),
+        2 => read_write(alloc, parts),
+        3 => read_link(alloc, parts),
+        4 => read_unlink(alloc, parts),
+        5 => read_rename(alloc, parts),
+        6 => read_prepare(alloc, parts),
+        7 => Ok(read_cancel(parts)),
+        8 => Ok(read_set_attrs(parts)),
         9 => Ok(Op::End),
-        _ => Err(PartFault::Malformed),
+        _ => {
+            parts.miss();
+            Ok(Op::End)
+        }
     }
 }
 
 /// A new inode.
-fn read_inode(alloc: Global, reader: &mut XdrRead) -> Result<Op, PartFault>
-    ensures ok { IfOk result (λ op. IsFront (IsOfKind 1) body reader.old op reader.new) }
-    ensures err { IfErr result (Refuses (IsOfKind 1) body reader.old) }
+fn read_inode(alloc: Global, parts: &mut Parts) -> Result<Op, Memory>
+    ensures { IfOk result (λ op. Reads (IsShapeOf 1) body parts.old op parts.new) }
 {
-    let ino = read_key(reader)?;
-    let kind = read_kind(reader)?;
-    let mode = read_at_most(reader, 0o7777)?;
-    let uid = reader.u32()?;
-    let gid = reader.u32()?;
-    let target = read_target(alloc, reader, kind)?;
+    let ino = read_key(parts);
+    let kind = read_kind(parts);
+    let mode = parts.u32();
+    let uid = parts.u32();
+    let gid = parts.u32();
+    let target = parts.opaque(LONGEST_TARGET);
+    let Ok(target) = Bytes::copy_of(alloc, target) else {
+        return Err(Memory);
+    };
     Ok(Op::Inode {
         ino,
         kind,
@@ -55,41 +82,57 @@ fn read_inode(alloc: Global, reader: &mut XdrRead) -> Result<Op, PartFault>
 }
 
 /// Bytes that are written into a file.
-fn read_write(alloc: Global, reader: &mut XdrRead) -> Result<Op, PartFault>
-    ensures ok { IfOk result (λ op. IsFront (IsOfKind 2) body reader.old op reader.new) }
-    ensures err { IfErr result (Refuses (IsOfKind 2) body reader.old) }
+fn read_write(alloc: Global, parts: &mut Parts) -> Result<Op, Memory>
+    ensures { IfOk result (λ op. Reads (IsShapeOf 2) body parts.old op parts.new) }
 {
-    let ino = read_key(reader)?;
-    let (offset, bytes) = read_piece(alloc, reader)?;
+    let ino = read_key(parts);
+    let offset = parts.u64();
+    let bytes = parts.opaque(LONGEST_PIECE);
+    let Ok(bytes) = Bytes::copy_of(alloc, bytes) else {
+        return Err(Memory);
+    };
     Ok(Op::Write { ino, offset, bytes })
 }
 
 /// A name that is given.
-fn read_link(alloc: Global, reader: &mut XdrRead) -> Result<Op, PartFault>
-    ensures ok { IfOk result (λ op. IsFront (IsOfKind 3) body reader.old op reader.new) }
-    ensures err { IfErr result (Refuses (IsOfKind 3) body reader.old) }
+fn read_link(alloc: Global, parts: &mut Parts) -> Result<Op, Memory>
+    ensures { IfOk result (λ op. Reads (IsShapeOf 3) body parts.old op parts.new) }
 {
-    let (dir, name) = read_place(alloc, reader)?;
-    let ino = read_key(reader)?;
+    let dir = read_key(parts);
+    let name = parts.opaque(LONGEST_NAME);
+    let ino = read_key(parts);
+    let Ok(name) = Bytes::copy_of(alloc, name) else {
+        return Err(Memory);
+    };
     Ok(Op::Link { dir, name, ino })
 }
 
 /// A name that is removed.
-fn read_unlink(alloc: Global, reader: &mut XdrRead) -> Result<Op, PartFault>
-    ensures ok { IfOk result (λ op. IsFront (IsOfKind 4) body reader.old op reader.new) }
-    ensures err { IfErr result (Refuses (IsOfKind 4) body reader.old) }
+fn read_unlink(alloc: Global, parts: &mut Parts) -> Result<Op, Memory>
+    ensures { IfOk result (λ op. Reads (IsShapeOf 4) body parts.old op parts.new) }
 {
-    let (dir, name) = read_place(alloc, reader)?;
+    let dir = read_key(parts);
+    let name = parts.opaque(LONGEST_NAME);
+    let Ok(name) = Bytes::copy_of(alloc, name) else {
+        return Err(Memory);
+    };
     Ok(Op::Unlink { dir, name })
 }
 
 /// A name that is moved.
-fn read_rename(alloc: Global, reader: &mut XdrRead) -> Result<Op, PartFault>
-    ensures ok { IfOk result (λ op. IsFront (IsOfKind 5) body reader.old op reader.new) }
-    ensures err { IfErr result (Refuses (IsOfKind 5) body reader.old) }
+fn read_rename(alloc: Global, parts: &mut Parts) -> Result<Op, Memory>
+    ensures { IfOk result (λ op. Reads (IsShapeOf 5) body parts.old op parts.new) }
 {
-    let (dir, name) = read_place(alloc, reader)?;
-    let (to_dir, to_name) = read_place(alloc, reader)?;
+    let dir = read_key(parts);
+    let name = parts.opaque(LONGEST_NAME);
+    let to_dir = read_key(parts);
+    let to_name = parts.opaque(LONGEST_NAME);
+    let Ok(name) = Bytes::copy_of(alloc, name) else {
+        return Err(Memory);
+    };
+    let Ok(to_name) = Bytes::copy_of(alloc, to_name) else {
+        return Err(Memory);
+    };
     Ok(Op::Rename {
         dir,
         name,
@@ -99,30 +142,31 @@ fn read_rename(alloc: Global, reader: &mut XdrRead) -> Result<Op, PartFault>
 }
 
 /// An exclusive creation that is announced.
-fn read_prepare(alloc: Global, reader: &mut XdrRead) -> Result<Op, PartFault>
-    ensures ok { IfOk result (λ op. IsFront (IsOfKind 6) body reader.old op reader.new) }
-    ensures err { IfErr result (Refuses (IsOfKind 6) body reader.old) }
+fn read_prepare(alloc: Global, parts: &mut Parts) -> Result<Op, Memory>
+    ensures { IfOk result (λ op. Reads (IsShapeOf 6) body parts.old op parts.new) }
 {
-    let (dir, name) = read_place(alloc, reader)?;
-    let verf = read_block::<8>(reader)?;
+    let dir = read_key(parts);
+    let name = parts.opaque(LONGEST_NAME);
+    let verf = parts.eight();
+    let Ok(name) = Bytes::copy_of(alloc, name) else {
+        return Err(Memory);
+    };
     Ok(Op::Prepare { dir, name, verf })
 }
 
 /// An announcement that is taken back.
-fn read_cancel(reader: &mut XdrRead) -> Result<Op, PartFault>
-    ensures ok { IfOk result (λ op. IsFront (IsOfKind 7) body reader.old op reader.new) }
-    ensures err { IfErr result (Refuses (IsOfKind 7) body reader.old) }
+fn read_cancel(parts: &mut Parts) -> Op
+    ensures { Reads (IsShapeOf 7) body parts.old result parts.new }
 {
-    let seq = reader.u32()?;
-    Ok(Op::Cancel { seq })
+    let seq = parts.u32();
+    Op::Cancel { seq }
 }
 
 /// Attributes that are set.
-fn read_set_attrs(reader: &mut XdrRead) -> Result<Op, PartFault>
-    ensures ok { IfOk result (λ op. IsFront (IsOfKind 8) body reader.old op reader.new) }
-    ensures err { IfErr result (Refuses (IsOfKind 8) body reader.old) }
+fn read_set_attrs(parts: &mut Parts) -> Op
+    ensures { Reads (IsShapeOf 8) body parts.old result parts.new }
 {
-    let ino = read_key(reader)?;
-    let change = read_change(reader)?;
-    Ok(Op::SetAttrs { ino, change })
+    let ino = read_key(parts);
+    let change = read_change(parts);
+    Op::SetAttrs { ino, change }
 }

@@ -41,7 +41,10 @@ pub fn body_len(op: &Op) -> Option<usize>
         Op::Write { bytes, .. } => len_with(28, bytes),
         Op::Link { name, .. } => len_with(40, name),
         Op::Unlink { name, .. } => len_with(20, name),
-        Op::Rename { name, to_name, .. } => len_with(len_with(40, name)?, to_name),
+        Op::Rename { name, to_name, .. } => match len_with(40, name) {
+            Some(before) => len_with(before, to_name),
+            None => None,
+        },
         Op::Prepare { name, .. } => len_with(28, name),
         Op::Cancel { .. } => Some(4),
         Op::SetAttrs { change, .. } => Some(20 + change_len(change)),
@@ -56,7 +59,10 @@ fn len_with(before: usize, text: &Bytes) -> Option<usize>
     ensures short { IfSome result (λ _. IsShort text.now) }
     ensures bound { IfSome result (λ n. n ≤ before + 2 ^ 33) }
 {
-    Some(before + opaque_len(text.as_slice())?)
+    match opaque_len(text.as_slice()) {
+        Some(len) => Some(before + len),
+        None => None,
+    }
 }
 
 /// Appends the operation.

@@ -40,7 +40,9 @@ pub fn test_chain(
     ensures onward { OnOk result (IsOnward held.now floor.now (records_of chain.now)) }
     ensures fault { IfErr result (ChainFails view.now held.now floor.now (stamp head.now.seq head.now.name) edge.now (records_of chain.now)) }
 {
-    let names = all_names(alloc, chain)?;
+    let Ok(names) = all_names(alloc, chain) else {
+        return Err(ChainFault::Memory);
+    };
     let log = head_key(&chain[0].owner);
     if !is_sound(view, &log, held, edge, head, chain, &names) {
         return Err(ChainFault::Bad);
@@ -55,9 +57,14 @@ pub fn test_chain(
 fn all_names(alloc: Global, chain: &[Record]) -> Result<Vec<Key>, Memory>
     ensures { IfOk result (λ names. names.items ≡ names_of chain.now) }
 {
-    let mut names = Vec::with_capacity(alloc, chain.len())?;
+    let Ok(mut names) = Vec::with_capacity(alloc, chain.len()) else {
+        return Err(Memory);
+    };
     for record in chain {
-        names.push_reserved(record.name(alloc)?);
+        let Ok(name) = record.name(alloc) else {
+            return Err(Memory);
+        };
+        names.push_reserved(name);
     }
     Ok(names)
 }

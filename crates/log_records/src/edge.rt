@@ -22,8 +22,9 @@ impl Edge {
     pub fn of(alloc: Global, held: &Record) -> Result<Edge, Memory>
         ensures { IfOk result (λ edge. edge ≡ as_edge (record_of held.now)) }
     {
-        Ok(Edge {
-            vector: held.vector.copy(alloc)?,
-        })
+        match held.vector.copy(alloc) {
+            Ok(vector) => Ok(Edge { vector }),
+            Err(_) => Err(Memory),
+        }
     }
 }

@@ -1,22 +1,20 @@
 //! What stands in front of each record's operation.
 
 ghost use Rattle.std.specs.Prelude.{IfOk, IfErr};
-ghost use Rattle.wire_model.specs.Xdr.{array};
 ghost use Rattle.wire_model.specs.OneReading.{IsFront};
-ghost use Rattle.log_model.specs.Spelling.{vector_entry};
-ghost use Rattle.log_records.specs.Frames.{IsCited, IsFrame, frame_block};
+ghost use Rattle.log_records.specs.Frames.{frame_block};
+ghost use Rattle.log_records.specs.Shapes.{IsFrameShape};
 ghost use Rattle.log_records.specs.Reading.{Refuses};
 
 use crate::part_fault::PartFault;
-use crate::parts::read_number;
-use block_parts::{read_constant, read_key, read_moment};
+use crate::parts::{read_key, read_moment, read_same, read_tag};
 use ivy_base::{Key, Moment};
 use std::alloc::Global;
 use version_vectors::Vector;
-use xdr_codec::XdrRead;
+use xdr_codec::{Parts, XdrRead};
 
-/// What the block of a record begins with.
-pub const MAGIC: [u8; 4] = *b"IVR1";
+/// What the block of a record begins with, as a number: "IVR1".
+pub const TAG: u32 = 0x4956_5231;
 
 /// The most logs that a record cites.
 pub const MOST_CITED: u32 = 32;
@@ -31,35 +29,34 @@ pub struct Frame {
     pub vector: Vector,
 }
 
-/// The frame of a record of the log with that head key.
-pub fn read_frame(alloc: Global, reader: &mut XdrRead, log: &Key) -> Result<Frame, PartFault>
-    ensures ok { IfOk result (λ frame. IsFront (IsFrame log.now) (frame_block log.now) reader.old frame reader.new) }
-    ensures err { IfErr result (Refuses (IsFrame log.now) (frame_block log.now) reader.old) }
+/// The frame of a record of the log with that head key, and the bytes behind it. But for how many logs it cites, the bounds
+/// of its parts are tested where the record stands as a whole.
+pub fn read_frame<'a>(
+    alloc: Global,
+    bytes: &'a [u8],
+    log: &Key,
+) -> Result<(Frame, &'a [u8]), PartFault>
+    ensures ok { IfOk result (λ p. IsFront IsFrameShape (frame_block log.now) bytes.now p.0 p.1.now) }
+    ensures err { IfErr result (Refuses IsFrameShape (frame_block log.now) bytes.now) }
 {
-    read_constant(reader, &MAGIC)?;
-    let kind = reader.u32()?;
-    read_constant(reader, &log.0)?;
-    let prev = read_key(reader)?;
-    let seq = read_number(reader)?;
-    let moment = read_moment(reader)?;
-    let vector = read_cited(alloc, reader, log)?;
-    Ok(Frame {
+    let mut parts = Parts::of(bytes);
+    read_tag(&mut parts, TAG);
+    let kind = parts.u32();
+    read_same(&mut parts, log);
+    let prev = read_key(&mut parts);
+    let seq = parts.u32();
+    let moment = read_moment(&mut parts);
+    let Some(rest) = parts.rest() else {
+        return Err(PartFault::Malformed);
+    };
+    let mut reader = XdrRead::new(rest);
+    let vector = Vector::read(alloc, &mut reader, MOST_CITED)?;
+    let frame = Frame {
         kind,
         prev,
         seq,
         moment,
         vector,
-    })
-}
-
-/// What a record cites of the other logs: at most 32, and never its own.
-fn read_cited(alloc: Global, reader: &mut XdrRead, log: &Key) -> Result<Vector, PartFault>
-    ensures ok { IfOk result (λ v. IsFront (IsCited log.now) (array vector_entry) reader.old v reader.new) }
-    ensures err { IfErr result (Refuses (IsCited log.now) (array vector_entry) reader.old) }
-{
-    let vector = Vector::read(alloc, reader, MOST_CITED)?;
-    if vector.get(log).is_some() {
-        return Err(PartFault::Malformed);
-    }
-    Ok(vector)
+    };
+    Ok((frame, reader.rest()))
 }

@@ -1,22 +1,20 @@
 //! Heads of logs.
 
-ghost use Rattle.std.specs.Prelude.{◌≡◌, [], List, ℕ, IfOk, IfSome, IfNone, OnErr};
+ghost use Rattle.std.specs.Prelude.{◌≡◌, [], List, ℕ, IfOk, IfSome, IfNone};
 ghost use Rattle.ivy_base.specs.declared.key.PubKey.{PubKey};
-ghost use Rattle.wire_model.specs.OneReading.{IsFront, HasNoFront};
+ghost use Rattle.wire_model.specs.Parts.{Reads};
 ghost use Rattle.log_model.specs.Vector.{Stamp};
 ghost use Rattle.log_model.specs.Spelling.{head_block, IsHeadOf};
 ghost use Rattle.log_records.specs.Heads.{stamp, IsHead, head_bytes};
 
-use crate::parts::read_number;
-use block_parts::{
-    Malformed, opaque_len, put_constant, put_key, put_owner, read_block, read_constant, read_key,
-};
+use crate::parts::{read_key, read_number, read_tag};
+use block_parts::{check_block, opaque_len, put_key, put_owner};
 use ivy_base::{Bytes, Key, Memory, PubKey};
 use std::alloc::Global;
-use xdr_codec::{XdrRead, XdrWrite};
+use xdr_codec::{Parts, XdrWrite};
 
-/// What the block of a head begins with.
-const MAGIC: [u8; 4] = *b"IVH1";
+/// What the block of a head begins with, as a number: "IVH1".
+const TAG: u32 = 0x4956_4831;
 
 /// The most bytes of a signature.
 const LONGEST_SIGNATURE: u32 = 16_000;
@@ -40,14 +38,9 @@ impl<'a> Head<'a> {
         ensures some { IfSome result (λ h. IsHeadOf h.owner bytes.now (stamp h.seq h.name) h.signature.now) }
         ensures none { IfNone result ((owner : PubKey) (newest : Stamp) (signature : List ℕ) → IsHeadOf owner bytes.now newest signature → ⊥) }
     {
-        let mut reader = XdrRead::new(bytes);
-        let Ok(head) = read_head(&mut reader) else {
-            return None;
-        };
-        if reader.finish().is_err() {
-            return None;
-        }
-        Some(head)
+        let mut parts = Parts::of(bytes);
+        let head = read_head(&mut parts);
+        if parts.are_read() { Some(head) } else { None }
     }
 
     /// The head's block. The error is want of memory; it also comes where the signature has 2^32 bytes or more.
@@ -58,8 +51,10 @@ impl<'a> Head<'a> {
             return Err(Memory);
         };
         let mut out = XdrWrite::new(alloc);
-        out.reserve(88 + signature_len)?;
-        put_constant(&mut out, &MAGIC);
+        if out.reserve(88 + signature_len).is_err() {
+            return Err(Memory);
+        }
+        out.put_u32(TAG);
         put_owner(&mut out, &self.owner);
         out.put_u32(self.seq);
         put_key(&mut out, &self.name);
@@ -81,20 +76,21 @@ pub fn plain_head(alloc: Global, owner: &PubKey, seq: u32, name: &Key) -> Result
     .write(alloc)
 }
 
-/// The head at the front.
-fn read_head<'a>(reader: &mut XdrRead<'a>) -> Result<Head<'a>, Malformed>
-    ensures ok { IfOk result (λ h. IsFront IsHead head_bytes reader.old ((h.owner, stamp h.seq h.name), h.signature.now) reader.new) }
-    ensures err { OnErr result (HasNoFront IsHead head_bytes reader.old) }
+/// A head.
+fn read_head<'a>(parts: &mut Parts<'a>) -> Head<'a>
+    ensures { Reads IsHead head_bytes parts.old ((result.owner, stamp result.seq result.name), result.signature.now) parts.new }
 {
-    read_constant(reader, &MAGIC)?;
-    let owner = PubKey(read_block::<60>(reader)?);
-    let seq = read_number(reader)?;
-    let name = read_key(reader)?;
-    let signature = reader.opaque(LONGEST_SIGNATURE)?;
-    Ok(Head {
+    read_tag(parts, TAG);
+    let owner = PubKey(parts.bytes::<60>());
+    let seq = read_number(parts);
+    let name = read_key(parts);
+    let signature = parts.opaque(LONGEST_SIGNATURE);
+    check_block(&owner.0);
+    check_block(&name.0);
+    Head {
         owner,
         seq,
         name,
         signature,
-    })
+    }
 }

@@ -31,7 +31,9 @@ fn judged(key: &Key, bytes: &[u8]) -> Option<Judged>
     ensures some { IfSome result (IsPlainHead key.now bytes.now) }
     ensures none { IfNone result ((judged : Judged) → IsPlainHead key.now bytes.now judged → ⊥) }
 {
-    let head = Head::read(bytes)?;
+    let Some(head) = Head::read(bytes) else {
+        return None;
+    };
     if !is_plain_under(&head, key) {
         return None;
     }

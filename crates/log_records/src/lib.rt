@@ -18,18 +18,18 @@
 //!
 //! [`merge_place`] is how many of some records that ascend by rank are of a smaller rank than another.
 //!
-//! Inside, a block is read from left to right by one small function for each part: `parts` for what operations share,
-//! beside those of `block_parts`, `change` and `body` for the nine operations, `frame` for what stands in front of each
-//! operation; `change_writing` and `body_writing` are their counterparts. What depends on several parts, as that a log
-//! begins with End, is tested at the end, in `record`. Of a batch, `spelled` tells which records have a block, and `chain` has the
-//! tests of a chain.
+//! Inside, a block is read from left to right by one small function for each part, which keeps in mind that one isn't there:
+//! `parts` for what operations share, `change` and `body` for the nine operations, `frame` for what stands in front of each
+//! operation; `change_writing` and `body_writing` are their counterparts. The bounds of its parts, and what depends on several,
+//! as that a log begins with End, are tested at the end, by `spelled`, which tells of any record whether it has a block. Of a
+//! batch, `chain` has the tests of a chain.
 //!
 //! Definitions: the spellings are those of `log_model`; `specs/Records.antt` has what a read record is and when each
 //! fault comes, `specs/Heads.antt` what the plain judge takes, `specs/Laws.antt` the laws; `specs/Batches.antt` has when
 //! a chain is sound and onward, what each batch is, and that one's chains were added under a view, `specs/Kept.antt` how
 //! a [`Chain`] is seen, `specs/BatchLaws.antt` the laws of batches; `specs/Places.antt` has the place of a record. Of the
-//! others `specs/Parts`, `specs/Frames`,
-//! `specs/Sizes`, `specs/Reading`, `specs/Spelled` and `specs/Walks` only the functions inside speak. For readers of
+//! others `specs/Parts`, `specs/Shapes`,
+//! `specs/Frames`, `specs/Sizes`, `specs/Reading`, `specs/Spelled` and `specs/Walks` only the functions inside speak. For readers of
 //! other formats `proofs/OneRecord.antt` and `proofs/OneHead.antt` have that a block can be read in one way only; for
 //! users of batches `proofs/Batches.antt` has how a batch grows, and how an edge is put in later.
 //!

@@ -1,10 +1,7 @@
 //! Why parts of blocks are not read.
 
 use crate::fault::RecordFault;
-use block_parts::Malformed;
-use ivy_base::Memory;
 use version_vectors::VectorFault;
-use xdr_codec::XdrFault;
 
 /// Why a part of a block was not read, where it takes memory.
 #[derive(Clone, Copy)]
@@ -13,39 +10,6 @@ pub enum PartFault {
     Malformed,
     /// Want of memory.
     Memory,
-}
-
-impl From<Malformed> for PartFault {
-    ghost use Rattle.std.specs.Prelude.{◌≡◌};
-    ghost use Rattle.log_records.specs.declared.part_fault.PartFault.TheVariants.{Malformed};
-
-    ghost from_gives = { λ _ fault. fault ≡ Malformed };
-
-    fn from(_: Malformed) -> Self {
-        PartFault::Malformed
-    }
-}
-
-impl From<XdrFault> for PartFault {
-    ghost use Rattle.std.specs.Prelude.{◌≡◌};
-    ghost use Rattle.log_records.specs.declared.part_fault.PartFault.TheVariants.{Malformed};
-
-    ghost from_gives = { λ _ fault. fault ≡ Malformed };
-
-    fn from(_: XdrFault) -> Self {
-        PartFault::Malformed
-    }
-}
-
-impl From<Memory> for PartFault {
-    ghost use Rattle.std.specs.Prelude.{◌≡◌};
-    ghost use Rattle.log_records.specs.declared.part_fault.PartFault.TheVariants.{Memory};
-
-    ghost from_gives = { λ _ fault. fault ≡ Memory };
-
-    fn from(_: Memory) -> Self {
-        PartFault::Memory
-    }
 }
 
 impl From<VectorFault> for PartFault {

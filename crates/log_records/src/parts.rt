@@ -1,77 +1,101 @@
-//! Reading the parts that records share.
+//! Reading the parts that records and heads share.
 
-ghost use Rattle.std.specs.Prelude.{◌≡◌, ◌≤◌, ◌↔◌, IsTrue, length, IfOk, IfErr, OnErr};
-ghost use Rattle.wire_model.specs.Xdr.{word, opaque};
-ghost use Rattle.wire_model.specs.OneReading.{IsFront, HasNoFront};
-ghost use Rattle.log_model.specs.Spelling.{IsTarget};
+ghost use Rattle.std.specs.Prelude.{◌≡◌, ◌≢◌, ◌≤◌, ◌↔◌, IsTrue, length, MatchOption};
+ghost use Rattle.ivy_base.specs.declared.operation.Kind.{Kind as AnyKind};
+ghost use Rattle.log_model.specs.Spelling.{kind_number};
+ghost use Rattle.wire_model.specs.Xdr.{word, moment, IsWordMoment, IsAny};
+ghost use Rattle.wire_model.specs.Parts.{Reads};
+ghost use Rattle.block_parts.specs.Parts.{constant_bytes, key_bytes, kind_word};
 ghost use Rattle.log_records.specs.Heads.{IsNumber};
-ghost use Rattle.log_records.specs.Parts.{place_block, IsPlace, piece_block, IsPiece, target_bound};
-ghost use Rattle.log_records.specs.Reading.{Refuses};
+ghost use Rattle.log_records.specs.Parts.{IsPiece};
+ghost use Rattle.log_records.specs.Shapes.{IsKeyLong};
 
-use crate::part_fault::PartFault;
-use block_parts::{LONGEST_FILE, Malformed, read_at_most, read_key, read_name};
-use ivy_base::{Bytes, Key, Kind};
-use std::alloc::Global;
-use xdr_codec::XdrRead;
+use crate::chain::is_same;
+use crate::spelled::check_word;
+use block_parts::{LONGEST_FILE, check_block};
+use ivy_base::{Key, Kind, Moment};
+use xdr_codec::Parts;
 
 /// The greatest number of a record.
 pub const MOST_RECORDS: u32 = 1_048_576;
 
+/// What the blocks of a form begin with.
+pub fn read_tag(parts: &mut Parts, tag: u32)
+    ensures { Reads IsAny (constant_bytes (word tag)) parts.old tt parts.new }
+{
+    check_word(tag);
+    if parts.u32() != tag {
+        parts.miss();
+    }
+}
+
+/// That key, and no other.
+pub fn read_same(parts: &mut Parts, key: &Key)
+    ensures { Reads IsAny (constant_bytes key.now.0) parts.old tt parts.new }
+{
+    check_block(&key.0);
+    if !is_same(&read_key(parts), key) {
+        parts.miss();
+    }
+}
+
+/// A key.
+pub fn read_key(parts: &mut Parts) -> Key
+    ensures { Reads IsKeyLong key_bytes parts.old result parts.new }
+{
+    Key(parts.bytes::<20>())
+}
+
 /// The number of a record in its log, 1 to 1,048,576.
-pub fn read_number(reader: &mut XdrRead) -> Result<u32, Malformed>
-    ensures ok { IfOk result (λ n. IsFront IsNumber word reader.old n reader.new) }
-    ensures err { OnErr result (HasNoFront IsNumber word reader.old) }
+pub fn read_number(parts: &mut Parts) -> u32
+    ensures { Reads IsNumber word parts.old result parts.new }
 {
-    match read_at_most(reader, MOST_RECORDS) {
-        Ok(0) | Err(_) => Err(Malformed),
-        Ok(n) => Ok(n),
+    let seq = parts.u32();
+    if !is_number(seq) {
+        parts.miss();
+    }
+    seq
+}
+
+/// Whether a record may have that number.
+pub fn is_number(seq: u32) -> bool
+    ensures { IsTrue result ↔ IsNumber seq }
+{
+    1 <= seq && seq <= MOST_RECORDS
+}
+
+/// The kind of an inode: 1 for a regular file, 2 for a directory, 5 for a symbolic link.
+pub fn read_kind(parts: &mut Parts) -> Kind
+    ensures { Reads IsAny kind_word parts.old result parts.new }
+{
+    match kind_of(parts.u32()) {
+        Some(kind) => kind,
+        None => {
+            parts.miss();
+            Kind::Reg
+        }
     }
 }
 
-/// A name in a directory, behind the directory's number.
-pub fn read_place(alloc: Global, reader: &mut XdrRead) -> Result<(Key, Bytes), PartFault>
-    ensures ok { IfOk result (λ place. IsFront IsPlace place_block reader.old place reader.new) }
-    ensures err { IfErr result (Refuses IsPlace place_block reader.old) }
+/// The kind of that number, if it is one.
+fn kind_of(number: u32) -> Option<Kind>
+    ensures { MatchOption result ((k : AnyKind) → kind_number k ≢ number) (λ k. kind_number k ≡ number) }
 {
-    let dir = read_key(reader)?;
-    let name = read_name(reader)?;
-    Ok((dir, Bytes::copy_of(alloc, name)?))
-}
-
-/// The text of a symbolic link, 1 to 1,024 bytes, and nothing for other kinds.
-pub fn read_target(alloc: Global, reader: &mut XdrRead, kind: Kind) -> Result<Bytes, PartFault>
-    ensures ok { IfOk result (λ target. IsFront (IsTarget kind) opaque reader.old target reader.new) }
-    ensures err { IfErr result (Refuses (IsTarget kind) opaque reader.old) }
-{
-    let target = reader.opaque(longest_target(kind))?;
-    if kind == Kind::Lnk && target.is_empty() {
-        return Err(PartFault::Malformed);
-    }
-    Ok(Bytes::copy_of(alloc, target)?)
-}
-
-/// The most bytes that an inode of that kind has as the text of a symbolic link.
-fn longest_target(kind: Kind) -> u32
-    ensures { result ≡ target_bound kind }
-{
-    match kind {
-        Kind::Reg | Kind::Dir => 0,
-        Kind::Lnk => 1024,
+    match number {
+        1 => Some(Kind::Reg),
+        2 => Some(Kind::Dir),
+        5 => Some(Kind::Lnk),
+        _ => None,
     }
 }
 
-/// Bytes of a file from an offset on: 1 to 8,192, all within the most that a file may have.
-#[tactic(auto, using(crate::proofs::ReadParts::no_piece))]
-pub fn read_piece(alloc: Global, reader: &mut XdrRead) -> Result<(u64, Bytes), PartFault>
-    ensures ok { IfOk result (λ piece. IsFront IsPiece piece_block reader.old piece reader.new) }
-    ensures err { IfErr result (Refuses IsPiece piece_block reader.old) }
+/// A moment, whatever its nanoseconds.
+pub fn read_moment(parts: &mut Parts) -> Moment
+    ensures { Reads IsWordMoment moment parts.old result parts.new }
 {
-    let offset = reader.u64()?;
-    let bytes = reader.opaque(8192)?;
-    if !is_piece(offset, bytes) {
-        return Err(PartFault::Malformed);
-    }
-    Ok((offset, Bytes::copy_of(alloc, bytes)?))
+    let sec = parts.u32();
+    let nsec = parts.u32();
+    Moment { sec, nsec }
 }
 
 /// Whether there are bytes, and all are within the most that a file may have.

@@ -7,21 +7,22 @@ ghost use Rattle.log_model.specs.Spelling.{record_block, longest_record, no_name
 ghost use Rattle.log_model.specs.Rank.{rank};
 ghost use Rattle.log_model.specs.Chain.{HasMadeNumber};
 ghost use Rattle.version_vectors.specs.Ranks.{rank_of};
-ghost use Rattle.log_records.specs.Frames.{AreParts, parts_block};
+ghost use Rattle.log_records.specs.Frames.{parts_block};
+ghost use Rattle.log_records.specs.Shapes.{AreShapes};
 ghost use Rattle.log_records.specs.Reading.{IsSpelled, RefusesWhole};
 ghost use Rattle.log_records.specs.Records.{record_of, IsRead, ReadFault};
 
-use crate::body::read_body;
+use crate::body::read_operation;
 use crate::body_writing::{body_len, kind_of, put_body};
 use crate::fault::RecordFault;
-use crate::frame::{Frame, MAGIC, read_frame};
+use crate::frame::{Frame, TAG, read_frame};
 use crate::part_fault::PartFault;
-use crate::spelled::is_in_place;
-use block_parts::{put_constant, put_key, put_moment};
+use crate::spelled::is_spelled;
+use block_parts::{put_key, put_moment};
 use ivy_base::{Bytes, Key, Memory, Moment, Op, PubKey, head_key, name_of, number_of};
 use std::alloc::Global;
 use version_vectors::{Rank, Vector};
-use xdr_codec::{XdrRead, XdrWrite};
+use xdr_codec::XdrWrite;
 
 /// The most bytes of a record's block.
 const LONGEST_RECORD: usize = 12_288;
@@ -73,7 +74,8 @@ impl Record {
         if bytes.len() > LONGEST_RECORD {
             return Err(RecordFault::TooLong);
         }
-        let (frame, op) = read_parts(alloc, bytes, &head_key(owner))?;
+        let log = head_key(owner);
+        let (frame, op) = read_parts(alloc, bytes, &log)?;
         let record = Record {
             owner: *owner,
             seq: frame.seq,
@@ -82,7 +84,7 @@ impl Record {
             moment: frame.moment,
             op,
         };
-        if !is_in_place(&record) {
+        if !is_spelled(&record, &log) {
             return Err(RecordFault::Malformed);
         }
         if !has_made_number(owner, record.seq, &record.op) {
@@ -95,13 +97,19 @@ impl Record {
     pub fn copy(&self, alloc: Global) -> Result<Record, Memory>
         ensures { IfOk result (λ copy. copy ≡ self.now) }
     {
+        let Ok(vector) = self.vector.copy(alloc) else {
+            return Err(Memory);
+        };
+        let Ok(op) = self.op.copy(alloc) else {
+            return Err(Memory);
+        };
         Ok(Record {
             owner: self.owner,
             seq: self.seq,
             prev: self.prev,
-            vector: self.vector.copy(alloc)?,
+            vector,
             moment: self.moment,
-            op: self.op.copy(alloc)?,
+            op,
         })
     }
 
@@ -119,8 +127,11 @@ impl Record {
             return Err(Memory);
         }
         let mut out = XdrWrite::new(alloc);
-        out.reserve(60 + self.vector.written_len() + body_len)?;
-        put_constant(&mut out, &MAGIC);
+        let room = 60 + self.vector.written_len() + body_len;
+        if out.reserve(room).is_err() {
+            return Err(Memory);
+        }
+        out.put_u32(TAG);
         out.put_u32(kind_of(&self.op));
         put_key(&mut out, &head_key(&self.owner));
         put_key(&mut out, &self.prev);
@@ -135,8 +146,10 @@ impl Record {
     pub fn name(&self, alloc: Global) -> Result<Key, Memory>
         ensures { IfOk result (λ name. name ≡ (record_of self.now).name) }
     {
-        let block = self.write(alloc)?;
-        Ok(name_of(block.as_slice()))
+        match self.write(alloc) {
+            Ok(block) => Ok(name_of(block.as_slice())),
+            Err(_) => Err(Memory),
+        }
     }
 
     /// What the order of records goes by: the record's number and those of its vector, the owner, the number.
@@ -153,15 +166,18 @@ impl Record {
 }
 
 /// The frame and the operation that the bytes are, of a record of the log with that head key.
+#[tactic(auto, using(crate::proofs::OneRecord::parts_read))]
 fn read_parts(alloc: Global, bytes: &[u8], log: &Key) -> Result<(Frame, Op), PartFault>
-    ensures ok { IfOk result (λ parts. IsSpelled (AreParts log.now) (parts_block log.now) bytes.now parts) }
-    ensures err { IfErr result (RefusesWhole (AreParts log.now) (parts_block log.now) bytes.now) }
+    ensures ok { IfOk result (λ parts. IsSpelled AreShapes (parts_block log.now) bytes.now parts) }
+    ensures err { IfErr result (RefusesWhole AreShapes (parts_block log.now) bytes.now) }
 {
-    let mut reader = XdrRead::new(bytes);
-    let frame = read_frame(alloc, &mut reader, log)?;
-    let op = read_body(alloc, &mut reader, frame.kind)?;
-    reader.finish()?;
-    Ok((frame, op))
+    match read_frame(alloc, bytes, log) {
+        Ok((frame, rest)) => match read_operation(alloc, rest, frame.kind) {
+            Ok(op) => Ok((frame, op)),
+            Err(fault) => Err(fault),
+        },
+        Err(fault) => Err(fault),
+    }
 }
 
 /// The sum of the numbers of a vector's entries.

@@ -55,9 +55,14 @@ impl Records {
     pub fn copy(&self, alloc: Global) -> Result<Records, Memory>
         ensures { IfOk result (λ copy. copy ≡ self.now) }
     {
-        let mut records = Vec::with_capacity(alloc, self.records.len())?;
+        let Ok(mut records) = Vec::with_capacity(alloc, self.records.len()) else {
+            return Err(Memory);
+        };
         for held in &self.records {
-            records.push_reserved(held.copy(alloc)?);
+            let Ok(copy) = held.copy(alloc) else {
+                return Err(Memory);
+            };
+            records.push_reserved(copy);
         }
         Ok(Records { records })
     }

@@ -1,17 +1,16 @@
-//! Whether a record that was not read from a block has one.
+//! Whether a record has a block.
 
 ghost use Rattle.std.specs.Prelude.{◌≡◌, ◌<◌, ◌≤◌, ◌^◌, ◌+◌, ◌↔◌, [], length, IsTrue, IfSome};
 ghost use Rattle.ivy_base.specs.Naming.{head_key_of};
 ghost use Rattle.log_model.specs.Spelling.{no_name, HasSpelling, IsMode, IsMoment, IsTarget, IsChange, OperationFits};
 ghost use Rattle.log_records.specs.Frames.{IsCited};
-ghost use Rattle.log_records.specs.Heads.{IsNumber};
 ghost use Rattle.log_records.specs.Parts.{IsPlace};
 ghost use Rattle.log_records.specs.Records.{record_of};
 ghost use Rattle.log_records.specs.Spelled.{IsInPlace};
 
 use crate::chain::is_same;
 use crate::frame::MOST_CITED;
-use crate::parts::{MOST_RECORDS, is_piece};
+use crate::parts::{is_number, is_piece};
 use crate::record::{NO_NAME, Record, is_end};
 use block_parts::{LONGEST_FILE, check_block};
 use ivy_base::{Bytes, Change, Key, Kind, Moment, Op, name_ok};
@@ -30,13 +29,6 @@ pub fn is_spelled(record: &Record, log: &Key) -> bool
         && is_in_place(record)
 }
 
-/// Whether a record may have that number.
-fn is_number(seq: u32) -> bool
-    ensures { IsTrue result ↔ IsNumber seq }
-{
-    1 <= seq && seq <= MOST_RECORDS
-}
-
 /// Whether the moment has less than 1,000,000,000 nanoseconds.
 fn is_moment(moment: Moment) -> bool
     ensures { IsTrue result ↔ IsMoment moment }
@@ -53,7 +45,7 @@ fn may_cite(log: &Key, vector: &Vector) -> bool
 
 /// Whether the operation is End in the first record of a log and nowhere else, and whether the first one cites
 /// nothing.
-pub(crate) fn is_in_place(record: &Record) -> bool
+fn is_in_place(record: &Record) -> bool
     ensures { IsTrue result ↔ IsInPlace (record_of «record».now) }
 {
     if record.seq == 1 {
@@ -128,7 +120,7 @@ fn is_place(dir: &Key, name: &Bytes) -> bool
 }
 
 /// What the type says of a number.
-fn check_word(number: u32)
+pub(crate) fn check_word(number: u32)
     ensures { number < 2 ^ 32 }
 {
     let _ = number;

@@ -1,12 +1,5 @@
-use Rattle.std.proofs.lemmas.Result.{err_from_is_err_and}
-use Rattle.log_records.proofs.Operations.{no_unlink_place, unlink_front}
-use Rattle.log_records.proofs.Chains.{refused}
+use Rattle.log_records.proofs.Operations.{unlink_read}
 use Rattle.log_records.proofs.body.read_unlink.Goals as goal
 
-pub returns-in_err-dir-clause-err : goal.returns-in_err-dir-clause-err
-returns-in_err-dir-clause-err c =
-    let p = err_from_is_err_and c.from_residual.result c.from_residual.ensures.1 in
-    rw (p.1, p.2) (refused no_unlink_place _ c.in_err-dir.ensures.err)
-
-pub returns-clause-ok : goal.returns-clause-ok
-returns-clause-ok c = unlink_front c.in_ok-dir.ensures.ok
+pub returns : goal.returns
+returns c = unlink_read c.read_key-dir.ensures c.opaque-name.ensures c.in-Ok.ensures

@@ -1,10 +1,8 @@
-use Rattle.log_records.proofs.OneHead.{no_whole_head, more_than_a_head}
-use Rattle.log_records.proofs.Tested.{unended}
+use Rattle.log_records.proofs.OneHead.{whole_head, no_whole_head}
 use Rattle.log_records.proofs.head.Head.read.Goals as goal
 
-pub returns-in_default-clause-none : goal.returns-in_default-clause-none
-returns-in_default-clause-none c = no_whole_head (rw c.new-reader.ensures at c.in_default.ensures.err)
+pub returns-then-are_read-clause-some : goal.returns-then-are_read-clause-some
+returns-then-are_read-clause-some c = whole_head c.of-parts.ensures c.read_head-head.ensures (c.are_read.ensures.all c.if-are_read.true)
 
-pub returns-then-is_err-clause-none : goal.returns-then-is_err-clause-none
-returns-then-is_err-clause-none c =
-    more_than_a_head (rw c.new-reader.ensures at c.in-Ok.ensures.ok) (unended c.read_head.new.reader c.finish.result c.finish.ensures.err c.if-is_err.ensures.value)
+pub returns-else-are_read-clause-none : goal.returns-else-are_read-clause-none
+returns-else-are_read-clause-none c = no_whole_head c.of-parts.ensures c.read_head-head.ensures (c.are_read.ensures.more c.if-are_read.false)
