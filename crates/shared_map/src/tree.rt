@@ -191,7 +191,10 @@ impl<K: MapKey + Drop, V: Drop> Clone for Fork<K, V> {
     ghost is_clone = { IsCopy };
 
     fn clone(&self) -> Result<Fork<K, V>, AllocError> {
-        self.shared().map_err(|_| AllocError)
+        match self.shared() {
+            Ok(fork) => Ok(fork),
+            Err(_) => Err(AllocError),
+        }
     }
 }
 
