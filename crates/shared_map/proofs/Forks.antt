@@ -81,6 +81,13 @@ module _ {K V : Type 0} (f : Fork K V) (now : List (K × V) × ℕ) (is : seen (
   drop_front [] ys h = absurd (omega (arith, h))
   drop_front (x ∷ xs) ys h = refl
 
+  drop_shorter : (xs : List (K × V)) → length (drop 1 xs) ≤ length xs
+  drop_shorter [] = omega arith
+  drop_shorter (x ∷ xs) = omega arith
+
+  pub fewer_first : (t : List (K × V) × ℕ) → IsNear (drop 1 f.left.0) f.left.1 t → length now.0 < 2 ^ 64 → length t.0 + length f.right.0 + 1 < 2 ^ 64
+  fewer_first t n few = fewer_side Left _ t n (drop_shorter f.left.0) few
+
   -- else the left side's
   pub first_left_gone : 0 < length f.left.0 → drop 1 f.left.0 ++ (f.key, f.value.value) ∷ f.right.0 ≡ drop 1 now.0
   first_left_gone some = drop_front f.left.0 _ some ∙ ap (drop 1) entries_are
@@ -126,6 +133,13 @@ module _ {K V : Type 0} (f : Fork K V) (now : List (K × V) × ℕ) (is : seen (
 
       -- a key that is on one side, or the node's own
       module _ (to : Option Side) (goes : to ≡ side_to (R k f.key)) where
+        pub found_side : (on : Side) → to ≡ Some on → value_at R k (side_on on f).0 ≡ value_at R k now.0
+        found_side Left e = found_left (less_is _ (sym goes ∙ e))
+        found_side Right e = found_right (greater_is _ (sym goes ∙ e))
+
+        pub found_own : to ≡ None → Some f.value.value ≡ value_at R k now.0
+        found_own e = found_here (equal_is _ (sym goes ∙ e))
+
         pub put_side : (v : V) (on : Side) → to ≡ Some on → in_order on (put R k v (side_on on f).0) (f.key, f.value.value) (side_on (opposite on) f).0 ≡ put R k v now.0
         put_side v Left e = put_left v (less_is _ (sym goes ∙ e))
         put_side v Right e = put_right v (greater_is _ (sym goes ∙ e))

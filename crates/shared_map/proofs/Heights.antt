@@ -51,13 +51,3 @@ low_with_more n m h low more =
 -- a side that has grown as high as the node was makes the node grow by one at most
 pub settled_grown : (l r side h : ℕ) → max l r + 1 ≤ side → side ≤ l + 1 → IsSettled side r h → (max l r + 1 ≤ h) × (h ≤ max l r + 2)
 settled_grown l r side h high low s = (omega (arith, high, low, s.0, s.1), omega (arith, high, low, s.0, s.1))
-
-pub settled_grown_right : (l r side h : ℕ) → max l r + 1 ≤ side → side ≤ r + 1 → IsSettled l side h → (max l r + 1 ≤ h) × (h ≤ max l r + 2)
-settled_grown_right l r side h high low s = (omega (arith, high, low, s.0, s.1), omega (arith, high, low, s.0, s.1))
-
--- one that is still lower than the node leaves the node's height as it is
-pub level_grown : (l r side h : ℕ) → h ≡ max l r + 1 → DifferByAtMost 2 l r → l ≤ side → side ≤ l + 1 → side < h → (h ≡ max side r + 1) × DifferByAtMost 2 side r
-level_grown l r side h is d low high below = (omega (arith, is, low, high, below), (omega (arith, is, d.0, low, high, below), omega (arith, is, d.1, low, high, below)))
-
-pub level_grown_right : (l r side h : ℕ) → h ≡ max l r + 1 → DifferByAtMost 2 l r → r ≤ side → side ≤ r + 1 → side < h → (h ≡ max l side + 1) × DifferByAtMost 2 l side
-level_grown_right l r side h is d low high below = (omega (arith, is, low, high, below), (omega (arith, is, d.0, low, high, below), omega (arith, is, d.1, low, high, below)))

@@ -106,7 +106,7 @@ module _ {K V : Type 0} (f : Fork K V) where
       by_side Left = refl
       by_side Right = refl
 
-  few_on : (on : Side) → length f.left.0 + length f.right.0 ≡ length (side_on on f).0 + length (side_on (opposite on) f).0
+  pub few_on : (on : Side) → length f.left.0 + length f.right.0 ≡ length (side_on on f).0 + length (side_on (opposite on) f).0
   few_on Left = refl
   few_on Right = omega arith
 

@@ -3,16 +3,14 @@
 ghost use Rattle.std.specs.Prelude.{◌≡◌, ◌+◌, ◌^◌, ◌<◌, ◌≤◌, max, T, length, MatchBool, IfOk, OnOk, OnErr, Some};
 ghost use Rattle.std.specs.Option.{option_map};
 ghost use Rattle.std.specs.FinMap.Entries.{find as value_at, put, is_sorted};
-ghost use Rattle.shared_map.specs.Trees.{seen, IsTree, IsGrown};
+ghost use Rattle.shared_map.specs.Trees.{seen, IsTree, IsGrown, DifferByAtMost};
 
 use crate::attempting::Attempt;
-use crate::finding::alone;
 use crate::key::MapKey;
-use crate::settling::settle;
-use crate::tree::{Fork, Tree};
+use crate::settling::give_back;
+use crate::tree::{Fork, Side, Tree};
 use ivy_base::Memory;
 use std::alloc::{AllocError, Global};
-use std::cmp::Ordering;
 use std::mem;
 use std::sync::Arc;
 
@@ -66,7 +64,8 @@ impl<K: MapKey + Drop, V: Drop> Tree<K, V> {
         requires few { length self.old.0 + 1 < 2 ^ 64 }
         ensures before { IfOk result (λ before. option_map (λ v. v.value) before ≡ value_at K.order key.now self.old.0) }
         ensures ok { OnOk result ((self.new.0 ≡ put K.order key.now value.now.value self.old.0) × P.makes rest.old rest.new) }
-        ensures err { OnErr result ((self.new.0 ≡ self.old.0) × (rest.new ≡ rest.old)) }
+        ensures err { OnErr result ((self.new ≡ self.old) × (rest.new ≡ rest.old)) }
+        ensures height { OnOk result (DifferByAtMost 1 self.new.1 self.old.1) }
     {
         let before = self.shared(key)?;
         let tree = self.with(alloc, key, value)?;
@@ -93,10 +92,7 @@ fn put<K: MapKey + Drop, V: Drop, P: Attempt>(
     ensures err { OnErr result ((tree.new ≡ tree.old) × (rest.new ≡ rest.old)) }
 {
     let Some(mut top) = tree.take() else {
-        let leaf = alone(alloc, key, value)?;
-        rest.attempt(alloc)?;
-        *tree = leaf;
-        return Ok(None);
+        return Ok(tree.insert_anew(alloc, key, value, rest)?);
     };
     let before = put_over(alloc, &mut top, key, value, rest);
     *tree = Tree::over(top);
@@ -124,8 +120,7 @@ fn put_over<K: MapKey + Drop, V: Drop, P: Attempt>(
     put_at(alloc, at, key, value, rest)
 }
 
-// Puts the value under the key, at that node or below it. While the side that it goes into stays lower than the node, the
-// node's height is still right, so that nothing is written and the other side's node isn't read.
+// Puts the value under the key, at that node or below it.
 #[cycle(placing)]
 fn put_at<K: MapKey + Drop, V: Drop, P: Attempt>(
     alloc: Global,
@@ -142,33 +137,32 @@ fn put_at<K: MapKey + Drop, V: Drop, P: Attempt>(
     ensures ok { OnOk result (IsGrown (put K.order key.now value.now.value (seen (Some at.old)).0) at.old.height (seen (Some at.new)) × P.makes rest.old rest.new) }
     ensures err { OnErr result ((seen (Some at.new) ≡ seen (Some at.old)) × (rest.new ≡ rest.old)) }
 {
-    match key.compare(&at.key) {
-        Ordering::Less => {
-            if is_two_higher(&at.left, &at.right, at.height) {
-                return Err(NotInPlace);
-            }
-            let before = put(alloc, &mut at.left, key, value, rest)?;
-            if at.left.height() >= at.height {
-                settle(at);
-            }
-            Ok(before)
-        }
-        Ordering::Equal => {
-            let value = value.clone()?;
-            rest.attempt(alloc)?;
-            Ok(Some(mem::replace(&mut at.value, value)))
-        }
-        Ordering::Greater => {
-            if is_two_higher(&at.right, &at.left, at.height) {
-                return Err(NotInPlace);
-            }
-            let before = put(alloc, &mut at.right, key, value, rest)?;
-            if at.right.height() >= at.height {
-                settle(at);
-            }
-            Ok(before)
-        }
+    let Some(on) = Side::to(key.compare(&at.key)) else {
+        return put_here(alloc, &mut at.value, value, rest);
+    };
+    if is_two_higher(at.on(on), at.on(on.other()), at.height) {
+        return Err(NotInPlace);
     }
+    let mut side = at.take(on);
+    let before = put(alloc, &mut side, key, value, rest);
+    give_back(at, on, side);
+    before
+}
+
+// Puts the value in the place of another one, which is the answer.
+fn put_here<V: Drop, P: Attempt>(
+    alloc: Global,
+    old: &mut Arc<V>,
+    value: &Arc<V>,
+    rest: &mut P,
+) -> Result<Option<Arc<V>>, NotInPlace>
+    ensures before { IfOk result (λ before. option_map (λ v. v.value) before ≡ Some old.old.value) }
+    ensures ok { OnOk result ((old.new.value ≡ value.now.value) × P.makes rest.old rest.new) }
+    ensures err { OnErr result ((old.new ≡ old.old) × (rest.new ≡ rest.old)) }
+{
+    let value = value.clone()?;
+    rest.attempt(alloc)?;
+    Ok(Some(mem::replace(old, value)))
 }
 
 // Whether a side of a node of that height is two higher than the other one, of which the node isn't read where the height

@@ -4,16 +4,34 @@
 //! a tree may.
 
 ghost use Rattle.std.specs.Prelude.{◌≡◌, ◌+◌, ◌^◌, ◌<◌, ◌≤◌, max, length, MatchBool, Some};
-ghost use Rattle.shared_map.specs.Trees.{seen, side_on, with_side, of_parts, opposite, IsTree, IsSettled, IsStraight, DifferByAtMost};
+ghost use Rattle.shared_map.specs.Trees.{seen, side_on, with_side, of_parts, opposite, in_order, IsTree, IsSettled, IsStraight, DifferByAtMost};
 
 use crate::joining::height_above;
 use crate::tree::{Fork, Side, Tree};
 use std::mem;
 use std::sync::Arc;
 
-/// Sets the height of a node whose sides differ by two at most, and turns the node where they differ by two, as far as
-/// that goes.
-pub fn settle<K: Drop, V: Drop>(at: &mut Fork<K, V>)
+/// Puts a side back that was taken out, and settles the node where that side is as high as the node. While the side is lower,
+/// the node's height is still right, so that nothing else is written and the other side's node isn't read.
+pub fn give_back<K: Drop, V: Drop>(at: &mut Fork<K, V>, on: Side, side: Tree<K, V>)
+    requires level { DifferByAtMost 2 side.1 (side_on (opposite on) at.old).1 }
+    requires few { length side.0 + length (side_on (opposite on) at.old).0 + 1 < 2 ^ 64 }
+    requires tree { side.1 < at.old.height → IsTree (with_side on side at.old) }
+    ensures entries { (seen (Some at.new)).0 ≡ in_order on side.0 (at.old.key, at.old.value.value) (side_on (opposite on) at.old).0 }
+    ensures tree { IsTree at.new }
+    ensures lower { side.1 < at.old.height → at.new ≡ with_side on side at.old }
+    ensures settled { at.old.height ≤ side.1 → IsSettled side.1 (side_on (opposite on) at.old).1 at.new.height }
+{
+    let height = side.height();
+    at.set(on, side);
+    if height >= at.height {
+        settle(at);
+    }
+}
+
+// Sets the height of a node whose sides differ by two at most, and turns the node where they differ by two, as far as
+// that goes.
+fn settle<K: Drop, V: Drop>(at: &mut Fork<K, V>)
     requires level { DifferByAtMost 2 at.old.left.1 at.old.right.1 }
     requires few { length at.old.left.0 + length at.old.right.0 + 1 < 2 ^ 64 }
     ensures entries { (seen (Some at.new)).0 ≡ (seen (Some at.old)).0 }

@@ -1,83 +1,67 @@
-use Rattle.std.proofs.Common.{rules, ◌≡◌, ◌≤◌, ◌∷◌, ◌++◌, Some, sym, ap, ◌∙◌, refl, arith}
-use Rattle.std.specs.declared.cmp.Ordering.TheVariants.{Less, Greater}
+use Rattle.std.proofs.Common.{rules, ◌≡◌, ◌<◌, T, ◌∷◌, ◌++◌, length, Some, ap, ◌∙◌, subst, refl, arith}
 use Rattle.std.specs.Prelude.{IfOk, OnOk, OnErr}
 use Rattle.std.specs.Option.{option_map}
-use Rattle.std.specs.FinMap.Entries.{find as value_at, put}
-use Rattle.shared_map.specs.Trees.{IsGrown}
-use Rattle.shared_map.proofs.Forks.{shorter, sorted_sides, found_left, found_here, found_right, put_here, over_own}
-use Rattle.shared_map.proofs.Grown.{few_left, few_right, tree_left, tree_right, level_left, level_right, grown_left, grown_right}
+use Rattle.std.specs.FinMap.Entries.{find as value_at, put, is_sorted}
+use Rattle.shared_map.specs.Trees.{seen, side_on, side_to, IsGrown}
+use Rattle.shared_map.proofs.Forks.{shorter_side, sorted_side, found_side, found_own, over_own}
+use Rattle.shared_map.proofs.Grown.{value_tree, own_ok, grown_fits, grown_ok, grown_err}
+use Rattle.shared_map.proofs.Joined.{balanced_on}
+use Rattle.shared_map.proofs.Rows.{err_on}
+use Rattle.shared_map.proofs.Turned.{when_false}
 use Rattle.shared_map.proofs.placing.+placing.Goals as goal
-use Rattle.shared_map.proofs.placing.+placing.Goals.{put_at-then-height-at, put_at-else-height-at, put_at-then-height-at-2, put_at-else-height-at-2}
 
-pub put_at-put-requires : goal.put_at-put-requires
-put_at-put-requires g t c κs within =
-    let short = shorter c.args.at.now _ refl in
-    let sorted = sorted_sides c.args.at.now _ refl g.K.MapKey.order g.met.K.MapKey.total c.requires.ordered in
-    (search rules, (within.0, (within.1.0, (within.1.1, (sorted.0, omega (arith, short.0, c.requires.few))))))
+pub put_at-put-before-requires : goal.put_at-put-before-requires
+put_at-put-before-requires g t c κs within =
+    let is : c.take-side.result ≡ side_on c.in-Some.on c.args.at.now = c.take-side.ensures.side in
+    let short : length c.take-side.result.0 < length (seen (Some c.args.at.now)).0 = omega (arith, shorter_side c.args.at.now _ refl c.in-Some.on, ap (λ x. length x.0) is) in
+    let sorted : T (is_sorted g.K.MapKey.order c.take-side.result.0) = rw is (sorted_side c.args.at.now _ refl g.K.MapKey.order g.met.K.MapKey.total c.requires.ordered c.in-Some.on) in
+    (search rules, (within.0, (within.1.0, (within.1.1, (sorted, omega (arith, short, c.requires.few))))))
 
-pub put_at-put-requires-in-Greater : goal.put_at-put-requires-in-Greater
-put_at-put-requires-in-Greater g t c κs within =
-    let short = shorter c.args.at.now _ refl in
-    let sorted = sorted_sides c.args.at.now _ refl g.K.MapKey.order g.met.K.MapKey.total c.requires.ordered in
-    (search rules, (within.0, (within.1.0, (within.1.1, (sorted.1, omega (arith, short.1, c.requires.few))))))
+pub put_at-is_two_higher-requires : goal.put_at-is_two_higher-requires
+put_at-is_two_higher-requires g t c =
+    let n = balanced_on c.in-Some.on c.args.at.now c.requires.tree.0 in
+    let near = ap (λ x. x.1) c.on.ensures in
+    let far = ap (λ x. x.1) c.on-2.ensures in
+    let which = ap (λ i. (side_on i c.args.at.now).1) c.other.ensures in
+    record { height = omega (arith, n.0, near, far, which) }
 
-pub put_at-settle-requires-clause-few : goal.put_at-settle-requires-clause-few
-put_at-settle-requires-clause-few g t c = few_left c.args.at.now g.K.MapKey.order _ _ c.put.new.tree c.in_ok-before-in-Less.ensures.ok.0 c.requires.few
+pub put_at-give_back-requires : goal.put_at-give_back-requires
+put_at-give_back-requires g t c =
+    let near = ap (λ x. x.1) c.on.ensures in
+    let far = ap (λ x. x.1) c.on-2.ensures in
+    let which = ap (λ i. (side_on i c.args.at.now).1) c.other.ensures in
+    let lower = when_false _ _ c.is_two_higher.result c.if-is_two_higher.false c.is_two_higher.ensures in
+    let fits = grown_fits g.K.MapKey.order c.args.key.now c.args.value.now.value c.args.at.now c.take-side.new.self c.in-Some.on c.take-side.result c.put-before.new.tree c.take-side.ensures.rest c.take-side.ensures.side c.requires.tree _ _ c.put-before.result c.put-before.ensures.ok c.put-before.ensures.err (omega (arith, near, far, which, lower)) c.requires.few in
+    record { level = fits.0; few = fits.1; tree = fits.2 }
 
-pub put_at-returns-in_ok-attempt-in-Equal-clause-before : goal.put_at-returns-in_ok-attempt-in-Equal-clause-before
-put_at-returns-in_ok-attempt-in-Equal-clause-before g t c =
-    ap (λ v. Some v.value) c.replace.ensures.value ∙ found_here c.args.at.now _ refl g.K.MapKey.order g.met.K.MapKey.total c.requires.ordered c.args.key.now (sym c.in-Equal.ensures)
+pub put_at-returns-in_default-clause-before : goal.put_at-returns-in_default-clause-before
+put_at-returns-in_default-clause-before g t c =
+    subst (λ x. IfOk c.put_here.result (λ before. option_map (λ v. v.value) before ≡ x)) (found_own c.args.at.now _ refl g.K.MapKey.order g.met.K.MapKey.total c.requires.ordered c.args.key.now c.to.result (c.to.ensures ∙ ap side_to c.compare.ensures) c.in_default.is) c.put_here.ensures.before
 
-pub put_at-returns-in_ok-attempt-in-Equal-clause-ok : goal.put_at-returns-in_ok-attempt-in-Equal-clause-ok
-put_at-returns-in_ok-attempt-in-Equal-clause-ok g t c =
-    let value : c.replace.new.dest.value ≡ c.args.value.now.value = ap (λ v. v.value) c.replace.ensures.after ∙ c.in_ok-value-in-Equal.ensures.cases in
-    let f = c.args.at.now in
-    ((ap (λ v. f.left.0 ++ (f.key, v) ∷ f.right.0) value ∙ put_here f _ refl g.K.MapKey.order g.met.K.MapKey.total c.requires.ordered c.args.key.now c.args.value.now.value (sym c.in-Equal.ensures), omega arith, omega arith), c.in_ok-attempt-in-Equal.ensures.ok)
+pub put_at-returns-in_default-clause-tree : goal.put_at-returns-in_default-clause-tree
+put_at-returns-in_default-clause-tree g t c = (c.requires.tree.0, value_tree _ _ _ _ _ _ c.requires.tree.1)
 
-pub put_at-settle-requires-then-height-at-2-clause-few : goal.put_at-settle-requires-then-height-at-2-clause-few
-put_at-settle-requires-then-height-at-2-clause-few g t c = few_right c.args.at.now g.K.MapKey.order _ _ c.put-in-Greater.new.tree c.in_ok-before-in-Greater.ensures.ok.0 c.requires.few
+pub put_at-returns-in_default-clause-ok : goal.put_at-returns-in_default-clause-ok
+put_at-returns-in_default-clause-ok g t c =
+    own_ok _ c.put_here.result c.args.at.now g.K.MapKey.order g.met.K.MapKey.total c.requires.ordered c.args.key.now c.to.result (c.to.ensures ∙ ap side_to c.compare.ensures) c.in_default.is c.args.value.now.value c.put_here.new.old.value c.put_here.ensures.ok
 
-pub put_at-returns-after-height-at-clause-before : goal.put_at-returns-after-height-at-clause-before
-put_at-returns-after-height-at-clause-before g t c =
-    c.in_ok-before-in-Less.ensures.before ∙ found_left c.args.at.now _ refl g.K.MapKey.order g.met.K.MapKey.total c.requires.ordered c.args.key.now (sym c.in-Less.ensures)
+pub put_at-returns-in_default-clause-err : goal.put_at-returns-in_default-clause-err
+put_at-returns-in_default-clause-err g t c =
+    err_on c.put_here.result (λ h. (ap (λ x. (c.args.at.now.left.0 ++ (c.args.at.now.key, x.value) ∷ c.args.at.now.right.0, c.args.at.now.height)) h.0, h.1)) c.put_here.ensures.err
 
-pub put_at-returns-after-height-at-clause-tree : goal.put_at-returns-after-height-at-clause-tree
-put_at-returns-after-height-at-clause-tree g t c =
-    elim c.if-height-at.branch [
-      | put_at-then-height-at w ↦ rw w.at-is w.settle.ensures.tree
-      | put_at-else-height-at w ↦ rw w.at-is (tree_left c.args.at.now g.K.MapKey.order c.args.key.now c.args.value.now.value c.put.new.tree c.requires.tree c.in_ok-before-in-Less.ensures.ok.0 (omega (arith, w.if-height-at.false, c.height.ensures.height)))
-    ]
+pub put_at-returns-clause-before : goal.put_at-returns-clause-before
+put_at-returns-clause-before g t c =
+    subst (λ x. IfOk c.put-before.result (λ before. option_map (λ v. v.value) before ≡ x)) (ap (λ x. value_at g.K.MapKey.order c.args.key.now x.0) c.take-side.ensures.side ∙ found_side c.args.at.now _ refl g.K.MapKey.order g.met.K.MapKey.total c.requires.ordered c.args.key.now c.to.result (c.to.ensures ∙ ap side_to c.compare.ensures) c.in-Some.on c.in-Some.is) c.put-before.ensures.before
 
-pub put_at-returns-after-height-at-clause-ok : goal.put_at-returns-after-height-at-clause-ok
-put_at-returns-after-height-at-clause-ok g t c =
-    let way : g.K.MapKey.order c.args.key.now c.args.at.now.key ≡ Less = sym c.in-Less.ensures in
-    elim c.if-height-at.branch [
-      | put_at-then-height-at w ↦
-          let high : c.args.at.now.height ≤ c.put.new.tree.1 = omega (arith, w.if-height-at.true, c.height.ensures.height) in
-          rw w.at-is (grown_left c.args.at.now g.K.MapKey.order c.args.key.now c.args.value.now.value c.put.new.tree g.met.K.MapKey.total c.requires.ordered c.requires.tree.0 high _ _ way c.in_ok-before-in-Less.ensures.ok.0 w.settle.ensures.entries w.settle.ensures.settled, c.in_ok-before-in-Less.ensures.ok.1)
-      | put_at-else-height-at w ↦ rw w.at-is (level_left c.args.at.now g.K.MapKey.order c.args.key.now c.args.value.now.value c.put.new.tree g.met.K.MapKey.total c.requires.ordered way c.in_ok-before-in-Less.ensures.ok.0, c.in_ok-before-in-Less.ensures.ok.1)
-    ]
+pub put_at-returns-clause-ok : goal.put_at-returns-clause-ok
+put_at-returns-clause-ok g t c =
+    grown_ok g.K.MapKey.order c.args.key.now c.args.value.now.value c.args.at.now c.take-side.new.self c.in-Some.on c.take-side.result c.put-before.new.tree c.take-side.ensures.rest c.take-side.ensures.side c.requires.tree _ _ c.put-before.result c.put-before.ensures.ok c.put-before.ensures.err
+    c.give_back.new.at c.give_back.ensures.lower g.met.K.MapKey.total c.requires.ordered c.to.result (c.to.ensures ∙ ap side_to c.compare.ensures) c.in-Some.is c.give_back.ensures.entries c.give_back.ensures.settled
 
-pub put_at-returns-after-height-at-2-clause-before : goal.put_at-returns-after-height-at-2-clause-before
-put_at-returns-after-height-at-2-clause-before g t c =
-    c.in_ok-before-in-Greater.ensures.before ∙ found_right c.args.at.now _ refl g.K.MapKey.order g.met.K.MapKey.total c.requires.ordered c.args.key.now (sym c.in-Greater.ensures)
-
-pub put_at-returns-after-height-at-2-clause-tree : goal.put_at-returns-after-height-at-2-clause-tree
-put_at-returns-after-height-at-2-clause-tree g t c =
-    elim c.if-height-at-2.branch [
-      | put_at-then-height-at-2 w ↦ rw w.at-is w.settle-then-height-at-2.ensures.tree
-      | put_at-else-height-at-2 w ↦ rw w.at-is (tree_right c.args.at.now g.K.MapKey.order c.args.key.now c.args.value.now.value c.put-in-Greater.new.tree c.requires.tree c.in_ok-before-in-Greater.ensures.ok.0 (omega (arith, w.if-height-at-2.false, c.height-in-Greater.ensures.height)))
-    ]
-
-pub put_at-returns-after-height-at-2-clause-ok : goal.put_at-returns-after-height-at-2-clause-ok
-put_at-returns-after-height-at-2-clause-ok g t c =
-    let way : g.K.MapKey.order c.args.key.now c.args.at.now.key ≡ Greater = sym c.in-Greater.ensures in
-    elim c.if-height-at-2.branch [
-      | put_at-then-height-at-2 w ↦
-          let high : c.args.at.now.height ≤ c.put-in-Greater.new.tree.1 = omega (arith, w.if-height-at-2.true, c.height-in-Greater.ensures.height) in
-          rw w.at-is (grown_right c.args.at.now g.K.MapKey.order c.args.key.now c.args.value.now.value c.put-in-Greater.new.tree g.met.K.MapKey.total c.requires.ordered c.requires.tree.0 high _ _ way c.in_ok-before-in-Greater.ensures.ok.0 w.settle-then-height-at-2.ensures.entries w.settle-then-height-at-2.ensures.settled, c.in_ok-before-in-Greater.ensures.ok.1)
-      | put_at-else-height-at-2 w ↦ rw w.at-is (level_right c.args.at.now g.K.MapKey.order c.args.key.now c.args.value.now.value c.put-in-Greater.new.tree g.met.K.MapKey.total c.requires.ordered way c.in_ok-before-in-Greater.ensures.ok.0, c.in_ok-before-in-Greater.ensures.ok.1)
-    ]
+pub put_at-returns-clause-err : goal.put_at-returns-clause-err
+put_at-returns-clause-err g t c =
+    grown_err g.K.MapKey.order c.args.key.now c.args.value.now.value c.args.at.now c.take-side.new.self c.in-Some.on c.take-side.result c.put-before.new.tree c.take-side.ensures.rest c.take-side.ensures.side c.requires.tree _ _ c.put-before.result c.put-before.ensures.ok c.put-before.ensures.err
+    c.give_back.new.at c.give_back.ensures.lower
 
 pub put-over-requires : goal.put-over-requires
 put-over-requires g t c = record { balanced = c.put_over-before.ensures.tree.0; low = c.put_over-before.ensures.tree.1 }
