@@ -124,3 +124,84 @@ update_two_over-returns-clause-tree g t c = own_tree c.args.top.now.value c.in_o
 
 pub update_two_over-returns-clause-shape : goal.update_two_over-returns-clause-shape
 update_two_over-returns-clause-shape g t c = own_shape c.args.top.now.value c.in_ok-at.at.now c.update_two_at.new.at (c.make_mut.follows.lender c.update_two_at.new.at).value c.in_ok-at.ensures.value (c.make_mut.follows.holds c.update_two_at.new.at (rw c.in_ok-at.was refl)) c.update_two_at.ensures.left c.update_two_at.ensures.right c.update_two_at.ensures.height
+
+pub update_two_at-returns-in-Less-Less-clause-left : goal.update_two_at-returns-in-Less-Less-clause-left
+update_two_at-returns-in-Less-Less-clause-left g t c = c.update_two.ensures.shape
+
+pub update_two_at-returns-in-Less-Less-clause-right : goal.update_two_at-returns-in-Less-Less-clause-right
+update_two_at-returns-in-Less-Less-clause-right g t c = (refl, refl)
+
+pub update_two_at-returns-in-Less-Less-clause-height : goal.update_two_at-returns-in-Less-Less-clause-height
+update_two_at-returns-in-Less-Less-clause-height g t c = refl
+
+pub update_two_at-returns-in-Less-Equal-clause-left : goal.update_two_at-returns-in-Less-Equal-clause-left
+update_two_at-returns-in-Less-Equal-clause-left g t c = c.update_and_amend.ensures.shape
+
+pub update_two_at-returns-in-Less-Equal-clause-right : goal.update_two_at-returns-in-Less-Equal-clause-right
+update_two_at-returns-in-Less-Equal-clause-right g t c = (refl, refl)
+
+pub update_two_at-returns-in-Less-Equal-clause-height : goal.update_two_at-returns-in-Less-Equal-clause-height
+update_two_at-returns-in-Less-Equal-clause-height g t c = refl
+
+pub update_two_at-returns-in-Less-Greater-clause-left : goal.update_two_at-returns-in-Less-Greater-clause-left
+update_two_at-returns-in-Less-Greater-clause-left g t c = c.update_beside.ensures.shape
+
+pub update_two_at-returns-in-Less-Greater-clause-right : goal.update_two_at-returns-in-Less-Greater-clause-right
+update_two_at-returns-in-Less-Greater-clause-right g t c = c.update_beside.ensures.other
+
+pub update_two_at-returns-in-Less-Greater-clause-height : goal.update_two_at-returns-in-Less-Greater-clause-height
+update_two_at-returns-in-Less-Greater-clause-height g t c = refl
+
+pub update_two_at-returns-in-Equal-Less-clause-left : goal.update_two_at-returns-in-Equal-Less-clause-left
+update_two_at-returns-in-Equal-Less-clause-left g t c = c.edit_beside.ensures.shape
+
+pub update_two_at-returns-in-Equal-Less-clause-right : goal.update_two_at-returns-in-Equal-Less-clause-right
+update_two_at-returns-in-Equal-Less-clause-right g t c = (refl, refl)
+
+pub update_two_at-returns-in-Equal-Less-clause-height : goal.update_two_at-returns-in-Equal-Less-clause-height
+update_two_at-returns-in-Equal-Less-clause-height g t c = refl
+
+pub update_two_at-returns-in-Equal-Equal-clause-left : goal.update_two_at-returns-in-Equal-Equal-clause-left
+update_two_at-returns-in-Equal-Equal-clause-left g t c = (refl, refl)
+
+pub update_two_at-returns-in-Equal-Equal-clause-right : goal.update_two_at-returns-in-Equal-Equal-clause-right
+update_two_at-returns-in-Equal-Equal-clause-right g t c = (refl, refl)
+
+pub update_two_at-returns-in-Equal-Equal-clause-height : goal.update_two_at-returns-in-Equal-Equal-clause-height
+update_two_at-returns-in-Equal-Equal-clause-height g t c = refl
+
+pub update_two_at-returns-in-Equal-Greater-clause-left : goal.update_two_at-returns-in-Equal-Greater-clause-left
+update_two_at-returns-in-Equal-Greater-clause-left g t c = (refl, refl)
+
+pub update_two_at-returns-in-Equal-Greater-clause-right : goal.update_two_at-returns-in-Equal-Greater-clause-right
+update_two_at-returns-in-Equal-Greater-clause-right g t c = c.edit_beside-in-Equal-Greater.ensures.shape
+
+pub update_two_at-returns-in-Equal-Greater-clause-height : goal.update_two_at-returns-in-Equal-Greater-clause-height
+update_two_at-returns-in-Equal-Greater-clause-height g t c = refl
+
+pub update_two_at-returns-in-Greater-Less-clause-left : goal.update_two_at-returns-in-Greater-Less-clause-left
+update_two_at-returns-in-Greater-Less-clause-left g t c = c.update_beside-in-Greater-Less.ensures.other
+
+pub update_two_at-returns-in-Greater-Less-clause-right : goal.update_two_at-returns-in-Greater-Less-clause-right
+update_two_at-returns-in-Greater-Less-clause-right g t c = c.update_beside-in-Greater-Less.ensures.shape
+
+pub update_two_at-returns-in-Greater-Less-clause-height : goal.update_two_at-returns-in-Greater-Less-clause-height
+update_two_at-returns-in-Greater-Less-clause-height g t c = refl
+
+pub update_two_at-returns-in-Greater-Equal-clause-left : goal.update_two_at-returns-in-Greater-Equal-clause-left
+update_two_at-returns-in-Greater-Equal-clause-left g t c = (refl, refl)
+
+pub update_two_at-returns-in-Greater-Equal-clause-right : goal.update_two_at-returns-in-Greater-Equal-clause-right
+update_two_at-returns-in-Greater-Equal-clause-right g t c = c.update_and_amend-in-Greater-Equal.ensures.shape
+
+pub update_two_at-returns-in-Greater-Equal-clause-height : goal.update_two_at-returns-in-Greater-Equal-clause-height
+update_two_at-returns-in-Greater-Equal-clause-height g t c = refl
+
+pub update_two_at-returns-in-Greater-Greater-clause-left : goal.update_two_at-returns-in-Greater-Greater-clause-left
+update_two_at-returns-in-Greater-Greater-clause-left g t c = (refl, refl)
+
+pub update_two_at-returns-in-Greater-Greater-clause-right : goal.update_two_at-returns-in-Greater-Greater-clause-right
+update_two_at-returns-in-Greater-Greater-clause-right g t c = c.update_two-in-Greater-Greater.ensures.shape
+
+pub update_two_at-returns-in-Greater-Greater-clause-height : goal.update_two_at-returns-in-Greater-Greater-clause-height
+update_two_at-returns-in-Greater-Greater-clause-height g t c = refl

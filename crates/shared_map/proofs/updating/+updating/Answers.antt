@@ -84,3 +84,42 @@ update_over-returns-clause-tree g t c = own_tree c.args.top.now.value c.in_ok-at
 
 pub update_over-returns-clause-shape : goal.update_over-returns-clause-shape
 update_over-returns-clause-shape g t c = own_shape c.args.top.now.value c.in_ok-at.at.now c.update_at.new.at (c.make_mut.follows.lender c.update_at.new.at).value c.in_ok-at.ensures.value (c.make_mut.follows.holds c.update_at.new.at (rw c.in_ok-at.was refl)) c.update_at.ensures.left c.update_at.ensures.right c.update_at.ensures.height
+
+pub update_at-returns-in-Less-clause-left : goal.update_at-returns-in-Less-clause-left
+update_at-returns-in-Less-clause-left g t c = c.update.ensures.shape
+
+pub update_at-returns-in-Less-clause-right : goal.update_at-returns-in-Less-clause-right
+update_at-returns-in-Less-clause-right g t c = (refl, refl)
+
+pub update_at-returns-in-Less-clause-height : goal.update_at-returns-in-Less-clause-height
+update_at-returns-in-Less-clause-height g t c = refl
+
+pub update_at-returns-in-Greater-clause-left : goal.update_at-returns-in-Greater-clause-left
+update_at-returns-in-Greater-clause-left g t c = (refl, refl)
+
+pub update_at-returns-in-Greater-clause-right : goal.update_at-returns-in-Greater-clause-right
+update_at-returns-in-Greater-clause-right g t c = c.update-in-Greater.ensures.shape
+
+pub update_at-returns-in-Greater-clause-height : goal.update_at-returns-in-Greater-clause-height
+update_at-returns-in-Greater-clause-height g t c = refl
+
+pub update_at-returns-in_ok-update_value-in-Equal-clause-left : goal.update_at-returns-in_ok-update_value-in-Equal-clause-left
+update_at-returns-in_ok-update_value-in-Equal-clause-left g t c = (refl, refl)
+
+pub update_at-returns-in_ok-update_value-in-Equal-clause-right : goal.update_at-returns-in_ok-update_value-in-Equal-clause-right
+update_at-returns-in_ok-update_value-in-Equal-clause-right g t c = (refl, refl)
+
+pub update_at-returns-in_ok-update_value-in-Equal-clause-height : goal.update_at-returns-in_ok-update_value-in-Equal-clause-height
+update_at-returns-in_ok-update_value-in-Equal-clause-height g t c = refl
+
+pub update_at-returns-in_err-update_value-in-Equal-clause-left : goal.update_at-returns-in_err-update_value-in-Equal-clause-left
+update_at-returns-in_err-update_value-in-Equal-clause-left g t c = (refl, refl)
+
+pub update_at-returns-in_err-update_value-in-Equal-clause-right : goal.update_at-returns-in_err-update_value-in-Equal-clause-right
+update_at-returns-in_err-update_value-in-Equal-clause-right g t c = (refl, refl)
+
+pub update_at-returns-in_err-update_value-in-Equal-clause-height : goal.update_at-returns-in_err-update_value-in-Equal-clause-height
+update_at-returns-in_err-update_value-in-Equal-clause-height g t c = refl
+
+pub update_at-returns-in_ok-update_value-in-Equal-clause-err : goal.update_at-returns-in_ok-update_value-in-Equal-clause-err
+update_at-returns-in_ok-update_value-in-Equal-clause-err g t c = tt
