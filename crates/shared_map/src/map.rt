@@ -111,26 +111,11 @@ impl<K: MapKey + Drop, V: Drop> SharedMap<K, V> {
         ensures ok { OnOk result ((self.new ≡ put K.order key value self.old) × P.makes rest.old rest.new) }
         ensures err { OnErr result ((self.new ≡ self.old) × (rest.new ≡ rest.old)) }
     {
-        let value = Arc::new(alloc, value)?;
-        self.insert_shared(alloc, &key, &value, rest)
-    }
-
-    // The same with a key and a value that are shared.
-    fn insert_shared<P: Attempt>(
-        &mut self,
-        alloc: Global,
-        key: &K,
-        value: &Arc<V>,
-        rest: &mut P,
-    ) -> Result<Option<Arc<V>>, Memory>
-        ensures old { IfOk result (λ old. option_map (λ v. v.value) old ≡ value_at K.order key.now self.old) }
-        ensures ok { OnOk result ((self.new ≡ put K.order key.now value.now.value self.old) × P.makes rest.old rest.new) }
-        ensures err { OnErr result ((self.new ≡ self.old) × (rest.new ≡ rest.old)) }
-    {
         if self.count == usize::MAX {
             return Err(Memory);
         }
-        let old = self.tree.insert(alloc, key, value, rest)?;
+        let value = Arc::new(alloc, value)?;
+        let old = self.tree.insert(alloc, &key, &value, rest)?;
         if old.is_none() {
             self.count += 1;
         }
