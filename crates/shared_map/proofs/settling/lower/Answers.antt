@@ -63,3 +63,21 @@ returns-else-straighten-clause-height g c =
     let no = when_false _ _ c.straighten.result c.if-straighten.false c.straighten.ensures in
     let same = put_back c.args.at.now c.args.on c.over-else-straighten.result c.take.new.self c.set-else-straighten.new.self c.take.ensures.rest c.set-else-straighten.ensures (c.over-else-straighten.ensures ∙ ap (λ x. seen (Some x)) no ∙ is) in
     still_high c.args.at.now c.set-else-straighten.new.self same c.args.on c.requires.higher
+
+pub returns-in_default-get_mut-clause-entries : goal.returns-in_default-get_mut-clause-entries
+returns-in_default-get_mut-clause-entries g c =
+    let is : seen (Some c.in-Some.top.value) ≡ side_on c.args.on c.args.at.now = c.in-Some.ensures.top ∙ c.take.ensures.side in
+    let same = put_back c.args.at.now c.args.on c.over.result c.take.new.self c.set.new.self c.take.ensures.rest c.set.ensures (c.over.ensures ∙ is) in
+    ap (λ x. (seen (Some x)).0) same
+
+pub returns-in_default-get_mut-clause-level : goal.returns-in_default-get_mut-clause-level
+returns-in_default-get_mut-clause-level g c =
+    let is : seen (Some c.in-Some.top.value) ≡ side_on c.args.on c.args.at.now = c.in-Some.ensures.top ∙ c.take.ensures.side in
+    let same = put_back c.args.at.now c.args.on c.over.result c.take.new.self c.set.new.self c.take.ensures.rest c.set.ensures (c.over.ensures ∙ is) in
+    still_level c.args.at.now c.set.new.self same c.args.on c.requires.higher
+
+pub returns-in_default-get_mut-clause-height : goal.returns-in_default-get_mut-clause-height
+returns-in_default-get_mut-clause-height g c =
+    let is : seen (Some c.in-Some.top.value) ≡ side_on c.args.on c.args.at.now = c.in-Some.ensures.top ∙ c.take.ensures.side in
+    let same = put_back c.args.at.now c.args.on c.over.result c.take.new.self c.set.new.self c.take.ensures.rest c.set.ensures (c.over.ensures ∙ is) in
+    still_high c.args.at.now c.set.new.self same c.args.on c.requires.higher
