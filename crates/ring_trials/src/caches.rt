@@ -15,18 +15,15 @@ fn keep(line: &mut Line<'_>, cache: &mut BlockCache, number: u16) {
     }
 }
 
-/// Keeps the blocks 0 to 255, in this order.
-fn keep_all(line: &mut Line<'_>, cache: &mut BlockCache) {
-    for number in 0..256 {
-        keep(line, cache, number);
-    }
-}
-
-/// Begins anew, with a full cache.
+/// Begins anew, with a full cache: of the blocks 0 to 255, kept in this order.
 fn fill(line: &mut Line<'_>, held: &mut Option<BlockCache>) {
     *held = BlockCache::new(line.alloc).ok();
     match held {
-        Some(cache) => keep_all(line, cache),
+        Some(cache) => {
+            for number in 0..256 {
+                keep(line, cache, number);
+            }
+        }
         None => line.fail(),
     }
 }
@@ -52,7 +49,7 @@ fn put_block(line: &mut Line<'_>, cache: &mut BlockCache, what: &str) {
             keep(line, cache, number);
             line.put("kept");
         }
-        "has" => line.put_truth(holds(cache, &key)),
+        "has" => line.put(if holds(cache, &key) { "true" } else { "false" }),
         "find" => line.put_found(cache.find(&key)),
         _ => line.fail(),
     }

@@ -4,7 +4,7 @@ use crate::line::Line;
 use crate::ring::{Nodes, answer_of};
 use crate::strangers;
 use dhash_client::{Lookup, Miss, Want};
-use dht_ids::{Answer, Ask, Peer, Peers};
+use dht_ids::{Peer, Peers};
 use ivy_base::Key;
 
 /// How often a look-up is told to go on: once more than the asks that it may make.
@@ -23,14 +23,6 @@ impl Drop for Course {
 }
 
 impl Course {
-    /// The first of the owners that were found.
-    pub fn owner(&self) -> Option<Peer> {
-        match &self.found {
-            Ok(owners) => owners.as_slice().first().copied(),
-            Err(_) => None,
-        }
-    }
-
     /// Whether a node was asked twice.
     pub fn asked_twice(&self) -> bool {
         let asked = self.asked.as_slice();
@@ -52,16 +44,6 @@ pub enum Others<'a> {
     Strangers(&'a str),
 }
 
-impl Others<'_> {
-    /// What the node answers to Route.
-    fn route(&self, line: &mut Line<'_>, node: Peer, key: Key) -> Answer {
-        match self {
-            Others::Ring(nodes) => answer_of(line, nodes, node, key),
-            Others::Strangers(who) => strangers::route(line, who, node),
-        }
-    }
-}
-
 /// Tells a look-up to go on until it has its result, and notes the nodes that it asks. The line fails where it doesn't end.
 fn result_of(
     line: &mut Line<'_>,
@@ -74,8 +56,11 @@ fn result_of(
         let Ok(want) = lookup.next() else { break };
         match want {
             Want::Ask(node, _) => {
-                line.done(asked.push(node));
-                let answer = others.route(line, node, key);
+                line.push(asked, node);
+                let answer = match others {
+                    Others::Ring(nodes) => answer_of(line, nodes, node, key),
+                    Others::Strangers(who) => strangers::route(line, who, node),
+                };
                 line.done(lookup.heard(answer));
             }
             Want::Done(found) => return found,
@@ -86,9 +71,9 @@ fn result_of(
 }
 
 /// Looks a key up from these nodes.
-pub fn drive(line: &mut Line<'_>, key: Key, entries: &Peers, others: &Others<'_>) -> Course {
+pub fn drive(line: &mut Line<'_>, key: Key, entries: Vec<Peer>, others: &Others<'_>) -> Course {
     let mut asked = Vec::new(line.alloc);
-    let found = match Lookup::start(line.alloc, key, 1, entries) {
+    let found = match Lookup::start(line.alloc, key, 1, &Peers::of(entries)) {
         Ok(mut lookup) => result_of(line, &mut lookup, &mut asked, key, others),
         Err(_) => {
             line.fail();
@@ -100,6 +85,6 @@ pub fn drive(line: &mut Line<'_>, key: Key, entries: &Peers, others: &Others<'_>
 
 /// Looks a key up from a node of a ring.
 pub fn look_up(line: &mut Line<'_>, nodes: &Nodes, key: Key, entry: Peer) -> Course {
-    let entries = Peers::of(line.peers_of(&[entry]));
-    drive(line, key, &entries, &Others::Ring(nodes))
+    let entries = line.peers_of(&[entry]);
+    drive(line, key, entries, &Others::Ring(nodes))
 }

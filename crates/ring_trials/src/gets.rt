@@ -15,25 +15,22 @@ const ENTRY: u32 = 100;
 /// How often a machine is told to go on.
 const MOST_STEPS: u32 = 30;
 
-/// What the owner of a word answers that gives the bytes behind a colon.
-fn given(line: &mut Line<'_>, word: &str) -> Answer {
-    let (gives, bytes) = parts(line, word);
-    line.note(gives == "gives");
-    Answer::Found(Bytes::from_word(line, bytes))
-}
-
 /// What an owner answers. An older one holds a newer head, and the answers of a muddled one have the form of no answer to a
 /// get or a put.
 impl Word for Answer {
     fn from_word(line: &mut Line<'_>, word: &str) -> Answer {
         match word {
             "silent" => Answer::Silent,
-            "empty" => Answer::Nothing,
-            "stores" => Answer::Stored,
+            "empty" | "nothing" => Answer::Nothing,
+            "stores" | "stored" => Answer::Stored,
             "older" => Answer::Refused(StoreFault::Older(7)),
             "full" => Answer::Refused(StoreFault::Full),
-            "muddled" => Answer::Noted,
-            _ => given(line, word),
+            "muddled" | "noted" => Answer::Noted,
+            _ => {
+                let (gives, bytes) = parts(line, word);
+                line.note(gives == "gives");
+                Answer::Found(Bytes::from_word(line, bytes))
+            }
         }
     }
 }
@@ -60,7 +57,7 @@ impl Owners {
             return Answer::Silent;
         }
         let mut owners = line.numbered(self.owners.len().min(100) as u32);
-        line.done(owners.push(peer(0)));
+        line.push(&mut owners, peer(0));
         Answer::Route {
             nearer: Peers::of(Vec::new(line.alloc)),
             owners: Peers::of(owners),
@@ -69,11 +66,11 @@ impl Owners {
 
     /// What the node answers to a get or a put. It counts as asked.
     fn held(&mut self, line: &mut Line<'_>, node: Peer) -> Answer {
-        line.done(self.asked.push(node));
+        line.push(&mut self.asked, node);
         match self.owners.get(node.number as usize) {
             Some(owner) => {
                 let answer = owner.copy(line.alloc);
-                line.heard(answer)
+                line.made_or(answer, Answer::Silent)
             }
             None => Answer::Silent,
         }
@@ -81,10 +78,9 @@ impl Owners {
 
     /// What the node answers.
     fn answer(&mut self, line: &mut Line<'_>, node: Peer, ask: Ask) -> Answer {
-        if matches!(&ask, Ask::Route(_)) {
-            self.route(line, node)
-        } else {
-            self.held(line, node)
+        match ask {
+            Ask::Route(_) => self.route(line, node),
+            _ => self.held(line, node),
         }
     }
 }
@@ -172,21 +168,15 @@ fn put_trial(line: &mut Line<'_>, what: &str, replicas: u32, entries: &Peers, ow
                 Err(_) => line.fail(),
             }
         }
-        _ => {
+        "put-head" => {
             let bytes = Bytes::from_word(line, "68656164");
             match PutHead::start(line.alloc, owner, bytes, replicas, entries) {
                 Ok(mut machine) => drive_put_head(line, &mut machine, owners),
                 Err(_) => line.fail(),
             }
         }
+        _ => line.fail(),
     }
-}
-
-/// A silent node and, where there are owners, the one that knows them.
-fn entries(line: &mut Line<'_>, is_owned: bool) -> Peers {
-    let entries = [peer(101), peer(ENTRY)];
-    let count = if is_owned { 2 } else { 1 };
-    Peers::of(line.peers_of(&entries[..count]))
 }
 
 /// Writes the answer to a line that such a word begins: what the get or the put comes to, and the owners that were asked.
@@ -196,7 +186,10 @@ pub fn answer(line: &mut Line<'_>, what: &str) {
         owners: line.list(),
         asked: Vec::new(line.alloc),
     };
-    let entries = entries(line, !owners.owners.is_empty());
+    // A silent node and, where there are owners, the one that knows them.
+    let nodes = [peer(101), peer(ENTRY)];
+    let count = if owners.owners.is_empty() { 1 } else { 2 };
+    let entries = Peers::of(line.peers_of(&nodes[..count]));
     put_trial(line, what, replicas, &entries, &mut owners);
     line.put_peers("; asked ", &owners.asked);
 }

@@ -2,7 +2,7 @@
 
 use crate::told::Told;
 use crate::words::Word;
-use dht_ids::{Answer, Peer, node_id};
+use dht_ids::{Peer, node_id};
 use ivy_base::{Key, Memory};
 use std::alloc::Global;
 use std::fmt::Write;
@@ -64,22 +64,49 @@ impl<'a> Line<'a> {
 
     /// Fails the line where something was not done.
     pub fn done<T: Drop, E: Drop>(&mut self, done: Result<T, E>) {
-        if done.is_err() {
+        if let Err(_) = done {
             self.failed = true;
         }
     }
 
-    /// Fails the line where another failed.
-    pub fn follow(&mut self, other: &Line<'_>) {
+    /// What was written of another line's answer. The line fails where that one failed.
+    pub fn follow(&mut self, other: Line<'_>) -> String {
         self.note(!other.failed);
+        other.text
+    }
+
+    /// What was made; where it was not, the line fails, and this stands in its place.
+    pub fn made_or<T: Drop, E: Drop>(&mut self, made: Result<T, E>, other: T) -> T {
+        match made {
+            Ok(made) => made,
+            Err(_) => {
+                self.failed = true;
+                other
+            }
+        }
     }
 
     /// The next word. The line fails where none is left.
     pub fn word(&mut self) -> &'a str {
-        self.note(!self.rest.is_empty());
-        let (word, rest) = self.rest.split_once(' ').unwrap_or((self.rest, ""));
-        self.rest = rest;
-        word
+        let left = self.rest;
+        self.note(!left.is_empty());
+        match left.split_once(' ') {
+            Some((word, rest)) => {
+                self.rest = rest;
+                word
+            }
+            None => {
+                self.rest = "";
+                left
+            }
+        }
+    }
+
+    /// Adds an item to a list.
+    pub fn push<T: Drop>(&mut self, list: &mut Vec<T>, item: T) {
+        if let Err(_) = list.push(item) {
+            self.failed = true;
+        }
     }
 
     /// What the next word stands for.
@@ -95,7 +122,7 @@ impl<'a> Line<'a> {
         if word != "-" {
             for word in word.split(',') {
                 let item = T::from_word(self, word);
-                self.done(list.push(item));
+                self.push(&mut list, item);
             }
         }
         list
@@ -105,31 +132,14 @@ impl<'a> Line<'a> {
     pub fn numbered(&mut self, count: u32) -> Vec<Peer> {
         let mut peers = Vec::new(self.alloc);
         for number in 0..count {
-            self.done(peers.push(peer(number)));
+            self.push(&mut peers, peer(number));
         }
         peers
     }
 
     /// These nodes; none for want of memory.
     pub fn peers_of(&mut self, peers: &[Peer]) -> Vec<Peer> {
-        match peers.to_vec(self.alloc) {
-            Ok(peers) => peers,
-            Err(_) => {
-                self.failed = true;
-                Vec::new(self.alloc)
-            }
-        }
-    }
-
-    /// What a node answers; nothing for want of memory.
-    pub fn heard(&mut self, answer: Result<Answer, Memory>) -> Answer {
-        match answer {
-            Ok(answer) => answer,
-            Err(_) => {
-                self.failed = true;
-                Answer::Silent
-            }
-        }
+        self.made_or(peers.to_vec(self.alloc), Vec::new(self.alloc))
     }
 
     /// Writes a text.
@@ -138,48 +148,39 @@ impl<'a> Line<'a> {
         self.done(written);
     }
 
-    /// Writes a number.
-    pub fn put_number(&mut self, number: u64) {
-        let written = write!(self.text, "{number}");
+    /// Writes a text, and behind it a number.
+    pub fn put_number(&mut self, before: &str, number: u64) {
+        let written = write!(self.text, "{before}{number}");
         self.done(written);
     }
 
-    /// Writes whether something holds.
-    pub fn put_truth(&mut self, holds: bool) {
-        self.put(if holds { "true" } else { "false" });
-    }
-
-    /// Writes bytes as hexadecimal digits.
-    fn put_digits(&mut self, bytes: &[u8]) {
+    /// Writes a text, and behind it the word of bytes.
+    pub fn put_bytes(&mut self, before: &str, bytes: &[u8]) {
+        self.put(before);
+        if bytes.is_empty() {
+            return self.put("-");
+        }
         match hex::encode(self.alloc, bytes) {
             Ok(digits) => self.put(digits.as_str()),
             Err(_) => self.failed = true,
         }
     }
 
-    /// Writes the word of bytes.
-    pub fn put_bytes(&mut self, bytes: &[u8]) {
-        if bytes.is_empty() {
-            return self.put("-");
-        }
-        self.put_digits(bytes);
-    }
-
     /// Writes the word of the bytes that were found, where they were.
     pub fn put_found(&mut self, found: Option<&[u8]>) {
         match found {
-            Some(bytes) => self.put_bytes(bytes),
+            Some(bytes) => self.put_bytes("", bytes),
             None => self.put("nothing"),
         }
     }
 
-    /// Writes the word of a key.
-    pub fn put_key(&mut self, key: &Key) {
+    /// Writes a text, and behind it the word of a key.
+    pub fn put_key(&mut self, before: &str, key: &Key) {
         let last = key.0[19];
         if *key == place(last) {
-            self.put_number(last as u64);
+            self.put_number(before, last as u64);
         } else {
-            self.put_digits(&key.0[..]);
+            self.put_bytes(before, &key.0[..]);
         }
     }
 
@@ -196,14 +197,14 @@ impl<'a> Line<'a> {
         }
     }
 
-    /// Writes the word of nodes behind what they are.
-    pub fn put_peers(&mut self, name: &str, peers: &[Peer]) {
-        self.put(name);
+    /// Writes a text, and behind it the word of nodes.
+    pub fn put_peers(&mut self, before: &str, peers: &[Peer]) {
+        self.put(before);
         self.put_list(peers);
     }
 
     /// Writes the word of what was made, where it was.
-    pub fn put_made<T: Told + Drop>(&mut self, made: Result<T, Memory>) {
+    pub fn put_made<T: Told>(&mut self, made: &Result<T, Memory>) {
         match made {
             Ok(made) => made.put(self),
             Err(_) => self.failed = true,

@@ -21,15 +21,18 @@ impl Mesh for Lone {
     ghost made = { λ mesh. mesh.0 ∷ [] };
 
     fn ask(&mut self, alloc: Global, _node: &Peer, ask: &Ask) -> Result<Answer, Memory> {
-        Ok(match ask {
-            Ask::Route(_) => Answer::Route {
-                nearer: Peers::of(Vec::new(alloc)),
-                owners: self.entries(alloc)?,
+        match ask {
+            Ask::Route(_) => match self.entries(alloc) {
+                Ok(owners) => Ok(Answer::Route {
+                    nearer: Peers::of(Vec::new(alloc)),
+                    owners,
+                }),
+                Err(Memory) => Err(Memory),
             },
-            Ask::PutBlock(..) | Ask::PutHead(..) => Answer::Refused(StoreFault::Full),
-            Ask::Get(_) => Answer::Nothing,
+            Ask::PutBlock(..) | Ask::PutHead(..) => Ok(Answer::Refused(StoreFault::Full)),
+            Ask::Get(_) => Ok(Answer::Nothing),
             Ask::Near | Ask::Notify(_) => unreachable!(),
-        })
+        }
     }
 
     fn replicas(&self) -> u32 {
@@ -37,26 +40,22 @@ impl Mesh for Lone {
     }
 
     fn entries(&self, alloc: Global) -> Result<Peers, Memory> {
-        Ok(Peers::of(vec![in alloc; self.0]?))
+        match vec![in alloc; self.0] {
+            Ok(entries) => Ok(Peers::of(entries)),
+            Err(_) => Err(Memory),
+        }
     }
-}
-
-/// Writes the routes that these nodes name, by any mesh, and how many nodes own a key.
-fn put_routes<M: Mesh>(line: &mut Line<'_>, mesh: &mut M, entries: &[Peer], key: Key) {
-    for node in entries {
-        let answer = mesh.ask(line.alloc, node, &Ask::Route(key));
-        line.put_made(answer);
-    }
-    line.put(" of ");
-    line.put_number(mesh.replicas() as u64);
 }
 
 /// Writes the routes that all nodes name, by any mesh, and how many nodes own a key.
 fn put_mesh<M: Mesh>(line: &mut Line<'_>, mesh: &mut M, key: Key) {
-    match mesh.entries(line.alloc) {
-        Ok(entries) => put_routes(line, mesh, entries.as_slice(), key),
-        Err(_) => line.fail(),
+    let none = Peers::of(Vec::new(line.alloc));
+    let entries = line.made_or(mesh.entries(line.alloc), none);
+    for node in entries.as_slice() {
+        let answer = mesh.ask(line.alloc, node, &Ask::Route(key));
+        line.put_made(&answer);
     }
+    line.put_number(" of ", mesh.replicas() as u64);
 }
 
 /// Writes the answer to a line.

@@ -1,6 +1,6 @@
 //! Trials of look-ups.
 
-use crate::course::{Course, look_up};
+use crate::course::look_up;
 use crate::line::Line;
 use crate::ring::Ring;
 use dht_ids::{Peer, node_id};
@@ -18,16 +18,6 @@ struct Tally {
     most: usize,
     /// The asks of all.
     asks: u64,
-}
-
-impl Tally {
-    fn count(&mut self, right: bool, asks: usize) {
-        if right {
-            self.right = self.right.saturating_add(1);
-        }
-        self.most = self.most.max(asks);
-        self.asks = self.asks.saturating_add(asks as u64);
-    }
 }
 
 /// The key of that number.
@@ -49,25 +39,24 @@ fn are_first_live(found: &[Peer], ring: &Ring, owners: &[Peer]) -> bool {
     count == owners.len()
 }
 
-/// Whether the look-up found the owners, perhaps with stopped nodes among them and others behind them, and asked no
-/// node twice.
-fn is_right(course: &Course, ring: &Ring, owners: &[Peer]) -> bool {
-    match &course.found {
-        Ok(found) => are_first_live(found.as_slice(), ring, owners) && !course.asked_twice(),
-        Err(_) => false,
-    }
-}
-
-/// Looks a key up from each live node.
+/// Looks a key up from each live node. A look-up is right where it found the owners, perhaps with stopped nodes among
+/// them and others behind them, and asked no node twice.
 fn look_up_key(line: &mut Line<'_>, ring: &Ring, key: Key, owners: &[Peer], tally: &mut Tally) {
     for entry in ring.live.as_slice() {
         let course = look_up(line, &ring.nodes, key, *entry);
-        tally.count(is_right(&course, ring, owners), course.asked.len());
+        if let Ok(found) = &course.found
+            && are_first_live(found.as_slice(), ring, owners)
+            && !course.asked_twice()
+        {
+            tally.right = tally.right.saturating_add(1);
+        }
+        tally.most = tally.most.max(course.asked.len());
+        tally.asks = tally.asks.saturating_add(course.asked.len() as u64);
     }
 }
 
-/// Looks so many keys up in a ring, each from each live node.
-fn look_up_keys(line: &mut Line<'_>, ring: &Ring, replicas: u32, keys: u32) -> Tally {
+/// Looks so many keys up in a ring, each from each live node, and writes what that comes to.
+pub fn put_lookups(line: &mut Line<'_>, ring: &Ring, replicas: u32, keys: u32) {
     let mut tally = Tally {
         right: 0,
         most: 0,
@@ -78,16 +67,7 @@ fn look_up_keys(line: &mut Line<'_>, ring: &Ring, replicas: u32, keys: u32) -> T
         let owners = ring.owners(line, key, replicas);
         look_up_key(line, ring, key, &owners, &mut tally);
     }
-    tally
-}
-
-/// Writes what such look-ups come to.
-pub fn put_lookups(line: &mut Line<'_>, ring: &Ring, replicas: u32, keys: u32) {
-    let tally = look_up_keys(line, ring, replicas, keys);
-    line.put(": ");
-    line.put_number(tally.right);
-    line.put(" right, most asks ");
-    line.put_number(tally.most as u64);
-    line.put(", asks in all ");
-    line.put_number(tally.asks);
+    line.put_number(": ", tally.right);
+    line.put_number(" right, most asks ", tally.most as u64);
+    line.put_number(", asks in all ", tally.asks);
 }

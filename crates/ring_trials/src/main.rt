@@ -72,10 +72,12 @@ fn main(rt: HostRuntime) -> io::Result<()> {
     let mut table = Table::new(rt.alloc());
     for line in rt.lines(rt.alloc()) {
         let line = line?;
-        match table.answer(rt.alloc(), line.as_str()) {
-            Some(answer) => println!(rt; "{answer}")?,
-            None => println!(rt; "no answer")?,
-        }
+        let answer = table.answer(rt.alloc(), line.as_str());
+        let answer = match &answer {
+            Some(answer) => answer.as_str(),
+            None => "no answer",
+        };
+        println!(rt; "{answer}")?;
     }
     Ok(())
 }

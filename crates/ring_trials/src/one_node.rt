@@ -36,11 +36,6 @@ fn made(line: &mut Line<'_>, is_alone: bool) -> Option<Node> {
     }
 }
 
-/// Begins anew, with the node that a line makes.
-fn make(line: &mut Line<'_>, node: &mut Option<Node>, is_alone: bool) {
-    *node = made(line, is_alone);
-}
-
 /// Has the node hear what the first of its list answers to Near.
 fn hear(line: &mut Line<'_>, node: &mut Node, heard: &Answer)
     requires { IsOfNear heard.now }
@@ -49,20 +44,9 @@ fn hear(line: &mut Line<'_>, node: &mut Node, heard: &Answer)
     line.done(renewed);
 }
 
-/// Has the node fix a finger.
-fn fix_finger(line: &mut Line<'_>, node: &mut Node) {
-    let k: u32 = line.read();
-    let owner: Peer = line.read();
-    if k == 0 || k > 160 {
-        return line.fail();
-    }
-    node.fix_finger(k, owner);
-}
-
-/// Has the node hear or take what the line says. Nothing where it was made by the line.
+/// Has the node hear or take what the line says.
 fn change(line: &mut Line<'_>, node: &mut Node, how: &str) {
     match how {
-        "alone" | "settled" => (),
         "near" => {
             let heard = near(line);
             hear(line, node, &heard);
@@ -78,7 +62,14 @@ fn change(line: &mut Line<'_>, node: &mut Node, how: &str) {
             let adopted = node.adopt(line.alloc, &list);
             line.done(adopted);
         }
-        "finger" => fix_finger(line, node),
+        "finger" => {
+            let k: u32 = line.read();
+            let owner: Peer = line.read();
+            if k == 0 || k > 160 {
+                return line.fail();
+            }
+            node.fix_finger(k, owner);
+        }
         _ => line.fail(),
     }
 }
@@ -88,33 +79,37 @@ pub fn put_answered(line: &mut Line<'_>, node: &Node, ask: Ask)
     requires { IsOfRing ask }
 {
     let answer = node.answer(line.alloc, &ask);
-    line.put_made(answer);
+    line.put_made(&answer);
 }
 
 /// Writes what the node answers to Route, or what it answers to Near after what the line says.
 fn put_known(line: &mut Line<'_>, node: &mut Node, how: &str) {
-    match how {
-        "route" => {
-            let key: Key = line.read();
-            put_answered(line, node, Ask::Route(key));
-        }
-        _ => {
-            change(line, node, how);
-            put_answered(line, node, Ask::Near);
-        }
+    if how == "route" {
+        let key: Key = line.read();
+        put_answered(line, node, Ask::Route(key));
+    } else {
+        change(line, node, how);
+        put_answered(line, node, Ask::Near);
+    }
+}
+
+/// Begins anew, with the node that a line makes, and writes what it answers to Near.
+fn make(line: &mut Line<'_>, held: &mut Option<Node>, is_alone: bool) {
+    *held = made(line, is_alone);
+    match held {
+        Some(node) => put_answered(line, node, Ask::Near),
+        None => line.fail(),
     }
 }
 
 /// Writes the answer to a line.
-pub fn answer(line: &mut Line<'_>, node: &mut Option<Node>) {
-    let how = line.word();
-    match how {
-        "alone" => make(line, node, true),
-        "settled" => make(line, node, false),
-        _ => (),
-    }
-    match node {
-        Some(node) => put_known(line, node, how),
-        None => line.fail(),
+pub fn answer(line: &mut Line<'_>, held: &mut Option<Node>) {
+    match line.word() {
+        "alone" => make(line, held, true),
+        "settled" => make(line, held, false),
+        how => match held {
+            Some(node) => put_known(line, node, how),
+            None => line.fail(),
+        },
     }
 }

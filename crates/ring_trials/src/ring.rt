@@ -31,57 +31,47 @@ fn sort_from(peers: &mut [Peer], key: &Key) {
 }
 
 /// The peers in ascending order of their identifiers, which are their distances from the place 0 on.
-fn ascending(mut peers: Vec<Peer>) -> Peers {
+pub fn ascending(mut peers: Vec<Peer>) -> Peers {
     sort_from(&mut peers, &place(0));
     Peers::of(peers)
 }
 
-/// Adds the nodes of a settled ring of these members.
-fn settle(line: &mut Line<'_>, nodes: &mut Nodes, live: &Peers, replicas: u32)
-    requires { (1 ≤ replicas) × (replicas ≤ 8) }
-{
-    for peer in live.as_slice() {
-        match Node::settled(line.alloc, *peer, replicas, live) {
-            Ok(node) => line.done(nodes.insert(peer.number, node)),
-            Err(_) => line.fail(),
-        }
+/// Adds what a node knows.
+fn insert(line: &mut Line<'_>, nodes: &mut Nodes, number: u32, node: Node) {
+    if let Err(_) = nodes.insert(number, node) {
+        line.fail();
     }
 }
 
 impl Ring {
-    /// A settled ring of these members. R is 1 to 8.
-    pub fn settled(line: &mut Line<'_>, members: Vec<Peer>, replicas: u32) -> Ring
+    /// A settled ring of these members, which ascend, after the nodes 1 to `stopped` have stopped, of which each is a
+    /// member. R is 1 to 8.
+    pub fn settled(line: &mut Line<'_>, members: &Peers, replicas: u32, stopped: u32) -> Ring
         requires { (1 ≤ replicas) × (replicas ≤ 8) }
     {
-        let live = ascending(members);
-        let mut nodes = BTreeMap::new(line.alloc);
-        settle(line, &mut nodes, &live, replicas);
-        Ring { live, nodes }
-    }
-
-    /// How many nodes live.
-    pub fn size(&self) -> usize {
-        self.live.as_slice().len()
-    }
-
-    /// Stops the nodes 1 to `last`.
-    pub fn stop(&mut self, line: &mut Line<'_>, last: u32) {
+        line.note((stopped as usize) < members.as_slice().len());
         let mut live = Vec::new(line.alloc);
-        for peer in self.live.as_slice() {
-            if peer.number == 0 || peer.number > last {
-                line.done(live.push(*peer));
-            } else {
-                self.nodes.remove(&peer.number);
+        let mut nodes = BTreeMap::new(line.alloc);
+        for peer in members.as_slice() {
+            if peer.number == 0 || peer.number > stopped {
+                line.push(&mut live, *peer);
+                match Node::settled(line.alloc, *peer, replicas, members) {
+                    Ok(node) => insert(line, &mut nodes, peer.number, node),
+                    Err(_) => line.fail(),
+                }
             }
         }
-        self.live = Peers::of(live);
+        Ring {
+            live: Peers::of(live),
+            nodes,
+        }
     }
 
     /// Adds a node that is no member.
     pub fn add(&mut self, line: &mut Line<'_>, peer: Peer, node: Node) {
-        line.done(self.nodes.insert(peer.number, node));
+        insert(line, &mut self.nodes, peer.number, node);
         let mut live = line.peers_of(self.live.as_slice());
-        line.done(live.push(peer));
+        line.push(&mut live, peer);
         self.live = ascending(live);
     }
 
@@ -99,7 +89,7 @@ pub fn answer_of(line: &mut Line<'_>, nodes: &Nodes, peer: Peer, key: Key) -> An
     match nodes.get(&peer.number) {
         Some(node) => {
             let answer = node.answer(line.alloc, &Ask::Route(key));
-            line.heard(answer)
+            line.made_or(answer, Answer::Silent)
         }
         None => Answer::Silent,
     }

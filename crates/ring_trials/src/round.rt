@@ -10,7 +10,6 @@ use crate::one_node::put_answered;
 use crate::ring::{Nodes, Ring};
 use chord_core::Node;
 use dht_ids::{Answer, Ask, Peer, finger_start, node_id};
-use ivy_base::Key;
 
 /// How many keys the nodes are asked for the routes to.
 const ROUTES: u32 = 20;
@@ -18,14 +17,13 @@ const ROUTES: u32 = 20;
 /// The most entries of a node's list.
 const MOST_ENTRIES: u32 = 16;
 
-/// The node's predecessor.
-fn before_of(nodes: &Nodes, me: Peer) -> Option<Peer> {
-    nodes.get(&me.number)?.before()
-}
-
 /// Has the node forget its predecessor where that is stopped.
 fn forget_stopped(nodes: &mut Nodes, me: Peer) {
-    if let Some(before) = before_of(nodes, me)
+    let before = match nodes.get(&me.number) {
+        Some(node) => node.before(),
+        None => None,
+    };
+    if let Some(before) = before
         && !nodes.contains_key(&before.number)
         && let Some(node) = nodes.get_mut(&me.number)
     {
@@ -35,7 +33,10 @@ fn forget_stopped(nodes: &mut Nodes, me: Peer) {
 
 /// The first entry of the node's list.
 fn first_of(nodes: &Nodes, me: Peer) -> Option<Peer> {
-    nodes.get(&me.number)?.list().as_slice().first().copied()
+    match nodes.get(&me.number) {
+        Some(node) => node.list().as_slice().first().copied(),
+        None => None,
+    }
 }
 
 /// Has the node hear what the first of its list answers to Near.
@@ -59,19 +60,22 @@ fn drop_stopped(line: &mut Line<'_>, nodes: &mut Nodes, me: Peer) {
     }
 }
 
-/// Has the node renew its list by what another answers.
-fn hear_from(line: &mut Line<'_>, nodes: &mut Nodes, me: Peer, asked: Peer) {
-    let Some(asked) = nodes.get(&asked.number) else {
-        return;
-    };
-    match asked.answer(line.alloc, &Ask::Near) {
-        Ok(heard) => hear(line, nodes, me, &heard),
-        Err(_) => line.fail(),
+/// Has the node renew its list by what the first of it answers.
+fn hear_first(line: &mut Line<'_>, nodes: &mut Nodes, me: Peer) {
+    if let Some(first) = first_of(nodes, me)
+        && let Some(asked) = nodes.get(&first.number)
+    {
+        match asked.answer(line.alloc, &Ask::Near) {
+            Ok(heard) => hear(line, nodes, me, &heard),
+            Err(_) => line.fail(),
+        }
     }
 }
 
-/// Has the first of the node's list hear that the node takes itself for its predecessor.
-fn notify_first(nodes: &mut Nodes, me: Peer) {
+/// What a node does in a pass: it renews its list by its first live entry, and notifies the first of the new list.
+fn renew(line: &mut Line<'_>, nodes: &mut Nodes, me: Peer) {
+    drop_stopped(line, nodes, me);
+    hear_first(line, nodes, me);
     if let Some(first) = first_of(nodes, me)
         && let Some(told) = nodes.get_mut(&first.number)
     {
@@ -79,35 +83,16 @@ fn notify_first(nodes: &mut Nodes, me: Peer) {
     }
 }
 
-/// What a node does in a pass: it renews its list by its first live entry, and notifies the first of the new list.
-fn renew(line: &mut Line<'_>, nodes: &mut Nodes, me: Peer) {
-    drop_stopped(line, nodes, me);
-    if let Some(first) = first_of(nodes, me) {
-        hear_from(line, nodes, me, first);
-        notify_first(nodes, me);
-    }
-}
-
-/// The owner of a key, by a look-up from the node.
-fn owner_of(line: &mut Line<'_>, nodes: &Nodes, key: Key, me: Peer) -> Option<Peer> {
-    look_up(line, nodes, key, me).owner()
-}
-
-/// Has the node fix a finger by a look-up from itself.
-fn fix_finger(line: &mut Line<'_>, nodes: &mut Nodes, me: Peer, k: u32)
-    requires { (1 ≤ k) × (k ≤ 160) }
-{
-    if let Some(owner) = owner_of(line, nodes, finger_start(&me.id, k), me)
-        && let Some(node) = nodes.get_mut(&me.number)
-    {
-        node.fix_finger(k, owner);
-    }
-}
-
 /// Has the node fix its fingers by look-ups from itself.
 fn fix_fingers(line: &mut Line<'_>, nodes: &mut Nodes, me: Peer) {
     for k in 1..161 {
-        fix_finger(line, nodes, me, k);
+        let course = look_up(line, nodes, finger_start(&me.id, k), me);
+        if let Ok(owners) = &course.found
+            && let Some(owner) = owners.as_slice().first()
+            && let Some(node) = nodes.get_mut(&me.number)
+        {
+            node.fix_finger(k, *owner);
+        }
     }
 }
 
@@ -126,62 +111,43 @@ pub fn round(line: &mut Line<'_>, ring: &mut Ring, passes: u32) {
     }
 }
 
-/// Has a node that knows no other find its first list, by a look-up from the node 0, which never stops.
-fn find_list(line: &mut Line<'_>, nodes: &Nodes, node: &mut Node, me: Peer) {
-    let course = look_up(line, nodes, me.id, peer(0));
-    if let Ok(owners) = &course.found {
-        let adopted = node.adopt(line.alloc, owners);
-        line.done(adopted);
-    }
-}
-
-/// Has the node of that number join.
+/// Has the node of that number join: it finds its first list by a look-up from the node 0, which never stops.
 pub fn join(line: &mut Line<'_>, ring: &mut Ring, number: u32, replicas: u32)
     requires { (1 ≤ replicas) × (replicas ≤ 8) }
 {
     let me = peer(number);
     match Node::alone(line.alloc, me, replicas) {
         Ok(mut node) => {
-            find_list(line, &ring.nodes, &mut node, me);
+            let course = look_up(line, &ring.nodes, me.id, peer(0));
+            if let Ok(owners) = &course.found {
+                line.done(node.adopt(line.alloc, owners));
+            }
             ring.add(line, me, node);
         }
         Err(_) => line.fail(),
     }
 }
 
-/// Tells what the node answers to Near, and to Route for a few keys and for its own identifier, for which a node names all
-/// that it knows.
-fn tell_node(told: &mut Line<'_>, node: &Node, id: Key) {
-    put_answered(told, node, Ask::Near);
-    for number in 0..ROUTES {
-        put_answered(told, node, Ask::Route(key(number)));
-    }
-    put_answered(told, node, Ask::Route(id));
-}
-
-/// Tells what each node of the ring answers.
-fn tell(told: &mut Line<'_>, ring: &Ring) {
-    for (number, node) in ring.nodes.iter() {
-        tell_node(told, node, node_id(*number));
-    }
-}
-
-/// Whether the nodes of both rings answer the same.
-fn are_alike(line: &mut Line<'_>, ring: &Ring, other: &Ring) -> bool {
+/// What the nodes of the ring answer, one behind the other: each to Near, and to Route for a few keys and for its own
+/// identifier, for which a node names all that it knows.
+fn told(line: &mut Line<'_>, ring: &Ring) -> String {
     let mut told = Line::new(line.alloc, "");
-    tell(&mut told, ring);
-    line.follow(&told);
-    let mut others = Line::new(line.alloc, "");
-    tell(&mut others, other);
-    line.follow(&others);
-    told.text.as_str() == others.text.as_str()
+    for (number, node) in ring.nodes.iter() {
+        put_answered(&mut told, node, Ask::Near);
+        for i in 0..ROUTES {
+            put_answered(&mut told, node, Ask::Route(key(i)));
+        }
+        put_answered(&mut told, node, Ask::Route(node_id(*number)));
+    }
+    line.follow(told)
 }
 
 /// Whether each node is as in a settled ring of the live members.
 pub fn is_settled(line: &mut Line<'_>, ring: &Ring, replicas: u32) -> bool
     requires { (1 ≤ replicas) × (replicas ≤ 8) }
 {
-    let members = line.peers_of(ring.live.as_slice());
-    let settled = Ring::settled(line, members, replicas);
-    are_alike(line, ring, &settled)
+    let settled = Ring::settled(line, &ring.live, replicas, 0);
+    let found = told(line, ring);
+    let wanted = told(line, &settled);
+    found.as_str() == wanted.as_str()
 }

@@ -55,26 +55,8 @@ fn put_head(line: &mut Line<'_>, store: &mut Store, key: Key, bytes: Bytes) {
 fn row(line: &mut Line<'_>) -> Bytes {
     let byte: u8 = line.read();
     let count: u32 = line.read();
-    match vec![in line.alloc; byte; count as usize] {
-        Ok(row) => Bytes::of(row),
-        Err(_) => {
-            line.fail();
-            Bytes::of(Vec::new(line.alloc))
-        }
-    }
-}
-
-/// Puts a row as a block under its name.
-fn put_row(line: &mut Line<'_>, store: &mut Store) {
-    let bytes = row(line);
-    put_block(line, store, name_of(bytes.as_slice()), bytes);
-}
-
-/// Spoils a byte of the block under a key, and writes whether it was there.
-fn spoil(line: &mut Line<'_>, store: &mut Store, key: Key) {
-    let offset: u32 = line.read();
-    let byte: u8 = line.read();
-    line.put_truth(store.spoil(&key, offset as u64, byte));
+    let none = Vec::new(line.alloc);
+    Bytes::of(line.made_or(vec![in line.alloc; byte; count as usize], none))
 }
 
 /// Writes what comes of a line that has a key.
@@ -98,7 +80,12 @@ fn put_at(line: &mut Line<'_>, store: &mut Store, what: &str) {
             store.drop_block(&key);
             line.put_found(store.get(&key));
         }
-        "spoil" => spoil(line, store, key),
+        "spoil" => {
+            let offset: u32 = line.read();
+            let byte: u8 = line.read();
+            let is_held = store.spoil(&key, offset as u64, byte);
+            line.put(if is_held { "true" } else { "false" });
+        }
         _ => line.fail(),
     }
 }
@@ -106,7 +93,7 @@ fn put_at(line: &mut Line<'_>, store: &mut Store, what: &str) {
 /// Writes all that is held, with how it was put.
 fn put_all(line: &mut Line<'_>, store: &Store) {
     let held = store.held(line.alloc);
-    line.put_made(held);
+    line.put_made(&held);
 }
 
 /// Begins anew, with no blocks.
@@ -123,7 +110,10 @@ pub fn answer(line: &mut Line<'_>, store: &mut Store) {
             put_all(line, store);
         }
         "held" => put_all(line, store),
-        "put-row" => put_row(line, store),
+        "put-row" => {
+            let bytes = row(line);
+            put_block(line, store, name_of(bytes.as_slice()), bytes);
+        }
         _ => put_at(line, store, what),
     }
 }

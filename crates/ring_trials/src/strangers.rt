@@ -1,6 +1,6 @@
 //! Look-ups over nodes that answer without a ring.
 
-use crate::course::{Course, Others, drive};
+use crate::course::{Others, drive};
 use crate::line::{Line, peer};
 use crate::told::put_miss;
 use dht_ids::{Answer, Peer, Peers, node_id};
@@ -10,10 +10,11 @@ use ivy_base::Key;
 fn crowd(line: &mut Line<'_>, behind: u32) -> Vec<Peer> {
     let mut nodes = Vec::new(line.alloc);
     for i in 1..1001 {
-        line.done(nodes.push(Peer {
+        let node = Peer {
             number: behind.saturating_add(i),
             id: Key([7; 20]),
-        }));
+        };
+        line.push(&mut nodes, node);
     }
     nodes
 }
@@ -47,28 +48,22 @@ pub fn route(line: &mut Line<'_>, who: &str, node: Peer) -> Answer {
     }
 }
 
-/// Writes what a look-up came to.
-fn put_course(line: &mut Line<'_>, course: &Course) {
-    match &course.found {
-        Ok(owners) => line.put_peers("owners ", owners.as_slice()),
-        Err(miss) => put_miss(line, miss),
-    }
-    line.put(", ");
-    line.put_number(course.asked.len() as u64);
-    line.put(if course.asked_twice() {
-        " asked, one twice"
-    } else {
-        " asked, none twice"
-    });
-}
-
 /// Writes the answer to a line.
 pub fn answer(line: &mut Line<'_>) {
     let who = line.word();
     let count: u32 = line.read();
     let number: u32 = line.read();
     let key = node_id(number);
-    let entries = Peers::of(line.numbered(count));
-    let course = drive(line, key, &entries, &Others::Strangers(who));
-    put_course(line, &course);
+    let entries = line.numbered(count);
+    let course = drive(line, key, entries, &Others::Strangers(who));
+    match &course.found {
+        Ok(owners) => line.put_peers("owners ", owners.as_slice()),
+        Err(miss) => put_miss(line, miss),
+    }
+    line.put_number(", ", course.asked.len() as u64);
+    line.put(if course.asked_twice() {
+        " asked, one twice"
+    } else {
+        " asked, none twice"
+    });
 }

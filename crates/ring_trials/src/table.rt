@@ -44,10 +44,8 @@ impl Table {
             "strangers" => strangers::answer(line),
             "store" => stores::answer(line, &mut self.store),
             "cache" => caches::answer(line, &mut self.cache),
-            what @ ("get-block" | "get-head" | "put-block" | "put-head") => {
-                gets::answer(line, what);
-            }
-            trial => trials::answer(line, text, trial),
+            what if what.contains('-') => gets::answer(line, what),
+            what => trials::answer(line, text, what),
         }
     }
 

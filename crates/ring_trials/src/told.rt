@@ -2,7 +2,7 @@
 
 use crate::line::{Line, place};
 use dhash_client::Miss;
-use dht_ids::{Ack, Acks, Answer, Heads, Judged, Peer, Peers, Post, Posts, node_id};
+use dht_ids::{Ack, Acks, Answer, Heads, Judged, Peer, Peers, Post, PostKind, Posts, node_id};
 use ivy_base::Bytes;
 use std::fmt::Write;
 
@@ -12,45 +12,41 @@ pub trait Told {
     fn put(&self, line: &mut Line<'_>);
 }
 
-/// Whether the node is at its identifier or at the place of its number.
-fn is_at_home(node: &Peer) -> bool {
-    let last = node.id.0[19];
-    node.id == node_id(node.number) || node.number == last as u32 && node.id == place(last)
-}
-
-/// The node's number, and its place where it isn't at home.
+/// The node's number, and its place where that is neither its identifier nor the place of the number.
 impl Told for Peer {
     fn put(&self, line: &mut Line<'_>) {
-        line.put_number(self.number as u64);
-        if !is_at_home(self) {
-            line.put("@");
-            line.put_key(&self.id);
+        line.put_number("", self.number as u64);
+        let last = self.id.0[19];
+        let is_small = self.number == last as u32 && self.id == place(last);
+        if !is_small && self.id != node_id(self.number) {
+            line.put_key("@", &self.id);
         }
     }
 }
 
 impl Told for Ack {
     fn put(&self, line: &mut Line<'_>) {
-        line.put_key(&self.key);
-        line.put(":");
-        line.put_key(&self.name);
+        line.put_key("", &self.key);
+        line.put_key(":", &self.name);
     }
 }
 
 impl Told for Judged {
     fn put(&self, line: &mut Line<'_>) {
-        line.put_number(self.seq as u64);
-        line.put(":");
-        line.put_key(&self.name);
+        line.put_number("", self.seq as u64);
+        line.put_key(":", &self.name);
     }
 }
 
 impl Told for Post {
     fn put(&self, line: &mut Line<'_>) {
-        line.put_key(&self.key);
-        let written = write!(line.text, ":{:?}:", self.kind);
-        line.done(written);
-        line.put_bytes(self.bytes.as_slice());
+        line.put_key("", &self.key);
+        let kind = match self.kind {
+            PostKind::Block => ":Block:",
+            PostKind::Log => ":Log:",
+            PostKind::Head => ":Head:",
+        };
+        line.put_bytes(kind, self.bytes.as_slice());
     }
 }
 
@@ -80,7 +76,7 @@ impl Told for Posts {
 
 impl Told for Bytes {
     fn put(&self, line: &mut Line<'_>) {
-        line.put_bytes(self.as_slice());
+        line.put_bytes("", self.as_slice());
     }
 }
 
@@ -106,10 +102,7 @@ impl Told for Answer {
                 line.put_peers("before ", before.as_slice());
                 line.put_peers(" list ", list.as_slice());
             }
-            Answer::Found(bytes) => {
-                line.put("found ");
-                line.put_bytes(bytes.as_slice());
-            }
+            Answer::Found(bytes) => line.put_bytes("found ", bytes.as_slice()),
             Answer::Nothing => line.put("nothing"),
             Answer::Stored => line.put("stored"),
             Answer::Refused(fault) => {
@@ -125,18 +118,13 @@ impl Told for Answer {
 /// Writes why there is no result.
 pub fn put_miss(line: &mut Line<'_>, miss: &Miss) {
     match miss {
-        Miss::NoRoute(key) => {
-            line.put("no route to ");
-            line.put_key(key);
-        }
+        Miss::NoRoute(key) => line.put_key("no route to ", key),
         Miss::Missing { key, asked } => {
-            line.put("missing ");
-            line.put_key(key);
+            line.put_key("missing ", key);
             line.put_peers(" at ", asked.as_slice());
         }
         Miss::Damaged { key, node } => {
-            line.put("damaged ");
-            line.put_key(key);
+            line.put_key("damaged ", key);
             line.put(" at ");
             node.put(line);
         }

@@ -15,25 +15,13 @@ pub trait Word: Drop {
 
 impl Word for u32 {
     fn from_word(line: &mut Line<'_>, word: &str) -> u32 {
-        match word.parse() {
-            Ok(number) => number,
-            Err(_) => {
-                line.fail();
-                0
-            }
-        }
+        line.made_or(word.parse(), 0)
     }
 }
 
 impl Word for u8 {
     fn from_word(line: &mut Line<'_>, word: &str) -> u8 {
-        match word.parse() {
-            Ok(number) => number,
-            Err(_) => {
-                line.fail();
-                0
-            }
-        }
+        line.made_or(word.parse(), 0)
     }
 }
 
@@ -42,18 +30,7 @@ impl Word for Key {
     fn from_word(line: &mut Line<'_>, word: &str) -> Key {
         match word.parse() {
             Ok(number) => place(number),
-            Err(_) => digits_of(line, word),
-        }
-    }
-}
-
-/// The key of 40 hexadecimal digits.
-fn digits_of(line: &mut Line<'_>, word: &str) -> Key {
-    match <[u8; 20] as FromHex>::from_hex(word) {
-        Ok(key) => Key(key),
-        Err(_) => {
-            line.fail();
-            place(0)
+            Err(_) => Key(line.made_or(<[u8; 20] as FromHex>::from_hex(word), [0; 20])),
         }
     }
 }
@@ -73,13 +50,8 @@ impl Word for Peer {
 impl Word for Bytes {
     fn from_word(line: &mut Line<'_>, word: &str) -> Bytes {
         let digits = if word == "-" { "" } else { word };
-        match hex::decode(line.alloc, digits) {
-            Ok(bytes) => Bytes::of(bytes),
-            Err(_) => {
-                line.fail();
-                Bytes::of(Vec::new(line.alloc))
-            }
-        }
+        let none = Vec::new(line.alloc);
+        Bytes::of(line.made_or(hex::decode(line.alloc, digits), none))
     }
 }
 
@@ -116,27 +88,23 @@ impl Word for Judged {
     }
 }
 
-/// What a word says that a block is.
-fn kind_of(line: &mut Line<'_>, word: &str) -> PostKind {
-    match word {
-        "Block" => PostKind::Block,
-        "Log" => PostKind::Log,
-        "Head" => PostKind::Head,
-        _ => {
-            line.fail();
-            PostKind::Block
-        }
-    }
-}
-
 /// A key, a kind and bytes.
 impl Word for Post {
     fn from_word(line: &mut Line<'_>, word: &str) -> Post {
         let (key, rest) = parts(line, word);
         let (kind, bytes) = parts(line, rest);
+        let kind = match kind {
+            "Block" => PostKind::Block,
+            "Log" => PostKind::Log,
+            "Head" => PostKind::Head,
+            _ => {
+                line.fail();
+                PostKind::Block
+            }
+        };
         Post {
             key: Key::from_word(line, key),
-            kind: kind_of(line, kind),
+            kind,
             bytes: Bytes::from_word(line, bytes),
         }
     }
