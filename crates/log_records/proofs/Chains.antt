@@ -1,5 +1,5 @@
 -- Blocks that are refused.
-use Rattle.std.proofs.Common.{◌≡◌, ℕ, List, [], ◌++◌, sym, ◌∙◌}
+use Rattle.std.proofs.Common.{ℕ, List, [], sym, ◌∙◌}
 use Rattle.std.proofs.lemmas.List.{append-nil}
 use Rattle.wire_model.specs.OneReading.{HasNoFront}
 use Rattle.log_records.specs.declared.part_fault.PartFault.{PartFault}

@@ -1,5 +1,5 @@
 -- Frames: each has one spelling, and where none can be read.
-use Rattle.std.proofs.Common.{◌≡◌, ℕ, List, ◌++◌, Option, Some, None, refl, ap, arith}
+use Rattle.std.proofs.Common.{◌≡◌, ℕ, List, ◌++◌, Option, Some, None, refl, arith}
 use Rattle.ivy_base.specs.declared.key.Key.{Key}
 use Rattle.ivy_base.specs.declared.operation.Moment.{Moment}
 use Rattle.wire_model.specs.Xdr.{word, array, moment, IsAny, IsWord, IsWordMoment}

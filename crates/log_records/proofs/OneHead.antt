@@ -10,7 +10,7 @@ use Rattle.wire_model.specs.Parts.{Reads}
 use Rattle.wire_model.proofs.Made.{Made}
 use Rattle.wire_model.proofs.PartByPart.{◌▸◌, part, made_read}
 use Rattle.log_model.specs.Vector.{Stamp}
-use Rattle.log_model.specs.Spelling.{IsBlock, IsKey, head_block, IsHeadOf}
+use Rattle.log_model.specs.Spelling.{IsBlock, IsKey, IsHeadOf}
 use Rattle.block_parts.specs.Parts.{constant_bytes, as_it_stands, key_bytes}
 use Rattle.log_records.specs.Heads.{stamp, IsNumber, Parts, IsHead, head_bytes}
 use Rattle.log_records.specs.Laws.{HeadsAreOne}

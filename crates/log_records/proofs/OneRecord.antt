@@ -9,14 +9,14 @@ use Rattle.wire_model.specs.OneReading.{ReadsOne, IsFront}
 use Rattle.wire_model.proofs.OneReading.{whole}
 use Rattle.log_model.specs.Vector.{stamp_at}
 use Rattle.log_model.specs.Record.{Record}
-use Rattle.log_model.specs.Spelling.{record_kind, body, block_of_parts, record_block, new_record, HasSpelling, IsRecordOf}
+use Rattle.log_model.specs.Spelling.{record_kind, body, record_block, new_record, HasSpelling, IsRecordOf}
 use Rattle.log_model.specs.Standing.{StandsAmong}
 use Rattle.log_model.proofs.Standing.{one_block}
 use Rattle.log_records.specs.declared.frame.Frame.{Frame}
 use Rattle.log_records.specs.declared.part_fault.PartFault.{PartFault}
 use Rattle.log_records.specs.declared.part_fault.PartFault.TheVariants as part
 use Rattle.log_records.specs.Parts.{IsOfKind}
-use Rattle.log_records.specs.Frames.{IsFrame, frame_block, AreParts, parts_block, IsWellPlaced}
+use Rattle.log_records.specs.Frames.{frame_block, AreParts, parts_block, IsWellPlaced}
 use Rattle.log_records.specs.Shapes.{IsShapeOf, IsFrameShape, AreShapes}
 use Rattle.log_records.specs.Reading.{Refuses, fault_of_part, IsSpelled, RefusesWhole}
 use Rattle.log_records.specs.Records.{ReadFault}

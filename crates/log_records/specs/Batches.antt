@@ -7,7 +7,7 @@ use Rattle.ivy_base.specs.Naming.{head_key_of}
 use Rattle.log_model.specs.View.{View}
 use Rattle.log_model.specs.Vector.{Stamp, Vector, stamp_at, reach, Dominates, with_entry}
 use Rattle.log_model.specs.Record.{Record}
-use Rattle.log_model.specs.Spelling.{no_name, HasSpelling}
+use Rattle.log_model.specs.Spelling.{no_name}
 use Rattle.log_model.specs.Rank.{own_entry, full_vector}
 use Rattle.log_model.specs.Chain.{IsGood, IsFirst, GoesOn, LinkedFrom}
 use Rattle.log_records.specs.declared.edge.Edge.{Edge}

@@ -1,5 +1,5 @@
 -- A record's block in two: what stands in front of each operation, and the operation.
-use Rattle.std.specs.Prelude.{◌≡◌, ℕ, List, [], ◌∷◌, ◌++◌, None, ◌↔◌}
+use Rattle.std.specs.Prelude.{◌≡◌, ℕ, List, [], ◌++◌, None, ◌↔◌}
 use Rattle.ivy_base.specs.declared.key.Key.{Key}
 use Rattle.ivy_base.specs.declared.operation.Op.{Op}
 use Rattle.wire_model.specs.Xdr.{word, array, moment, IsWord}

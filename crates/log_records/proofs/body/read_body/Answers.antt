@@ -1,4 +1,4 @@
-use Rattle.log_records.proofs.Operations.{read_as, cancel_read, set_read, end_read}
+use Rattle.log_records.proofs.Operations.{read_as, end_read}
 use Rattle.log_records.proofs.body.read_body.Goals as goal
 
 pub returns-in-7 : goal.returns-in-7

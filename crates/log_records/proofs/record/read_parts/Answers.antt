@@ -1,4 +1,4 @@
-use Rattle.log_records.proofs.OneRecord.{no_frame, no_operation, parts_read}
+use Rattle.log_records.proofs.OneRecord.{no_frame, no_operation}
 use Rattle.log_records.proofs.record.read_parts.Goals as goal
 
 pub returns-in-Err-clause-err : goal.returns-in-Err-clause-err
