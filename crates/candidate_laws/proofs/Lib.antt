@@ -5,7 +5,7 @@ pub mod SomeCandidate
 pub mod SomePart
 pub mod OneChain
 pub mod OneCandidate
-pub mod Taken
+pub mod TakenVerified
 pub mod Backed
 pub mod Deciding
 pub mod Calls

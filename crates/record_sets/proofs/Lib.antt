@@ -1,3 +1,3 @@
 pub mod Unions
-pub mod Kept
+pub mod KeptRows
 pub mod Walks

@@ -15,7 +15,7 @@ use Rattle.snapshot_model.proofs.OneBlock.{one_inode}
 use Rattle.snapshot_model.proofs.OneNames.{one_said}
 use Rattle.snapshot_model.proofs.SameNames.{Has, has_each, has_listed, directory_of}
 use Rattle.snapshot_wholes.specs.Forests.{Forest, nothing, block, flat, named_in, mades, Fits, joined, children, below_by}
-use Rattle.snapshot_wholes.specs.Inodes.{bytes_in, run_of}
+use Rattle.snapshot_wholes.specs.ShownInodes.{bytes_in, run_of}
 use Rattle.snapshot_wholes.proofs.Forests.{AllAre, children_are, fits_children, mades_joined}
 use Rattle.snapshot_basis.specs.Picks.{picked}
 use Rattle.snapshot_basis.specs.Contents.{HasContents}

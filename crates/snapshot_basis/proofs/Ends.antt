@@ -23,7 +23,7 @@ use Rattle.snapshot_wholes.proofs.Inodes.{items_are}
 use Rattle.snapshot_wholes.proofs.OneForest.{read_is_forest}
 use Rattle.snapshot_wholes.proofs.Canon.{loaded_is_shown}
 use Rattle.snapshot_wholes.proofs.OneBasis.{snapshot_is_one}
-use Rattle.snapshot_wholes.proofs.Whole.{whole_trees_are_sound}
+use Rattle.snapshot_wholes.proofs.SoundTrees.{whole_trees_are_sound}
 use Rattle.snapshot_basis.specs.declared.parts.InodeParts.{InodeParts}
 use Rattle.snapshot_basis.specs.Parts.{IsTreeOf, tree_of}
 use Rattle.snapshot_basis.specs.Picks.{Blocks, inodes_in}

@@ -9,7 +9,7 @@ use Rattle.ivy_base.specs.declared.operation.Kind.TheVariants.{Reg, Dir, Lnk}
 use Rattle.ivy_base.specs.Naming.{name}
 use Rattle.snapshot_model.specs.Reading.{Part, Root, Listing, AnInode, Piece, Entries, Names, item_of, part_below, top_of}
 use Rattle.snapshot_wholes.specs.Forests.{Forest, nothing, block, flat, named_in, Fits, joined, children, below_by}
-use Rattle.snapshot_wholes.specs.Inodes.{bytes_in}
+use Rattle.snapshot_wholes.specs.ShownInodes.{bytes_in}
 use Rattle.snapshot_wholes.proofs.Forests.{AllAre, children_are, fits_children}
 use Rattle.snapshot_basis.specs.Picks.{Blocks, of_inodes, level_of, is_among, is_at, picked}
 

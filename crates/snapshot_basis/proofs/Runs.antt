@@ -10,7 +10,7 @@ use Rattle.snapshot_basis.proofs.Sorted.{next_taken, split_next}
 use Rattle.log_model.proofs.Lists.{both, each_right}
 use Rattle.snapshot_model.specs.Blocks.{AreEntries, Says, entries_block}
 use Rattle.snapshot_model.proofs.OneBlock.{one_entries}
-use Rattle.snapshot_wholes.specs.Inodes.{run_of}
+use Rattle.snapshot_wholes.specs.ShownInodes.{run_of}
 use Rattle.snapshot_basis.specs.Evenness.{is_some, full_after}
 use Rattle.snapshot_basis.specs.Contents.{HaveEntries}
 use Rattle.snapshot_basis.proofs.Sizes.{full_is, is_full, is_same, same_is, some_is}

@@ -13,7 +13,7 @@ use Rattle.wire_model.proofs.OneReading.{word_length}
 use Rattle.snapshot_model.specs.Blocks.{list_block}
 use Rattle.snapshot_model.specs.Reading.{Part, Listing, Names, part_below, top_of}
 use Rattle.snapshot_wholes.specs.Forests.{Forest, nothing, block, flat, named_in, mades, Fits, joined, children, groups, AreFull, IsEven, IsLeast}
-use Rattle.snapshot_wholes.specs.Inodes.{IsEvenList, bytes_in}
+use Rattle.snapshot_wholes.specs.ShownInodes.{IsEvenList, bytes_in}
 use Rattle.snapshot_wholes.proofs.Forests.{AllAre, children_are, fits_children, is_list, mades_joined}
 use Rattle.snapshot_basis.specs.Picks.{Blocks, picked}
 use Rattle.snapshot_basis.specs.Evenness.{is_some, full_after, are_full, full_down, is_least, is_even}

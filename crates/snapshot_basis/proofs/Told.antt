@@ -14,7 +14,7 @@ use Rattle.snapshot_model.proofs.Pieces.{each_joined, short_pieces}
 use Rattle.snapshot_loading.proofs.Fits.{some_each}
 use Rattle.snapshot_loading.proofs.Order.{pieces_ascend}
 use Rattle.snapshot_wholes.specs.Forests.{Forest, nothing, block, flat, named_in, Fits, below_by}
-use Rattle.snapshot_wholes.specs.Inodes.{AreContents, ShowsInode, bytes_in}
+use Rattle.snapshot_wholes.specs.ShownInodes.{AreContents, ShowsInode, bytes_in}
 use Rattle.snapshot_wholes.specs.Wholes.{ShowInodes}
 use Rattle.snapshot_wholes.proofs.Forests.{AllAre}
 use Rattle.snapshot_wholes.proofs.Full.{full_pieces}

@@ -6,7 +6,7 @@ use Rattle.ivy_base.specs.declared.operation.Kind.{Kind}
 use Rattle.ivy_base.specs.declared.operation.Kind.TheVariants.{Reg, Dir, Lnk}
 use Rattle.snapshot_model.specs.Blocks.{AreEntries, InodeBlock, entries_block}
 use Rattle.snapshot_wholes.specs.Forests.{AreFull}
-use Rattle.snapshot_wholes.specs.Inodes.{run_of}
+use Rattle.snapshot_wholes.specs.ShownInodes.{run_of}
 
 -- the blocks have these entries, each block but the last 32
 pub record HaveEntries (blocks : List (List ℕ)) (es : List (List ℕ × Key)) : Type 0 where

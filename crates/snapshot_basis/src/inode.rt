@@ -3,7 +3,7 @@
 ghost use Rattle.std.specs.Prelude.{◌≡◌, ℕ, List, map, IfOk};
 ghost use Rattle.snapshot_model.specs.Blocks.{InodeBlock as Said};
 ghost use Rattle.snapshot_wholes.specs.Laws.{blocks_read};
-ghost use Rattle.snapshot_wholes.specs.Inodes.{run_of};
+ghost use Rattle.snapshot_wholes.specs.ShownInodes.{run_of};
 ghost use Rattle.snapshot_blocks.specs.Parsed.{inode_of};
 ghost use Rattle.snapshot_basis.specs.Answers.{AreContentsOf, IsAnInode};
 

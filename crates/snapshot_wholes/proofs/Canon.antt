@@ -17,7 +17,7 @@ use Rattle.snapshot_model.proofs.SameNames.{listed_fit}
 use Rattle.snapshot_loading.proofs.Fits.{AreListed, block_of, root_of, items_listed, size_fits, some_each, target_fits}
 use Rattle.snapshot_loading.proofs.Order.{pieces_ascend, listed_ascend}
 use Rattle.snapshot_wholes.specs.Forests.{Forest, nothing, block, flat, named_in, mades, Fits, children, below_by, AreFull}
-use Rattle.snapshot_wholes.specs.Inodes.{AreContents, IsEvenList, ShowsInode, bytes_in, run_of}
+use Rattle.snapshot_wholes.specs.ShownInodes.{AreContents, IsEvenList, ShowsInode, bytes_in, run_of}
 use Rattle.snapshot_wholes.specs.Wholes.{ShowInodes, ShowsBasis}
 use Rattle.snapshot_wholes.specs.Laws.{LoadedIsShown}
 use Rattle.snapshot_wholes.proofs.Forests.{AllAre}

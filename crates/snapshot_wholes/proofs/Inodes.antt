@@ -12,7 +12,7 @@ use Rattle.snapshot_model.specs.Reading.{Part, Piece, Entries, Listing, Names, i
 use Rattle.snapshot_model.proofs.OneBlock.{one_inode}
 use Rattle.snapshot_model.proofs.OneNames.{one_said}
 use Rattle.snapshot_wholes.specs.Forests.{Forest, nothing, block, named_in, mades, Fits, children, below_by}
-use Rattle.snapshot_wholes.specs.Inodes.{AreContents, IsEvenList, bytes_in}
+use Rattle.snapshot_wholes.specs.ShownInodes.{AreContents, IsEvenList, bytes_in}
 use Rattle.snapshot_wholes.specs.Laws.{ShownInodesAreMade}
 use Rattle.snapshot_wholes.proofs.Forests.{AllAre, children_are, fits_children}
 use Rattle.snapshot_wholes.proofs.Full.{full_pieces}

@@ -7,6 +7,6 @@ pub mod OneForest
 pub mod Inodes
 pub mod Bases
 pub mod Canon
-pub mod Whole
-pub mod Ends
+pub mod SoundTrees
+pub mod LoadedEnds
 pub mod OneBasis

@@ -13,7 +13,7 @@ use Rattle.snapshot_model.proofs.OneBlock.{one_inode, one_of_entries, one_root}
 use Rattle.snapshot_model.proofs.OneNames.{one_said}
 use Rattle.snapshot_model.proofs.SameNames.{listed_fit, names_there, shown, sorted_same}
 use Rattle.snapshot_wholes.specs.Forests.{Forest, nothing, block, below_by, AreFull}
-use Rattle.snapshot_wholes.specs.Inodes.{AreContents, ShowsInode, run_of}
+use Rattle.snapshot_wholes.specs.ShownInodes.{AreContents, ShowsInode, run_of}
 use Rattle.snapshot_wholes.specs.Wholes.{ShowInodes, ShowsBasis}
 use Rattle.snapshot_wholes.specs.Laws.{SnapshotIsOne}
 use Rattle.snapshot_wholes.proofs.Canon.{are_forest, loaded_is_shown}

@@ -11,7 +11,7 @@ use Rattle.snapshot_loading.specs.declared.load.Read.{Read}
 use Rattle.snapshot_loading.specs.Roles.{part_of}
 use Rattle.snapshot_loading.specs.Loading.{Loading, HasRead, ComesTo, IsReadWhole, root_alone}
 use Rattle.turn_model.specs.Basis.{Basis}
-use Rattle.snapshot_wholes.specs.Inodes.{ShowsInode}
+use Rattle.snapshot_wholes.specs.ShownInodes.{ShowsInode}
 use Rattle.snapshot_wholes.specs.Wholes.{ShowsBasis}
 use Rattle.snapshot_wholes.specs.Forests.{Forest, nothing, block, flat, below_by, mades, Fits, IsEven, IsLeast}
 

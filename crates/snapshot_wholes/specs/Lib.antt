@@ -1,4 +1,4 @@
 pub mod Forests
-pub mod Inodes
+pub mod ShownInodes
 pub mod Wholes
 pub mod Laws

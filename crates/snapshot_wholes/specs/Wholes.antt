@@ -5,7 +5,7 @@ use Rattle.tree_model.specs.Tree.{Tree, Inode, listing}
 use Rattle.turn_model.specs.Basis.{Basis}
 use Rattle.snapshot_model.specs.Blocks.{RootBlock, IsRootBlock, Says, root_block}
 use Rattle.snapshot_wholes.specs.Forests.{Forest, nothing, block, below_by}
-use Rattle.snapshot_wholes.specs.Inodes.{IsEvenList, ShowsInode}
+use Rattle.snapshot_wholes.specs.ShownInodes.{IsEvenList, ShowsInode}
 
 -- the blocks show these inodes of the tree, one by one
 abbrev pub ShowInodes : Tree → Forest → List (Key × Inode) → Type 0

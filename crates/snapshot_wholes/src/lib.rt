@@ -9,12 +9,12 @@
 //! Nothing has to be spelled or hashed again. And blocks are of one basis at most, whatever names tell (`snapshot_is_one`).
 //!
 //! Definitions: `specs/Forests.antt` has blocks with those below them as they are read, and when lists of them are even;
-//! `specs/Inodes.antt` what an inode's block shows, `specs/Wholes.antt` what a root's does, and `specs/Laws.antt`.
+//! `specs/ShownInodes.antt` what an inode's block shows, `specs/Wholes.antt` what a root's does, and `specs/Laws.antt`.
 //! Lemmas, each file on those before it: `proofs/Forests.antt`, `proofs/Full.antt` (pieces), `proofs/Even.antt` (even lists
 //! are lists), `proofs/Same.antt` (a forest is known by what it reads), `proofs/Lists.antt` (lists are even),
 //! `proofs/OneForest.antt`, `proofs/Inodes.antt` and `proofs/Bases.antt` (what is shown is made), `proofs/Canon.antt` (what was
-//! made shows its basis), `proofs/Ends.antt`, `proofs/OneBasis.antt` (a root shows one basis); and by itself
-//! `proofs/Whole.antt` (trees).
+//! made shows its basis), `proofs/LoadedEnds.antt`, `proofs/OneBasis.antt` (a root shows one basis); and by itself
+//! `proofs/SoundTrees.antt` (trees).
 #![tactic(auto)]
 
 ghost use Rattle.snapshot_wholes.specs.Laws.{EvenListsAreLists, ForestIsOne, LoadedIsShown, LoadingEnds, ReadIsForest, ShownInodesAreMade, SnapshotIsOne, WholeTreesAreSound};

@@ -1,4 +1,4 @@
-use Rattle.candidate_laws.proofs.Taken.{taken_is_verified, own_log_is_known}
+use Rattle.candidate_laws.proofs.TakenVerified.{taken_is_verified, own_log_is_known}
 use Rattle.candidate_laws.proofs.Backed.{known_stays_backed}
 use Rattle.candidate_laws.proofs.what_is_taken_is_verified.Goals as goal
 

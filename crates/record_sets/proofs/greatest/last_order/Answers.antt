@@ -1,5 +1,5 @@
 use Rattle.version_vectors.specs.Ranks.{rank_of}
-use Rattle.record_sets.proofs.Kept.{last_short, order_is, none_is_less}
+use Rattle.record_sets.proofs.KeptRows.{last_short, order_is, none_is_less}
 use Rattle.record_sets.proofs.greatest.last_order.Goals as goal
 
 pub rank-requires : goal.rank-requires

@@ -1,5 +1,5 @@
 use Rattle.std.proofs.Common.{rules}
-use Rattle.record_sets.proofs.Kept.{row_left, new_taken, held_taken, both_taken, nothing_left}
+use Rattle.record_sets.proofs.KeptRows.{row_left, new_taken, held_taken, both_taken, nothing_left}
 use Rattle.record_sets.proofs.greatest.take_greatest.Goals as goal
 
 pub returns-in-Less-clause-new : goal.returns-in-Less-clause-new

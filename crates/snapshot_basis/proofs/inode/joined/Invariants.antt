@@ -1,5 +1,5 @@
 use Rattle.std.proofs.Common.{◌≡◌, ◌++◌, map, drop}
-use Rattle.snapshot_wholes.specs.Inodes.{run_of}
+use Rattle.snapshot_wholes.specs.ShownInodes.{run_of}
 use Rattle.snapshot_basis.proofs.inode.joined.Given as goal
 
 abbrev pub invariant-each : goal.invariant-each

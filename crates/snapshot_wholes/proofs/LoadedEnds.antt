@@ -7,7 +7,7 @@ use Rattle.snapshot_wholes.specs.Forests.{nothing, block, flat}
 use Rattle.snapshot_wholes.specs.Laws.{LoadingEnds, blocks_read}
 use Rattle.snapshot_wholes.proofs.OneForest.{read_is_forest}
 use Rattle.snapshot_wholes.proofs.Canon.{loaded_is_shown}
-use Rattle.snapshot_wholes.proofs.Whole.{whole_trees_are_sound}
+use Rattle.snapshot_wholes.proofs.SoundTrees.{whole_trees_are_sound}
 
 bytes_read : (read : List Read) → map (λ p. p.1) (blocks_read read) ≡ bytes_of read
 bytes_read [] = refl
