@@ -23,7 +23,7 @@ use Rattle.log_model.proofs.Part.{chain_front}
 use Rattle.turn_model.specs.Candidates.{IsTried, MakeChain, PassesThrough}
 use Rattle.turn_model.specs.Known.{EndsAt, IsKnown}
 use Rattle.turn_model.specs.Turn.{Candidate, IsAtHand, IsPrefixOf}
-use Rattle.candidate_laws.proofs.OneCandidate.{IsNewest, IsOne, cases_of}
+use Rattle.turn_laws.proofs.OneCandidate.{IsNewest, IsOne, cases_of}
 use Rattle.agent_model.specs.Candidates.{AreCandidatesOf, IsCandidateOf}
 use Rattle.agent_model.specs.Candidates.IsCandidateOf.{misled as is_misled, by_heads}
 use Rattle.agent_model.specs.Standing.{Standing}

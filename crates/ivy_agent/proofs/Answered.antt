@@ -9,7 +9,7 @@ use Rattle.log_model.specs.Spelling.{most_records}
 use Rattle.log_model.specs.Vector.{Vector, seq_of}
 use Rattle.log_model.specs.View.{View, IsView}
 use Rattle.log_records.specs.Batches.{Batch}
-use Rattle.record_sets.specs.Rows.{IsRow}
+use Rattle.replay_engine.specs.Rows.{IsRow}
 use Rattle.turn_model.specs.Basis.{Holding}
 use Rattle.turn_model.specs.Turn.{Asked}
 use Rattle.turn_model.specs.Work.{applied_between}

@@ -6,7 +6,7 @@ use Rattle.log_model.specs.Closed.{IsAscending}
 use Rattle.log_model.specs.Replay.{in_order}
 use Rattle.log_model.proofs.Lists.{each_append}
 use Rattle.log_model.proofs.Sets.{IsBefore, ascending_in_order}
-use Rattle.record_sets.specs.Rows.{IsRow}
+use Rattle.replay_engine.specs.Rows.{IsRow}
 use Rattle.replay_engine.specs.Places.{AreBehind}
 use Rattle.replay_engine.specs.Engines.{Engine, holding, taken_in}
 use Rattle.agent_model.specs.Turning.{with_held}

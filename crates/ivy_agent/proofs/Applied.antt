@@ -16,8 +16,8 @@ use Rattle.log_model.proofs.Owners.{records_total}
 use Rattle.log_model.proofs.Sets.{IsBefore, ascending_in_order, before_trans, greater_is_before}
 use Rattle.log_records.specs.Places.{merge_place}
 use Rattle.log_records.proofs.PlaceLemmas.{is_under, not_under_from, place_cons, place_is}
-use Rattle.record_sets.specs.Rows.{IsRow, union}
-use Rattle.record_sets.proofs.Unions.{union_in_order}
+use Rattle.replay_engine.specs.Rows.{IsRow, union}
+use Rattle.replay_engine.proofs.Unions.{union_in_order}
 use Rattle.replay_engine.specs.Places.{AreNew, AreBehind, first_place}
 use Rattle.replay_engine.proofs.Placed.{taken_length, union_behind}
 use Rattle.turn_model.specs.Work.{applied_between, applied_for, shared_front}

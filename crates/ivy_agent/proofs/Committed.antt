@@ -6,7 +6,7 @@ use Rattle.log_model.specs.Vector.{Vector, join}
 use Rattle.log_model.specs.View.{View}
 use Rattle.log_records.specs.Records.{records_of}
 use Rattle.nfs_model.specs.Changing.{finish}
-use Rattle.record_sets.specs.Rows.{IsRow}
+use Rattle.replay_engine.specs.Rows.{IsRow}
 use Rattle.turn_model.specs.Basis.{Holding, kept_tree}
 use Rattle.tree_model.specs.Tree.{Tree}
 use Rattle.turn_model.specs.Turn.{Asked}

@@ -29,8 +29,8 @@ use Rattle.agent_model.specs.Candidates.{MayTurn}
 use Rattle.agent_model.specs.Standing.{Standing, going_on}
 use Rattle.agent_model.specs.Taking.{TakesNew, refresh_with, with_new}
 use Rattle.agent_model.specs.Turning.{IsByDefinition, IsTurnBy, IsTurnOf, inputs_before, with_held}
-use Rattle.agent_laws.specs.Laws.{IsTakenBy}
-use Rattle.agent_laws.proofs.Taken.{going_is_gone_on, taken_is_by_definition}
+use Rattle.turn_laws.specs.Laws.{IsTakenBy}
+use Rattle.turn_laws.proofs.Taken.{going_is_gone_on, taken_is_by_definition}
 use Rattle.ivy_agent.specs.Writing.{lost_reply, written_reply}
 
 -- where all of a set is held, its front is what is held's

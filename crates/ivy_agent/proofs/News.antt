@@ -15,8 +15,8 @@ use Rattle.log_model.specs.Vector.{Vector, seq_of}
 use Rattle.log_model.specs.View.{View, IsView}
 use Rattle.log_model.proofs.Lists.{each, each_from}
 use Rattle.log_model.proofs.Sets.{with_old}
-use Rattle.record_sets.specs.Rows.{IsRow, union}
-use Rattle.record_sets.proofs.Unions.{union_in_order}
+use Rattle.replay_engine.specs.Rows.{IsRow, union}
+use Rattle.replay_engine.proofs.Unions.{union_in_order}
 use Rattle.causal_order.specs.Over.{IsClosed}
 use Rattle.causal_order.proofs.Ends.{one_of_rank, tied_back}
 use Rattle.turn_model.specs.Basis.{Holding, kept_tree}

@@ -14,7 +14,7 @@ use Rattle.log_model.specs.Spelling.{HasSpelling, most_records}
 use Rattle.log_model.specs.Vector.{Vector, seq_of}
 use Rattle.log_model.specs.View.{View}
 use Rattle.log_model.proofs.Lists.{each, each_from}
-use Rattle.record_sets.specs.Rows.{IsRow}
+use Rattle.replay_engine.specs.Rows.{IsRow}
 use Rattle.version_vectors.specs.Vectors.{IsVector}
 use Rattle.turn_model.specs.Basis.{Holding, kept_tree}
 use Rattle.turn_model.specs.Turn.{Asked}

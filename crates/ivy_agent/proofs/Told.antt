@@ -9,7 +9,7 @@ use Rattle.log_model.specs.Spelling.{HasSpelling}
 use Rattle.log_model.specs.Vector.{Vector}
 use Rattle.log_model.specs.View.{View}
 use Rattle.log_model.proofs.Lists.{each, each_from}
-use Rattle.record_sets.specs.Rows.{IsRow}
+use Rattle.replay_engine.specs.Rows.{IsRow}
 use Rattle.log_fetch.specs.Standings.{standing_of}
 use Rattle.log_fetch.specs.declared.standing.Standing.{Standing}
 use Rattle.replay_engine.specs.Engines.{Engine, holding}

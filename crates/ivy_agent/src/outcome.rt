@@ -5,7 +5,7 @@ ghost use Rattle.ivy_base.specs.Naming.{head_key_of};
 ghost use Rattle.log_fetch.specs.Standings.{asked_of};
 ghost use Rattle.log_model.specs.Spelling.{most_records};
 ghost use Rattle.log_model.specs.Vector.{seq_of};
-ghost use Rattle.record_sets.specs.Rows.{IsRow};
+ghost use Rattle.replay_engine.specs.Rows.{IsRow};
 ghost use Rattle.replay_engine.specs.Engines.{holding};
 ghost use Rattle.ivy_agent.specs.Given.{served_of};
 ghost use Rattle.ivy_agent.specs.Serving.{Writes as IsToWrite};

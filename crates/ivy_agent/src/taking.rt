@@ -8,7 +8,7 @@ ghost use Rattle.log_model.specs.Spelling.{most_records};
 ghost use Rattle.log_model.specs.Vector.{seq_of};
 ghost use Rattle.log_model.specs.View.{IsView};
 ghost use Rattle.log_records.specs.Records.{records_of};
-ghost use Rattle.record_sets.specs.Rows.{IsRow};
+ghost use Rattle.replay_engine.specs.Rows.{IsRow};
 ghost use Rattle.replay_engine.specs.Engines.{holding};
 ghost use Rattle.replay_engine.specs.Places.{AreNew};
 ghost use Rattle.turn_model.specs.Work.{applied_between};

@@ -17,7 +17,7 @@ ghost use Rattle.replay_engine.specs.Engines.{holding, taken_in, undone};
 ghost use Rattle.agent_model.specs.Agent.{joined, own_key};
 ghost use Rattle.agent_model.specs.SavedBytes.{kept_bytes};
 ghost use Rattle.ivy_agent.specs.Holders.{signing};
-ghost use Rattle.record_sets.specs.Rows.{IsRow};
+ghost use Rattle.replay_engine.specs.Rows.{IsRow};
 ghost use Rattle.replay_engine.specs.Places.{AreBehind};
 ghost use Rattle.ivy_agent.specs.Saves.{saved_of, HasSaved, IsWholeAfter};
 ghost use Rattle.ivy_agent.specs.Drafts.{IsDraft, kept_with};

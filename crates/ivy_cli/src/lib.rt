@@ -1,6 +1,6 @@
 //! The words of the command line, and what they ask for.
 //!
-//! Layer: the top of the library, above `ivy_play` and `ivy_outside`; the program above hands it its words, its
+//! Layer: the top of the library, above `ivy_play` and `ivy_io`; the program above hands it its words, its
 //! source and its sink, and a clock, ports and keepers. For the program: [`run`] does what the words ask for
 //! (`specs/Runs.antt`, `Does`; which words ask for what is in `specs/Words.antt`).
 //!

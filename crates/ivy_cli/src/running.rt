@@ -8,8 +8,7 @@ ghost use Rattle.ivy_cli.specs.Words.{asked_of, usage_line};
 
 use crate::loading::load;
 use crate::words::{Asked, read_words};
-use ivy_io::{Sink, SinkFault, Source, write_all};
-use ivy_outside::{Clock, Keepers, Ports};
+use ivy_io::{Clock, Keepers, Ports, Sink, SinkFault, Source, write_all};
 use ivy_play::{Status, play};
 use std::alloc::Global;
 

@@ -2,3 +2,8 @@ pub mod Causes
 pub mod Known
 pub mod States
 pub mod Keepers
+pub mod Faults
+pub mod Names
+pub mod Links
+pub mod PortsStates
+pub mod Laws

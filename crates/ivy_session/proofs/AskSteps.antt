@@ -17,8 +17,8 @@ use Rattle.session_model.specs.Asking.{AsksNext}
 use Rattle.session_model.specs.Sessions.{put_question}
 use Rattle.ivy_session.specs.Putting.{Putting, PuttingIsAfter, post_of}
 use Rattle.ivy_session.specs.Publishing.{PublishingState, PublishingIsAfter, PutIsBehind, awaited_in as put_awaited_in, posts_in, posts_of, publishing_awaited}
-use Rattle.ask_laws.specs.Laws.{IsWholePutOfPost}
-use Rattle.ask_laws.proofs.AskedMachines.{post_is_asked_next}
+use Rattle.session_laws.specs.Laws.{IsWholePutOfPost}
+use Rattle.session_laws.proofs.AskedMachines.{post_is_asked_next}
 
 some_or_none : {T : Type 0} (x : T) → Some x ≡ None → ⊥
 some_or_none x e = cc e

@@ -8,7 +8,7 @@ use Rattle.dht_ids.specs.declared.post.Post.{Post}
 use Rattle.agent_model.specs.Agent.{is_head}
 use Rattle.session_model.specs.Asking.{AsksNext}
 use Rattle.session_model.specs.Sessions.{put_question}
-use Rattle.ask_laws.specs.Laws.{IsWholePutOfPost}
+use Rattle.session_laws.specs.Laws.{IsWholePutOfPost}
 use Rattle.view_refresh.proofs.Nobody.{TellsOne, asks_nobody, nil_middle, nobody_asked}
 
 put_told : (p : Post) → TellsOne (put_question p)

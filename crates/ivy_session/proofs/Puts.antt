@@ -19,8 +19,8 @@ use Rattle.session_model.specs.Sessions.Takes.{posted, cached}
 use Rattle.session_model.specs.Courses.{Fails}
 use Rattle.ivy_session.specs.Publishing.{Passes, PublishingIsAfter, PublishingIsWanted, PublishingState, PutHears as Hearing, posts_of, publishing_awaited, stage_of}
 use Rattle.ivy_session.specs.Publishing.PutHears.{puts_on as put_goes_on, puts as put_is_over}
-use Rattle.ask_laws.specs.Laws.{IsWholePutOfPost}
-use Rattle.ask_laws.proofs.AskedPuts.{post_next_is_not_whole}
+use Rattle.session_laws.specs.Laws.{IsWholePutOfPost}
+use Rattle.session_laws.proofs.AskedPuts.{post_next_is_not_whole}
 use Rattle.ivy_session.specs.declared.served.Served.{Served}
 use Rattle.ivy_session.specs.declared.session.Next.TheVariants as next
 use Rattle.ivy_session.specs.declared.session.Stage.TheVariants as stage

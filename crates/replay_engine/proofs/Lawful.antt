@@ -25,8 +25,8 @@ use Rattle.log_model.proofs.Lists.{here, there, in_cons, in_nothing, each_from, 
 use Rattle.log_model.proofs.Sets.{IsBefore, in_order_in, with_old, lighter_is_before}
 use Rattle.log_model.proofs.Later.{replay_more, good_of}
 use Rattle.log_model.proofs.Weights.{Sorted, sorted_front, weight-mono, weight_by_log, full_other, no_heavier_than_front}
-use Rattle.record_sets.specs.Rows.{IsRow, union}
-use Rattle.record_sets.proofs.Unions.{union_in_order}
+use Rattle.replay_engine.specs.Rows.{IsRow, union}
+use Rattle.replay_engine.proofs.Unions.{union_in_order}
 use Rattle.turn_model.specs.Basis.{Basis, StandsFor, IsAboveTide}
 use Rattle.replay_engine.specs.Places.{AreNew}
 use Rattle.replay_engine.specs.Engines.{Engine, taken_in, undone}

@@ -4,3 +4,6 @@ pub mod Sound
 pub mod Passing
 pub mod Kept
 pub mod Lawful
+pub mod Unions
+pub mod KeptRows
+pub mod Walks

@@ -16,8 +16,8 @@ use Rattle.log_model.specs.Replay.{with_record, in_order}
 use Rattle.log_model.proofs.Lists.{each_from, each, each_left, each_right}
 use Rattle.log_model.proofs.Owners.{records_total}
 use Rattle.log_model.proofs.Sets.{IsBefore, before_trans, in_order_ascends}
-use Rattle.record_sets.specs.Rows.{IsRow, union}
-use Rattle.record_sets.proofs.Unions.{union_in_order, spelled_in_order}
+use Rattle.replay_engine.specs.Rows.{IsRow, union}
+use Rattle.replay_engine.proofs.Unions.{union_in_order, spelled_in_order}
 use Rattle.log_records.specs.Places.{merge_place}
 use Rattle.log_records.proofs.PlaceLemmas.{is_under, place_cons, place_within, under_place}
 use Rattle.replay_engine.specs.Places.{first_place, AreNew, AreBehind, start_of}

@@ -9,7 +9,7 @@ use Rattle.tree_model.specs.Apply.{apply_all}
 use Rattle.log_model.specs.Record.{Record}
 use Rattle.log_model.specs.Replay.{effect}
 use Rattle.log_model.proofs.Later.{apply_more}
-use Rattle.record_sets.specs.Rows.{IsRow}
+use Rattle.replay_engine.specs.Rows.{IsRow}
 use Rattle.replay_engine.specs.Replays.{passed}
 use Rattle.replay_engine.specs.States.{State, IsSound}
 use Rattle.replay_engine.proofs.Passes.{passed_then, count_passed, checkpoint_at}

@@ -4,7 +4,7 @@ use Rattle.std.specs.List.{AllByRecursion}
 use Rattle.log_model.specs.View.{View}
 use Rattle.log_model.specs.Record.{Record}
 use Rattle.log_model.specs.Replay.{replay}
-use Rattle.record_sets.specs.Rows.{IsRow}
+use Rattle.replay_engine.specs.Rows.{IsRow}
 use Rattle.turn_model.specs.Basis.{Basis, StandsFor, IsAboveTide, kept_tree}
 use Rattle.replay_engine.specs.Places.{AreNew, AreBehind}
 use Rattle.replay_engine.specs.Engines.{Engine, holding, taken_in, undone}

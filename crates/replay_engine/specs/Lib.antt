@@ -3,3 +3,4 @@ pub mod Replays
 pub mod States
 pub mod Engines
 pub mod Laws
+pub mod Rows

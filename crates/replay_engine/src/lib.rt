@@ -1,8 +1,7 @@
 //! Replay of records that come late: records above a basis in order, the tree that they make of it, and a checkpoint of the
 //! tree at each multiple of 64.
 //!
-//! Layer: over `log_records`, whose records these are, `record_sets`, which merges rows of them, and `fs_tree`; below whoever
-//! takes turns.
+//! Layer: over `log_records`, whose records these are, and `fs_tree`; below whoever takes turns.
 //! For the layer above: contracts see an [`Engine`] as its basis, the records that it holds above that, and what it held
 //! before each call that can be taken back, the newest first (`specs/Engines.antt`). These are none at first, one more with
 //! each [`Engine::absorb`] or [`Engine::append`] that succeeds, but two at most, and one less with each [`Engine::undo`].
@@ -16,8 +15,14 @@
 //! held ones, m where p = n, and n + m - 64 * (p / 64) otherwise (`applied_for` in `turn_model`). A step is one turn of
 //! the loop in `replaying`, which ticks and applies one record. That nothing else here applies records is to be read.
 //!
+//! Rows of records that ascend by rank have the words of `log_model` that [`merge`], [`front`] and [`replay`] are named for
+//! (`in_order`, `front`, `replay`), of the records as contracts see these (`records_of`). What [`merge`] leaves ascends again,
+//! and each of its records has a spelling. Where memory is short rows are as they were; a tree to which records were being
+//! applied ([`apply_records`]) is of no more use.
+//!
 //! Inside, `replaying` is that loop, `state` the records, the tree and the checkpoints, with what a call replaces of them,
-//! and `copies` copies records. Definitions: `specs/Places.antt` has where new records go and what is asked of them,
+//! and `copies` copies records; `greatest` takes the greatest record out of two rows, by which [`merge`] makes the union from its
+//! end. Definitions: `specs/Rows.antt` has rows, `specs/Places.antt` has where new records go and what is asked of them,
 //! `specs/Replays.antt` the trees at the checkpoints, `specs/States.antt` what is kept, and `specs/Laws.antt` the law.
 //!
 //! Costs: beside the records that it applies, each call copies the tree once, and again for each checkpoint that it passes,
@@ -29,9 +34,12 @@
 
 mod copies;
 pub mod engine;
+mod greatest;
 mod laws;
 mod replaying;
+pub mod sets;
 mod state;
 
 pub use engine::Engine;
 pub use laws::replay_is_incremental;
+pub use sets::{apply_records, front, merge, replay};

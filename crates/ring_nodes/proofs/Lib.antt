@@ -14,3 +14,10 @@ pub mod Looking
 pub mod Joins
 pub mod WholePuts
 pub mod Changing
+pub mod Parts
+pub mod Forgotten
+pub mod Renewing
+pub mod Fixing
+pub mod Asked
+pub mod Repaired
+pub mod Whole

@@ -20,7 +20,7 @@ use Rattle.dhash_client.specs.Course.{Told}
 use Rattle.dhash_client.specs.Machine.{FollowsAfter, IsWanted, State, Trail, fresh, outcome}
 use Rattle.dhash_client.specs.declared.miss.Miss.{Miss}
 use Rattle.dhash_client.proofs.Driven.{follows_both, is_look_up}
-use Rattle.ask_laws.proofs.AskedLookups.{look_goes_on}
+use Rattle.session_laws.proofs.AskedLookups.{look_goes_on}
 use Rattle.world_model.specs.Fates.{FateOf, Fates, asking}
 use Rattle.world_model.specs.Fates.Fates.{none as no_asks, more as one_ask}
 use Rattle.world_model.specs.World.{World}

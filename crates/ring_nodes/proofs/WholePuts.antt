@@ -26,7 +26,7 @@ use Rattle.dhash_client.specs.Puts.{IsEnoughPut, EndsPut, IsSamePut, PutIsAfter,
 use Rattle.dhash_client.specs.declared.miss.Miss.{Miss}
 use Rattle.dhash_client.specs.declared.put.PutKind.TheVariants as what
 use Rattle.dhash_client.proofs.DrivenGets.{put_begins}
-use Rattle.ask_laws.proofs.AskedLookups.{look_goes_on}
+use Rattle.session_laws.proofs.AskedLookups.{look_goes_on}
 use Rattle.world_model.specs.Fates.{Fates, asking}
 use Rattle.world_model.specs.Fates.Fates.{none as no_asks}
 use Rattle.world_model.specs.World.{World, peer_of, with_numbered}

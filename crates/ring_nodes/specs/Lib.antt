@@ -4,3 +4,4 @@ pub mod Looking
 pub mod Puts
 pub mod Spoiling
 pub mod Upkeep
+pub mod Parts

@@ -37,7 +37,7 @@ impl Parts {
         let Some(replicas) = self.replicas else {
             return Ok(Taken::Refused);
         };
-        ring_rounds::round(&mut self.nodes, alloc, judge, replicas)?;
+        ring_nodes::round(&mut self.nodes, alloc, judge, replicas)?;
         Ok(Taken::Went(Vec::new(alloc)))
     }
 }

@@ -1,6 +1,6 @@
 //! A script's world but for its open sessions, the lines that need none, and how its sessions go on.
 //!
-//! Layer: over the nodes of `ring_nodes`, the rounds of `ring_rounds`, the participants of `script_participants`, and the
+//! Layer: over the nodes and rounds of `ring_nodes`, the participants of `script_participants`, and the
 //! calls and met blocks of `session_steps`, by the definitions of `world_model`; below the world that has sessions too.
 //! For the layer above: contracts see [`Parts`] as `PartsState` (`specs/PartsState.antt`). What they say is about each world of the
 //! definitions that has these parts (`HasParts`): a line does in it what the definitions say, and the world after it has the parts

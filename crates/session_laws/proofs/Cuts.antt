@@ -22,7 +22,7 @@ use Rattle.causal_order.specs.AtHand.{above}
 use Rattle.causal_order.proofs.Starts.{above_from, above_less}
 use Rattle.turn_model.specs.Known as known
 use Rattle.turn_model.specs.Candidates.{PassesThrough}
-use Rattle.candidate_laws.proofs.OneChain.{one_chain}
+use Rattle.turn_laws.proofs.OneChain.{one_chain}
 use Rattle.session_laws.proofs.ReadBack.{newest_of, linked_left, linked_right, last_seq, long}
 
 -- ---- lists of records

@@ -19,7 +19,7 @@ use Rattle.session_model.specs.Refreshing.FetchesAll.{all, stays, goes_on as all
 use Rattle.session_model.specs.Refreshing.Loads.{loaded, no_whole, wants, misses, garbled, goes_on}
 use Rattle.session_model.specs.Refreshing.LoadsFor.{none as nothing_to_load, some as snapshot_to_load}
 use Rattle.session_model.specs.Refreshing.Refreshes.{loading, fetching}
-use Rattle.candidate_laws.proofs.SomeCandidate.{owner_known}
+use Rattle.turn_laws.proofs.SomeCandidate.{owner_known}
 use Rattle.session_laws.specs.Going.{ComesTo, IsOfWant, RefreshBegins, RefreshGoesOn, SnapshotsAreDecided}
 use Rattle.session_laws.proofs.GoingCourse.{TriesTo, tries_begin, tries_go_on, tries_lack}
 use Rattle.session_laws.proofs.GoingHeads.{tried_of}

@@ -14,9 +14,9 @@ use Rattle.log_records.specs.declared.edge.Edge.{Edge}
 use Rattle.log_records.specs.declared.chain_fault.ChainFault.{ChainFault}
 use Rattle.log_records.specs.declared.chain_fault.ChainFault.TheVariants.{Bad, Fork, Memory}
 use Rattle.log_records.specs.Batches.{ChainFails, EndsAt, GoesOnFrom, HasRecord, IsOnward, IsSound, KnowsEdge, MayBeNext, OldestNames, PassesFloor, stamp_in}
-use Rattle.candidate_laws.proofs.ChainRules.{made_known, named_known, first_known, further_known, follows_known, stamp_known}
-use Rattle.candidate_laws.proofs.RecordReading.{Known, both_known, if_known, key_known, number_known, at_most_known}
-use Rattle.candidate_laws.proofs.SomeCandidate.{owner_known}
+use Rattle.turn_laws.proofs.ChainRules.{made_known, named_known, first_known, further_known, follows_known, stamp_known}
+use Rattle.turn_laws.proofs.RecordReading.{Known, both_known, if_known, key_known, number_known, at_most_known}
+use Rattle.turn_laws.proofs.SomeCandidate.{owner_known}
 
 -- ---- the rules of a log
 

@@ -12,7 +12,7 @@ use Rattle.log_model.specs.Spelling.{HasSpelling}
 use Rattle.log_records.specs.declared.edge.Edge.{Edge}
 use Rattle.log_records.specs.declared.chain_fault.ChainFault.{ChainFault}
 use Rattle.log_records.specs.declared.chain_fault.ChainFault.TheVariants.{Bad}
-use Rattle.candidate_laws.proofs.RecordReading.{record_or_not}
+use Rattle.turn_laws.proofs.RecordReading.{record_or_not}
 use Rattle.dhash_client.specs.declared.miss.Miss.{Miss}
 use Rattle.session_model.specs.Brought.{Brought, BlockOf, Content, Heads, Want}
 use Rattle.session_model.specs.Walks.{Came, Garbled, Gives, GivesNone, Lacks, LogEnd, Misses, Stops, Tries, WalkEnd, Walks, Wants}

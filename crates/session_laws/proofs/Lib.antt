@@ -19,3 +19,10 @@ mod GoingHeads
 pub mod Going
 pub mod Missing
 pub mod DecidedSnapshots
+pub mod AskedPlans
+pub mod AskedOwners
+pub mod AskedLookups
+pub mod AskedCourses
+pub mod AskedGets
+pub mod AskedPuts
+pub mod AskedMachines

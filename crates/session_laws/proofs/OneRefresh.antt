@@ -7,7 +7,7 @@ use Rattle.log_model.specs.Vector.{Vector}
 use Rattle.turn_model.specs.Basis.{Basis}
 use Rattle.snapshot_model.specs.Reading.{Names, Part}
 use Rattle.snapshot_model.proofs.OneNames.{names_are_one}
-use Rattle.snapshot_wholes.proofs.OneBasis.{snapshot_is_one}
+use Rattle.snapshot_loading.proofs.OneBasis.{snapshot_is_one}
 use Rattle.agent_model.specs.Standing.{Chain, Refresh, Standing}
 use Rattle.session_model.specs.Brought.{Brought, BlockOf, Content}
 use Rattle.session_model.specs.Refreshing.{FetchesAll, Loaded, LoadEnd, LoadWants, Loads, LoadsFor, Needs, Note, RefreshEnd, Refreshes, chains_of, counting, end_of_log, start_of}

@@ -3,3 +3,4 @@ pub mod Starting
 pub mod Loading
 pub mod Once
 pub mod Going
+pub mod Laws

@@ -1,8 +1,15 @@
-//! What follows for a session: from where its refresh starts, what that loads, and what it has brought when it is done.
+//! What follows for a session: what it asks next, from where its refresh starts, what that loads, and what it has brought.
 //!
-//! Layer: laws and no code, over the definitions of `session_model` and `agent_model`; below the code of sessions and the laws
-//! of the world.
-//! For the layers above, where names tell the blocks apart: a refresh that is done has brought of each member's log what
+//! Layer: laws and no code, over the machines of `dhash_client` and the definitions of `session_model` and `agent_model`; below
+//! the code of sessions and the laws of the world.
+//! For the layers above, ask by ask: a get or a put is one course that the answers tell, whatever they are ([`gets_are_one`]). It
+//! isn't whole where a node is asked next ([`next_is_not_whole`]), nor before a first ask ([`none_is_whole`]). What a machine is
+//! to ask behind its trail is the next ask of its get or put ([`machines_ask_next`]), also in the words of sessions
+//! ([`sessions_ask_next`]). Definitions: `specs/Laws.antt`. Lemmas, each file on those before it: `proofs/AskedPlans.antt` (whole
+//! trails that follow a plan), `proofs/AskedOwners.antt`, `proofs/AskedLookups.antt`, `proofs/AskedCourses.antt` (the asks of
+//! owners, look-ups, and both as a plan), `proofs/AskedGets.antt`, `proofs/AskedPuts.antt`, `proofs/AskedMachines.antt`.
+//!
+//! On refreshes, where names tell the blocks apart: a refresh that is done has brought of each member's log what
 //! `agent_model` holds a turn to (`Brings`), and the floor's record where the floor goes further than what it started from, so
 //! that its own agent isn't behind (`is_behind`). All ask that it starts from known records, which it does
 //! (`start_is_known`), also where it goes by a basis, since what it loads is what was made (`loaded_is_made`). Whatever names
@@ -21,11 +28,51 @@
 //! and `proofs/GoingHeads.antt` (heads can be put in order); `proofs/DecidedSnapshots.antt`.
 #![tactic(auto)]
 
+ghost use Rattle.session_laws.specs.Laws.{BlockAsksNext, BlockNextIsNotWhole, ContentIsAskedNext, GetNextIsNotWhole, GetsAreOne, HeadAsksNext, HeadNextIsNotWhole, HeadsAreAskedNext, NoneIsWholeBlock, NoneIsWholeGet, NoneIsWholeHead, NoneIsWholePost, NoneIsWholePut, PostIsAskedNext, PostNextIsNotWhole, PutAsksNext, PutNextIsNotWhole, PutsAreOne};
 ghost use Rattle.session_laws.specs.Bringing.{FetchedIsBrought, FloorIsBrought, RefreshedIsBrought, FloorIsReached, DoneIsNotBehind};
 ghost use Rattle.session_laws.specs.Going.{FailsByTheLast, RefreshBegins, RefreshGoesOn, SnapshotsAreDecided};
 ghost use Rattle.session_laws.specs.Loading.{LoadedIsMade, BasisIsKnown};
 ghost use Rattle.session_laws.specs.Once.{FetchIsOne, RefreshIsOne};
 ghost use Rattle.session_laws.specs.Starting.{StartIsKnown, StartIsSorted};
+
+/// A law and no code: of any entry nodes, a whole get or put begins no other, one ask is the next, it goes on or is whole
+/// whatever is answered, and where there is an entry node nothing asked is the beginning of one.
+pub fn gets_are_one()
+    ensures gets { GetsAreOne }
+    ensures puts { PutsAreOne }
+{}
+
+/// A law and no code: where some node is asked next, what was asked is no whole get or put.
+pub fn next_is_not_whole()
+    ensures heads { HeadNextIsNotWhole }
+    ensures blocks { BlockNextIsNotWhole }
+    ensures puts { PutNextIsNotWhole }
+    ensures gets { GetNextIsNotWhole }
+    ensures posts { PostNextIsNotWhole }
+{}
+
+/// A law and no code: where there is an entry node, nothing asked is no whole get or put.
+pub fn none_is_whole()
+    ensures heads { NoneIsWholeHead }
+    ensures blocks { NoneIsWholeBlock }
+    ensures puts { NoneIsWholePut }
+    ensures gets { NoneIsWholeGet }
+    ensures posts { NoneIsWholePost }
+{}
+
+/// A law and no code: behind its trail, what a machine of a get or a put is to ask is the next ask.
+pub fn machines_ask_next<J>()
+    ensures heads { HeadAsksNext J }
+    ensures blocks { BlockAsksNext }
+    ensures puts { PutAsksNext }
+{}
+
+/// A law and no code: the same of the gets and puts of a session, of the heads of a log, of a content block and of a post.
+pub fn sessions_ask_next<J>()
+    ensures heads { HeadsAreAskedNext J }
+    ensures content { ContentIsAskedNext }
+    ensures posts { PostIsAskedNext }
+{}
 
 /// A law and no code.
 ///

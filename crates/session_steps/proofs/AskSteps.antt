@@ -15,8 +15,8 @@ use Rattle.session_model.specs.Courses.{Fails, LacksMemory}
 use Rattle.session_model.specs.Courses.Fails.{goes_on as refresh_goes}
 use Rattle.session_model.specs.Sessions.{Cache, Hears, IsPut, Publishing, Refreshing, Said, Session, TakesAll, acknowledged, after_put, put_question}
 use Rattle.session_model.specs.Sessions.Hears.{gets_on, got, puts_on, puts}
-use Rattle.ask_laws.proofs.AskedGets.{gets_are_one}
-use Rattle.ask_laws.proofs.AskedPuts.{puts_are_one}
+use Rattle.session_laws.proofs.AskedGets.{gets_are_one}
+use Rattle.session_laws.proofs.AskedPuts.{puts_are_one}
 use Rattle.ivy_session.specs.declared.session.Next.TheVariants as next
 use Rattle.ivy_session.specs.States.{HasAsked, IsSession, SessionState, is_turning, session_awaited}
 use Rattle.ivy_session.specs.Stepping.{AsksOf, HeardIs, IsSameSession, NextIs}

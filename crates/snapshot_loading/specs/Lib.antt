@@ -1,3 +1,15 @@
 pub mod Roles
 pub mod Loading
 pub mod Laws
+pub mod Picks
+pub mod Evenness
+pub mod Contents
+pub mod Inodes
+pub mod Ends
+pub mod Answers
+pub mod Parts
+pub mod Steps
+pub mod Forests
+pub mod ShownInodes
+pub mod Wholes
+pub mod WholeLaws

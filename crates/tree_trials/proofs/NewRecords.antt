@@ -12,7 +12,7 @@ use Rattle.log_model.specs.Rank.{record_cmp, rank}
 use Rattle.log_records.specs.declared.record.Record.{Record}
 use Rattle.log_records.specs.Records.{record_of, records_of}
 use Rattle.log_records.specs.Places.{merge_place}
-use Rattle.record_sets.specs.Rows.{IsRow}
+use Rattle.replay_engine.specs.Rows.{IsRow}
 use Rattle.replay_engine.specs.Places.{AreNew, AreBehind, first_place}
 use Rattle.replay_engine.proofs.Placed.{behind_place}
 

@@ -1,2 +1,7 @@
 pub mod Closed
 pub mod Whole
+pub mod One
+pub mod Verified
+pub mod Some
+pub mod Reading
+pub mod Laws

@@ -20,7 +20,7 @@ use Rattle.log_fetch.specs.declared.get.Get.{Get}
 use Rattle.log_fetch.specs.declared.get.Get.TheVariants as get
 use Rattle.log_fetch.specs.Fetching.{Fetching, FetchIsAfter, IsAsking, IsFor, IsSound, aim, aim_in, awaited_in, fetch_aim, fetch_awaited}
 use Rattle.log_fetch.specs.Gets.{GetIsAfter, get_awaited}
-use Rattle.ask_laws.proofs.AskedMachines.{heads_are_asked_next, content_is_asked_next}
+use Rattle.session_laws.proofs.AskedMachines.{heads_are_asked_next, content_is_asked_next}
 use Rattle.view_refresh.specs.States.{IsGetOf}
 
 some_or_none : {T : Type 0} (x : T) → Some x ≡ None → ⊥

@@ -23,7 +23,7 @@ use Rattle.log_fetch.specs.declared.get.Progress.TheVariants as progress
 use Rattle.log_fetch.specs.declared.get.Waiting.{Waiting}
 use Rattle.log_fetch.specs.Fetching.{Fetching, FetchHasHeard, GetGoesOn, GetIsOver, fetch_awaited, fetch_left, most_asks, most_left}
 use Rattle.log_fetch.specs.Gets.{GetHasHeard, GetIsAfter, HasCame, HearsTo, IsKept, gets_left, get_awaited}
-use Rattle.ask_laws.proofs.AskedGets.{get_next_is_not_whole}
+use Rattle.session_laws.proofs.AskedGets.{get_next_is_not_whole}
 use Rattle.view_refresh.specs.declared.refresh.Loading.{Loading}
 use Rattle.view_refresh.specs.declared.refresh.State.{State}
 use Rattle.view_refresh.specs.declared.refresh.State.TheVariants as state

@@ -1,6 +1,6 @@
 //! The refresh of a view: the snapshot first, where there is one to load, and then all logs.
 //!
-//! Layer: over `log_fetch`, which fetches the logs, and `snapshot_loading` and `snapshot_basis`, which load a snapshot that is
+//! Layer: over `log_fetch`, which fetches the logs, and `snapshot_loading`, which loads a snapshot that is
 //! given block by block; below sessions, which carry its asks to nodes and its result to an agent.
 //! For the layers above: a [`ViewRefresh`] is driven as a fetch is: [`ViewRefresh::next`] says which node is to be asked, and
 //! [`ViewRefresh::heard`] takes its answer. With its last answer a get is over, and a block that it brought is handed out.

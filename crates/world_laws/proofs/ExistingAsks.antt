@@ -16,10 +16,10 @@ use Rattle.dhash_client.specs.Puts.{EndsPut}
 use Rattle.dhash_client.specs.declared.miss.Miss.{Miss}
 use Rattle.dhash_client.specs.declared.put.PutKind.TheVariants as put
 use Rattle.ring_model.proofs.Lists.{cons_head, cons_tail, nil_cons}
-use Rattle.ask_laws.proofs.AskedPlans.{Entries, Follows, Plan, asking, ended, entry}
-use Rattle.ask_laws.proofs.AskedOwners.{entries_of, told_owners}
-use Rattle.ask_laws.proofs.AskedLookups.{look_back, look_plan}
-use Rattle.ask_laws.proofs.AskedPuts.{put_entries, told_put}
+use Rattle.session_laws.proofs.AskedPlans.{Entries, Follows, Plan, asking, ended, entry}
+use Rattle.session_laws.proofs.AskedOwners.{entries_of, told_owners}
+use Rattle.session_laws.proofs.AskedLookups.{look_back, look_plan}
+use Rattle.session_laws.proofs.AskedPuts.{put_entries, told_put}
 use Rattle.world_model.specs.Fates.{Fates, Puts}
 use Rattle.world_model.specs.Fates.{asking as all_asking}
 use Rattle.world_model.specs.Fates.Fates.{none as fates_none, more as fates_more}

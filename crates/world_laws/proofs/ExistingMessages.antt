@@ -11,10 +11,10 @@ use Rattle.nfs_model.specs.Arguments.{AreArguments, ArgumentsFit, arguments, mou
 use Rattle.turn_model.specs.Turn.{Asked}
 use Rattle.log_model.specs.View.{View}
 use Rattle.dht_ids.specs.declared.peer.Peer.{Peer}
-use Rattle.candidate_laws.proofs.Arguments.{arguments_or_not}
-use Rattle.candidate_laws.proofs.Callers.{caller_or_not}
-use Rattle.candidate_laws.proofs.Calls.{call_or_not, other_or_not}
-use Rattle.candidate_laws.proofs.Deciding.{HasParts, IsReadable, a_data, a_front, whole_or_not}
+use Rattle.turn_laws.proofs.Arguments.{arguments_or_not}
+use Rattle.turn_laws.proofs.Callers.{caller_or_not}
+use Rattle.turn_laws.proofs.Calls.{call_or_not, other_or_not}
+use Rattle.turn_laws.proofs.Deciding.{HasParts, IsReadable, a_data, a_front, whole_or_not}
 use Rattle.agent_model.specs.Standing.{Standing}
 use Rattle.session_model.specs.Courses.{Begins}
 use Rattle.session_model.specs.Courses.Begins.{alone as begins_alone, refreshes}

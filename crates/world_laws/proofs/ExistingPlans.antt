@@ -13,12 +13,12 @@ use Rattle.ring_model.proofs.Lists.{all-left, all-right, cons_head, cons_tail, n
 use Rattle.dhash_client.specs.Course.{IsCourse, Told}
 use Rattle.dhash_client.specs.Puts.{EndsPut, is_of_put}
 use Rattle.dhash_client.specs.declared.miss.Miss.{Miss}
-use Rattle.ask_laws.proofs.AskedPlans.{Entries, Follows, IsToldBy, Plan, asking, ended, entry}
-use Rattle.ask_laws.proofs.AskedCourses.{IsWhole, after_plan, course_back, course_fits}
-use Rattle.ask_laws.proofs.AskedOwners.{choose, owners_plan}
-use Rattle.ask_laws.proofs.AskedLookups.{among_or_not, firsts, last_after, look_plan, rest_after, round_plan}
-use Rattle.ask_laws.proofs.AskedGets.{at_most_or_not}
-use Rattle.ask_laws.proofs.AskedPuts.{put_end}
+use Rattle.session_laws.proofs.AskedPlans.{Entries, Follows, IsToldBy, Plan, asking, ended, entry}
+use Rattle.session_laws.proofs.AskedCourses.{IsWhole, after_plan, course_back, course_fits}
+use Rattle.session_laws.proofs.AskedOwners.{choose, owners_plan}
+use Rattle.session_laws.proofs.AskedLookups.{among_or_not, firsts, last_after, look_plan, rest_after, round_plan}
+use Rattle.session_laws.proofs.AskedGets.{at_most_or_not}
+use Rattle.session_laws.proofs.AskedPuts.{put_end}
 
 -- ---- whom a plan asks
 

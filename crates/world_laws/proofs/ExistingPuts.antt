@@ -20,8 +20,8 @@ use Rattle.session_model.specs.Courses.Settles.{settles as settles_all}
 use Rattle.session_model.specs.Sessions.{IsPut, Publishing, Refreshing, Over, Said, Session, acknowledged, after_put, held_back, is_log, put_question}
 use Rattle.session_model.specs.Sessions.Hears.{puts_on, puts}
 use Rattle.session_model.specs.Sessions.TakesAll.{none as takes_none}
-use Rattle.ask_laws.proofs.AskedPlans.{Entries, Follows, IsToldBy, Plan, asking, ended, entry, some_follows}
-use Rattle.ask_laws.proofs.AskedPuts.{kind_of_post, of_post, put_entries, puts_are_one, told_put}
+use Rattle.session_laws.proofs.AskedPlans.{Entries, Follows, IsToldBy, Plan, asking, ended, entry, some_follows}
+use Rattle.session_laws.proofs.AskedPuts.{kind_of_post, of_post, put_entries, puts_are_one, told_put}
 use Rattle.world_model.specs.Story.{Began, Story}
 use Rattle.world_model.specs.World.{World, Participant, participant, with_participant}
 use Rattle.world_model.specs.Steps.{Acts, Scene, Steps, ask_told}

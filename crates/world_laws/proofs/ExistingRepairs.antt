@@ -26,10 +26,10 @@ use Rattle.world_model.specs.Rounds.PutsAround.{no_route, puts}
 use Rattle.world_model.specs.Rounds.RoundLine.{before_ring, goes}
 use Rattle.world_model.specs.Story.{Story}
 use Rattle.world_model.specs.World.{World, live_peers, with_node}
-use Rattle.ask_laws.proofs.AskedGets.{at_most_or_not}
-use Rattle.ask_laws.proofs.AskedLookups.{among_or_not, firsts, firsts_are}
-use Rattle.ask_laws.proofs.AskedOwners.{AreAsked, to_asks}
-use Rattle.ask_laws.proofs.AskedPuts.{put_end}
+use Rattle.session_laws.proofs.AskedGets.{at_most_or_not}
+use Rattle.session_laws.proofs.AskedLookups.{among_or_not, firsts, firsts_are}
+use Rattle.session_laws.proofs.AskedOwners.{AreAsked, to_asks}
+use Rattle.session_laws.proofs.AskedPuts.{put_end}
 use Rattle.round_laws.proofs.Fixing.{look_up}
 use Rattle.round_laws.proofs.Nodes.{Shape, at_among, id_itself, made_by, made_shape}
 use Rattle.round_laws.proofs.Order.{fold_among}

@@ -17,7 +17,7 @@ use Rattle.turn_model.specs.Turn.{Asked}
 use Rattle.agent_model.specs.Standing.{Refresh}
 use Rattle.agent_model.specs.Turning.{TurnEnd, Turns}
 use Rattle.agent_model.specs.Turning.Turns.{behind, below, answers as turn_answers}
-use Rattle.agent_laws.specs.Laws.{HasRoom}
+use Rattle.turn_laws.specs.Laws.{HasRoom}
 use Rattle.session_model.specs.Courses.{Fails, IsRefusal, LacksMemory, Settles, TakesTurn}
 use Rattle.session_model.specs.Courses.Fails.{fails, goes_on as fails_not}
 use Rattle.session_model.specs.Courses.LacksMemory.{lacks}

@@ -26,8 +26,8 @@ use Rattle.session_model.specs.Sessions.Hears.{got, gets_on}
 use Rattle.session_model.specs.Sessions.Takes.{posted, cached}
 use Rattle.session_model.specs.Sessions.TakesAll.{none as takes_none}
 use Rattle.session_laws.specs.Going.{ComesTo, IsOfWant}
-use Rattle.ask_laws.proofs.AskedGets.{get_entries, gets_are_one}
-use Rattle.ask_laws.proofs.AskedPlans.{Follows, Plan, asking, ended, entry, some_follows}
+use Rattle.session_laws.proofs.AskedGets.{get_entries, gets_are_one}
+use Rattle.session_laws.proofs.AskedPlans.{Follows, Plan, asking, ended, entry, some_follows}
 use Rattle.session_laws.proofs.OneRefresh.{refresh_is_one}
 use Rattle.world_model.specs.Story.{Began, Story}
 use Rattle.world_model.specs.Steps.{Scene, Steps, StepsOn, ask_told}

@@ -7,7 +7,7 @@ use Rattle.ivy_base.specs.Naming.{HasClash}
 use Rattle.wire_model.specs.Rpc.{SystemError, reply}
 use Rattle.log_heads.specs.Signed.{hss_judged}
 use Rattle.log_model.proofs.Lists.{each, each_append, each_from, from_filter}
-use Rattle.agent_laws.specs.Laws.{HasRoom}
+use Rattle.turn_laws.specs.Laws.{HasRoom}
 use Rattle.session_model.specs.Replies.{said_no_memory}
 use Rattle.session_model.specs.Sessions.{Over, Said, Session, Stage}
 use Rattle.script_driver.specs.Run.{Outcome, Goes, Ends, Refuses, Exceeds}

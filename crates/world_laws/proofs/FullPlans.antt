@@ -15,8 +15,8 @@ use Rattle.dhash_client.specs.declared.miss.Miss.{Miss}
 use Rattle.session_model.specs.Brought.{BlockOf, Brought, Content, Heads, HeadsOf, Want}
 use Rattle.session_model.specs.Sessions.{Gets, IsGet, wanted_key}
 use Rattle.session_model.specs.Sessions.Gets.{heads as got_heads, content as got_content}
-use Rattle.ask_laws.proofs.AskedPlans.{Entries}
-use Rattle.ask_laws.proofs.AskedGets.{at_most_or_not, block_end, enough_or_not, get_entries, head_end}
+use Rattle.session_laws.proofs.AskedPlans.{Entries}
+use Rattle.session_laws.proofs.AskedGets.{at_most_or_not, block_end, enough_or_not, get_entries, head_end}
 use Rattle.world_laws.proofs.ExistingPlans.{IsPlannedOf, course_planned}
 
 -- what is whole where that is asks the same nodes

@@ -36,7 +36,7 @@ use Rattle.nfs_model.specs.Pages.{cookie_verifier, long_length, page_checks, pla
 use Rattle.nfs_model.specs.Reading.{answer, found, found_inode, link_kind, lookup_checks, target_of}
 use Rattle.turn_model.specs.Turn.{Agent as Inputs, Asked, Turned, appended, bare_tail, by_plan, own_seq, turn_on}
 use Rattle.session_model.specs.Replies.{handle_given, verifier_given}
-use Rattle.agent_laws.proofs.Octets.{take_each}
+use Rattle.turn_laws.proofs.Octets.{take_each}
 use Rattle.world_laws.specs.FullTurns.{AreBytes}
 use Rattle.world_laws.proofs.PieceBytes.{handle_bytes}
 

@@ -38,8 +38,8 @@ use Rattle.world_laws.specs.Keeps.{AreApart, GoesOn, HasSaid, IsAnswerIn, IsAtSt
 use Rattle.world_laws.specs.Keeps.KeepsUp.{still, grown, dropped}
 use Rattle.world_laws.specs.Frames.{Change, IsMildChange, changed, unchanged}
 use Rattle.world_laws.specs.Laws.{GetsGoOnKeep, LackingKeeps, PutsKeep, SettlingKeeps, VainAsksKeep}
-use Rattle.ask_laws.proofs.AskedGets.{gets_are_one}
-use Rattle.ask_laws.proofs.AskedPuts.{puts_are_one}
+use Rattle.session_laws.proofs.AskedGets.{gets_are_one}
+use Rattle.session_laws.proofs.AskedPuts.{puts_are_one}
 use Rattle.world_laws.proofs.Bringing.{found_named, some_same}
 use Rattle.world_laws.proofs.Frames.{answer_stays, found_placed, goes_on_still, participant_keeps, placed_itself, said_still, same_keys, sound_still}
 use Rattle.world_laws.proofs.MoreMet.{more_posts}

@@ -7,7 +7,7 @@ use Rattle.nfs_model.proofs.OneArguments.{one_arguments}
 use Rattle.log_model.specs.View.{View}
 use Rattle.turn_model.specs.Turn.{Asked}
 use Rattle.agent_model.specs.Standing.{Standing}
-use Rattle.candidate_laws.proofs.Calls.{known_message}
+use Rattle.turn_laws.proofs.Calls.{known_message}
 use Rattle.session_model.specs.Courses.{Begins}
 use Rattle.session_model.specs.Courses.Begins.{alone, refreshes}
 use Rattle.session_model.specs.Replies.{Asks, IsByMessage}

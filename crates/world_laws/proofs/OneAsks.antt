@@ -23,9 +23,9 @@ use Rattle.dhash_client.specs.Puts.{EndsPut, is_of_put, question_of}
 use Rattle.dhash_client.specs.declared.miss.Miss.{Miss}
 use Rattle.dhash_client.specs.declared.miss.Miss.TheVariants as miss
 use Rattle.dhash_client.specs.declared.put.PutKind.{PutKind}
-use Rattle.ask_laws.proofs.AskedLookups.{firsts_same}
-use Rattle.ask_laws.proofs.AskedOwners.{AreAsked, entries_of, from_asks, told_owners}
-use Rattle.ask_laws.proofs.AskedPuts.{put_entries, told_put}
+use Rattle.session_laws.proofs.AskedLookups.{firsts_same}
+use Rattle.session_laws.proofs.AskedOwners.{AreAsked, entries_of, from_asks, told_owners}
+use Rattle.session_laws.proofs.AskedPuts.{put_entries, told_put}
 use Rattle.world_model.specs.Fates.{Fates, Puts, asking}
 use Rattle.world_model.specs.Fates.Fates.{none as fates_none, more as fates_more}
 use Rattle.world_model.specs.Ring.{LooksUp}

@@ -30,11 +30,11 @@ use Rattle.dhash_client.specs.declared.miss.Miss.TheVariants as miss
 use Rattle.dhash_client.specs.declared.put.PutKind.{PutKind}
 use Rattle.agent_model.specs.Agent.{is_head}
 use Rattle.session_model.specs.Sessions.{IsPutOfPost}
-use Rattle.ask_laws.proofs.AskedGets.{get_entries}
-use Rattle.ask_laws.proofs.AskedLookups.{firsts_same}
-use Rattle.ask_laws.proofs.AskedOwners.{entries_of, told_owners}
-use Rattle.ask_laws.proofs.AskedPlans.{Entries, IsToldBy, entry}
-use Rattle.ask_laws.proofs.AskedPuts.{kind_of_post, of_post, put_entries, told_put}
+use Rattle.session_laws.proofs.AskedGets.{get_entries}
+use Rattle.session_laws.proofs.AskedLookups.{firsts_same}
+use Rattle.session_laws.proofs.AskedOwners.{entries_of, told_owners}
+use Rattle.session_laws.proofs.AskedPlans.{Entries, IsToldBy, entry}
+use Rattle.session_laws.proofs.AskedPuts.{kind_of_post, of_post, put_entries, told_put}
 
 -- ---- a look-up finds the same
 

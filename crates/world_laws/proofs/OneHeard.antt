@@ -14,8 +14,8 @@ use Rattle.dht_ids.specs.declared.post.Post.{Post}
 use Rattle.dht_ids.specs.Asked.{told}
 use Rattle.dhash_client.specs.declared.miss.Miss.{Miss}
 use Rattle.agent_model.specs.Others.{settled}
-use Rattle.ask_laws.proofs.AskedGets.{gets_are_one}
-use Rattle.ask_laws.proofs.AskedPuts.{puts_are_one}
+use Rattle.session_laws.proofs.AskedGets.{gets_are_one}
+use Rattle.session_laws.proofs.AskedPuts.{puts_are_one}
 use Rattle.session_model.specs.Asking.{AsksNext}
 use Rattle.session_model.specs.Brought.{Brought, HeadsOf, BlockOf, Want, Content, brought_in}
 use Rattle.session_model.specs.Courses.{Fails, LacksMemory, Settles, ended}

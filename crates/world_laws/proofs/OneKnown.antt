@@ -12,7 +12,7 @@ use Rattle.log_model.proofs.Lists.{each, each_from, from_filter, in_filter}
 use Rattle.log_model.proofs.Sets.{same_list}
 use Rattle.log_model.proofs.Owners.{owner_itself}
 use Rattle.turn_model.specs.Known.{EndsAt, IsKnown}
-use Rattle.candidate_laws.proofs.OneChain.{one_chain}
+use Rattle.turn_laws.proofs.OneChain.{one_chain}
 use Rattle.world_laws.specs.Laws.{KnownIsOne}
 
 pub stand_in_log : (met : List (List ℕ)) (owner : PubKey) (s : List Record) → Stand met s → Stand met (log_of owner s)

@@ -15,7 +15,7 @@ use Rattle.wire_model.specs.Xdr.{opaque, word}
 use Rattle.log_model.proofs.Lists.{both}
 use Rattle.log_model.specs.View.{View, view_block, view_name}
 use Rattle.nfs_model.specs.Objects.{handle_of}
-use Rattle.agent_laws.proofs.Octets.{AreOctets, a_double_word, a_word, an_opaque, is_octet, joined, no_octets}
+use Rattle.turn_laws.proofs.Octets.{AreOctets, a_double_word, a_word, an_opaque, is_octet, joined, no_octets}
 use Rattle.script_model.specs.declared.command.Piece.{Piece}
 use Rattle.script_model.specs.declared.command.Piece.TheVariants as piece
 use Rattle.script_model.specs.Messages.{Given, bytes_of_pieces, call_head, given_by, message_of, numbers_behind, piece_bytes}

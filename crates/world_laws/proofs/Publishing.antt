@@ -47,7 +47,7 @@ use Rattle.world_model.specs.Steps.Steps.{acts, lacks_memory}
 use Rattle.world_laws.specs.Keeps.{AreApart, IsAnswerIn, IsAtPuts, IsMetPost, IsPuttingOn, Keeps, OnlyPublishes}
 use Rattle.world_laws.specs.Frames.{Change, IsMildChange, changed, unchanged}
 use Rattle.world_laws.specs.Laws.{PublishingKeeps}
-use Rattle.ask_laws.proofs.AskedPuts.{puts_are_one}
+use Rattle.session_laws.proofs.AskedPuts.{puts_are_one}
 use Rattle.world_laws.proofs.Bringing.{found_named}
 use Rattle.world_laws.proofs.Frames.{answer_stays, found_placed, nodes_of_ring, one_named, participant_keeps, placed_itself, ring_keeps, same_elements}
 use Rattle.world_laws.proofs.MoreMet.{more_posts}

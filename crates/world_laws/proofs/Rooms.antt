@@ -30,7 +30,7 @@ use Rattle.session_model.specs.Sessions.{Session}
 use Rattle.world_model.specs.Agents.{Agent, IsKept, Kept, TakesTurn, hss, kept_bytes, opened, own, own_reach}
 use Rattle.world_model.specs.Keepers.{Keeper, asked_to_save}
 use Rattle.world_model.specs.World.{Participant}
-use Rattle.agent_laws.specs.Laws.{HasRoom}
+use Rattle.turn_laws.specs.Laws.{HasRoom}
 use Rattle.world_laws.specs.FullRuns.{EmptyPublishesFew, FewPostsCome, HasFewPosts, ThereIsRoom}
 use Rattle.world_laws.specs.Keeps.{IsKeptSo, IsSavedWell}
 use Rattle.world_laws.proofs.KeptBytes.{kept_once}

@@ -17,7 +17,7 @@ use Rattle.session_laws.specs.Going.{ComesTo, IsMissed, IsOfWant, SnapshotsAreDe
 use Rattle.session_laws.proofs.DecidedSnapshots.{snapshots_are_decided}
 use Rattle.session_laws.proofs.Going.{refresh_goes_on}
 use Rattle.session_laws.proofs.Missing.{fails_by_the_last}
-use Rattle.ask_laws.proofs.AskedGets.{gets_are_one}
+use Rattle.session_laws.proofs.AskedGets.{gets_are_one}
 use Rattle.world_model.specs.World.{World, Participant, named_bytes, participant, with_participant}
 use Rattle.world_model.specs.Steps.{Scene}
 use Rattle.world_laws.specs.Causes.{said_at}

@@ -13,9 +13,9 @@ use Rattle.turn_model.specs.Turn.{Asked}
 use Rattle.view_blocks.specs.Faults.{HasKeys}
 use Rattle.agent_model.specs.Standing.{Refresh}
 use Rattle.agent_model.specs.Turning.{TurnEnd}
-use Rattle.agent_laws.specs.Laws.{HasRoom}
-use Rattle.agent_laws.proofs.Existing.{MayAnswer, there_is_a_turn}
-use Rattle.agent_laws.proofs.Octets.{AreOctets, right_octets}
+use Rattle.turn_laws.specs.Laws.{HasRoom}
+use Rattle.turn_laws.proofs.Existing.{MayAnswer, there_is_a_turn}
+use Rattle.turn_laws.proofs.Octets.{AreOctets, right_octets}
 use Rattle.session_model.specs.Brought.{brought_in, heads_at}
 use Rattle.session_model.specs.Courses.{HasRefreshed}
 use Rattle.session_model.specs.Refreshing.{Note}

@@ -9,8 +9,8 @@ use Rattle.ivy_base.specs.declared.key.Key.{Key}
 use Rattle.ivy_base.specs.declared.key.PubKey.{PubKey}
 use Rattle.ivy_base.specs.Naming.{NamesTellApart, head_key_of, key_cmp, owner_cmp}
 use Rattle.tree_model.proofs.Keys.{exact_keys, keys_total}
-use Rattle.candidate_laws.proofs.OneCandidate.{IsNewest, IsOne, cases_of}
-use Rattle.candidate_laws.proofs.OneChain.{one_chain}
+use Rattle.turn_laws.proofs.OneCandidate.{IsNewest, IsOne, cases_of}
+use Rattle.turn_laws.proofs.OneChain.{one_chain}
 use Rattle.log_model.specs.Chain.{IsChain, IsGood, LinkedFrom}
 use Rattle.log_model.specs.Closed.{IsClosed, IsClosedPart, log_of}
 use Rattle.log_model.specs.Record.{Record}

@@ -5,7 +5,7 @@ use Rattle.ivy_base.specs.Naming.{HasClash, NamesTellApart, head_key_of}
 use Rattle.wire_model.specs.Rpc.{SystemError, reply}
 use Rattle.log_model.specs.Vector.{seq_of}
 use Rattle.agent_model.specs.Agent.{is_head, kept_of, own_key}
-use Rattle.agent_laws.specs.Laws.{HasRoom}
+use Rattle.turn_laws.specs.Laws.{HasRoom}
 use Rattle.session_model.specs.Replies.{said_no_memory}
 use Rattle.session_model.specs.Sessions.{Over, Publishing, Refreshing, Said, Session, Stage}
 use Rattle.script_driver.specs.Run.{Outcome, Goes, Ends, Refuses, Exceeds, Obeys, Ran, Runs, WithLaw, shown}

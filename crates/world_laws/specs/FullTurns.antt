@@ -6,7 +6,7 @@ use Rattle.log_heads.specs.Signed.{hss_judged}
 use Rattle.turn_model.specs.Turn.{Asked}
 use Rattle.agent_model.specs.Standing.{Refresh}
 use Rattle.agent_model.specs.Turning.{TurnEnd}
-use Rattle.agent_laws.specs.Laws.{HasRoom}
+use Rattle.turn_laws.specs.Laws.{HasRoom}
 use Rattle.session_model.specs.Courses.{HasRefreshed}
 use Rattle.session_model.specs.Refreshing.{Note}
 use Rattle.session_model.specs.Replies.{Asks}

@@ -3,7 +3,7 @@ use Rattle.std.specs.Prelude.{◌≡◌, ◌⊎◌, ℕ, List, Option}
 use Rattle.wire_model.specs.Rpc.{CallMessage, IsCall, IsOtherVersion}
 use Rattle.log_model.specs.View.{View}
 use Rattle.turn_model.specs.Turn.{Asked}
-use Rattle.candidate_laws.specs.Reading.{IsNoCall}
+use Rattle.turn_laws.specs.Reading.{IsNoCall}
 use Rattle.session_model.specs.Replies.{Asks, IsByMessage}
 
 -- a call of one meaning

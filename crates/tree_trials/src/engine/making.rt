@@ -1,7 +1,7 @@
 //! Records whose effects depend on those before them.
 
 ghost use Rattle.log_records.specs.Records.{records_of};
-ghost use Rattle.record_sets.specs.Rows.{IsRow};
+ghost use Rattle.replay_engine.specs.Rows.{IsRow};
 
 use crate::inodes::made_by;
 use crate::lines::Line;

@@ -5,12 +5,12 @@ ghost use Rattle.std.specs.List.{All};
 ghost use Rattle.std.specs.Ordering.{is_eq};
 ghost use Rattle.log_model.specs.Rank.{record_cmp};
 ghost use Rattle.log_records.specs.Records.{record_of, records_of};
-ghost use Rattle.record_sets.specs.Rows.{IsRow};
+ghost use Rattle.replay_engine.specs.Rows.{IsRow};
 ghost use Rattle.replay_engine.specs.Places.{AreNew, AreBehind};
 
 use crate::lines::Line;
 use log_records::{Record, merge_place};
-use record_sets::merge;
+use replay_engine::merge;
 
 /// Whether the records are of other numbers, and so of other ranks.
 fn differ(a: &Record, b: &Record) -> bool

@@ -2,7 +2,7 @@
 
 ghost use Rattle.std.specs.Prelude.{◌≡◌, length};
 ghost use Rattle.log_records.specs.Records.{records_of};
-ghost use Rattle.record_sets.specs.Rows.{IsRow};
+ghost use Rattle.replay_engine.specs.Rows.{IsRow};
 
 use crate::alike::are_alike;
 use crate::engine::making::single;
@@ -12,8 +12,7 @@ use crate::lines::Line;
 use fs_tree::{Basis, Tree};
 use ivy_base::{Key, Memory, Steps};
 use log_records::Record;
-use record_sets::replay;
-use replay_engine::Engine;
+use replay_engine::{Engine, replay};
 use std::alloc::Global;
 use std::sync::ledger::Ledger;
 use version_vectors::Vector;

@@ -2,7 +2,7 @@ use Rattle.std.proofs.Common.{Option, subst}
 use Rattle.fs_tree.specs.Bases.{basis_of}
 use Rattle.fs_tree.specs.declared.basis.Basis.{Basis}
 use Rattle.session_model.specs.Refreshing.{Loaded}
-use Rattle.snapshot_basis.specs.Answers.{loaded_basis}
+use Rattle.snapshot_loading.specs.Answers.{loaded_basis}
 use Rattle.snapshot_loading.specs.Loading.{ComesTo}
 use Rattle.tree_trials.proofs.Grown.{loaded_spelled}
 use Rattle.tree_trials.proofs.snapshots.loading.ended.Goals as goal

@@ -1,4 +1,0 @@
-pub mod One
-pub mod Verified
-pub mod Some
-pub mod Reading

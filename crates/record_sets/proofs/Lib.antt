@@ -1,3 +1,0 @@
-pub mod Unions
-pub mod KeptRows
-pub mod Walks

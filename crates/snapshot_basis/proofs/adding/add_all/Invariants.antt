@@ -1,6 +1,0 @@
-use Rattle.std.proofs.Common.{take}
-use Rattle.snapshot_basis.specs.Steps.{AreAdded}
-use Rattle.snapshot_basis.proofs.adding.add_all.Given as goal
-
-abbrev pub invariant-parts : goal.invariant-parts
-invariant-parts l = AreAdded (take l.part-index l.parts) l.tree

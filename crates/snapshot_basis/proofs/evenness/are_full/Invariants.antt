@@ -1,6 +1,0 @@
-use Rattle.std.proofs.Common.{◌≡◌, map, drop}
-use Rattle.snapshot_basis.specs.Evenness.{full_after}
-use Rattle.snapshot_basis.proofs.evenness.are_full.Given as goal
-
-abbrev pub invariant-each : goal.invariant-each
-invariant-each l = full_after l.size l.size (map (λ b. b.now) l.blocks) ≡ full_after l.size l.before (map (λ b. b.now) (drop l.block-index l.blocks))

@@ -1,7 +1,0 @@
-use Rattle.std.proofs.Common.{take, true}
-use Rattle.snapshot_basis.specs.Parts.{tree_of}
-use Rattle.snapshot_basis.specs.Steps.{Links}
-use Rattle.snapshot_basis.proofs.linking.link_all.Given as goal
-
-abbrev pub invariant-parts : goal.invariant-parts
-invariant-parts l = Links (tree_of (take l.part-index l.parts)).names l.initial.tree l.tree true

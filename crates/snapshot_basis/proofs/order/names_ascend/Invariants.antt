@@ -1,6 +1,0 @@
-use Rattle.std.proofs.Common.{take}
-use Rattle.snapshot_basis.specs.Steps.{NamesAscend}
-use Rattle.snapshot_basis.proofs.order.names_ascend.Given as goal
-
-abbrev pub invariant-parts : goal.invariant-parts
-invariant-parts l = NamesAscend (take l.part-index l.parts)

@@ -1,0 +1,5 @@
+use Rattle.snapshot_loading.proofs.Ends as law
+use Rattle.snapshot_loading.proofs.loading_ends.Goals as goal
+
+pub returns : goal.returns
+returns c = law.loading_ends

@@ -1,0 +1,5 @@
+use Rattle.snapshot_loading.proofs.Inodes as law
+use Rattle.snapshot_loading.proofs.shown_inodes_are_made.Goals as goal
+
+pub returns : goal.returns
+returns c = law.shown_inodes_are_made

@@ -1,5 +1,0 @@
-use Rattle.snapshot_wholes.proofs.Whole as law
-use Rattle.snapshot_wholes.proofs.whole_trees_are_sound.Goals as goal
-
-pub returns : goal.returns
-returns c = law.whole_trees_are_sound

@@ -1,4 +1,0 @@
-pub mod Forests
-pub mod ShownInodes
-pub mod Wholes
-pub mod Laws
