@@ -9,21 +9,12 @@ use Rattle.log_model.specs.Vector.{Stamp, Vector, join, seq_of}
 use Rattle.log_model.specs.Record.{Record}
 use Rattle.log_model.specs.Rank.{own_entry, full_vector}
 use Rattle.log_model.specs.Chain.{opening}
+use Rattle.log_model.specs.Signing.{Signing}
 use Rattle.log_model.specs.Spelling.{record_block, head_message, head_block}
 use Rattle.turn_model.specs.Basis.{Holding, nothing_held}
 use Rattle.dht_ids.specs.declared.post.Post.{Post}
 use Rattle.dht_ids.specs.declared.post.PostKind.{PostKind}
 use Rattle.dht_ids.specs.declared.post.PostKind.TheVariants as kind
-
--- ---- keys
-
--- What an agent signs with: its public key, how many messages it still signs, its next signature of a message, what it is after that, and its saved bytes.
-pub record Signing (S : Type 0) : Type 0 where
-  pub key : S → List ℕ
-  pub remaining : S → ℕ
-  pub signature : S → List ℕ → List ℕ
-  pub next : S → S
-  pub saved : S → List ℕ
 
 -- ---- agents
 

@@ -12,7 +12,8 @@ use Rattle.snapshot_model.specs.Blocks.{IsVectorSpelled}
 use Rattle.dht_ids.specs.declared.post.Post.{Post}
 use Rattle.dht_ids.specs.declared.post.PostKind.{PostKind}
 use Rattle.dht_ids.specs.declared.post.PostKind.TheVariants as kind
-use Rattle.agent_model.specs.Agent.{Kept, Signing, is_head, own_key}
+use Rattle.log_model.specs.Signing.{Signing}
+use Rattle.agent_model.specs.Agent.{Kept, is_head, own_key}
 
 abbrev pub kind_number : PostKind → ℕ
 kind_number kind.Block = 0

@@ -14,7 +14,8 @@ use Rattle.log_records.specs.declared.edge.Edge.{Edge}
 use Rattle.log_records.specs.Batches.{as_edge, owner_of}
 use Rattle.turn_model.specs.Basis.{Basis, Holding}
 use Rattle.dht_ids.specs.declared.post.Post.{Post}
-use Rattle.agent_model.specs.Agent.{Agent, Signing, own, joined}
+use Rattle.log_model.specs.Signing.{Signing}
+use Rattle.agent_model.specs.Agent.{Agent, own, joined}
 
 -- The agent as a session began with it. Fetching stops at what is held; an edge is what is known of a log's newest held record.
 pub record Standing : Type 0 where

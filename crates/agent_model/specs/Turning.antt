@@ -17,10 +17,11 @@ use Rattle.log_model.specs.Closed.{IsClosedPart}
 use Rattle.log_model.specs.Spelling.{most_records}
 use Rattle.nfs_model.specs.declared.replies.Reply.{Reply}
 use Rattle.turn_model.specs.Basis.{Basis, Holding, HoldsAll, Knows, nothing_held}
-use Rattle.turn_model.specs.Turn.{Agent as Inputs, Asked, Candidate, Turned, IsAtHand, turn_on}
+use Rattle.turn_model.specs.Turn.{Inputs, Asked, Candidate, Turned, IsAtHand, turn_on}
 use Rattle.turn_model.specs.Work.{applied_between}
 use Rattle.snapshot_model.specs.Blocks.{IsVectorSpelled}
-use Rattle.agent_model.specs.Agent.{Agent, Kept, Signing, failed, head_post, joined, kept_of, own, own_reach, with_posts}
+use Rattle.log_model.specs.Signing.{Signing}
+use Rattle.agent_model.specs.Agent.{Agent, Kept, failed, head_post, joined, kept_of, own, own_reach, with_posts}
 use Rattle.agent_model.specs.SavedBytes.{ArePostsSpelled}
 use Rattle.agent_model.specs.Standing.{Standing, Refresh, dominates, going_on, new_records}
 use Rattle.agent_model.specs.Candidates.{AreCandidatesOf, MayTurn}
@@ -62,6 +63,24 @@ pub data TurnEnd : Type 0 where
   Behind : TurnEnd
   BelowTide : TurnEnd
   Answered : (reply : Reply) (applied : ℕ) → TurnEnd
+
+-- ---- what a turn is given
+
+-- A turn: the agent that takes it, over that view, at that moment, and whether a save would fail.
+pub record Turning (S : Type 0) : Type 0 where
+  pub agent : Agent S
+  pub view : View
+  pub now : Moment
+  pub fails : Bool
+
+-- What a refresh found: the heads of each log among the blocks that were met, from which standing and which vector it started, and what
+-- the agent knew when it began.
+pub record Findings : Type 0 where
+  pub heads : Key → List Stamp
+  pub met : List (List ℕ)
+  pub standing : Standing
+  pub knew : List Record
+  pub started : Vector
 
 module _ {S : Type 0} (signs : Signing S) where
   -- ---- what a turn goes by
@@ -114,39 +133,53 @@ module _ {S : Type 0} (signs : Signing S) where
 
   -- ---- the turn
 
-  -- The turn by the definition, of an agent that knows these records: the set that is taken is the largest closed part of them and of the candidates that the
-  -- refresh's heads name, and the reply is on it.
-  pub record IsTurnBy (heads : Key → List Stamp) (met : List (List ℕ)) (s : Standing) (knew known : List Record) (started : Vector) (a : Agent S) (view : View) (fails : Bool) (asked : Asked)
-      (now : Moment) (taken : List Record) (turned : Turned) : Type 0 where
+  -- The turn by the definition, of an agent that knows these records: the set that is taken is the largest closed part of them and of
+  -- the candidates that the refresh's heads name, and the reply is on it.
+  pub record IsTurnBy (found : Findings) (turning : Turning S) (known : List Record) (asked : Asked) (taken : List Record) (turned : Turned)
+      : Type 0 where
     pub candidates : List Candidate
-    pub of_heads : AreCandidatesOf heads met view s knew started candidates
-    pub largest : IsClosedPart view (IsAtHand known candidates) taken
-    pub by_set : turned ≡ turn_on (inputs a view fails) taken asked now
+    pub of_heads : AreCandidatesOf found.heads found.met turning.view found.standing found.knew found.started candidates
+    pub largest : IsClosedPart turning.view (IsAtHand known candidates) taken
+    pub by_set : turned ≡ turn_on (inputs turning.agent turning.view turning.fails) taken asked turning.now
 
   -- Such is the reply; what is written, or would be, is what the turn appends; and what is held before it is written is all of the set.
-  pub record IsTurnOf (heads : Key → List Stamp) (met : List (List ℕ)) (s : Standing) (knew known : List Record) (started : Vector) (a : Agent S) (view : View) (fails : Bool) (asked : Asked)
-      (now : Moment) (h : Holding) (written : List Record) (reply : Reply) : Type 0 where
+  pub record IsTurnOf (found : Findings) (turning : Turning S) (known : List Record) (asked : Asked) (h : Holding) (written : List Record)
+      (reply : Reply) : Type 0 where
     pub taken : List Record
     pub turned : Turned
-    pub is_turn : IsTurnBy heads met s knew known started a view fails asked now taken turned
+    pub is_turn : IsTurnBy found turning known asked taken turned
     pub replies : reply ≡ turned.reply
-    pub writes : taken ++ written ≡ (turn_on (inputs_before a view) taken asked now).set
-    pub holds : HoldsAll view taken h
+    pub writes : taken ++ written ≡ (turn_on (inputs_before turning.agent turning.view) taken asked turning.now).set
+    pub holds : HoldsAll turning.view taken h
 
   -- Whatever the agent may know, the turn is that of the definition.
-  abbrev pub IsByDefinition : Refresh → Agent S → View → Bool → Asked → Moment → Holding → List Record → Reply → Type 0
-  IsByDefinition brought a view fails asked now h written reply = (heads : Key → List Stamp) (met : List (List ℕ)) (s : Standing) (knew known : List Record)
-      → NamesTellApart met → Knows view a.floor a.holding known → MayTurn heads met view (own signs a) s knew known brought
-      → IsTurnOf heads met s knew known brought.started a view fails asked now h written reply
+  abbrev pub IsByDefinition : Refresh → Turning S → Asked → Holding → List Record → Reply → Type 0
+  IsByDefinition brought turning asked h written reply =
+      (heads : Key → List Stamp) (met : List (List ℕ)) (s : Standing) (knew known : List Record)
+      → NamesTellApart met → Knows turning.view turning.agent.floor turning.agent.holding known
+      → MayTurn heads met turning.view (own signs turning.agent) s knew known brought
+      → IsTurnOf (record { heads = heads; met = met; standing = s; knew = knew; started = brought.started }) turning known asked h written reply
 
-  -- A turn, by what was brought to it and whether a save would fail: how it ends, the agent then, and what is to be saved. Behind comes before BelowTide; else
-  -- there is a reply, and exactly the records are applied that the engine has to.
-  pub data Turns (brought : Refresh) (a : Agent S) (view : View) (fails : Bool) (asked : Asked) (now : Moment) : TurnEnd → Agent S → Option (Kept S) → Type 0 where
-    behind : is_behind view (own signs a) a.floor (going_on a brought.basis) brought ≡ true → Turns brought a view fails asked now Behind a None
-    below : is_behind view (own signs a) a.floor (going_on a brought.basis) brought ≡ false → is_below_tide (own signs a) a.floor (going_on a brought.basis) brought ≡ true
-        → Turns brought a view fails asked now BelowTide (record a { holding = nothing_held; to_load = None }) None
+  -- what the agent holds when it has taken the refresh's basis, if there is one
+  abbrev pub begun_on : Refresh → Turning S → Holding
+  begun_on brought turning = going_on turning.agent brought.basis
+
+  -- the refresh or its basis is behind the agent, or brings a record that isn't above the basis
+  abbrev pub is_late : Refresh → Turning S → Bool
+  is_late brought turning =
+      is_behind turning.view (own signs turning.agent) turning.agent.floor (begun_on brought turning) brought
+
+  abbrev pub is_below : Refresh → Turning S → Bool
+  is_below brought turning = is_below_tide (own signs turning.agent) turning.agent.floor (begun_on brought turning) brought
+
+  -- A turn, by what was brought to it and whether a save would fail: how it ends, the agent then, and what is to be saved. Behind comes
+  -- before BelowTide; else there is a reply, and exactly the records are applied that the engine has to.
+  pub data Turns (brought : Refresh) (turning : Turning S) (asked : Asked) : TurnEnd → Agent S → Option (Kept S) → Type 0 where
+    behind : is_late brought turning ≡ true → Turns brought turning asked Behind turning.agent None
+    below : is_late brought turning ≡ false → is_below brought turning ≡ true
+        → Turns brought turning asked BelowTide (record (turning.agent) { holding = nothing_held; to_load = None }) None
     answers : (h : Holding) (written : List Record) (reply : Reply) (after : Agent S) (saving : Option (Kept S))
-        → is_behind view (own signs a) a.floor (going_on a brought.basis) brought ≡ false → is_below_tide (own signs a) a.floor (going_on a brought.basis) brought ≡ false
-        → h.basis ≡ (going_on a brought.basis).basis → MayTake view a h → Becomes view a h fails written after saving
-        → IsByDefinition brought a view fails asked now h written reply
-        → Turns brought a view fails asked now (Answered reply (applied_between (going_on a brought.basis).held h.held + length written)) after saving
+        → is_late brought turning ≡ false → is_below brought turning ≡ false → h.basis ≡ (begun_on brought turning).basis
+        → MayTake turning.view turning.agent h → Becomes turning.view turning.agent h turning.fails written after saving
+        → IsByDefinition brought turning asked h written reply
+        → Turns brought turning asked (Answered reply (applied_between (begun_on brought turning).held h.held + length written)) after saving

@@ -6,7 +6,8 @@ use Rattle.std.specs.Ordering.{eq_by_cmp}
 use Rattle.ivy_base.specs.declared.key.Key.{Key}
 use Rattle.ivy_base.specs.Naming.{owner_cmp}
 use Rattle.log_model.specs.View.{View, is_member, is_former, is_named}
-use Rattle.agent_model.specs.Agent.{Agent, Kept, Signing, own, kept_of, entered, failed}
+use Rattle.log_model.specs.Signing.{Signing}
+use Rattle.agent_model.specs.Agent.{Agent, Kept, own, kept_of, entered, failed}
 
 -- how entering a view ends
 pub data Entering (S : Type 0) : Type 0 where

@@ -13,10 +13,11 @@ use Rattle.version_vectors.specs.Vectors.{VectorFits}
 use Rattle.snapshot_model.specs.Blocks.{IsVectorSpelled}
 use Rattle.dht_ids.specs.declared.signature.LoadFault.{LoadFault}
 use Rattle.dht_ids.specs.declared.signature.LoadFault.TheVariants as load
-use Rattle.agent_model.specs.Agent.{Kept, Signing, own_key}
+use Rattle.log_model.specs.Signing.{Signing}
+use Rattle.agent_model.specs.Agent.{Kept, own_key}
 use Rattle.agent_model.specs.SavedBytes.{IsKept, kept_bytes}
-use Rattle.agent_saves.specs.declared.fault.Refusal.{Refusal}
-use Rattle.agent_saves.specs.declared.fault.Refusal.TheVariants.{Malformed, Memory}
+use Rattle.block_parts.specs.declared.fault.BlockFault.{BlockFault}
+use Rattle.block_parts.specs.declared.fault.BlockFault.TheVariants.{Malformed, Memory}
 use Rattle.agent_saves.specs.Parts.{AreOf, IsLegal, IsTold, Told, most_counted, told_bytes}
 use Rattle.agent_saves.specs.Refusals.{Refuses, of_load}
 use Rattle.agent_saves.specs.Saves.{AreSavedOf, AreSavedOfNone, IsCounted}
@@ -70,7 +71,7 @@ module _ {S : Type 0} (signs : Signing S) (IsWhole : S → Type 0) where
   own_parts : (k : Kept S) → IsKept signs CanBe k → AreOf (own_key signs k.signer) (reach k) k.floor k.view
   own_parts k f = record { some = f.some; few = f.few; counted = refl; stands = view_stands (HasOwn k) (Names k.floor) k.view f.view }
 
-  pub refused_parts : (bytes : List ℕ) (refusal : Refusal) → Refuses IsTold told_bytes bytes refusal → Refuses (IsKept signs CanBe) (kept_bytes signs) bytes refusal
+  pub refused_parts : (bytes : List ℕ) (refusal : BlockFault) → Refuses IsTold told_bytes bytes refusal → Refuses (IsKept signs CanBe) (kept_bytes signs) bytes refusal
   refused_parts bytes Malformed = λ absent k f e. absent (told_of k) (fits_told k f) e
   refused_parts bytes Memory = λ absent. tt
 

@@ -14,16 +14,14 @@ use Rattle.block_parts.specs.Parts.{constant_bytes, key_bytes, IsOptional}
 use Rattle.block_parts.proofs.Constants.{one_constant}
 use Rattle.version_vectors.specs.Reading.{ReadFault}
 use Rattle.version_vectors.specs.Vectors.{VectorFits}
-use Rattle.version_vectors.specs.declared.fault.VectorFault.{VectorFault}
-use Rattle.version_vectors.specs.declared.fault.VectorFault.TheVariants as vector
 use Rattle.version_vectors.proofs.OneVector.{one_vector}
 use Rattle.block_parts.proofs.OneParts.{one_key}
 use Rattle.dht_ids.specs.declared.post.Post.{Post}
 use Rattle.agent_model.specs.SavedBytes.{post_bytes}
-use Rattle.agent_saves.specs.declared.fault.Refusal.{Refusal}
-use Rattle.agent_saves.specs.declared.fault.Refusal.TheVariants.{Malformed, Memory}
+use Rattle.block_parts.specs.declared.fault.BlockFault.{BlockFault}
+use Rattle.block_parts.specs.declared.fault.BlockFault.TheVariants.{Malformed, Memory}
 use Rattle.agent_saves.specs.Parts.{ArePosts, IsLegal, IsTold, Told, mark, most_counted, told_bytes, view_part}
-use Rattle.agent_saves.specs.Refusals.{AreOfNone, Refuses, RefusesFront, of_vector}
+use Rattle.agent_saves.specs.Refusals.{AreOfNone, Refuses, RefusesFront}
 use Rattle.agent_saves.proofs.PostReading.{one_counted, one_post}
 use Rattle.agent_saves.proofs.ViewReading.{one_view}
 
@@ -70,9 +68,9 @@ module _ {b0 b1 : List ℕ} {u : Unit {0}} (f : IsFront IsAny (constant_bytes ma
         no_floor : HasNoFront (VectorFits most_counted) (array vector_entry) b4 → HasNoFront IsTold told_bytes b0
         no_floor absent = no_posts_after (no_second (one_constant mark ▷ one_counted ▷ one_view ▷ one_word) (both (both (both f g) h) i) absent)
 
-        pub refused_floor : (why : VectorFault) → ReadFault most_counted b4 why → RefusesFront IsTold told_bytes b0 (of_vector why)
-        refused_floor vector.Malformed absent = no_floor absent
-        refused_floor vector.Memory absent = tt
+        pub refused_floor : (why : BlockFault) → ReadFault most_counted b4 why → RefusesFront IsTold told_bytes b0 why
+        refused_floor Malformed absent = no_floor absent
+        refused_floor Memory absent = tt
 
         module _ {b5 : List ℕ} {floor : Vector} (j : IsFront (VectorFits most_counted) (array vector_entry) b4 floor b5) where
           pub no_posts : HasNoFront ArePosts (array post_bytes) b5 → HasNoFront IsTold told_bytes b0
@@ -88,7 +86,7 @@ module _ {b0 b1 : List ℕ} {u : Unit {0}} (f : IsFront IsAny (constant_bytes ma
 
 -- ---- the whole
 
-pub refused_whole : (bytes : List ℕ) (refusal : Refusal) → RefusesFront IsTold told_bytes bytes refusal → Refuses IsTold told_bytes bytes refusal
+pub refused_whole : (bytes : List ℕ) (refusal : BlockFault) → RefusesFront IsTold told_bytes bytes refusal → Refuses IsTold told_bytes bytes refusal
 refused_whole bytes Malformed = λ absent p fits e. absent.none p [] (record { fits = fits; spelled = e ∙ sym (append-nil (told_bytes p)) })
 refused_whole bytes Memory = λ absent. tt
 

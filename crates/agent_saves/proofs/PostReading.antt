@@ -15,14 +15,14 @@ use Rattle.dht_ids.specs.declared.post.Post.{Post}
 use Rattle.dht_ids.specs.declared.post.PostKind.{PostKind}
 use Rattle.dht_ids.specs.declared.post.PostKind.TheVariants as kind
 use Rattle.agent_model.specs.SavedBytes.{HasItsName, kind_number, post_bytes}
-use Rattle.agent_saves.specs.declared.fault.Refusal.{Refusal}
-use Rattle.agent_saves.specs.declared.fault.Refusal.TheVariants.{Malformed, Memory}
+use Rattle.block_parts.specs.declared.fault.BlockFault.{BlockFault}
+use Rattle.block_parts.specs.declared.fault.BlockFault.TheVariants.{Malformed, Memory}
 use Rattle.agent_saves.specs.Parts.{IsPost, kind_bytes, most_counted}
 use Rattle.agent_saves.specs.Refusals.{RefusesFront}
 
 -- one part is refused as another one is
 pub refused : {A B : Type 0} {Fits : A → Type 0} {spell : A → List ℕ} {Whole : B → Type 0} {written : B → List ℕ} {bytes middle : List ℕ}
-    → (HasNoFront Fits spell middle → HasNoFront Whole written bytes) → (refusal : Refusal) → RefusesFront Fits spell middle refusal → RefusesFront Whole written bytes refusal
+    → (HasNoFront Fits spell middle → HasNoFront Whole written bytes) → (refusal : BlockFault) → RefusesFront Fits spell middle refusal → RefusesFront Whole written bytes refusal
 refused absent Malformed f = absent f
 refused absent Memory f = tt
 

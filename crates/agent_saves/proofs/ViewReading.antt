@@ -13,8 +13,8 @@ use Rattle.view_blocks.specs.declared.fault.ViewFault.TheVariants as fault
 use Rattle.view_blocks.proofs.OneView.{one_legal_view}
 use Rattle.view_blocks.proofs.Refusals.{legal_block_passes}
 use Rattle.agent_model.specs.SavedBytes.{view_bytes}
-use Rattle.agent_saves.specs.declared.fault.Refusal.{Refusal}
-use Rattle.agent_saves.specs.declared.fault.Refusal.TheVariants.{Malformed, Memory}
+use Rattle.block_parts.specs.declared.fault.BlockFault.{BlockFault}
+use Rattle.block_parts.specs.declared.fault.BlockFault.TheVariants.{Malformed, Memory}
 use Rattle.agent_saves.specs.Parts.{IsLegal, most_counted, view_part}
 use Rattle.agent_saves.specs.Refusals.{AreOfNone, Refuses, RefusesFront, of_view}
 use Rattle.agent_saves.proofs.PostReading.{one_counted}
@@ -60,7 +60,7 @@ module _ {b0 b1 : List ℕ} {block : List ℕ} (f : IsFront (IsUpTo most_counted
     none = λ o rest g. absent o g.fits (one_counted.one block (view_bytes o) b1 rest f.fits (view_short o g.fits) (sym f.spelled ∙ g.spelled)).0;
   }
 
-  pub refused_view : (refusal : Refusal) → Refuses (IsOptional IsLegal) view_bytes block refusal → RefusesFront (IsOptional IsLegal) view_part b0 refusal
+  pub refused_view : (refusal : BlockFault) → Refuses (IsOptional IsLegal) view_bytes block refusal → RefusesFront (IsOptional IsLegal) view_part b0 refusal
   refused_view Malformed h = no_view_in h
   refused_view Memory h = tt
 

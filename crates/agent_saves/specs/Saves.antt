@@ -1,22 +1,13 @@
 -- What is read of saved bytes.
 use Rattle.std.specs.Prelude.{◌≡◌, ℕ, ◌<◌, ◌^◌, List, length}
-use Rattle.hss_keys.specs.Saved.{saved_bytes}
-use Rattle.hss_keys.specs.Signer.{Signer, left_of, next_signature, one_more_made, owner_of}
-use Rattle.agent_model.specs.Agent.{Kept, Signing}
+use Rattle.log_model.specs.Signing.{Signing}
+use Rattle.agent_model.specs.Agent.{Kept}
 use Rattle.agent_model.specs.SavedBytes.{IsKept, kept_bytes}
 use Rattle.agent_saves.specs.declared.saved.Saved.{Saved}
 
 -- what was saved, as the definitions have it
 abbrev pub said : {S : Type 0} → Saved S → Kept S
 said s = record { signer = s.signer; view = s.view; floor = s.floor; pending = s.pending; snapshot = s.snapshot }
-
--- a signer's words as one
-abbrev pub signing : {S : Type 0} → (S → List ℕ) → (S → ℕ) → (S → List ℕ → List ℕ) → (S → S) → (S → List ℕ) → Signing S
-signing key remaining signature next saved = record { key = key; remaining = remaining; signature = signature; next = next; saved = saved }
-
--- those of hierarchical signatures
-abbrev pub hss : Signing Signer
-hss = signing owner_of left_of next_signature one_more_made saved_bytes
 
 -- a signer that can be, and of which a word counts the saved bytes
 abbrev pub IsCounted : {S : Type 0} → (S → Type 0) → (S → List ℕ) → S → Type 0

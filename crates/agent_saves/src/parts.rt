@@ -8,10 +8,9 @@ ghost use Rattle.block_parts.specs.Parts.{key_bytes, IsOptional};
 ghost use Rattle.agent_saves.specs.Parts.{IsTold, told, told_bytes};
 ghost use Rattle.agent_saves.specs.Refusals.{Refuses, RefusesFront};
 
-use crate::fault::Refusal;
 use crate::posts::read_posts;
 use crate::view::read_view;
-use block_parts::{Malformed, read_constant, read_key};
+use block_parts::{BlockFault, Malformed, read_constant, read_key};
 use dht_ids::Posts;
 use ivy_base::Key;
 use std::alloc::Global;
@@ -40,7 +39,7 @@ pub struct Parts<'a> {
 }
 
 /// The parts that are all of the bytes.
-pub fn read_whole(alloc: Global, bytes: &[u8]) -> Result<Parts<'_>, Refusal>
+pub fn read_whole(alloc: Global, bytes: &[u8]) -> Result<Parts<'_>, BlockFault>
     ensures fits { IfOk result (λ parts. IsTold (told parts)) }
     ensures bytes { IfOk result (λ parts. bytes.now ≡ told_bytes (told parts)) }
     ensures err { IfErr result (Refuses IsTold told_bytes bytes.now) }
@@ -52,7 +51,7 @@ pub fn read_whole(alloc: Global, bytes: &[u8]) -> Result<Parts<'_>, Refusal>
 }
 
 /// The parts at the front.
-fn read_parts<'a>(alloc: Global, reader: &mut XdrRead<'a>) -> Result<Parts<'a>, Refusal>
+fn read_parts<'a>(alloc: Global, reader: &mut XdrRead<'a>) -> Result<Parts<'a>, BlockFault>
     ensures ok { IfOk result (λ parts. IsFront IsTold told_bytes reader.old (told parts) reader.new) }
     ensures err { IfErr result (RefusesFront IsTold told_bytes reader.old) }
 {

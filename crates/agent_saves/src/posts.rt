@@ -11,15 +11,14 @@ ghost use Rattle.agent_model.specs.SavedBytes.{HasItsName, post_bytes};
 ghost use Rattle.agent_saves.specs.Parts.{ArePosts, IsPost, kind_bytes};
 ghost use Rattle.agent_saves.specs.Refusals.{RefusesFront};
 
-use crate::fault::Refusal;
-use block_parts::{Malformed, check_bytes, read_key};
+use block_parts::{BlockFault, Malformed, check_bytes, read_key};
 use dht_ids::{Post, PostKind, Posts};
 use ivy_base::{Bytes, Key, Memory, name_of};
 use std::alloc::Global;
 use xdr_codec::XdrRead;
 
 /// The posts, behind their count. Each is read before memory is taken for it.
-pub fn read_posts(alloc: Global, reader: &mut XdrRead) -> Result<Posts, Refusal>
+pub fn read_posts(alloc: Global, reader: &mut XdrRead) -> Result<Posts, BlockFault>
     ensures ok { IfOk result (λ posts. IsFront ArePosts (array post_bytes) reader.old posts reader.new) }
     ensures err { IfErr result (RefusesFront ArePosts (array post_bytes) reader.old) }
 {
@@ -29,7 +28,7 @@ pub fn read_posts(alloc: Global, reader: &mut XdrRead) -> Result<Posts, Refusal>
 }
 
 /// So many posts.
-fn read_each(alloc: Global, reader: &mut XdrRead, count: u32) -> Result<Vec<Post>, Refusal>
+fn read_each(alloc: Global, reader: &mut XdrRead, count: u32) -> Result<Vec<Post>, BlockFault>
     ensures ok { IfOk result (λ posts. IsFront (AreSoMany IsPost count) (flat_map post_bytes) reader.old posts.items reader.new) }
     ensures err { IfErr result (RefusesFront (AreSoMany IsPost count) (flat_map post_bytes) reader.old) }
 {
@@ -41,7 +40,7 @@ fn read_each(alloc: Global, reader: &mut XdrRead, count: u32) -> Result<Vec<Post
 }
 
 /// A post: what it is, its key and its block.
-fn read_post(alloc: Global, reader: &mut XdrRead) -> Result<Post, Refusal>
+fn read_post(alloc: Global, reader: &mut XdrRead) -> Result<Post, BlockFault>
     ensures ok { IfOk result (λ post. IsFront IsPost post_bytes reader.old post reader.new) }
     ensures err { IfErr result (RefusesFront IsPost post_bytes reader.old) }
 {
@@ -49,7 +48,7 @@ fn read_post(alloc: Global, reader: &mut XdrRead) -> Result<Post, Refusal>
     let key = read_key(reader)?;
     let block = reader.opaque(u32::MAX)?;
     if !has_its_name(kind, &key, block) {
-        return Err(Refusal::Malformed);
+        return Err(BlockFault::Malformed);
     }
     let bytes = copy_of(alloc, block)?;
     Ok(Post { key, bytes, kind })

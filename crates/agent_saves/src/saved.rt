@@ -2,13 +2,14 @@
 
 ghost use Rattle.std.specs.Prelude.{◌≡◌, IfOk, IfErr, MatchOption};
 ghost use Rattle.agent_model.specs.SavedBytes.{kept_bytes, IsKept};
-ghost use Rattle.hss_keys.specs.Saved.{IsSigner};
-ghost use Rattle.agent_saves.specs.Saves.{AreSavedOf, AreSavedOfNone, IsCounted, hss, said, signing};
+ghost use Rattle.hss_keys.specs.Saved.{IsSigner, hss};
+ghost use Rattle.agent_saves.specs.Saves.{AreSavedOf, AreSavedOfNone, IsCounted, said};
 ghost use Rattle.agent_saves.specs.Refusals.{Refuses};
 
-use crate::fault::Refusal;
+use crate::fault::fault_of_load;
 use crate::parts::read_whole;
 use crate::testing::are_of;
+use block_parts::BlockFault;
 use dht_ids::Posts;
 use hss_keys::{Hss, Signs};
 use ivy_base::{Key, Memory};
@@ -43,24 +44,27 @@ impl<S: Signs + Drop> Saved<S> {
     /// What was saved of an agent, of which these are the bytes. There is none where they are saved of no agent whose key's
     /// own bytes a word can count. The error is want of memory.
     pub fn read(alloc: Global, bytes: &[u8]) -> Result<Option<Self>, Memory>
-        ensures { IfOk result (λ saved. MatchOption saved (AreSavedOfNone (signing S.key S.remaining S.signature S.next S.saved) (IsCounted S.is_whole S.saved) bytes.now) (λ s. AreSavedOf (signing S.key S.remaining S.signature S.next S.saved) (IsCounted S.is_whole S.saved) bytes.now (said s))) }
+        ensures { IfOk result (λ saved. MatchOption saved (AreSavedOfNone S.signing (IsCounted S.is_whole S.signing.saved) bytes.now) (λ s. AreSavedOf S.signing (IsCounted S.is_whole S.signing.saved) bytes.now (said s))) }
     {
         match Saved::load(alloc, bytes) {
             Ok(saved) => Ok(Some(saved)),
-            Err(Refusal::Malformed) => Ok(None),
-            Err(Refusal::Memory) => Err(Memory),
+            Err(BlockFault::Malformed) => Ok(None),
+            Err(BlockFault::Memory) => Err(Memory),
         }
     }
 
     /// The same, and else why there is nothing.
-    fn load(alloc: Global, bytes: &[u8]) -> Result<Self, Refusal>
-        ensures ok { IfOk result (λ s. AreSavedOf (signing S.key S.remaining S.signature S.next S.saved) (IsCounted S.is_whole S.saved) bytes.now (said s)) }
-        ensures err { IfErr result (Refuses (IsKept (signing S.key S.remaining S.signature S.next S.saved) (IsCounted S.is_whole S.saved)) (kept_bytes (signing S.key S.remaining S.signature S.next S.saved)) bytes.now) }
+    fn load(alloc: Global, bytes: &[u8]) -> Result<Self, BlockFault>
+        ensures ok { IfOk result (λ s. AreSavedOf S.signing (IsCounted S.is_whole S.signing.saved) bytes.now (said s)) }
+        ensures err { IfErr result (Refuses (IsKept S.signing (IsCounted S.is_whole S.signing.saved)) (kept_bytes S.signing) bytes.now) }
     {
         let parts = read_whole(alloc, bytes)?;
-        let signer = S::load(alloc, parts.signer)?;
+        let signer = match S::load(alloc, parts.signer) {
+            Ok(signer) => signer,
+            Err(fault) => return Err(fault_of_load(fault)),
+        };
         if !are_of(&parts, &signer.owner()) {
-            return Err(Refusal::Malformed);
+            return Err(BlockFault::Malformed);
         }
         Ok(Saved {
             signer,

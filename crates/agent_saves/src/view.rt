@@ -7,13 +7,14 @@ ghost use Rattle.agent_model.specs.SavedBytes.{view_bytes};
 ghost use Rattle.agent_saves.specs.Parts.{IsLegal, view_part};
 ghost use Rattle.agent_saves.specs.Refusals.{Refuses, RefusesFront};
 
-use crate::fault::Refusal;
+use crate::fault::fault_of_view;
+use block_parts::BlockFault;
 use std::alloc::Global;
 use view_blocks::View;
 use xdr_codec::XdrRead;
 
 /// The view, behind the length of its block.
-pub fn read_view(alloc: Global, reader: &mut XdrRead) -> Result<Option<View>, Refusal>
+pub fn read_view(alloc: Global, reader: &mut XdrRead) -> Result<Option<View>, BlockFault>
     ensures ok { IfOk result (λ view. IsFront (IsOptional IsLegal) view_part reader.old view reader.new) }
     ensures err { IfErr result (RefusesFront (IsOptional IsLegal) view_part reader.old) }
 {
@@ -23,7 +24,7 @@ pub fn read_view(alloc: Global, reader: &mut XdrRead) -> Result<Option<View>, Re
 }
 
 /// The view that has this block, or none where there are no bytes.
-fn view_of(alloc: Global, block: &[u8]) -> Result<Option<View>, Refusal>
+fn view_of(alloc: Global, block: &[u8]) -> Result<Option<View>, BlockFault>
     ensures legal { IfOk result (IsOptional IsLegal) }
     ensures bytes { IfOk result (λ view. block.now ≡ view_bytes view) }
     ensures err { IfErr result (Refuses (IsOptional IsLegal) view_bytes block.now) }
@@ -31,5 +32,8 @@ fn view_of(alloc: Global, block: &[u8]) -> Result<Option<View>, Refusal>
     if block.is_empty() {
         return Ok(None);
     }
-    Ok(Some(View::read(alloc, block)?))
+    match View::read(alloc, block) {
+        Ok(view) => Ok(Some(view)),
+        Err(fault) => Err(fault_of_view(fault)),
+    }
 }

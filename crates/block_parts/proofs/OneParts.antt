@@ -8,7 +8,7 @@ use Rattle.wire_model.specs.Xdr.{word, double_word, opaque, moment, IsAny}
 use Rattle.wire_model.specs.OneReading.{ReadsOne}
 use Rattle.wire_model.proofs.OneReading.{of_fewer, of_parts, one_word, one_double_word, one_moment, one_raw, one_short_opaque}
 use Rattle.log_model.specs.Spelling.{IsBlock, IsKey, IsMoment}
-use Rattle.block_parts.specs.Parts.{as_it_stands, key_bytes, kind_word, IsAtMost}
+use Rattle.block_parts.specs.Parts.{as_it_stands, key_bytes, kind_word, longest_file, IsAtMost}
 
 pub one_block : (count : ℕ) → ReadsOne (IsBlock count) as_it_stands
 one_block count = of_fewer (λ bytes f. f.size) (one_raw count)
@@ -39,5 +39,5 @@ one_kind = record { one = kinds }
 pub one_name : ReadsOne IsFileName opaque
 one_name = of_fewer (λ bytes f. f.short) (one_short_opaque 255 (omega arith))
 
-pub one_size : ReadsOne (IsAtMost 16777216) double_word
-one_size = of_fewer {Fewer = IsAtMost 16777216} (λ n f. omega arith) one_double_word
+pub one_size : ReadsOne (IsAtMost longest_file) double_word
+one_size = of_fewer {Fewer = IsAtMost longest_file} (λ n f. omega arith) one_double_word

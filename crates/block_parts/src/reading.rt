@@ -6,14 +6,12 @@ ghost use Rattle.ivy_base.specs.Naming.{IsFileName};
 ghost use Rattle.wire_model.specs.Xdr.{word, double_word, opaque, moment, AreSoMany, IsAny};
 ghost use Rattle.wire_model.specs.OneReading.{IsFront, HasNoFront};
 ghost use Rattle.log_model.specs.Spelling.{IsBlock, IsKey, IsMoment};
-ghost use Rattle.block_parts.specs.Parts.{constant_bytes, as_it_stands, key_bytes, kind_word, IsAtMost};
+ghost use Rattle.block_parts.specs.Parts.{constant_bytes, as_it_stands, key_bytes, kind_word, longest_file, IsAtMost};
 
+use crate::bounds::{LONGEST_FILE, LONGEST_NAME};
 use crate::fault::Malformed;
 use ivy_base::{Key, Kind, Moment, name_ok};
 use xdr_codec::XdrRead;
-
-/// The most bytes of a file.
-pub const LONGEST_FILE: u64 = 16_777_216;
 
 /// Bytes that are the same in each block, so many that no zeros fill them up.
 #[tactic(auto, using(crate::proofs::Constants::no_constant))]
@@ -104,11 +102,11 @@ pub fn read_at_most(reader: &mut XdrRead, most: u32) -> Result<u32, Malformed>
     Ok(n)
 }
 
-/// The size of a file, at most 16,777,216.
+/// The size of a file, at most [`LONGEST_FILE`].
 #[tactic(auto, using(crate::proofs::Misfits::no_such_size))]
 pub fn read_size(reader: &mut XdrRead) -> Result<u64, Malformed>
-    ensures ok { IfOk result (λ n. IsFront (IsAtMost 16777216) double_word reader.old n reader.new) }
-    ensures err { OnErr result (HasNoFront (IsAtMost 16777216) double_word reader.old) }
+    ensures ok { IfOk result (λ n. IsFront (IsAtMost longest_file) double_word reader.old n reader.new) }
+    ensures err { OnErr result (HasNoFront (IsAtMost longest_file) double_word reader.old) }
 {
     let size = reader.u64()?;
     if size > LONGEST_FILE {
@@ -145,7 +143,7 @@ pub fn read_name<'a>(reader: &mut XdrRead<'a>) -> Result<&'a [u8], Malformed>
     ensures ok { IfOk result (λ name. IsFront IsFileName opaque reader.old name.now reader.new) }
     ensures err { OnErr result (HasNoFront IsFileName opaque reader.old) }
 {
-    let name = reader.opaque(255)?;
+    let name = reader.opaque(LONGEST_NAME)?;
     if !name_ok(name) {
         return Err(Malformed);
     }

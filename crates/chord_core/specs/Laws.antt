@@ -1,5 +1,5 @@
 -- The laws of look-ups by what nodes answer.
-use Rattle.std.specs.Prelude.{◌≡◌, ℕ, ◌≤◌, Bool, true, List, [], take, filter, Option, Some, None, MatchBool}
+use Rattle.std.specs.Prelude.{◌≡◌, ℕ, ◌+◌, ◌≤◌, Bool, true, List, [], take, filter, Option, Some, None, MatchBool}
 use Rattle.std.specs.List.{AllByRecursion}
 use Rattle.ivy_base.specs.declared.key.Key.{Key}
 use Rattle.dht_ids.specs.Asked.{routes}
@@ -8,7 +8,7 @@ use Rattle.dht_ids.specs.declared.ask.Answer.TheVariants as answer
 use Rattle.dht_ids.specs.declared.ask.Ask.TheVariants as ask
 use Rattle.dht_ids.specs.declared.peer.Peer.{Peer}
 use Rattle.dht_ids.specs.Peers.{place}
-use Rattle.ring_model.specs.Circle.{number}
+use Rattle.ring_model.specs.Circle.{number, identifier_bits}
 use Rattle.ring_model.specs.Members.{IsAmong, owners}
 use Rattle.ring_model.specs.Ring.{Links, IsCoveredRing, IsSettledRing}
 use Rattle.ring_model.specs.Route.{HasOneAtEach}
@@ -42,8 +42,8 @@ AnswersLeadToOwners = (r : ℕ) (live : List Peer) (lives : Peer → Bool) (node
     → (e : Peer) → lives e ≡ true → IsAmong e entries → IsLookup [] None entries (routes looks) found
     → (last : List Peer) × (found ≡ Some last) × (take r (filter lives last) ≡ owners place r live (number key))
 
--- By what the nodes of a settled ring answer, a look-up hears at most 161 answers: at most 160 follow the first.
+-- By what the nodes of a settled ring answer, a look-up hears at most one answer for each bit behind the first.
 abbrev pub FewNodesAnswer : Type 0
 FewNodesAnswer = (r : ℕ) (live : List Peer) (lives : Peer → Bool) (nodes : Peer → State) (key : Key) (entries : List Peer) (looks : List (Peer × Answer)) (found : Option (List Peer))
-    → AreNodes r lives nodes → IsSettledRing place r 160 live lives (links_of nodes) → AllByRecursion (IsAnswered lives nodes key) looks
-    → IsLookup [] None entries (routes looks) found → (x : Peer) → IsAmong x live → answers_in (routes looks) ≤ 161
+    → AreNodes r lives nodes → IsSettledRing place r identifier_bits live lives (links_of nodes) → AllByRecursion (IsAnswered lives nodes key) looks
+    → IsLookup [] None entries (routes looks) found → (x : Peer) → IsAmong x live → answers_in (routes looks) ≤ identifier_bits + 1

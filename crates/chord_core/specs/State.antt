@@ -6,7 +6,7 @@ use Rattle.dht_ids.specs.declared.ask.Ask.{Ask}
 use Rattle.dht_ids.specs.declared.ask.Ask.TheVariants as ask
 use Rattle.dht_ids.specs.declared.peer.Peer.{Peer}
 use Rattle.dht_ids.specs.Peers.{place}
-use Rattle.ring_model.specs.Circle.{number}
+use Rattle.ring_model.specs.Circle.{number, identifier_bits}
 use Rattle.ring_model.specs.Members.{is_other}
 use Rattle.ring_model.specs.Ring.{Links}
 use Rattle.ring_model.specs.Route.{nearer_part, owners_part}
@@ -26,7 +26,7 @@ with_list node list = record node { links = record node.links { list = list } }
 
 -- a node that knows of nobody: each of its fingers is itself
 abbrev pub alone_node : Peer → ℕ → State
-alone_node me replicas = record { me = me; replicas = replicas; links = record { list = []; before = None; fingers = replicate 160 me } }
+alone_node me replicas = record { me = me; replicas = replicas; links = record { list = []; before = None; fingers = replicate identifier_bits me } }
 
 -- what a node answers of the ring: to Route and to Near
 abbrev pub ring_answer : State → Ask → Option Answer

@@ -21,3 +21,4 @@ mod settle;
 
 pub use laws::answer_laws;
 pub use node::Node;
+pub use settle::FINGERS;

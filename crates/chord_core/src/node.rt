@@ -3,6 +3,7 @@
 ghost use Rattle.std.specs.Prelude.{◌≡◌, ◌-◌, ◌*◌, ◌≤◌, List, Contains, IsPermutation, length, set, Some, None, IfOk, MatchResult};
 ghost use Rattle.dht_ids.specs.Peers.{place};
 ghost use Rattle.dht_ids.specs.declared.peer.Peer.{Peer};
+ghost use Rattle.ring_model.specs.Circle.{identifier_bits};
 ghost use Rattle.ring_model.specs.Members.{IsAscending};
 ghost use Rattle.ring_model.specs.Pass.{notified};
 ghost use Rattle.chord_core.specs.Settled.{IsSettledNode};
@@ -17,7 +18,7 @@ use ivy_base::Memory;
 use std::alloc::Global;
 use std::marker::Model;
 
-/// A node of the ring: itself, r, its predecessor, the list of its next members (at most 2r) and its 160 fingers.
+/// A node of the ring: itself, r, its predecessor, the list of its next members (at most 2r) and its fingers.
 #[derive(Drop)]
 pub struct Node {
     me: Peer,
@@ -31,13 +32,14 @@ pub struct Node {
 
 impl Model for Node {
     ghost use Rattle.std.specs.Prelude.{◌≡◌, ◌≢◌, ◌≤◌, ◌*◌, [], length, vec_capacity, None, IfSome};
+    ghost use Rattle.ring_model.specs.Circle.{identifier_bits};
     ghost use Rattle.chord_core.specs.State.{State};
 
     ghost Value = { State };
 
     ghost view = { λ n. record { me = n.me; replicas = n.replicas; links = record { list = n.list; before = n.before; fingers = n.fingers.items } } };
 
-    ghost invariant = { λ n. (1 ≤ n.replicas) × (n.replicas ≤ 8) × (length n.list ≤ 2 * n.replicas) × (length n.fingers.items ≡ 160) × IfSome n.room (λ room. (room.items ≡ []) × (1 ≤ vec_capacity room)) × (n.list ≡ [] → n.room ≢ None) };
+    ghost invariant = { λ n. (1 ≤ n.replicas) × (n.replicas ≤ 8) × (length n.list ≤ 2 * n.replicas) × (length n.fingers.items ≡ identifier_bits) × IfSome n.room (λ room. (room.items ≡ []) × (1 ≤ vec_capacity room)) × (n.list ≡ [] → n.room ≢ None) };
 }
 
 impl Node {
@@ -145,7 +147,7 @@ impl Node {
 
     /// Makes a node the finger k, from 1 to 160.
     pub fn fix_finger(&mut self, k: u32, owner: Peer)
-        requires { (1 ≤ k) × (k ≤ 160) }
+        requires { (1 ≤ k) × (k ≤ identifier_bits) }
         ensures { self.new ≡ with_links self.old (record self.old.links { fingers = set self.old.links.fingers (k - 1) owner }) }
     {
         self.fingers[(k - 1) as usize] = owner;

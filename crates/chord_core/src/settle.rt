@@ -4,7 +4,7 @@ ghost use Rattle.std.specs.Prelude.{◌≡◌, ◌≤◌, ◌<◌, ◌++◌, nat
 ghost use Rattle.std.specs.List.{last_or};
 ghost use Rattle.std.specs.List.Sorted.{IsPermutation, IsNonDecreasingBy};
 ghost use Rattle.dht_ids.specs.Peers.{place};
-ghost use Rattle.ring_model.specs.Circle.{number};
+ghost use Rattle.ring_model.specs.Circle.{number, identifier_bits};
 ghost use Rattle.ring_model.specs.Members.{first, from_place};
 ghost use Rattle.chord_core.specs.Settled.{AreFingers};
 
@@ -14,7 +14,7 @@ use std::alloc::Global;
 use std::cmp::Ordering;
 
 /// How many fingers a node has: the bits of an identifier.
-pub(crate) const FINGERS: u32 = 160;
+pub const FINGERS: u32 = 160;
 
 /// The members in the order of their places.
 pub(crate) fn ascending(alloc: Global, members: &[Peer]) -> Result<Vec<Peer>, Memory>
@@ -63,7 +63,7 @@ fn first_from(live: &[Peer], key: &Key) -> Peer
 pub(crate) fn fingers(alloc: Global, live: &[Peer], me: Peer) -> Result<Vec<Peer>, Memory>
     requires rising { IsNonDecreasingBy place live.now }
     requires some { 0 < length live.now }
-    ensures { IfOk result (λ fingers. AreFingers live.now me 160 fingers.items) }
+    ensures { IfOk result (λ fingers. AreFingers live.now me identifier_bits fingers.items) }
 {
     let mut fingers = Vec::with_capacity(alloc, FINGERS as usize)?;
     for bit in 0..FINGERS {

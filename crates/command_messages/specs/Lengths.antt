@@ -3,7 +3,7 @@ use Rattle.std.specs.Prelude.{ℕ, ◌+◌, ◌-◌, ◌%◌, nat_le, List, ◌+
 use Rattle.log_model.specs.View.{View}
 use Rattle.wire_model.specs.Xdr.{word}
 use Rattle.script_model.specs.declared.command.Piece.{Piece}
-use Rattle.script_model.specs.Messages.{Given, given_by, piece_bytes, bytes_of_pieces}
+use Rattle.script_model.specs.Messages.{Given, given_by, piece_bytes, bytes_of_pieces, longest_message}
 use Rattle.script_model.specs.Words.{◌>>=◌}
 
 -- the handle that the reply of that number, from 1, gave, and its verifier
@@ -16,10 +16,6 @@ verifier_numbered replies number = given_by replies number >>= λ g. g.verifier
 -- new attributes with that mode and nothing else
 abbrev pub mode_alone : ℕ → List ℕ
 mode_alone mode = word 1 ++ word mode ++ word 0 ++ word 0 ++ word 0 ++ word 0 ++ word 0
-
--- the most bytes of a message
-abbrev pub longest_message : ℕ
-longest_message = 65536
 
 -- the bytes, where they aren't too many
 abbrev pub not_too_long : List ℕ → Option (List ℕ)

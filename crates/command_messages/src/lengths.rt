@@ -2,7 +2,8 @@
 
 ghost use Rattle.std.specs.Prelude.{◌≡◌, ◌+◌, ◌*◌, ◌≤◌, IfSome};
 ghost use Rattle.log_model.specs.View.{View};
-ghost use Rattle.command_messages.specs.Lengths.{longest_message, padded, within, length_of_piece, length_of_pieces};
+ghost use Rattle.script_model.specs.Messages.{longest_message};
+ghost use Rattle.command_messages.specs.Lengths.{padded, within, length_of_piece, length_of_pieces};
 
 use crate::replies::{ReplyParts, handle_numbered, verifier_numbered};
 use script_model::Piece;

@@ -44,7 +44,7 @@ use Rattle.world_model.specs.Calls.{BeginsWith, Sending}
 use Rattle.world_model.specs.Fates.{FateOf}
 use Rattle.world_model.specs.Keepers.{fails_next}
 use Rattle.world_model.specs.Logs.{Played}
-use Rattle.world_model.specs.Steps.{Acts, RunsOut, Scene, Steps, acked_by, after_turn, ask_told, met_by, with_cache, world_after}
+use Rattle.world_model.specs.Steps.{Acts, RunsOut, Scene, Steps, acked_by, after_turn, ask_told, met_by, turning_of, with_cache, world_after}
 use Rattle.world_model.specs.Steps.Acts.{asks, asks_in_vain, is_refused, settles, turns}
 use Rattle.world_model.specs.Steps.RunsOut.{is_over as runs_over, more as runs_more}
 use Rattle.world_model.specs.Steps.Steps.{acts, lacks_memory}
@@ -54,6 +54,7 @@ use Rattle.world_laws.specs.Keeps.{AreParticipants, Keeps}
 use Rattle.world_laws.proofs.CalmNodes.{HeldStays, same_rings}
 use Rattle.world_laws.proofs.CalmStates.{found_placed}
 use Rattle.world_laws.proofs.Frames.{into_map, same_keys}
+use Rattle.world_laws.proofs.HeadKeys.{block_is_key}
 use Rattle.world_laws.proofs.OneSteps.{GoesWell}
 use Rattle.world_laws.proofs.SessionLinesSteps.{Leads, step_leads}
 use Rattle.world_laws.proofs.SignedAmong.{from_met}
@@ -102,12 +103,12 @@ lacks_past (lacks notes shown given end xid asked at refreshed asks_it rest fron
 settles_past : {a after : Agent} {s t : Session} → s.missed ≡ None → Settles a s after t → IsPast t
 settles_past missed (settles_all said acks at) = (λ e. cc e, missed)
 
-pub turn_refreshes : {now : Moment} {a : Agent} {view : View} {failing : Bool} {s : Session} {end : TurnEnd} {after : Agent} {saving : Option Kept} {t : Session} → TakesTurn now a view failing s end after saving t → s.stage ≡ Refreshing
+pub turn_refreshes : {now : Moment} {a : Agent} {view : View} {failing : Bool} {s : Session} {end : TurnEnd} {after : Agent} {saving : Option Kept} {t : Session} → TakesTurn (record { agent = a; view = view; now = now; fails = failing }) s end after saving t → s.stage ≡ Refreshing
 turn_refreshes (answers notes given xid asked reply applied after saving done asks_it turned) = done.0
 turn_refreshes (begins_anew notes given xid asked end after saving done asks_it turned refused few) = done.0
 turn_refreshes (gives_up notes given xid asked end after saving done asks_it turned refused many) = done.0
 
-pub answered_past : {now : Moment} {a : Agent} {view : View} {failing : Bool} {s : Session} {reply : Reply} {applied : ℕ} {after : Agent} {saving : Option Kept} {t : Session} → TakesTurn now a view failing s (Answered reply applied) after saving t → s.missed ≡ None → IsPast t
+pub answered_past : {now : Moment} {a : Agent} {view : View} {failing : Bool} {s : Session} {reply : Reply} {applied : ℕ} {after : Agent} {saving : Option Kept} {t : Session} → TakesTurn (record { agent = a; view = view; now = now; fails = failing }) s (Answered reply applied) after saving t → s.missed ≡ None → IsPast t
 answered_past (answers notes given xid asked reply applied after saving done asks_it turned) missed = (λ e. cc e, missed)
 answered_past (begins_anew notes given xid asked end after saving done asks_it turned refused few) missed = absurd refused
 answered_past (gives_up notes given xid asked end after saving done asks_it turned refused many) missed = absurd refused
@@ -144,7 +145,7 @@ module _ (r : ℕ) (w : Played) (world : IsCalmWorld r w) (backed : IsBackedWorl
 
   clear : (q : Participant) → Contains w.0.participants q → (b : List ℕ) → Contains w.0.met b → name b ≡ head_key_of (own q.agent) → ⊥
   clear q among b in_met named =
-      let same : b ≡ (own q.agent).0 = apart b (own q.agent).0 (Contains-append_left w.0.met _ b in_met) (Contains-append_right w.0.met (map (λ (p : Participant). (own p.agent).0) w.0.participants) (own q.agent).0 (into_map (λ (p : Participant). (own p.agent).0) w.0.participants q among)) named in
+      let same = block_is_key w world.keeps apart b q in_met among named in
       no_key q among (subst (Contains w.0.met) same in_met)
 
   abbrev Fetched : Session → Type 0
@@ -293,7 +294,7 @@ module _ (r : ℕ) (w : Played) (world : IsCalmWorld r w) (backed : IsBackedWorl
 
   -- ---- a turn that was refused
 
-  refused_so : (c : Scene) (h : IsInCall c) (p : Participant) → participant c.world c.session.by ≡ Some p → (view : View) (end : TurnEnd) (after : Agent) (saving : Option Kept) (t : Session) → p.agent.view ≡ Some view → IsRefusal end → TakesTurn c.world.now p.agent view (fails_next p.keeper) c.session end after saving t
+  refused_so : (c : Scene) (h : IsInCall c) (p : Participant) → participant c.world c.session.by ≡ Some p → (view : View) (end : TurnEnd) (after : Agent) (saving : Option Kept) (t : Session) → p.agent.view ≡ Some view → IsRefusal end → TakesTurn (turning_of c.world p view) c.session end after saving t
       → (next : Scene) → next ≡ record c { world = world_after c.world (after_turn p after saving); session = t; began = record c.began { knew = known_of c.story p.name } } → GoesWell r next → SceneSo next → IsInCall next ⊎ IsPast next.session
   refused_so c h p is_p view _ _ _ _ in_view refusal (answers notes given xid asked reply applied after saving done asks_it turned) next is then_well so = absurd refusal
   refused_so c h p is_p view _ _ _ _ in_view refusal (gives_up notes given xid asked end after saving done asks_it turned refused many) next is then_well so = inr (subst (λ (x : Scene). IsPast x.session) (sym is) ((λ e. cc e), refl))
@@ -321,7 +322,7 @@ module _ (r : ℕ) (w : Played) (world : IsCalmWorld r w) (backed : IsBackedWorl
     });
   })
     where
-      turn : TakesTurn c.world.now p.agent view (fails_next p.keeper) c.session end after saving (anew c.session (anew_in hss after view))
+      turn : TakesTurn (turning_of c.world p view) c.session end after saving (anew c.session (anew_in hss after view))
       turn = begins_anew notes given xid asked end after saving done asks_it turned refused few
 
       same : (after.pending ≡ p.agent.pending) × (after.signer ≡ p.agent.signer) × (after.floor ≡ p.agent.floor) × (saving ≡ None)

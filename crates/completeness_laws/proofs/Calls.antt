@@ -325,7 +325,7 @@ module _ (r : ℕ) (w : Played) (world : IsCalmWorld r w) (backed : IsBackedWorl
 
 -- ---- a refresh wants heads of members alone
 
-tries_content : {view : View} {owner : PubKey} {start floor : Vector} {edge : Option Edge} {ts : List Stamp} {brought : List Brought} {faults : List ChainFault} {end : LogEnd} → Tries view owner start floor edge ts brought faults end → (other : PubKey) → end ≡ Lacks (wants_heads other) → ⊥
+tries_content : {view : View} {owner : PubKey} {start floor : Vector} {edge : Option Edge} {ts : List Stamp} {brought : List Brought} {faults : List ChainFault} {end : LogEnd} → Tries (record { view = view; owner = owner; start = start; floor = floor; edge = edge }) ts brought faults end → (other : PubKey) → end ≡ Lacks (wants_heads other) → ⊥
 tries_content tries_none other e = cc e
 tries_content (tries_want walk) other e = cc e
 tries_content (tries_miss walk) other e = cc e
@@ -333,7 +333,7 @@ tries_content (gives walk sound onward) other e = cc e
 tries_content (passes walk ample fault rest) other e = tries_content rest other e
 tries_content (tries_garbled walk rest) other e = tries_content rest other e
 
-lacks_heads : (s : Standing) (start : Vector) (owner other : PubKey) {brought : List Brought} {notes : List Note} {end : LogEnd} → Fetches s start owner brought notes end → end ≡ Lacks (wants_heads other) → owner ≡ other
+lacks_heads : (s : Standing) (start : Vector) (owner other : PubKey) {brought : List Brought} {notes : List Note} {end : LogEnd} → Fetches (record { standing = s; start = start }) owner brought notes end → end ≡ Lacks (wants_heads other) → owner ≡ other
 lacks_heads s start owner other (fetch_heads not_own) e = cc e
 lacks_heads s start owner other (no_heads miss not_own) e = cc e
 lacks_heads s start owner other (of_heads heads tried brought faults end not_own are tries) e = absurd (tries_content tries other e)
@@ -348,7 +348,7 @@ needs_lacks (Stops miss) end other e f = let same : FailsBy miss ≡ end = cc e 
 needs_lacks (Gives records) end other e f = cc e
 needs_lacks GivesNone end other e f = cc e
 
-all_heads_of : (s : Standing) (start : Vector) (other : PubKey) {owners : List PubKey} {brought : List Brought} {notes : List Note} {chains : List Chain} {end : RefreshEnd} → FetchesAll s start owners brought notes chains end → end ≡ Needs (wants_heads other) → Contains owners other
+all_heads_of : (s : Standing) (start : Vector) (other : PubKey) {owners : List PubKey} {brought : List Brought} {notes : List Note} {chains : List Chain} {end : RefreshEnd} → FetchesAll (record { standing = s; start = start }) owners brought notes chains end → end ≡ Needs (wants_heads other) → Contains owners other
 all_heads_of s start other fetches_all e = cc e
 all_heads_of s start other (fetches_stay {owner = owner} {owners = owners} {log = log} {end = end} part is) e =
     subst (Contains (owner ∷ owners)) (lacks_heads s start owner other part (needs_lacks log end other is e)) (here owner owners)

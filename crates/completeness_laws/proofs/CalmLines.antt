@@ -11,8 +11,8 @@ use Rattle.world_laws.specs.Calm.{IsCalmAt, Since}
 use Rattle.world_laws.proofs.AllLines.{does_line}
 use Rattle.world_laws.proofs.CalmRuns.{some_command}
 use Rattle.world_laws.proofs.EachLine.{each_line_keeps}
+use Rattle.world_laws.proofs.CalmRounds.{beside_goes, round_line}
 use Rattle.durability_laws.proofs.Durable.{acked_is_held, round_moves_blocks}
-use Rattle.durability_laws.proofs.Facts.{beside_goes, round_line}
 use Rattle.durability_laws.proofs.Given.{blocks_are_given, heads_are_given}
 use Rattle.durability_laws.proofs.Runs.{facts_at, has_room}
 use Rattle.completeness_laws.specs.CalmLines.{LinesAreServedWhereCalm}

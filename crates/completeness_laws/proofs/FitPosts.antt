@@ -110,13 +110,13 @@ becomes_fit view a y h _ _ _ whole then_whole fit (saves before last may succeed
 becomes_fit view a y h _ _ _ whole then_whole fit (loses before last may failing) = absurd (not_both (fails_next y) (never_fails y fit.fine) failing)
 
 turn_fit : (given : Refresh) (a : Agent) (y : Keeper) (view : View) (asked : Asked) (now : Moment) (end : TurnEnd) (after : Agent) (saving : Option Kept) → IsKept (kept_of a) → IsKept (kept_of after) → HasFit a y
-    → Turns hss given a view (fails_next y) asked now end after saving → HasFit after (asked_to_save y saving)
+    → Turns hss given (record { agent = a; view = view; now = now; fails = fails_next y }) asked end after saving → HasFit after (asked_to_save y saving)
 turn_fit given a y view asked now _ _ _ whole then_whole fit (behind late) = fit
 turn_fit given a y view asked now _ _ _ whole then_whole fit (below timely under) = record { fit = fit.fit; fine = fit.fine; kept = fit.kept }
 turn_fit given a y view asked now _ _ _ whole then_whole fit (answers h written reply after saving timely above same take becomes by_definition) = becomes_fit view a y h written after saving whole then_whole fit becomes
 
 pub taking_fit : (now : Moment) (a : Agent) (y : Keeper) (view : View) (s : Session) (end : TurnEnd) (after : Agent) (saving : Option Kept) (t : Session) → IsKept (kept_of a) → IsKept (kept_of after) → HasFit a y
-    → TakesTurn now a view (fails_next y) s end after saving t → HasFit after (asked_to_save y saving)
+    → TakesTurn (record { agent = a; view = view; now = now; fails = fails_next y }) s end after saving t → HasFit after (asked_to_save y saving)
 taking_fit now a y view s _ _ _ _ whole then_whole fit (turn_answers notes given xid asked reply applied after saving refreshed asks turns) = turn_fit given a y view asked now _ after saving whole then_whole fit turns
 taking_fit now a y view s _ _ _ _ whole then_whole fit (begins_anew notes given xid asked end after saving refreshed asks turns refusal few) = turn_fit given a y view asked now end after saving whole then_whole fit turns
 taking_fit now a y view s _ _ _ _ whole then_whole fit (gives_up notes given xid asked end after saving refreshed asks turns refusal many) = turn_fit given a y view asked now end after saving whole then_whole fit turns

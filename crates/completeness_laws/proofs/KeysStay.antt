@@ -5,28 +5,19 @@ use Rattle.std.specs.Str.{bytes_eq}
 use Rattle.std.proofs.lemmas.List.Elements.{Contains-append_left, Contains-append_right, Contains-append_cases}
 use Rattle.ivy_base.specs.declared.key.Key.{Key}
 use Rattle.ivy_base.specs.declared.key.PubKey.{PubKey}
-use Rattle.ivy_base.specs.declared.operation.Moment.{Moment}
 use Rattle.ivy_base.specs.Naming.{NamesTellApart}
 use Rattle.hash_signature_model.specs.declared.set.Set.{Set}
 use Rattle.hss_keys.specs.Signer.{hss_key_of}
 use Rattle.log_heads.specs.Signed.{hss_judged}
 use Rattle.log_model.specs.View.{View}
 use Rattle.log_model.proofs.Lists.{each}
-use Rattle.turn_model.specs.Turn.{Asked}
-use Rattle.agent_model.specs.Standing.{Refresh}
-use Rattle.agent_model.specs.Turning.{TurnEnd, Turns}
-use Rattle.agent_model.specs.Turning.Becomes.{loses, reads, saves}
-use Rattle.agent_model.specs.Turning.Turns.{answers as turn_answers, behind, below}
 use Rattle.agent_model.specs.Agent.{entered, failed, kept_of, restored}
 use Rattle.agent_model.specs.Views.{Entered, KeeperFailed, entering_with, is_own_member, not_named}
-use Rattle.session_model.specs.Courses.{Settles}
-use Rattle.session_model.specs.Courses.Settles.{settles as settles_all}
-use Rattle.session_model.specs.Courses.TakesTurn.{answers, begins_anew, gives_up}
 use Rattle.session_model.specs.Sessions.{Said, Session}
 use Rattle.script_driver.specs.Run.{Ends, Goes, Outcome}
 use Rattle.script_model.specs.declared.command.Command.{Command}
 use Rattle.script_model.specs.declared.command.Command.TheVariants as command
-use Rattle.world_model.specs.Agents.{Agent, Entering, Kept, TakesTurn, entering, hss, own}
+use Rattle.world_model.specs.Agents.{Agent, Entering, Kept, entering, hss, own}
 use Rattle.world_model.specs.Keepers.{asked_to_save, fails_next}
 use Rattle.world_model.specs.Calls.{AsLine, FinishLine, OpenLine, Sending, StepLine, replied, sending_of}
 use Rattle.world_model.specs.Calls.AsLine.{calls}
@@ -56,7 +47,8 @@ use Rattle.world_laws.proofs.Lines.{ToSuch}
 use Rattle.world_laws.proofs.Placed.{found_some, same_name}
 use Rattle.world_laws.proofs.SignedHeads.{from_map, so_of}
 use Rattle.world_laws.proofs.Still.{still_lines}
-use Rattle.durability_laws.proofs.Lines.{found_before}
+use Rattle.world_laws.proofs.CalmLines.{found_before}
+use Rattle.world_laws.proofs.OneSteps.{settles_own, takes_own}
 use Rattle.completeness_laws.proofs.Steps.{fate_same}
 use Rattle.completeness_laws.proofs.ViewLines.{fates_same}
 
@@ -97,21 +89,6 @@ placed_stay w p q name is_p named owned n o is = (put_in o, found_mapped put_in 
     by false e = refl
 
 -- ---- steps
-
-pub turns_own : {given : Refresh} {a : Agent} {view : View} {failing : Bool} {asked : Asked} {now : Moment} {end : TurnEnd} {after : Agent} {saving : Option Kept} → Turns hss given a view failing asked now end after saving → own after ≡ own a
-turns_own (behind far) = refl
-turns_own (below near low) = refl
-turns_own (turn_answers h written reply after saving near over basis may reads defined) = refl
-turns_own (turn_answers h written reply after saving near over basis may (saves before last might fine) defined) = refl
-turns_own (turn_answers h written reply after saving near over basis may (loses before last might gone) defined) = refl
-
-pub takes_own : {now : Moment} {a : Agent} {view : View} {failing : Bool} {s : Session} {end : TurnEnd} {after : Agent} {saving : Option Kept} {t : Session} → TakesTurn now a view failing s end after saving t → own after ≡ own a
-takes_own (answers notes given xid asked reply applied after saving done asks_it turn) = turns_own turn
-takes_own (begins_anew notes given xid asked end after saving done asks_it turn refused few) = turns_own turn
-takes_own (gives_up notes given xid asked end after saving done asks_it turn refused many) = turns_own turn
-
-pub settles_own : {a : Agent} {s : Session} {after : Agent} {t : Session} → Settles a s after t → own after ≡ own a
-settles_own (settles_all said acks at) = refl
 
 pub acts_stay : {r : ℕ} (name : List ℕ) {p : Participant} {c next : Scene} → participant c.world name ≡ Some p → Acts hss_judged r p c next → KeysStay c.world.participants next.world.participants
 acts_stay name {p = p} {c = c} is_p (asks node question answer next heard t cache fate hears goes) =

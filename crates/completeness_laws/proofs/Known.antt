@@ -2,7 +2,7 @@
 use Rattle.std.proofs.Common.{◌≡◌, ◌⊎◌, inl, inr, ⊎_elim, ℕ, zero, suc, ◌+◌, List, [], ◌∷◌, ◌++◌, length, map, Some, None, refl, sym, ap, ◌∙◌, subst, arith, Contains, length-append}
 use Rattle.std.specs.Prelude.{IfSome}
 use Rattle.std.specs.List.{AllByRecursion}
-use Rattle.std.proofs.lemmas.List.Elements.{Contains-append_left, Contains-append_right}
+use Rattle.std.proofs.lemmas.List.Elements.{Contains-append_left}
 use Rattle.ivy_base.specs.declared.key.Key.{Key}
 use Rattle.ivy_base.specs.declared.key.PubKey.{PubKey}
 use Rattle.ivy_base.specs.Naming.{NamesTellApart, head_key_of, name}
@@ -11,6 +11,7 @@ use Rattle.log_model.specs.Closed.{log_of}
 use Rattle.log_model.specs.Record.{Record}
 use Rattle.log_model.specs.Spelling.{HasSpelling, no_name, record_block}
 use Rattle.log_model.specs.Standing.{Stand, StandsAmong}
+use Rattle.log_records.proofs.Standing.{block_is_met}
 use Rattle.log_model.specs.Vector.{Entry, Stamp, stamp_at}
 use Rattle.log_model.specs.View.{View}
 use Rattle.log_model.proofs.Lists.{each, each_append, each_from, each_left, each_right, in_cons, in_nothing}
@@ -23,8 +24,8 @@ use Rattle.world_model.specs.Story.{knowing_of, known_of}
 use Rattle.world_model.specs.Logs.{Played}
 use Rattle.world_laws.specs.Keeps.{AreParticipants, EntersOwned, IsSound, IsSoundIn, Keeps}
 use Rattle.world_laws.proofs.Bringing.{found_named}
-use Rattle.world_laws.proofs.Frames.{into_map}
-use Rattle.world_laws.proofs.OneTruth.{chain_linked}
+use Rattle.world_laws.proofs.HeadKeys.{block_is_key}
+use Rattle.turn_laws.proofs.LinkedLogs.{chain_linked, ends_some}
 use Rattle.world_laws.proofs.SignedHeads.{from_map}
 use Rattle.completeness_laws.specs.Put.{AllUpTo, IsPutOr, WasPut}
 use Rattle.completeness_laws.proofs.RestartLines.{long}
@@ -38,10 +39,6 @@ use Rattle.completeness_laws.proofs.Walks.IsBack.{more}
 use Rattle.completeness_laws.proofs.Worlds.{IsBackedWorld}
 
 -- ---- linked records, from the last one back
-
-ends_some : (xs : List Record) → (xs ≡ []) ⊎ ((before : List Record) × (last : Record) × (xs ≡ before ++ last ∷ []))
-ends_some [] = inl refl
-ends_some (x ∷ xs) = ⊎_elim (λ none. inr ([], x, ap (λ (s : List Record). x ∷ s) none)) (λ w. inr (x ∷ w.0, w.1, ap (λ (s : List Record). x ∷ s) w.2)) (ends_some xs)
 
 -- the last of them
 record LastLinked (owner : PubKey) (n : ℕ) (prev : Key) (before : List Record) (last : Record) : Type 0 where
@@ -69,7 +66,7 @@ module _ (acked : List Post) (met : List (List ℕ)) (apart : NamesTellApart met
       → (before : List Record) (last : Record) → LinkedFrom owner 1 no_name (before ++ last ∷ []) → Stand met (before ++ last ∷ []) → length (before ++ last ∷ []) ≡ suc n → newest no_name (before ++ last ∷ []) ≡ key → AllByRecursion (WasPut acked) (before ++ last ∷ [])
   one_down owner of_log n key one is same spelled there rest before last linked stand size at =
       let l = last_linked owner 1 no_name before last linked in
-      let stands = (each_right (StandsAmong met) before (last ∷ []) stand).0 in
+      let stands = block_is_met met last (each_right (StandsAmong met) before (last ∷ []) stand).0 in
       let named : last.name ≡ one.name = sym (newest_of no_name before last) ∙ at ∙ is in
       let block : record_block last ≡ record_block one = apart (record_block last) (record_block one) stands (there_met acked [] met put_met tt one there) (sym l.spelled.named ∙ named ∙ spelled.named) in
       let prev : last.prev ≡ one.prev = same_prev last one l.spelled spelled (ap head_key_of l.owned ∙ sym of_log ∙ same) block in
@@ -99,11 +96,7 @@ module _ (w : Played) (keeps : Keeps w) (apart : NamesTellApart (named_bytes w.0
   not_named : (view : View) → AreParticipants w.0 view → (owner : PubKey) → Contains view.members owner → (b : List ℕ) → Contains w.0.met b → name b ≡ head_key_of owner → ⊥
   not_named view owned owner member b in_met named =
       let found = from_map (λ (p : Participant). own p.agent) w.0.participants owner (each (Contains (map (λ (p : Participant). own p.agent) w.0.participants)) view.members owner owned member) in
-      let key : owner.0 ≡ (own found.0.agent).0 = ap (λ (o : PubKey). o.0) found.2 in
-      let among : Contains (named_bytes w.0) owner.0 = Contains-append_right w.0.met (map (λ (p : Participant). (own p.agent).0) w.0.participants) owner.0
-      (subst (Contains (map (λ (p : Participant). (own p.agent).0) w.0.participants)) (sym key) (into_map (λ (p : Participant). (own p.agent).0) w.0.participants found.0 found.1)) in
-      let same : b ≡ owner.0 = apart b owner.0 (Contains-append_left w.0.met _ b in_met) among named in
-      no_key found.0 found.1 (subst (Contains w.0.met) (same ∙ key) in_met)
+      no_key found.0 found.1 (subst (Contains w.0.met) (block_is_key w keeps apart b found.0 in_met found.1 (named ∙ ap head_key_of found.2)) in_met)
 
   under_put : (view : View) → AreParticipants w.0 view → (received : List Entry) → AllByRecursion (IsEntryPut w.0.met w.1.acked) received → (one : Record) → Contains view.members one.owner → IsUnderHead w.0.met received one → WasPut w.1.acked one
   under_put view owned received so one member u = by (each (IsEntryPut w.0.met w.1.acked) received u.head so u.received)

@@ -36,7 +36,7 @@ use Rattle.world_laws.proofs.Newcomer.{found_after}
 use Rattle.world_laws.proofs.Placed.{found_some}
 use Rattle.world_laws.proofs.PublicKeys.{owner_is_key}
 use Rattle.world_laws.proofs.SignedAmong.{met_stays}
-use Rattle.durability_laws.proofs.Lines.{found_before, found_last}
+use Rattle.world_laws.proofs.CalmLines.{found_before, found_last}
 use Rattle.completeness_laws.specs.Put.{IsPutOr}
 use Rattle.completeness_laws.proofs.UpTo.{head_tells}
 use Rattle.completeness_laws.proofs.HeldHeads.{more_hold}

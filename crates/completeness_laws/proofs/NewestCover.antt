@@ -123,7 +123,7 @@ module _ (acked : List Post) (ss : List NamedSession) where
       spelled = (last_good view a before last may).spelled
 
   turn_newest : (given : Refresh) (a : Agent) (view : View) (fails : Bool) (asked : Asked) (now : Moment) (end : TurnEnd) (after : Agent) (saving : Option Kept) → a.view ≡ Some view → IsKept (kept_of a) → HasNewest acked ss [] a
-      → Turns hss given a view fails asked now end after saving → HasNewest acked ss (in_publishing_order after.pending) after
+      → Turns hss given (record { agent = a; view = view; now = now; fails = fails }) asked end after saving → HasNewest acked ss (in_publishing_order after.pending) after
   turn_newest given a view fails asked now _ _ _ in_view whole new (behind late) = newest_weaker acked acked ss ss [] (in_publishing_order a.pending) a a (λ x c. covers x c) refl (le_refl (own_reach a)) new
     where
       covers : (x : Post) → IsCovered acked ss [] x → IsCovered acked ss (in_publishing_order a.pending) x
@@ -139,14 +139,14 @@ module _ (acked : List Post) (ss : List NamedSession) where
   turn_newest given a view fails asked now _ _ _ in_view whole new (answers h written reply after saving timely above same take becomes by_definition) = becomes_newest view a h fails written after saving in_view whole take new becomes
 
   refused_newest : (given : Refresh) (a : Agent) (view : View) (fails : Bool) (asked : Asked) (now : Moment) (end : TurnEnd) (after : Agent) (saving : Option Kept) → HasNewest acked ss [] a → IsRefusal end
-      → Turns hss given a view fails asked now end after saving → HasNewest acked ss [] after
+      → Turns hss given (record { agent = a; view = view; now = now; fails = fails }) asked end after saving → HasNewest acked ss [] after
   refused_newest given a view fails asked now _ _ _ new refusal (behind late) = new
   refused_newest given a view fails asked now _ _ _ new refusal (below timely under) = newest_weaker acked acked ss ss [] [] a (record a { holding = nothing_held; to_load = None }) (λ x c. c) refl (le_refl (own_reach a)) new
   refused_newest given a view fails asked now _ _ _ new refusal (answers h written reply after saving timely above same take becomes by_definition) = absurd refusal
 
   -- after a turn of a session that refreshed, by what it then has to put
   pub takes_newest : (now : Moment) (a : Agent) (view : View) (fails : Bool) (s : Session) (end : TurnEnd) (after : Agent) (saving : Option Kept) (t : Session) → a.view ≡ Some view → IsKept (kept_of a) → HasNewest acked ss (posts_at s.stage) a
-      → TakesTurn now a view fails s end after saving t → HasNewest acked ss (posts_at t.stage) after
+      → TakesTurn (record { agent = a; view = view; now = now; fails = fails }) s end after saving t → HasNewest acked ss (posts_at t.stage) after
   takes_newest now a view fails s _ _ _ _ in_view whole new (turn_answers notes given xid asked reply applied after saving done asks_it turns) =
       turn_newest given a view fails asked now _ after saving in_view whole (subst (λ st. HasNewest acked ss (posts_at st) a) done.0 new) turns
   takes_newest now a view fails s _ _ _ _ in_view whole new (begins_anew notes given xid asked end after saving done asks_it turns refusal few) =

@@ -216,13 +216,13 @@ module _ (ring : Stretch) (met : List (List ℕ)) (fits_it : total met ≤ most_
       one_stage (posted key bytes wants none is) = refl
       one_stage (cached key bytes wants none missing is) = refl
 
-  turn_refreshing : {now : Moment} {a : Agent} {view : View} {failing : Bool} {s : Session} {end : TurnEnd} {after : Agent} {saving : Option Kept} {t : Session} → TakesTurn now a view failing s end after saving t → s.stage ≡ Refreshing
+  turn_refreshing : {now : Moment} {a : Agent} {view : View} {failing : Bool} {s : Session} {end : TurnEnd} {after : Agent} {saving : Option Kept} {t : Session} → TakesTurn (record { agent = a; view = view; now = now; fails = failing }) s end after saving t → s.stage ≡ Refreshing
   turn_refreshing (turn_answers notes given xid asked reply applied after saving done asks_it turned) = done.0
   turn_refreshing (begins_anew notes given xid asked end after saving done asks_it turned refused few) = done.0
   turn_refreshing (gives_up notes given xid asked end after saving done asks_it turned refused many) = done.0
 
   -- what the session has to put then
-  turn_fits : {now : Moment} {a : Agent} {view : View} {failing : Bool} {s : Session} {end : TurnEnd} {after : Agent} {saving : Option Kept} {t : Session} → TakesTurn now a view failing s end after saving t → AllFit after.pending → FitSession s → FitSession t
+  turn_fits : {now : Moment} {a : Agent} {view : View} {failing : Bool} {s : Session} {end : TurnEnd} {after : Agent} {saving : Option Kept} {t : Session} → TakesTurn (record { agent = a; view = view; now = now; fails = failing }) s end after saving t → AllFit after.pending → FitSession s → FitSession t
   turn_fits (turn_answers notes given xid asked reply applied after saving done asks_it turned) fit h = (h.0, each_published FitsItsKey after.pending fit)
   turn_fits (begins_anew notes given xid asked end after saving done asks_it turned refused few) fit h = (tt, h.1)
   turn_fits (gives_up notes given xid asked end after saving done asks_it turned refused many) fit h = (tt, tt)

@@ -1,10 +1,9 @@
 -- What each agent has written in a world whose heads are honest: heads of its log are over records of that, and what is known of the log is the beginning of it.
-use Rattle.std.proofs.Common.{◌≡◌, inl, inr, ⊎_elim, ◌⊎◌, ℕ, ◌+◌, ◌<◌, ◌^◌, List, [], ◌∷◌, ◌++◌, length, Option, Some, None, refl, sym, ap, ◌∙◌, subst, arith, Contains, append_assoc, le_refl}
+use Rattle.std.proofs.Common.{◌≡◌, ⊎_elim, ◌⊎◌, ℕ, ◌+◌, ◌<◌, ◌^◌, List, [], ◌∷◌, ◌++◌, length, Option, Some, None, refl, sym, ap, ◌∙◌, subst, arith, Contains, append_assoc, le_refl}
 use Rattle.std.specs.Prelude.{IfSome, IsTrue, is_some}
 use Rattle.std.specs.List.{AllByRecursion}
 use Rattle.std.proofs.lemmas.List.{append-nil}
 use Rattle.std.proofs.lemmas.List.Elements.{Contains-append_left, Contains-append_right}
-use Rattle.ivy_base.specs.declared.key.Key.{Key}
 use Rattle.ivy_base.specs.declared.key.PubKey.{PubKey}
 use Rattle.ivy_base.specs.Naming.{NamesTellApart, head_key_of}
 use Rattle.log_model.specs.Chain.{IsChain, IsGood, LinkedFrom}
@@ -12,17 +11,17 @@ use Rattle.log_model.specs.Closed.{log_of}
 use Rattle.log_model.specs.Rank.{own_entry}
 use Rattle.log_model.specs.Record.{Record}
 use Rattle.log_model.specs.Spelling.{HasSpelling, no_name}
-use Rattle.log_model.specs.Standing.{Stand, StandsAmong}
+use Rattle.log_model.specs.Standing.{Stand}
 use Rattle.log_model.specs.Vector.{Entry, Stamp, reach, stamp_at}
 use Rattle.log_model.specs.View.{View, IsView, is_named}
 use Rattle.log_model.proofs.Later.{name_is_key}
-use Rattle.log_model.proofs.Lists.{each, each_from, each_left, here, in_cons, in_nothing}
+use Rattle.log_model.proofs.Lists.{each, each_from, each_left, here}
 use Rattle.log_model.proofs.Part.{chain_good}
-use Rattle.log_records.proofs.OneRecord.{one_among}
 use Rattle.hss_keys.specs.Signer.{hss_key_of}
 use Rattle.view_blocks.specs.Faults.{HasKeys}
 use Rattle.turn_model.specs.Known.{EndsAt, IsBacked, IsUnderHead}
 use Rattle.turn_model.specs.Turn.{IsPrefixOf}
+use Rattle.turn_laws.proofs.LinkedLogs.{chain_linked, divided, each_linked, ends_some, prefix_linked}
 use Rattle.session_model.specs.Brought.{stamp_of}
 use Rattle.agent_model.specs.Agent.{own_key}
 use Rattle.world_model.specs.Agents.{IsKept, Kept, hss, own, own_reach}
@@ -34,97 +33,12 @@ use Rattle.world_laws.specs.Keeps.{IsKeptSo, IsSavedWell, IsSound, IsSoundIn, Is
 use Rattle.world_laws.proofs.KnownHeads.{heads_low}
 use Rattle.world_laws.proofs.MoreMet.{more_stand}
 use Rattle.world_laws.proofs.OneKnown.{stand_in_log}
-use Rattle.world_laws.proofs.OneTruth.{chain_linked}
 use Rattle.world_laws.proofs.PublicKeys.{owner_is_key}
 use Rattle.world_laws.proofs.SignedHeads.{so_of}
 use Rattle.completeness_laws.specs.Takes.{IsLeftBy}
 use Rattle.completeness_laws.proofs.RestartLines.{long}
 use Rattle.completeness_laws.proofs.Turns.{from_log}
 use Rattle.completeness_laws.proofs.UpTo.{head_tells}
-
--- ---- linked records
-
--- a list is empty, or ends at a record
-ends_some : (xs : List Record) → (xs ≡ []) ⊎ ((before : List Record) × (last : Record) × (xs ≡ before ++ last ∷ []))
-ends_some [] = inl refl
-ends_some (x ∷ xs) = ⊎_elim (λ none. inr ([], x, ap (λ (s : List Record). x ∷ s) none)) (λ w. inr (x ∷ w.0, w.1, ap (λ (s : List Record). x ∷ s) w.2)) (ends_some xs)
-
-divided : (xs : List Record) (r : Record) → Contains xs r → (before : List Record) × (after : List Record) × (xs ≡ before ++ r ∷ after)
-divided [] r c = absurd (in_nothing r c)
-divided (x ∷ xs) r c = ⊎_elim
-    (λ e. ([], xs, ap (λ (y : Record). y ∷ xs) e))
-    (λ more. let w = divided xs r more in (x ∷ w.0, w.1, ap (λ (l : List Record). x ∷ l) w.2))
-    (in_cons x xs r c)
-
-module _ (owner : PubKey) where
-  linked_left : (n : ℕ) (prev : Key) (xs ys : List Record) → LinkedFrom owner n prev (xs ++ ys) → LinkedFrom owner n prev xs
-  linked_left n prev [] ys h = tt
-  linked_left n prev (x ∷ xs) ys h = (h.0, h.1, h.2, h.3, linked_left (n + 1) x.name xs ys h.4)
-
-  last_seq : (n : ℕ) (prev : Key) (before : List Record) (last : Record) → LinkedFrom owner n prev (before ++ last ∷ []) → last.seq ≡ n + length before
-  last_seq n prev [] last h = omega (arith, h.2)
-  last_seq n prev (b ∷ before) last h = let more = last_seq (n + 1) b.name before last h.4 in omega (arith, more)
-
-  pub each_linked : (n : ℕ) (prev : Key) (xs : List Record) (r : Record) → LinkedFrom owner n prev xs → Contains xs r → (r.owner ≡ owner) × HasSpelling r
-  each_linked n prev [] r h c = absurd (in_nothing r c)
-  each_linked n prev (x ∷ xs) r h c = ⊎_elim (λ e. subst (λ (q : Record). (q.owner ≡ owner) × HasSpelling q) e (h.0, h.1)) (λ more. each_linked (n + 1) x.name xs r h.4 more) (in_cons x xs r c)
-
-  -- none is numbered further than they are long
-  pub short_seq : (n : ℕ) (prev : Key) (xs : List Record) (r : Record) → LinkedFrom owner n prev xs → Contains xs r → r.seq < n + length xs
-  short_seq n prev [] r h c = absurd (in_nothing r c)
-  short_seq n prev (x ∷ xs) r h c = ⊎_elim
-      (λ e. let same : x.seq ≡ r.seq = ap (λ (q : Record). q.seq) e in let at = h.2 in omega (arith, same, at))
-      (λ more. let low = short_seq (n + 1) x.name xs r h.4 more in omega (arith, low))
-      (in_cons x xs r c)
-
-module _ (blocks : List (List ℕ)) (apart : NamesTellApart blocks) (owner : PubKey) where
-  one_of_name : (p q : Record) → (p.owner ≡ owner) × HasSpelling p → (q.owner ≡ owner) × HasSpelling q → StandsAmong blocks p → StandsAmong blocks q → p.name ≡ q.name → p ≡ q
-  one_of_name p q f g stands_p stands_q same = one_among owner blocks apart p q f.0 g.0 f.1 g.1 stands_p stands_q same
-
-  -- up to one record, so many before it are the same
-  same_before : (n : ℕ) (prev other : Key) (a b : List Record) (l : Record) → LinkedFrom owner n prev (a ++ l ∷ []) → LinkedFrom owner n other (b ++ l ∷ []) → Stand blocks (a ++ l ∷ []) → Stand blocks (b ++ l ∷ []) → length a ≡ length b
-      → (a ≡ b) × (prev ≡ other)
-  same_before n prev other [] [] l f g sf sg size = (refl, sym f.3 ∙ g.3)
-  same_before n prev other [] (y ∷ b) l f g sf sg size = absurd (omega (arith, size))
-  same_before n prev other (x ∷ a) [] l f g sf sg size = absurd (omega (arith, size))
-  same_before n prev other (x ∷ a) (y ∷ b) l f g sf sg size =
-      let rest = same_before (n + 1) x.name y.name a b l f.4 g.4 sf.1 sg.1 (omega (arith, size)) in
-      let first : x ≡ y = one_of_name x y (f.0, f.1) (g.0, g.1) sf.0 sg.0 rest.1 in
-      ((λ i. first i ∷ rest.0 i), sym f.3 ∙ ap (λ (r : Record). r.prev) first ∙ g.3)
-
-  -- what ends at a record of a name is the beginning of what has one of that name
-  pub prefix_linked : (xs ys a : List Record) (l m : Record) → LinkedFrom owner 1 no_name xs → LinkedFrom owner 1 no_name ys → Stand blocks xs → Stand blocks ys → xs ≡ a ++ l ∷ [] → Contains ys m → m.name ≡ l.name → IsPrefixOf xs ys
-  prefix_linked xs ys a l m linked_x linked_y stands_x stands_y is has same = (parts.1, whole)
-    where
-      parts : (before : List Record) × (after : List Record) × (ys ≡ before ++ m ∷ after)
-      parts = divided ys m has
-
-      in_x : Contains xs l
-      in_x = subst (λ (s : List Record). Contains s l) (sym is) (Contains-append_right a (l ∷ []) l (here l []))
-
-      one : m ≡ l
-      one = one_of_name m l (each_linked owner 1 no_name ys m linked_y has) (each_linked owner 1 no_name xs l linked_x in_x)
-          (each (StandsAmong blocks) ys m stands_y has) (each (StandsAmong blocks) xs l stands_x in_x) same
-
-      split : ys ≡ (parts.0 ++ l ∷ []) ++ parts.1
-      split = parts.2 ∙ ap (λ (r : Record). parts.0 ++ r ∷ parts.1) one ∙ sym (append_assoc parts.0 (l ∷ []) parts.1)
-
-      linked_a : LinkedFrom owner 1 no_name (a ++ l ∷ [])
-      linked_a = subst (LinkedFrom owner 1 no_name) is linked_x
-
-      linked_b : LinkedFrom owner 1 no_name (parts.0 ++ l ∷ [])
-      linked_b = linked_left owner 1 no_name (parts.0 ++ l ∷ []) parts.1 (subst (LinkedFrom owner 1 no_name) split linked_y)
-
-      stands_b : Stand blocks (parts.0 ++ l ∷ [])
-      stands_b = each_left (StandsAmong blocks) (parts.0 ++ l ∷ []) parts.1 (subst (Stand blocks) split stands_y)
-
-      size : length a ≡ length parts.0
-      size = omega (arith, last_seq owner 1 no_name a l linked_a, last_seq owner 1 no_name parts.0 l linked_b)
-
-      whole : xs ++ parts.1 ≡ ys
-      whole =
-          ap (λ (s : List Record). s ++ parts.1) (is ∙ ap (λ (s : List Record). s ++ l ∷ []) (same_before 1 no_name no_name a parts.0 l linked_a linked_b (subst (Stand blocks) is stands_x) stands_b size).0)
-          ∙ sym split
 
 -- a beginning has nothing else
 pub in_whole : (xs ys : List Record) (r : Record) → IsPrefixOf xs ys → Contains xs r → Contains ys r

@@ -63,7 +63,7 @@ some_taken P (some_more first rest) past h = absurd (past (takes_refreshing firs
 lacks_refreshing : {s t : Session} → LacksMemory s t → s.stage ≡ Refreshing
 lacks_refreshing (lacks notes shown given end xid asked at refreshed asks_it rest front) = at
 
-turn_refreshing : {now : Moment} {a : Agent} {view : View} {failing : Bool} {s : Session} {end : TurnEnd} {after : Agent} {saving : Option Kept} {t : Session} → TakesTurn now a view failing s end after saving t → s.stage ≡ Refreshing
+turn_refreshing : {now : Moment} {a : Agent} {view : View} {failing : Bool} {s : Session} {end : TurnEnd} {after : Agent} {saving : Option Kept} {t : Session} → TakesTurn (record { agent = a; view = view; now = now; fails = failing }) s end after saving t → s.stage ≡ Refreshing
 turn_refreshing (answers notes given xid asked reply applied after saving done asks_it turned) = done.0
 turn_refreshing (begins_anew notes given xid asked end after saving done asks_it turned refused few) = done.0
 turn_refreshing (gives_up notes given xid asked end after saving done asks_it turned refused many) = done.0

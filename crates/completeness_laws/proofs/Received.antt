@@ -3,7 +3,7 @@ use Rattle.std.proofs.Common.{◌≡◌, ◌⊎◌, inl, inr, ⊎_elim, ℕ, Boo
 use Rattle.std.specs.List.{AllByRecursion}
 use Rattle.std.specs.Str.{bytes_eq}
 use Rattle.std.specs.Option.{option_map_or}
-use Rattle.std.proofs.lemmas.List.Elements.{Contains-append_cases, Contains-append_left, Contains-append_right}
+use Rattle.std.proofs.lemmas.List.Elements.{Contains-append_cases}
 use Rattle.ivy_base.specs.declared.key.Key.{Key}
 use Rattle.ivy_base.specs.declared.key.PubKey.{PubKey}
 use Rattle.ivy_base.specs.Naming.{head_key_of}
@@ -50,7 +50,7 @@ use Rattle.world_model.specs.Steps.Steps.{acts, lacks_memory}
 use Rattle.world_model.specs.Steps.StepsOn.{is_over as steps_over, more as steps_more, none as steps_none}
 use Rattle.world_model.specs.Story.{Knowing, Story, began_nothing, began_of, beginning, having_begun, knowing_nothing, knowing_of, known_of, with_knowing}
 use Rattle.world_model.specs.Step.{Does}
-use Rattle.world_model.specs.World.{NamedSession, Participant, World, named_bytes, participant, session_named, view_named, with_participant, without_session, without_sessions_of}
+use Rattle.world_model.specs.World.{NamedSession, Participant, World, participant, session_named, view_named, with_participant, without_session, without_sessions_of}
 use Rattle.world_laws.specs.Calm.{AreAny, Calmly, IsCalm, IsCalmAt, IsQuiet, Since, Stopped}
 use Rattle.world_laws.specs.Calm.IsCalm.{joins, other, rounds, stops}
 use Rattle.world_laws.specs.Calm.Calmly.{more as calmly_more, none as calmly_none}
@@ -61,7 +61,7 @@ use Rattle.world_laws.proofs.CalmHeld.{calmly_keeps}
 use Rattle.world_laws.proofs.CalmStates.{IsMore, more_then, same_more}
 use Rattle.world_laws.proofs.CalmLines.{each_filtered}
 use Rattle.world_laws.proofs.CalmRuns.{IsFirst, first_of}
-use Rattle.world_laws.proofs.Frames.{into_map}
+use Rattle.world_laws.proofs.HeadKeys.{block_is_key, one_own_key}
 use Rattle.world_laws.proofs.Lines.{ToSuch}
 use Rattle.world_laws.proofs.Publishing.{found_knowing}
 use Rattle.world_laws.proofs.Still.{still_lines}
@@ -118,7 +118,7 @@ module _ (Of : Key → List ℕ → Type 0) where
   abbrev ToldScene : Scene → Type 0
   ToldScene c = IsToldIn c.world.sessions c.story.participants × AreHeardOf Of c.session
 
-  turn_heard : {now : Moment} {a : Agent} {view : View} {failing : Bool} {s : Session} {end : TurnEnd} {after : Agent} {saving : Option Kept} {t : Session} → TakesTurn now a view failing s end after saving t → AreHeardOf Of s → AreHeardOf Of t
+  turn_heard : {now : Moment} {a : Agent} {view : View} {failing : Bool} {s : Session} {end : TurnEnd} {after : Agent} {saving : Option Kept} {t : Session} → TakesTurn (record { agent = a; view = view; now = now; fails = failing }) s end after saving t → AreHeardOf Of s → AreHeardOf Of t
   turn_heard (answers notes given xid asked reply applied after saving done asks_it turned) h = h
   turn_heard (begins_anew notes given xid asked end after saving done asks_it turned refused few) h = tt
   turn_heard (gives_up notes given xid asked end after saving done asks_it turned refused many) h = tt
@@ -405,21 +405,18 @@ module _ (lines_keep : LinesKeep) (r : ℕ) (w : Played) (count : ℕ) (lines : 
       calmly_told r run apart facts (first_state r w (Stopped count) lines calm (fewer_apart calm.made w.0 (facts_on r run facts).1 apart))
       (record { sessions = subst (AllByRecursion (λ (s : NamedSession). AreHeardOf (HeldIn w.0) s.session)) (sym (ap (λ (v : World). v.sessions) first.rest)) tt; received = λ k m. absurd (in_nothing k m) })
 
-  named : (x : Participant) → Contains w.0.participants x → Contains (named_bytes w.0) (own x.agent).0
-  named x x_in = Contains-append_right w.0.met (map (λ (y : Participant). (own y.agent).0) w.0.participants) (own x.agent).0 (into_map (λ (y : Participant). (own y.agent).0) w.0.participants x x_in)
-
   left_its_agent : (e : Entry) (q : Participant) → Contains w.0.participants q → e.0 ≡ head_key_of (own q.agent) → EntryOf (HeldIn w.0) e → (p : Participant) × Contains w.0.participants p × (own p.agent ≡ own q.agent) × IsLeftBy p e
   left_its_agent e q q_in of_log (b, j, inl content, judged, is) = absurd (calm.no_key q q_in (subst (Contains w.0.met) clash content.0))
     where
       clash : b ≡ (own q.agent).0
-      clash = calm.apart b (own q.agent).0 (Contains-append_left w.0.met _ b content.0) (named q q_in) (content.1 ∙ of_log)
+      clash = block_is_key w keeps calm.apart b q content.0 q_in (content.1 ∙ of_log)
   left_its_agent e q q_in of_log (b, j, inr (in_met, left, some), judged, is) = (left.1, p_in, owner, (b, j, left.3, judged, is))
     where
       p_in : Contains w.0.participants left.1
       p_in = (found_named w.0.participants left.0 left.1 left.2).0
 
       owner : own left.1.agent ≡ own q.agent
-      owner = let bytes : (own left.1.agent).0 ≡ (own q.agent).0 = calm.apart (own left.1.agent).0 (own q.agent).0 (named left.1 p_in) (named q q_in) (sym (left_under w left.1 b e.0 keeps p_in left.3 some) ∙ of_log) in λ i. record { 0 = bytes i }
+      owner = one_own_key w keeps calm.apart left.1 q p_in q_in (sym (left_under w left.1 b e.0 keeps p_in left.3 some) ∙ of_log)
 
   pub received_left : (name : List ℕ) (e : Entry) (q : Participant) → Contains (knowing_of w.1 name).received e → Contains w.0.participants q → e.0 ≡ head_key_of (own q.agent) → (p : Participant) × Contains w.0.participants p × (own p.agent ≡ own q.agent) × IsLeftBy p e
   received_left name e q c q_in of_log = left_its_agent e q q_in of_log (each (EntryOf (HeldIn w.0)) (knowing_of w.1 name).received e (received_of (HeldIn w.0) w.1 name told.received) c)

@@ -33,7 +33,7 @@ use Rattle.world_laws.proofs.CalmLines.{each_filtered}
 use Rattle.world_laws.proofs.Lines.{ToSuch}
 use Rattle.world_laws.proofs.MoreMet.{more_stand}
 use Rattle.world_laws.proofs.OneKnown.{known_is_one}
-use Rattle.world_laws.proofs.OneTruth.{chain_linked}
+use Rattle.turn_laws.proofs.LinkedLogs.{chain_linked, last_seq}
 use Rattle.world_laws.proofs.SignedAmong.{met_stays, met_then}
 use Rattle.world_laws.proofs.SignedHeads.{so_of}
 use Rattle.world_laws.proofs.TurnsWorld.{told_now}
@@ -44,10 +44,6 @@ use Rattle.completeness_laws.proofs.UseLines.{IsThenBacked}
 use Rattle.completeness_laws.proofs.Worlds.{IsBackedWorld, IsStagedIn, placed_backed}
 
 -- ---- logs that end at one number
-
-pub last_seq : (owner : PubKey) (n : ℕ) (prev : Key) (before : List Record) (last : Record) → LinkedFrom owner n prev (before ++ last ∷ []) → last.seq ≡ n + length before
-last_seq owner n prev [] last h = omega (arith, h.2)
-last_seq owner n prev (b ∷ before) last h = let more = last_seq owner (n + 1) b.name before last h.4 in omega (arith, more)
 
 -- how many they are, up to the stamp
 pub long : (owner : PubKey) (n : ℕ) (prev : Key) (xs : List Record) (t : Stamp) → LinkedFrom owner n prev xs → EndsAt (Some t) xs → n + length xs ≡ t.seq + 1

@@ -28,8 +28,8 @@ use Rattle.world_laws.specs.Keeps.{Keeps}
 use Rattle.world_laws.proofs.Lines.{named_among}
 use Rattle.world_laws.proofs.NodeFates.{each_replaced}
 use Rattle.world_laws.proofs.StoredBlocks.{to_sorted}
+use Rattle.world_laws.proofs.CalmRounds.{beside_goes}
 use Rattle.durability_laws.proofs.Changes.{stop_is}
-use Rattle.durability_laws.proofs.Facts.{beside_goes}
 use Rattle.durability_laws.proofs.Rooms.{each_found}
 use Rattle.durability_laws.proofs.Runs.{beside_story, stopped_node}
 use Rattle.completeness_laws.proofs.HeldHeads.{IsPutAs}

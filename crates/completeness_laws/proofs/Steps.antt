@@ -130,7 +130,7 @@ takes_all_heard met acked (takes_more first rest) h = takes_all_heard met acked 
 
 -- ---- turns
 
-turn_heard : {now : Moment} {a : Agent} {view : View} {failing : Bool} {s : Session} {end : TurnEnd} {after : Agent} {saving : Option Kept} {t : Session} (met : List (List ℕ)) (acked : List Post) → TakesTurn now a view failing s end after saving t → AreHeardPut met acked s → AreHeardPut met acked t
+turn_heard : {now : Moment} {a : Agent} {view : View} {failing : Bool} {s : Session} {end : TurnEnd} {after : Agent} {saving : Option Kept} {t : Session} (met : List (List ℕ)) (acked : List Post) → TakesTurn (record { agent = a; view = view; now = now; fails = failing }) s end after saving t → AreHeardPut met acked s → AreHeardPut met acked t
 turn_heard met acked (answers notes given xid asked reply applied after saving done asks_it turned) h = h
 turn_heard met acked (begins_anew notes given xid asked end after saving done asks_it turned refused few) h = tt
 turn_heard met acked (gives_up notes given xid asked end after saving done asks_it turned refused many) h = tt
@@ -148,12 +148,12 @@ received_told w keeps p is_p set more n = by (bytes_eq n p.name) refl
         subst (λ m. (knowing_of (record (knowing_now w.1 p.name set) { turns = w.1.turns ++ more }) m).received ≡ (knowing_of w.1 m).received) (sym at) (ap (λ (k : Knowing). k.received) (told_now w keeps p is_p set more).its)
     by false e = ap (λ (k : Knowing). k.received) ((told_now w keeps p is_p set more).others n e)
 
-turn_refreshes : {now : Moment} {a : Agent} {view : View} {failing : Bool} {s : Session} {end : TurnEnd} {after : Agent} {saving : Option Kept} {t : Session} → TakesTurn now a view failing s end after saving t → s.stage ≡ Refreshing
+turn_refreshes : {now : Moment} {a : Agent} {view : View} {failing : Bool} {s : Session} {end : TurnEnd} {after : Agent} {saving : Option Kept} {t : Session} → TakesTurn (record { agent = a; view = view; now = now; fails = failing }) s end after saving t → s.stage ≡ Refreshing
 turn_refreshes (answers notes given xid asked reply applied after saving done asks_it turned) = done.0
 turn_refreshes (begins_anew notes given xid asked end after saving done asks_it turned refused few) = done.0
 turn_refreshes (gives_up notes given xid asked end after saving done asks_it turned refused many) = done.0
 
-turn_stage : {now : Moment} {a : Agent} {view : View} {failing : Bool} {s : Session} {end : TurnEnd} {after : Agent} {saving : Option Kept} {t : Session} (met : List (List ℕ)) (acked : List Post) → TakesTurn now a view failing s end after saving t
+turn_stage : {now : Moment} {a : Agent} {view : View} {failing : Bool} {s : Session} {end : TurnEnd} {after : Agent} {saving : Option Kept} {t : Session} (met : List (List ℕ)) (acked : List Post) → TakesTurn (record { agent = a; view = view; now = now; fails = failing }) s end after saving t
     → AllByRecursion (IsMet met) after.pending → ((h : Post) → Contains after.pending h → is_head h.kind ≡ true → IsHeadPutOr acked after.pending h) → StageSo met acked t.stage
 turn_stage met acked (answers notes given xid asked reply applied after saving done asks_it turned) all_met heads = begins_staged met acked after.pending all_met heads
 turn_stage met acked (begins_anew notes given xid asked end after saving done asks_it turned refused few) all_met heads = subst (StageSo met acked) (sym done.0) tt

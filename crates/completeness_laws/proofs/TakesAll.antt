@@ -1,9 +1,8 @@
 -- In calm and tidy scripts the turn of a whole call takes all that was written, while no session is open.
-use Rattle.std.proofs.Common.{◌≡◌, inl, inr, ⊎_elim, ℕ, ◌≤◌, Bool, true, false, List, [], ◌∷◌, ◌++◌, length, length-append, map, Option, Some, refl, sym, ap, ◌∙◌, subst, arith, nat_lt, Contains}
+use Rattle.std.proofs.Common.{◌≡◌, inl, inr, ⊎_elim, ℕ, ◌≤◌, Bool, true, false, List, [], ◌∷◌, ◌++◌, length, length-append, Option, Some, refl, sym, ap, ◌∙◌, subst, arith, nat_lt, Contains}
 use Rattle.std.specs.Prelude.{◌↔◌, MatchBool, sum_by}
 use Rattle.std.specs.List.{AllByRecursion}
 use Rattle.std.proofs.lemmas.Bool.{ltb-false}
-use Rattle.std.proofs.lemmas.List.Elements.{Contains-append_right}
 use Rattle.log_heads.specs.Signed.{hss_judged}
 use Rattle.ivy_base.specs.Naming.{head_key_of}
 use Rattle.log_model.specs.Record.{Record}
@@ -22,7 +21,7 @@ use Rattle.world_model.specs.Logs.{Played}
 use Rattle.world_model.specs.Step.{IvyStep, Does, MayDo, MayDoFirst, most_bytes}
 use Rattle.world_model.specs.Steps.{RunsOut, Scene}
 use Rattle.world_model.specs.Story.{HadTurn, beginning, having_begun}
-use Rattle.world_model.specs.World.{Participant, named_bytes, participant}
+use Rattle.world_model.specs.World.{Participant, participant}
 use Rattle.world_laws.specs.Calm.{AreAny, HasSameRing, IsCalmAt, Stopped}
 use Rattle.world_laws.specs.Headline.{IsOnReplay}
 use Rattle.world_laws.specs.Keeps.{Keeps}
@@ -30,7 +29,7 @@ use Rattle.world_laws.specs.Laws.{LinesKeep}
 use Rattle.world_laws.proofs.AllLines.{does_line}
 use Rattle.world_laws.proofs.Bringing.{found_named}
 use Rattle.world_laws.proofs.CalmHeld.{calmly_keeps}
-use Rattle.world_laws.proofs.Frames.{into_map}
+use Rattle.world_laws.proofs.HeadKeys.{one_own_key}
 use Rattle.world_laws.proofs.OneSteps.{GoesWell}
 use Rattle.completeness_laws.specs.Completeness.{CallsTakeAll, HaveEntered, HaveHeads, HaveOwnKeys, IsWritten}
 use Rattle.completeness_laws.specs.Takes.{CallsTakeAllInRuns, HaveNewest, IsLeftBy, NewestArePut, NewestArePutInRuns, ReceivedHeadsLeft}
@@ -134,11 +133,7 @@ take_all lines_keep left r w next count lines line name output pieces calm newes
     (newest (within w next output name pieces (subst (λ o. MayDoFirst w o (Goes next output)) is step))) honest name entered pieces (sending_of w.0 name pieces) refl next output does h turn one had
   where
     own_key : (p q : Participant) → Contains w.0.participants p → Contains w.0.participants q → head_key_of (own p.agent) ≡ head_key_of (own q.agent) → own p.agent ≡ own q.agent
-    own_key p q p_in q_in keys =
-        let bytes : (own p.agent).0 ≡ (own q.agent).0 = calm.apart (own p.agent).0 (own q.agent).0 (named p p_in) (named q q_in) keys in λ i. record { 0 = bytes i }
-      where
-        named : (x : Participant) → Contains w.0.participants x → Contains (named_bytes w.0) (own x.agent).0
-        named x x_in = Contains-append_right w.0.met (map (λ (y : Participant). (own y.agent).0) w.0.participants) (own x.agent).0 (into_map (λ (y : Participant). (own y.agent).0) w.0.participants x x_in)
+    own_key p q p_in q_in keys = one_own_key w (calmly_keeps lines_keep r w (Stopped count) lines calm) calm.apart p q p_in q_in keys
 
     honest : IsHonestIn w
     honest = record {

@@ -34,12 +34,12 @@ use Rattle.world_model.specs.Logs.{Played}
 use Rattle.world_laws.specs.Keeps.{AreParticipants, EntersOwned, IsSound, Keeps}
 use Rattle.world_laws.proofs.MoreMet.{more_stand}
 use Rattle.world_laws.proofs.OneKnown.{stand_in_log}
-use Rattle.world_laws.proofs.OneTruth.{chain_linked}
+use Rattle.turn_laws.proofs.LinkedLogs.{chain_linked, short_seq}
 use Rattle.world_laws.proofs.SignedHeads.{from_map}
 use Rattle.world_laws.proofs.TurnsTaken.{IsBrought, of_hand}
 use Rattle.completeness_laws.specs.Completeness.{IsWritten}
 use Rattle.completeness_laws.specs.Takes.{IsLeftBy}
-use Rattle.completeness_laws.proofs.OwnLogs.{IsHonestIn, begins_it, in_whole, known_begins, over_written, short_seq, sound_in, up_to_it, written, written_linked, written_long, written_stand}
+use Rattle.completeness_laws.proofs.OwnLogs.{IsHonestIn, begins_it, in_whole, known_begins, over_written, sound_in, up_to_it, written, written_linked, written_long, written_stand}
 use Rattle.completeness_laws.proofs.RestartLines.{long}
 use Rattle.completeness_laws.proofs.Turns.{from_log, in_own_log}
 

@@ -82,6 +82,7 @@ use Rattle.world_laws.proofs.SessionLinesSteps.{Leads, step_leads}
 use Rattle.world_laws.proofs.SignedAmong.{met_stays}
 use Rattle.world_laws.proofs.SignedHeads.{from_map}
 use Rattle.world_laws.proofs.Frames.{into_map}
+use Rattle.world_laws.proofs.HeadKeys.{block_is_key}
 use Rattle.world_laws.proofs.TakingOn.{brought_then}
 use Rattle.completeness_laws.specs.Completeness.{HaveHeads, IsWritten}
 use Rattle.completeness_laws.specs.Takes.{HaveNewest, IsLeftBy}
@@ -107,13 +108,13 @@ none_lacks GivesNone end e f = cc e
 abbrev HasHeads : PubKey → List Brought → Type 0
 HasHeads owner brought = (heads : List Judged) × Contains brought (HeadsOf owner (Ok heads))
 
-log_has : (s : Standing) (start : _) (owner : PubKey) {brought : List Brought} {notes : List Note} {log : LogEnd} → Fetches s start owner brought notes log → end_of_log log ≡ None → owner ≢ s.own → HasHeads owner brought
+log_has : (s : Standing) (start : _) (owner : PubKey) {brought : List Brought} {notes : List Note} {log : LogEnd} → Fetches (record { standing = s; start = start }) owner brought notes log → end_of_log log ≡ None → owner ≢ s.own → HasHeads owner brought
 log_has s start owner (fetch_heads not_own) e other = absurd (cc e)
 log_has s start owner (no_heads miss not_own) e other = absurd (cc e)
 log_has s start owner (of_heads heads tried brought faults end not_own are tries) e other = (heads, here (HeadsOf owner (Ok heads)) brought)
 log_has s start owner (of_own brought faults end mine tries) e other = absurd (other mine)
 
-all_have : (s : Standing) (start : _) (owner : PubKey) → owner ≢ s.own → {owners : List PubKey} {brought : List Brought} {notes : List Note} {chains : List Chain} {end : RefreshEnd} → FetchesAll s start owners brought notes chains end → end ≡ Done → Contains owners owner → HasHeads owner brought
+all_have : (s : Standing) (start : _) (owner : PubKey) → owner ≢ s.own → {owners : List PubKey} {brought : List Brought} {notes : List Note} {chains : List Chain} {end : RefreshEnd} → FetchesAll (record { standing = s; start = start }) owners brought notes chains end → end ≡ Done → Contains owners owner → HasHeads owner brought
 all_have s start owner other fetches_all e c = absurd (in_nothing owner c)
 all_have s start owner other (fetches_stay {log = log} {end = end} part is) e c = absurd (none_lacks log end is e)
 all_have s start owner other (fetches_on {owner = first} {owners = owners} {brought = brought} {more = more} part is rest) e c = ⊎_elim
@@ -226,7 +227,7 @@ module _ (r : ℕ) (w : Played) (world : IsCalmWorld r w) (backed : IsBackedWorl
   holds_of : (v : World) → AllKinds r w world backed (met_apart r w world backed apart no_key have) have v → AllHoldOf Either v
   holds_of v kinds id n at key block found = either_of block.kind key block.bytes ((kinds id n at).kinds key block found)
 
-  refused_heard : {now : Moment} {a : Agent} {view : View} {failing : Bool} {s : Session} {end : TurnEnd} {after : Agent} {saving : Option Kept} {t : Session} → TakesTurn now a view failing s end after saving t → IsRefusal end → AreHeardOf Either t
+  refused_heard : {now : Moment} {a : Agent} {view : View} {failing : Bool} {s : Session} {end : TurnEnd} {after : Agent} {saving : Option Kept} {t : Session} → TakesTurn (record { agent = a; view = view; now = now; fails = failing }) s end after saving t → IsRefusal end → AreHeardOf Either t
   refused_heard (answers notes given xid asked reply applied after saving done asks_it turned) refusal = absurd refusal
   refused_heard (begins_anew notes given xid asked end after saving done asks_it turned refused few) refusal = tt
   refused_heard (gives_up notes given xid asked end after saving done asks_it turned refused many) refusal = tt
@@ -242,7 +243,7 @@ module _ (r : ℕ) (w : Played) (world : IsCalmWorld r w) (backed : IsBackedWorl
   heard_newest h old v next fate ring kinds held were (puts_on said p posts acks is asks_next part) = old
   heard_newest h old v next fate ring kinds held were (puts said p posts acks came is asks_next whole) = old
 
-  refused_newest : {now : Moment} {a : Agent} {view : View} {failing : Bool} {s : Session} {end : TurnEnd} {after : Agent} {saving : Option Kept} {t : Session} → TakesTurn now a view failing s end after saving t → IsRefusal end → AllNewest s → AllNewest t
+  refused_newest : {now : Moment} {a : Agent} {view : View} {failing : Bool} {s : Session} {end : TurnEnd} {after : Agent} {saving : Option Kept} {t : Session} → TakesTurn (record { agent = a; view = view; now = now; fails = failing }) s end after saving t → IsRefusal end → AllNewest s → AllNewest t
   refused_newest (answers notes given xid asked reply applied after saving done asks_it turned) refusal h = absurd refusal
   refused_newest (begins_anew notes given xid asked end after saving done asks_it turned refused few) refusal h = tt
   refused_newest (gives_up notes given xid asked end after saving done asks_it turned refused many) refusal h = h
@@ -284,7 +285,7 @@ module _ (r : ℕ) (w : Played) (world : IsCalmWorld r w) (backed : IsBackedWorl
   left_of keeps honest q q_in e of_log (b, j, inl content, judged, is) = absurd (no_key q q_in (subst (Contains w.0.met) same content.0))
     where
       same : b ≡ (own q.agent).0
-      same = apart b (own q.agent).0 (Contains-append_left w.0.met _ b content.0) (Contains-append_right w.0.met (map (λ (p : Participant). (own p.agent).0) w.0.participants) (own q.agent).0 (into_map (λ (p : Participant). (own p.agent).0) w.0.participants q q_in)) (content.1 ∙ of_log)
+      same = block_is_key w keeps apart b q content.0 q_in (content.1 ∙ of_log)
   left_of keeps honest q q_in e of_log (b, j, inr (in_met, left, some), judged, is) = (b, j, subst (λ (p : Participant). Contains p.left b) one left.3, judged, is)
     where
       p_in : Contains w.0.participants left.1

@@ -38,13 +38,13 @@ use Rattle.world_model.specs.Agents.{Agent, IsKept, IsTurnIn, Kept, TakesTurn, h
 use Rattle.world_model.specs.Keepers.{Keeper, asked_to_save, fails_next}
 use Rattle.world_model.specs.World.{Participant, named_bytes, participant}
 use Rattle.world_model.specs.Story.{HadTurn, known_of, knowing_of}
-use Rattle.world_model.specs.Steps.{Scene, after_turn, met_by, turn_told, world_after}
+use Rattle.world_model.specs.Steps.{Scene, after_turn, met_by, turn_told, turning_of, world_after}
 use Rattle.world_laws.specs.Keeps.{IsInHand, IsKeptSo, IsSavedWell, Keeps}
 use Rattle.world_laws.specs.Laws.{StepLeaves}
 use Rattle.world_laws.proofs.AnsweredTurns.{answered_turns_keep}
 use Rattle.world_laws.proofs.Bringing.{found_named, its_view}
 use Rattle.world_laws.proofs.Frames.{found_placed, into_map}
-use Rattle.world_laws.proofs.OneTruth.{chain_linked}
+use Rattle.turn_laws.proofs.LinkedLogs.{chain_linked}
 use Rattle.world_laws.proofs.PublicKeys.{owner_is_key}
 use Rattle.world_laws.proofs.SignedAmong.{met_stays, met_then}
 use Rattle.world_laws.proofs.SignedHeads.{from_map}
@@ -245,7 +245,7 @@ one_view a b e = cc e
 module _ (c : Scene) (r : ℕ) (p : Participant) (keeps : Keeps (c.world, c.story)) (hand : IsInHand c r) (ringed : c.world.replicas ≡ Some r) (is_p : participant c.world c.session.by ≡ Some p) (apart : NamesTellApart (named_bytes c.world))
     (old : IsBackedIn c.world.met c.story.acked p (known_of c.story p.name)) (reply : Reply) (turned : Turned) where
   abbrev IsIts : View → Type 0
-  IsIts view = NamesTellApart (named_bytes c.world) → IsTurnIn (named_bytes c.world) c.world.now p.agent view (fails_next p.keeper) c.session c.began.knew (known_of c.story p.name) turned
+  IsIts view = NamesTellApart (named_bytes c.world) → IsTurnIn (named_bytes c.world) (turning_of c.world p view) c.session c.began.knew (known_of c.story p.name) turned
 
   abbrev Then : ℕ → Agent → Option Kept → Type 0
   Then applied after saving = IsBackedIn (met_by c.world.met after.pending) c.story.acked (record (after_turn p after saving) { work = applied }) turned.set
@@ -257,7 +257,7 @@ module _ (c : Scene) (r : ℕ) (p : Participant) (keeps : Keeps (c.world, c.stor
 
   by_becoming : (notes : List Note) (given : Refresh) (xid : ℕ) (asked : Asked) (applied : ℕ) (after : Agent) (save : Option Kept) (h : Holding) (written : List Record) → HasRefreshed c.session notes given → Asks c.session.standing.view c.session.message xid asked
       → MayTake hss c.session.standing.view p.agent h → Becomes hss c.session.standing.view p.agent h (fails_next p.keeper) written after save
-      → IsByDefinition hss given p.agent c.session.standing.view (fails_next p.keeper) asked c.world.now h written reply → IsIts c.session.standing.view → IsFine after → Then applied after save
+      → IsByDefinition hss given (turning_of c.world p c.session.standing.view) asked h written reply → IsIts c.session.standing.view → IsFine after → Then applied after save
   by_becoming notes given xid asked applied _ _ h _ done asks may reads by_definition is_turn fine =
       still_in c r p keeps hand is_p apart old h may turned.set less _ refl refl
     where
@@ -290,20 +290,20 @@ module _ (c : Scene) (r : ℕ) (p : Participant) (keeps : Keeps (c.world, c.stor
       lost e = cc e
 
   by_turns : (notes : List Note) (given : Refresh) (xid : ℕ) (asked : Asked) (applied : ℕ) (after : Agent) (save : Option Kept) → HasRefreshed c.session notes given → Asks c.session.standing.view c.session.message xid asked
-      → Turns hss given p.agent c.session.standing.view (fails_next p.keeper) asked c.world.now (Answered reply applied) after save → IsIts c.session.standing.view → IsFine after → Then applied after save
+      → Turns hss given (turning_of c.world p c.session.standing.view) asked (Answered reply applied) after save → IsIts c.session.standing.view → IsFine after → Then applied after save
   by_turns notes given xid asked _ _ _ done asks (turn_answers h written _ after save near over basis_is may becomes by_definition) is_turn fine =
       by_becoming notes given xid asked _ after save h written done asks may becomes by_definition is_turn fine
 
-  takes_so : (applied : ℕ) (after : Agent) (save : Option Kept) (t : Session) → TakesTurn c.world.now p.agent c.session.standing.view (fails_next p.keeper) c.session (Answered reply applied) after save t → IsIts c.session.standing.view → IsFine after → Then applied after save
+  takes_so : (applied : ℕ) (after : Agent) (save : Option Kept) (t : Session) → TakesTurn (turning_of c.world p c.session.standing.view) c.session (Answered reply applied) after save t → IsIts c.session.standing.view → IsFine after → Then applied after save
   takes_so _ _ _ _ (answers notes given xid asked _ applied then_it save done asks turns) is_turn fine = by_turns notes given xid asked applied then_it save done asks turns is_turn fine
   takes_so _ _ _ _ (begins_anew notes given xid asked _ then_it save done asks turns refusal few) is_turn fine = absurd refusal
   takes_so _ _ _ _ (gives_up notes given xid asked _ then_it save done asks turns refusal many) is_turn fine = absurd refusal
 
-  pub turned_in : (view : View) (applied : ℕ) (after : Agent) (saving : Option Kept) (t : Session) → p.agent.view ≡ Some view → TakesTurn c.world.now p.agent view (fails_next p.keeper) c.session (Answered reply applied) after saving t
+  pub turned_in : (view : View) (applied : ℕ) (after : Agent) (saving : Option Kept) (t : Session) → p.agent.view ≡ Some view → TakesTurn (turning_of c.world p view) c.session (Answered reply applied) after saving t
       → turned.reply ≡ reply → IsIts view → Then applied after saving
   turned_in view applied after saving t in_view takes replies is_turn =
       let same : c.session.standing.view ≡ view = one_view c.session.standing.view view (sym (its_view c r hand p is_p) ∙ in_view) in
-      takes_so applied after saving t (subst (λ v. TakesTurn c.world.now p.agent v (fails_next p.keeper) c.session (Answered reply applied) after saving t) (sym same) takes) (subst IsIts (sym same) is_turn)
+      takes_so applied after saving t (subst (λ v. TakesTurn (turning_of c.world p v) c.session (Answered reply applied) after saving t) (sym same) takes) (subst IsIts (sym same) is_turn)
       (record { whole = whole; closed = subst (λ v. IsClosed v turned.set) (sym same) closed })
     where
       q : Participant
@@ -329,18 +329,18 @@ module _ (c : Scene) (r : ℕ) (p : Participant) (keeps : Keeps (c.world, c.stor
 
 -- ---- a turn that was refused
 
-pub refused_same : (now : _) (a : Agent) (view : View) (fails : Bool) (s : Session) (end : TurnEnd) (after : Agent) (saving : Option Kept) (t : Session) → TakesTurn now a view fails s end after saving t → IsRefusal end
+pub refused_same : (now : _) (a : Agent) (view : View) (fails : Bool) (s : Session) (end : TurnEnd) (after : Agent) (saving : Option Kept) (t : Session) → TakesTurn (record { agent = a; view = view; now = now; fails = fails }) s end after saving t → IsRefusal end
     → (after.pending ≡ a.pending) × (after.signer ≡ a.signer) × (after.floor ≡ a.floor) × (saving ≡ None)
 refused_same now a view fails s _ _ _ _ (answers notes given xid asked reply applied after saving done asks turns) refusal = absurd refusal
 refused_same now a view fails s _ _ _ _ (begins_anew notes given xid asked _ _ _ done asks turns refused few) refusal = of_turn turns refusal
   where
-    of_turn : {given : Refresh} {asked : Asked} {end : TurnEnd} {after : Agent} {saving : Option Kept} → Turns hss given a view fails asked now end after saving → IsRefusal end → (after.pending ≡ a.pending) × (after.signer ≡ a.signer) × (after.floor ≡ a.floor) × (saving ≡ None)
+    of_turn : {given : Refresh} {asked : Asked} {end : TurnEnd} {after : Agent} {saving : Option Kept} → Turns hss given (record { agent = a; view = view; now = now; fails = fails }) asked end after saving → IsRefusal end → (after.pending ≡ a.pending) × (after.signer ≡ a.signer) × (after.floor ≡ a.floor) × (saving ≡ None)
     of_turn (behind far) refusal = (refl, refl, refl, refl)
     of_turn (below near low) refusal = (refl, refl, refl, refl)
     of_turn (turn_answers h written reply after saving near over basis may becomes defined) refusal = absurd refusal
 refused_same now a view fails s _ _ _ _ (gives_up notes given xid asked _ _ _ done asks turns refused many) refusal = of_turn turns refusal
   where
-    of_turn : {given : Refresh} {asked : Asked} {end : TurnEnd} {after : Agent} {saving : Option Kept} → Turns hss given a view fails asked now end after saving → IsRefusal end → (after.pending ≡ a.pending) × (after.signer ≡ a.signer) × (after.floor ≡ a.floor) × (saving ≡ None)
+    of_turn : {given : Refresh} {asked : Asked} {end : TurnEnd} {after : Agent} {saving : Option Kept} → Turns hss given (record { agent = a; view = view; now = now; fails = fails }) asked end after saving → IsRefusal end → (after.pending ≡ a.pending) × (after.signer ≡ a.signer) × (after.floor ≡ a.floor) × (saving ≡ None)
     of_turn (behind far) refusal = (refl, refl, refl, refl)
     of_turn (below near low) refusal = (refl, refl, refl, refl)
     of_turn (turn_answers h written reply after saving near over basis may becomes defined) refusal = absurd refusal
@@ -355,7 +355,7 @@ same_in met acked p q known pending signer floor keeper h =
     (subst (λ x. IsBackedIn met acked (record q { agent = record q.agent { pending = p.agent.pending; signer = p.agent.signer; floor = p.agent.floor }; keeper = x }) known) (sym keeper)
     (record { agent = record { records = h.agent.records; heads = h.agent.heads }; pending = h.pending; fine = h.fine; keeper = (h.keeper.0, h.keeper.1, h.keeper.2, record { same_reach = h.keeper.3.same_reach; backed = h.keeper.3.backed }) }))))
 
-pub refused_in : (c : Scene) (p : Participant) (view : View) (end : TurnEnd) (after : Agent) (saving : Option Kept) (t : Session) → TakesTurn c.world.now p.agent view (fails_next p.keeper) c.session end after saving t → IsRefusal end
+pub refused_in : (c : Scene) (p : Participant) (view : View) (end : TurnEnd) (after : Agent) (saving : Option Kept) (t : Session) → TakesTurn (turning_of c.world p view) c.session end after saving t → IsRefusal end
     → IsBackedIn c.world.met c.story.acked p (known_of c.story p.name) → IsBackedIn (met_by c.world.met after.pending) c.story.acked (after_turn p after saving) (known_of c.story p.name)
 refused_in c p view end after saving t takes refusal old =
     let same = refused_same c.world.now p.agent view (fails_next p.keeper) c.session end after saving t takes refusal in

@@ -30,7 +30,7 @@ use Rattle.session_model.specs.Walks.Tries.{garbled as tries_garbled, gives, mis
 use Rattle.session_model.specs.Walks.Walks.{back, came, garbled, misses, wants}
 use Rattle.world_laws.proofs.SignedHeads.{from_map}
 use Rattle.completeness_laws.specs.Put.{AllUpTo, IsPutOr}
-use Rattle.completeness_laws.proofs.RestartLines.{last_seq}
+use Rattle.turn_laws.proofs.LinkedLogs.{last_seq}
 use Rattle.completeness_laws.proofs.Stages.{IsMet}
 
 -- two records of logs with one head key whose blocks are one name the same record before them
@@ -38,7 +38,7 @@ pub same_prev : (a b : Record) → HasSpelling a → HasSpelling b → head_key_
 same_prev a b f g key same = ap (λ (x : Record). x.prev) read
   where
     blocks_of : (b : Record) (o : PubKey) → head_key_of o ≡ head_key_of b.owner → record_block (record b { owner = o }) ≡ record_block b
-    blocks_of b o e = ap (λ (k : Key). record_tag ++ word (record_kind b.op) ++ k.0 ++ b.prev.0 ++ word b.seq ++ moment b.moment ++ array vector_entry b.vector ++ body b.op) e
+    blocks_of b o e = ap (λ (k : Key). record_tag b.format ++ word (record_kind b.op) ++ k.0 ++ b.prev.0 ++ word b.seq ++ moment b.moment ++ array vector_entry b.vector ++ body b.op) e
 
     c : Record
     c = record b { owner = a.owner }
@@ -59,6 +59,7 @@ same_prev a b f g key same = ap (λ (x : Record). x.prev) read
       operation = g.operation;
       ends_first = g.ends_first;
       first_alone = g.first_alone;
+      first_plain = g.first_plain;
       named = g.named ∙ ap name (sym block);
     }
 
@@ -130,7 +131,7 @@ module _ (acked pending : List Post) (met : List (List ℕ)) (apart : NamesTellA
       let prev : r.prev ≡ one.prev = same_prev r one reads.fits spelled (ap head_key_of reads.owned ∙ sym of_log ∙ same) block in
       walks_on owner of_log rest (subst (IsBack acked pending log _) (sym prev) h) parts.1 miss e
 
-  tries_on : (view : View) (owner : PubKey) (start floor : Vector) (edge : Option Edge) → log ≡ head_key_of owner → {ts : List Stamp} {brought : List Brought} {faults : List ChainFault} {end : LogEnd} → Tries view owner start floor edge ts brought faults end
+  tries_on : (view : View) (owner : PubKey) (start floor : Vector) (edge : Option Edge) → log ≡ head_key_of owner → {ts : List Stamp} {brought : List Brought} {faults : List ChainFault} {end : LogEnd} → Tries (record { view = view; owner = owner; start = start; floor = floor; edge = edge }) ts brought faults end
       → AllByRecursion (λ t. IsBack acked pending log t.seq t.name) ts → AllByRecursion (PartSo acked pending met log) brought → (miss : Miss) → end ≡ Stops miss → ⊥
   tries_on view owner start floor edge of_log tries_none h parts miss e = cc e
   tries_on view owner start floor edge of_log (tries_want walk) h parts miss e = cc e
@@ -140,7 +141,7 @@ module _ (acked pending : List Post) (met : List (List ℕ)) (apart : NamesTellA
   tries_on view owner start floor edge of_log (tries_garbled {brought = brought} {more = later} walk rest) h parts miss e = tries_on view owner start floor edge of_log rest h.1 (each_right (PartSo acked pending met log) brought later parts) miss e
 
   -- the log's part of a refresh
-  log_on : (s : Standing) (start : Vector) (owner : PubKey) → log ≡ head_key_of owner → ((t : Stamp) → stamp_at s.floor (head_key_of owner) ≡ Some t → IsBack acked pending log t.seq t.name) → {brought : List Brought} {notes : List Note} {end : LogEnd} → Fetches s start owner brought notes end → AllByRecursion (PartSo acked pending met log) brought
+  log_on : (s : Standing) (start : Vector) (owner : PubKey) → log ≡ head_key_of owner → ((t : Stamp) → stamp_at s.floor (head_key_of owner) ≡ Some t → IsBack acked pending log t.seq t.name) → {brought : List Brought} {notes : List Note} {end : LogEnd} → Fetches (record { standing = s; start = start }) owner brought notes end → AllByRecursion (PartSo acked pending met log) brought
       → (miss : Miss) → end ≡ Stops miss → ⊥
   log_on s start owner of_log known (wants_heads other) parts miss e = cc e
   log_on s start owner of_log known (no_heads missed other) parts miss e = parts.0 of_log
@@ -194,7 +195,7 @@ module _ (acked pending : List Post) (met : List (List ℕ)) (apart : NamesTellA
   failed_by (Gives records) end miss e f = cc e
   failed_by GivesNone end miss e f = cc e
 
-  fetches_right : (start : Vector) {owners : List PubKey} {brought : List Brought} {notes : List Note} {chains : List Chain} {end : RefreshEnd} → FetchesAll s start owners brought notes chains end → FloorSo acked pending s owners → AllByRecursion (BroughtSo acked pending met) brought → (miss : Miss) → end ≡ FailsBy miss → ⊥
+  fetches_right : (start : Vector) {owners : List PubKey} {brought : List Brought} {notes : List Note} {chains : List Chain} {end : RefreshEnd} → FetchesAll (record { standing = s; start = start }) owners brought notes chains end → FloorSo acked pending s owners → AllByRecursion (BroughtSo acked pending met) brought → (miss : Miss) → end ≡ FailsBy miss → ⊥
   fetches_right start fetches_all floor parts miss e = cc e
   fetches_right start (fetches_stay {owner = owner} {brought = brought} {log = log} {end = end} part is) floor parts miss e =
       log_on acked pending met apart put_met pending_met (head_key_of owner) s start owner refl floor.0 part (for_log (head_key_of owner) brought parts) miss (failed_by log end miss is e)

@@ -1,4 +1,4 @@
--- The machines of puts: of content blocks, of heads, and of posts, which are either.
+-- The machine of puts: of posts, which are content blocks or heads.
 use Rattle.std.specs.Prelude.{◌≡◌, ℕ, ◌+◌, ◌-◌, ◌^◌, ◌≤◌, min, Bool, true, false, if◌then◌else◌, List, ◌++◌, Option, Some, Result, Ok}
 use Rattle.ivy_base.specs.declared.key.Key.{Key}
 use Rattle.dht_ids.specs.Asked.{told}

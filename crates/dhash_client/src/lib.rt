@@ -1,12 +1,12 @@
-//! What a client of the ring does to find the owners of a key, to get what they hold under it and to put it there: six
+//! What a client of the ring does to find the owners of a key, to get what they hold under it and to put it there: four
 //! machines, each of which says whom to ask next and is told what was answered. Whatever carries asks drives them, so
 //! they have no transport of their own.
 //!
 //! Layer: over `dht_ids` and `ring_model`, whose definitions the contracts cite; below whatever drives the machines.
 //! For the layers above: the asks and answers of a driven [`Lookup`] are a look-up of the definition in `ring_model`
 //! (`specs/Lookup.antt`), so that the laws of look-ups hold of it. Each node is asked at most once and at most 512 asks
-//! are made, whatever is answered. The trail of a driven [`GetBlock`], [`GetHead`], [`PutBlock`], [`PutHead`] or
-//! [`PutPost`], which puts either, is a look-up and then a get or a put of the definition (`ring_model`'s
+//! are made, whatever is answered. The trail of a driven [`GetBlock`], [`GetHead`] or
+//! [`PutPost`], which puts content blocks and heads, is a look-up and then a get or a put of the definition (`ring_model`'s
 //! `specs/Gets.antt`), which ends with the machine's result; an owner is asked at most once, and an answer of another
 //! form than the ask's is silence. `proofs/Driven.antt` and `proofs/DrivenGets.antt` have what a driver cites.
 //! Definitions: `specs/Machine.antt` (the look-up's machine),
@@ -22,9 +22,6 @@ mod get_head;
 mod lookup;
 mod miss;
 mod put;
-mod put_block;
-mod put_head;
-mod put_post;
 mod remembering;
 mod round;
 
@@ -33,6 +30,4 @@ pub use get_block::GetBlock;
 pub use get_head::GetHead;
 pub use lookup::Lookup;
 pub use miss::Miss;
-pub use put_block::PutBlock;
-pub use put_head::PutHead;
-pub use put_post::PutPost;
+pub use put::PutPost;

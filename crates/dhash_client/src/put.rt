@@ -1,13 +1,13 @@
-//! What puts of content blocks and of heads share.
+//! The put of a post: of a content block, or of a log's head.
 
 ghost use Rattle.std.specs.Prelude.{◌≡◌, ◌≢◌, ◌<◌, ◌≤◌, IfOk};
 ghost use Rattle.std.specs.declared.option.Option.{Option};
 ghost use Rattle.dhash_client.specs.Course.{asks_left};
-ghost use Rattle.dhash_client.specs.Puts.{is_of_put, holds, question_of, put_begun, put_awaited, one_more, PutIsWanted, PutHasHeard};
+ghost use Rattle.dhash_client.specs.Puts.{is_of_put, holds, put_kind, question_of, put_begun, put_awaited, one_more, PutIsWanted, PutHasHeard};
 
 use crate::course::{Course, Step};
 use crate::miss::Miss;
-use dht_ids::{Answer, Ask, Peers, StoreFault, Want};
+use dht_ids::{Answer, Ask, Peers, Post, PostKind, StoreFault, Want};
 use ivy_base::{Bytes, Key, Memory};
 use std::alloc::Global;
 use std::marker::Model;
@@ -21,8 +21,9 @@ pub(crate) enum PutKind {
     Head,
 }
 
-/// A put of a block: its course, and how many owners hold the block now, or a newer head.
-pub(crate) struct Put {
+/// A put of a post at the owners of its key: of a head as a head (Ivy, OSDI 2002, section 3.2), of any other block as a
+/// content block (DHash; CFS, SOSP 2001, section 5.1). It has its course, and how many owners hold the block now, or a newer head.
+pub struct PutPost {
     what: PutKind,
     course: Course,
     bytes: Bytes,
@@ -30,9 +31,9 @@ pub(crate) struct Put {
 }
 
 // Written out, so that whatever drops one calls this and isn't proved over all of its parts once more.
-impl Drop for Put {
+impl Drop for PutPost {
     fn drop(self) {
-        let Put {
+        let PutPost {
             what: _,
             course: _,
             bytes: _,
@@ -41,12 +42,22 @@ impl Drop for Put {
     }
 }
 
-impl Model for Put {
+impl Model for PutPost {
     ghost use Rattle.dhash_client.specs.Puts.{PutState};
 
     ghost Value = { PutState };
 
     ghost view = { λ p. record { what = p.what; course = p.course; bytes = p.bytes; holders = p.holders } };
+}
+
+/// How a post of this kind is put.
+fn put_kind(kind: PostKind) -> PutKind
+    ensures { result ≡ put_kind kind }
+{
+    match kind {
+        PostKind::Block | PostKind::Log => PutKind::Block,
+        PostKind::Head => PutKind::Head,
+    }
 }
 
 /// Whether this is an answer to a put: the word that the block is held, or a refusal.
@@ -66,22 +77,22 @@ fn is_held(answer: &Answer) -> bool
     )
 }
 
-impl Put {
-    /// A put that begins its look-up at these nodes. The error is want of memory.
-    pub(crate) fn start(
+impl PutPost {
+    /// A put of the post that begins its look-up at these nodes and is content with that many answers. The error is
+    /// want of memory.
+    pub fn start(
         alloc: Global,
-        what: PutKind,
-        key: Key,
-        bytes: Bytes,
+        post: Post,
         replicas: u32,
         entries: &Peers,
-    ) -> Result<Put, Memory>
-        ensures { IfOk result (λ put. put ≡ put_begun what bytes key replicas entries.now) }
+    ) -> Result<PutPost, Memory>
+        ensures { IfOk result (λ put. put ≡ put_begun (put_kind post.kind) post.bytes post.key replicas entries.now) }
     {
-        Ok(Put {
+        let (what, key) = (put_kind(post.kind), post.key);
+        Ok(PutPost {
             what,
             course: Course::start(alloc, key, replicas, entries)?,
-            bytes,
+            bytes: post.into_bytes(),
             holders: 0,
         })
     }
@@ -97,8 +108,10 @@ impl Put {
         })
     }
 
-    /// What the put wants next. The error is want of memory.
-    pub(crate) fn next(&mut self) -> Result<Want<Result<bool, Miss>>, Memory>
+    /// What the put wants next: an ask, to which the bytes are copied, or nothing more, since it has its result:
+    /// whether it was acknowledged, or NoRoute. An ask that was not yet heard is wanted again. The error is want of
+    /// memory; the machine isn't used after it.
+    pub fn next(&mut self) -> Result<Want<Result<bool, Miss>>, Memory>
         ensures wanted { IfOk result (λ want. PutIsWanted self.old self.new want) }
         ensures left { IfOk result (λ _. asks_left self.new.course ≤ asks_left self.old.course) }
     {
@@ -112,8 +125,9 @@ impl Put {
         })
     }
 
-    /// Hears what the node answered that was asked last. The error is want of memory.
-    pub(crate) fn heard(&mut self, answer: Answer) -> Result<(), Memory>
+    /// Hears what the node answered that was asked last. An owner's answer that is none to a put is silence. It is
+    /// called once after each ask. The error is want of memory; the machine isn't used after it.
+    pub fn heard(&mut self, answer: Answer) -> Result<(), Memory>
         requires { put_awaited self.old ≢ Option.None }
         ensures heard { IfOk result (λ _. PutHasHeard self.old self.new answer) }
         ensures left { IfOk result (λ _. asks_left self.new.course < asks_left self.old.course) }

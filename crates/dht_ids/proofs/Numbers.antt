@@ -1,15 +1,11 @@
 -- Numbers by their digits in base 256, and arithmetic on the circle.
-use Rattle.std.proofs.Common.{◌≡◌, ℕ, zero, suc, ◌+◌, ◌-◌, ◌*◌, ◌/◌, ◌%◌, ◌^◌, ◌<◌, ◌≤◌, List, [], ◌∷◌, length, get_or, set, drop, replicate, refl, sym, ap, ◌∙◌, arith, length-drop, length-set}
+use Rattle.std.proofs.Common.{◌≡◌, ℕ, zero, suc, ◌+◌, ◌-◌, ◌*◌, ◌/◌, ◌%◌, ◌^◌, ◌<◌, ◌≤◌, List, [], ◌∷◌, length, get_or, set, drop, replicate, refl, sym, ap, subst, ◌∙◌, arith, length-drop, length-set}
 use Rattle.std.proofs.lemmas.List.{length-replicate, drop_more, drop-set, drop_all}
 use Rattle.std.proofs.lemmas.Nat.{mod-mul-add, mod_below, mul-add-lt, pow-add, pow_below}
-use Rattle.std.specs.Ordering.{nat_cmp, ordering_then, MatchOrdering}
-use Rattle.std.specs.declared.cmp.Ordering.{Ordering}
-use Rattle.std.specs.declared.cmp.Ordering.TheVariants.{Less, Equal, Greater}
-use Rattle.std.specs.Cmp.{nat_cmp_is}
-use Rattle.std.proofs.lemmas.Cmp.{ranked}
-use Rattle.std.proofs.Math.Nat.{pow-succ', mod-eq_of_lt, mul-le-mul_right, add-mul-mod_self_right}
+use Rattle.std.specs.Int.{w32, w64, from_be_bytes}
+use Rattle.std.proofs.Math.Nat.{pow-succ', mod-eq_of_lt, add-mul-mod_self_right}
 use Rattle.std.proofs.Math.Numerals.{add-one}
-use Rattle.ring_model.specs.Circle.{be_number, turn, clockwise}
+use Rattle.ring_model.specs.Circle.{be_number, circle_size, clockwise}
 
 -- the digits are bytes
 abbrev pub AreBytes : List ℕ → Type 0
@@ -128,7 +124,7 @@ distance_more to from gap j b pos lt lf bt bf h =
     }
 
 pub distance_end : (to from gap : List ℕ) (j b : ℕ) → j ≤ 0 → IsDistanceSoFar to from gap j b → be_number gap ≡ clockwise (be_number from) (be_number to)
-distance_end to from gap zero b z h = distance_at_end turn (be_number from) (be_number to) (be_number gap) b h.from_fits h.to_fits h.gap_fits h.one h.so_far
+distance_end to from gap zero b z h = distance_at_end circle_size (be_number from) (be_number to) (be_number gap) b h.from_fits h.to_fits h.gap_fits h.one h.so_far
 distance_end to from gap (suc j) b z h = absurd (omega arith)
 
 -- ---- a sum
@@ -182,74 +178,77 @@ sum_more a b place j c pos la lb ba bb h =
 sum_at_end : (m p c s : ℕ) → p < m → p + c * m ≡ s → p ≡ s % m
 sum_at_end m p c s h e = rw (sym e, add-mul-mod_self_right p c m) (sym (mod-eq_of_lt h))
 
-pub sum_end : (a b place : List ℕ) (j c : ℕ) → j ≤ 0 → IsSumSoFar a b place j c → be_number place ≡ (be_number a + be_number b) % turn
-sum_end a b place zero c z h = sum_at_end turn (be_number place) c (be_number a + be_number b) h.fits h.so_far
+pub sum_end : (a b place : List ℕ) (j c : ℕ) → j ≤ 0 → IsSumSoFar a b place j c → be_number place ≡ (be_number a + be_number b) % circle_size
+sum_end a b place zero c z h = sum_at_end circle_size (be_number place) c (be_number a + be_number b) h.fits h.so_far
 sum_end a b place (suc j) c z h = absurd (omega arith)
 
--- ---- order
+-- ---- words
 
-pub record IsOrderSoFar (a b : List ℕ) (j : ℕ) (o : Ordering) : Type 0 where
-  pub within : j ≤ 20
-  pub left : be_number (drop j a) < 256 ^ (20 - j)
-  pub right : be_number (drop j b) < 256 ^ (20 - j)
-  pub so_far : o ≡ nat_cmp (be_number (drop j a)) (be_number (drop j b))
-
-pub order_start : (a b : List ℕ) → length a ≡ 20 → length b ≡ 20 → IsOrderSoFar a b 20 Equal
-order_start a b la lb =
-    let t : be_number (drop 20 a) ≡ 0 = ap be_number (drop_all 20 a (omega arith)) in
-    let f : be_number (drop 20 b) ≡ 0 = ap be_number (drop_all 20 b (omega arith)) in
-    record { within = omega arith; left = omega arith; right = omega arith; so_far = rw (t, f) refl }
-
--- first digits decide, and else the rest
-pub digits_order : (x y p r s : ℕ) → r < p → s < p → ordering_then (nat_cmp x y) (nat_cmp r s) ≡ nat_cmp (x * p + r) (y * p + s)
-digits_order x y p r s hr hs = nat_cmp_is (x * p + r) (y * p + s) _ (by (nat_cmp x y) (ranked x y (nat_cmp x y) refl))
+-- two, four and eight digits more
+pub two_digits : (xs : List ℕ) (i k : ℕ) → length xs ≡ i + 2 + k
+    → be_number (drop i xs) ≡ (get_or xs i 0 * 256 + get_or xs (i + 1) 0) * 256 ^ k + be_number (drop (i + 2) xs)
+two_digits xs i k l =
+    let two : i + 1 + 1 ≡ i + 2 = omega arith in
+    let first = be_number_from xs i (k + 1) (omega arith) (omega arith) in
+    let second : be_number (drop (i + 1) xs) ≡ get_or xs (i + 1) 0 * 256 ^ k + be_number (drop (i + 2) xs) = rw (sym two) (be_number_from xs (i + 1) k (omega arith) (omega arith)) in
+    rw (first, second, pow_more k) (joined (get_or xs i 0) (get_or xs (i + 1) 0) (256 ^ k) (be_number (drop (i + 2) xs)))
   where
-    goal_at : Ordering → Type 0
-    goal_at o = MatchOrdering (ordering_then o (nat_cmp r s)) (x * p + r < y * p + s) (x * p + r ≡ y * p + s) (y * p + s < x * p + r)
+    joined : (v w p r : ℕ) → v * (256 * p) + (w * p + r) ≡ (v * 256 + w) * p + r
+    joined v w p r = omega arith
 
-    less : x < y → x * p + r < y * p + s
-    less h = let m : (x + 1) * p ≤ y * p = mul-le-mul_right p (omega arith) in omega arith
+pub four_digits : (xs : List ℕ) (i k : ℕ) → length xs ≡ i + 4 + k
+    → be_number (drop i xs) ≡ ((get_or xs i 0 * 256 + get_or xs (i + 1) 0) * 65536 + (get_or xs (i + 2) 0 * 256 + get_or xs (i + 3) 0)) * 256 ^ k + be_number (drop (i + 4) xs)
+four_digits xs i k l =
+    let three : i + 2 + 1 ≡ i + 3 = omega arith in
+    let four : i + 2 + 2 ≡ i + 4 = omega arith in
+    let first = two_digits xs i (k + 2) (omega arith) in
+    let second : be_number (drop (i + 2) xs) ≡ (get_or xs (i + 2) 0 * 256 + get_or xs (i + 3) 0) * 256 ^ k + be_number (drop (i + 4) xs) = rw (sym three, sym four) (two_digits xs (i + 2) k (omega arith)) in
+    rw (first, second, pow-add 256 k 2) (joined (get_or xs i 0 * 256 + get_or xs (i + 1) 0) (get_or xs (i + 2) 0 * 256 + get_or xs (i + 3) 0) (256 ^ k) (be_number (drop (i + 4) xs)))
+  where
+    joined : (v w p r : ℕ) → v * (p * 65536) + (w * p + r) ≡ (v * 65536 + w) * p + r
+    joined v w p r = omega arith
 
-    greater : y < x → y * p + s < x * p + r
-    greater h = let m : (y + 1) * p ≤ x * p = mul-le-mul_right p (omega arith) in omega arith
+pub eight_digits : (xs : List ℕ) (i k : ℕ) → length xs ≡ i + 8 + k
+    → be_number (drop i xs) ≡ (((get_or xs i 0 * 256 + get_or xs (i + 1) 0) * 65536 + (get_or xs (i + 2) 0 * 256 + get_or xs (i + 3) 0)) * 4294967296
+    + ((get_or xs (i + 4) 0 * 256 + get_or xs (i + 5) 0) * 65536 + (get_or xs (i + 6) 0 * 256 + get_or xs (i + 7) 0))) * 256 ^ k + be_number (drop (i + 8) xs)
+eight_digits xs i k l =
+    let five : i + 4 + 1 ≡ i + 5 = omega arith in
+    let six : i + 4 + 2 ≡ i + 6 = omega arith in
+    let seven : i + 4 + 3 ≡ i + 7 = omega arith in
+    let eight : i + 4 + 4 ≡ i + 8 = omega arith in
+    let first = four_digits xs i (k + 4) (omega arith) in
+    let second : be_number (drop (i + 4) xs) ≡ ((get_or xs (i + 4) 0 * 256 + get_or xs (i + 5) 0) * 65536 + (get_or xs (i + 6) 0 * 256 + get_or xs (i + 7) 0)) * 256 ^ k + be_number (drop (i + 8) xs) = rw (sym five, sym six, sym seven, sym eight) (four_digits xs (i + 4) k (omega arith)) in
+    rw (first, second, pow-add 256 k 4) (joined _ _ (256 ^ k) (be_number (drop (i + 8) xs)))
+  where
+    joined : (v w p r : ℕ) → v * (p * 4294967296) + (w * p + r) ≡ (v * 4294967296 + w) * p + r
+    joined v w p r = omega arith
 
-    same : x ≡ y → (o : Ordering) → MatchOrdering o (r < s) (r ≡ s) (s < r) → MatchOrdering o (x * p + r < y * p + s) (x * p + r ≡ y * p + s) (y * p + s < x * p + r)
-    same e Less h = rw e (omega arith)
-    same e Equal h = rw e (ap (λ z. y * p + z) h)
-    same e Greater h = rw e (omega arith)
+bytes_behind : (n : ℕ) (xs : List ℕ) → AreBytes xs → AreBytes (drop n xs)
+bytes_behind zero xs h = h
+bytes_behind (suc n) [] h = h
+bytes_behind (suc n) (x ∷ xs) h = bytes_behind n xs (λ i. h (suc i))
 
-    by : (o : Ordering) → MatchOrdering o (x < y) (x ≡ y) (y < x) → MatchOrdering (ordering_then o (nat_cmp r s)) (x * p + r < y * p + s) (x * p + r ≡ y * p + s) (y * p + s < x * p + r)
-    by Less h = less h
-    by Equal h = same h (nat_cmp r s) (ranked r s (nat_cmp r s) refl)
-    by Greater h = greater h
+-- what follows a word is below the word's unit
+pub rest_fits : (xs : List ℕ) (i : ℕ) → length xs ≡ 20 → i + 8 ≤ 20 → AreBytes xs → be_number (drop (i + 8) xs) < 256 ^ (12 - i)
+rest_fits xs i l h bytes =
+    let size : length (drop (i + 8) xs) ≡ 12 - i = omega (arith, length-drop (i + 8) xs) in
+    subst (λ n. be_number (drop (i + 8) xs) < 256 ^ n) size (be_number_below (drop (i + 8) xs) (bytes_behind (i + 8) xs bytes))
 
-pub order_more : (a b : List ℕ) (j : ℕ) (o q : Ordering) → 0 < j → length a ≡ 20 → length b ≡ 20
-    → get_or a (j - 1) 0 < 256 → get_or b (j - 1) 0 < 256 → IsOrderSoFar a b j o
-    → q ≡ ordering_then (nat_cmp (get_or a (j - 1) 0) (get_or b (j - 1) 0)) o → IsOrderSoFar a b (j - 1) q
-order_more a b j o q pos la lb ba bb h e =
-    let back : (j - 1) + 1 ≡ j = omega arith in
-    let left : 20 - (j - 1) ≡ (20 - j) + 1 = omega arith in
-    let w : j ≤ 20 = h.within in
-    let size_a : length a ≡ (j - 1) + 1 + (20 - j) = omega arith in
-    let size_b : length b ≡ (j - 1) + 1 + (20 - j) = omega arith in
-    let in_a : j - 1 < length a = omega arith in
-    let in_b : j - 1 < length b = omega arith in
-    let fits_a : be_number (drop (j - 1 + 1) a) < 256 ^ (20 - j) = rw back h.left in
-    let fits_b : be_number (drop (j - 1 + 1) b) < 256 ^ (20 - j) = rw back h.right in
-    let before : o ≡ nat_cmp (be_number (drop (j - 1 + 1) a)) (be_number (drop (j - 1 + 1) b)) = rw back h.so_far in
-    record {
-      within = omega arith;
-      left = rw left (from_fits a (j - 1) (20 - j) in_a size_a ba fits_a);
-      right = rw left (from_fits b (j - 1) (20 - j) in_b size_b bb fits_b);
-      so_far = e ∙ ap (ordering_then (nat_cmp (get_or a (j - 1) 0) (get_or b (j - 1) 0))) before
-          ∙ digits_order (get_or a (j - 1) 0) (get_or b (j - 1) 0) (256 ^ (20 - j)) (be_number (drop (j - 1 + 1) a)) (be_number (drop (j - 1 + 1) b)) fits_a fits_b
-          ∙ rw (be_number_from a (j - 1) (20 - j) in_a size_a, be_number_from b (j - 1) (20 - j) in_b size_b) refl;
-    }
+-- a number by its words
+pub double_word_is : (xs : List ℕ) (i word : ℕ) → length xs ≡ 20 → i + 8 ≤ 20
+    → word ≡ from_be_bytes w64 (get_or xs i 0 ∷ get_or xs (i + 1) 0 ∷ get_or xs (i + 2) 0 ∷ get_or xs (i + 3) 0 ∷ get_or xs (i + 4) 0 ∷ get_or xs (i + 5) 0 ∷ get_or xs (i + 6) 0 ∷ get_or xs (i + 7) 0 ∷ [])
+    → be_number (drop i xs) ≡ word * 256 ^ (12 - i) + be_number (drop (i + 8) xs)
+double_word_is xs i word l h e =
+    let spelt : word ≡ ((get_or xs i 0 * 256 + get_or xs (i + 1) 0) * 65536 + (get_or xs (i + 2) 0 * 256 + get_or xs (i + 3) 0)) * 4294967296
+    + ((get_or xs (i + 4) 0 * 256 + get_or xs (i + 5) 0) * 65536 + (get_or xs (i + 6) 0 * 256 + get_or xs (i + 7) 0)) = omega (arith, e) in
+    rw spelt (eight_digits xs i (12 - i) (omega arith))
 
-pub order_end : (a b : List ℕ) (j : ℕ) (o : Ordering) → j ≤ 0 → IsOrderSoFar a b j o
-    → (o ≡ nat_cmp (be_number a) (be_number b)) × (be_number a < turn) × (be_number b < turn)
-order_end a b zero o z h = (h.so_far, h.left, h.right)
-order_end a b (suc j) o z h = absurd (omega arith)
+pub last_word_is : (xs : List ℕ) (word : ℕ) → length xs ≡ 20
+    → word ≡ from_be_bytes w32 (get_or xs 16 0 ∷ get_or xs 17 0 ∷ get_or xs 18 0 ∷ get_or xs 19 0 ∷ [])
+    → be_number (drop 16 xs) ≡ word
+last_word_is xs word l e =
+    let rest : be_number (drop 20 xs) ≡ 0 = ap be_number (drop_all 20 xs (omega arith)) in
+    omega (arith, e, rest, four_digits xs 16 0 (omega arith))
 
 -- ---- a power of two
 

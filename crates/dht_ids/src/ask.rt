@@ -89,7 +89,7 @@ impl Answer {
 /// Why a node refuses a block.
 #[derive(Clone, Copy, Debug, Error)]
 pub enum StoreFault {
-    /// The key of a content block isn't the SHA-1 of its bytes.
+    /// The key of a content block isn't the name of its bytes.
     #[error("the key isn't the name of the bytes")]
     WrongName,
     /// The judge takes the bytes for no head of that key.

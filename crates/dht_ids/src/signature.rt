@@ -4,6 +4,7 @@ ghost use Rattle.std.specs.Prelude.{◌≡◌};
 
 use ivy_base::Bytes;
 use std::marker::Model;
+use thiserror::Error;
 
 /// A signature, which contracts see as the list of its bytes.
 #[derive(Drop)]
@@ -41,19 +42,23 @@ impl Signature {
 }
 
 /// Why nothing was signed.
-#[derive(Clone, Copy)]
+#[derive(Clone, Copy, Debug, Error)]
 pub enum SignFault {
     /// Each leaf of the key has signed.
+    #[error("each leaf of the key has signed")]
     Spent,
     /// Want of memory. No clause ties this to a cause.
+    #[error("out of memory")]
     Memory,
 }
 
 /// Why no signer was loaded.
-#[derive(Clone, Copy)]
+#[derive(Clone, Copy, Debug, Error)]
 pub enum LoadFault {
     /// The bytes are not those of a saved signer.
+    #[error("the bytes are not those of a saved signer")]
     Malformed,
     /// Want of memory. No clause ties this to a cause.
+    #[error("out of memory")]
     Memory,
 }

@@ -42,13 +42,14 @@ use Rattle.world_laws.specs.Calm.{Since, Stopped}
 use Rattle.world_laws.proofs.CalmNodes.{HeldStays, IsHeld, IsIn, base_from}
 use Rattle.world_laws.proofs.CalmPuts.{IsHeldFor, block_of, held_for, kind_of}
 use Rattle.world_laws.proofs.CalmStates.{IsMore}
+use Rattle.world_laws.proofs.CalmRounds.{loses_none}
+use Rattle.world_laws.proofs.CalmLines.{found_before, old_or_last}
 use Rattle.durability_laws.proofs.BlockKinds.{AreApart, fewer_apart, one_kind}
 use Rattle.durability_laws.specs.Laws.{IsWithinLimit}
 use Rattle.durability_laws.proofs.Holding.{AreOrderly, IsOrderly, orderly_with}
 use Rattle.durability_laws.proofs.Stretches.{IsAckHeld, IsHeldSince, Stretch, own, since_now}
-use Rattle.durability_laws.proofs.Lines.{found_before, old_or_last}
 use Rattle.durability_laws.proofs.Moved.{AfterRound, after_round, held_node, held_of, is_in, is_in_tells}
-use Rattle.durability_laws.proofs.Facts.{HasFacts, known_in, loses_none, ring_in, round_facts, standing, stop_facts}
+use Rattle.durability_laws.proofs.Facts.{HasFacts, known_in, ring_in, round_facts, standing, stop_facts}
 use Rattle.durability_laws.proofs.Worlds.{HasHolder, HoldsAll, IsStanding, lives_same, more_nodes, orderly_more, pending_same, stretch}
 
 -- the same is held

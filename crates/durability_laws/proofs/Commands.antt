@@ -1,9 +1,7 @@
 -- Each command that changes no node but by asks of sessions goes on so.
-use Rattle.std.proofs.Common.{◌≡◌, ◌⊎◌, inl, inr, ⊎_elim, ℕ, Bool, true, false, cond, List, [], ◌∷◌, ◌++◌, map, filter, find, Option, Some, None, Result, Ok, Err, refl, sym, ap, ◌∙◌, subst, nat_lt, Contains, not, ◌&&◌, is_some, option_map}
+use Rattle.std.proofs.Common.{◌≡◌, ◌⊎◌, inl, inr, ⊎_elim, ℕ, Bool, true, false, cond, List, [], ◌∷◌, ◌++◌, map, Option, Some, None, Result, Ok, Err, refl, sym, ap, ◌∙◌, subst, nat_lt, Contains, ◌&&◌, is_some}
 use Rattle.std.specs.List.{AllByRecursion}
 use Rattle.std.specs.Str.{bytes_eq}
-use Rattle.std.proofs.lemmas.List.Elements.{Contains-append_cases}
-use Rattle.ivy_base.specs.declared.key.Key.{Key}
 use Rattle.ivy_base.specs.declared.key.PubKey.{PubKey}
 use Rattle.hash_signature_model.specs.declared.set.Set.{Set}
 use Rattle.log_heads.specs.Signed.{hss_judged}
@@ -20,15 +18,14 @@ use Rattle.dht_ids.specs.declared.post.Post.{Post}
 use Rattle.dhash_client.specs.Course.{IsCourse, Told, told_all}
 use Rattle.dhash_client.specs.Puts.{EndsPut}
 use Rattle.dhash_client.specs.declared.miss.Miss.{Miss}
-use Rattle.agent_model.specs.Agent.{entered, failed, is_head, kept_of, restored}
-use Rattle.agent_model.specs.Others.{basis_of, block_post, is_pending_block, snapped, snapping}
-use Rattle.agent_model.specs.Views.{entering_with, is_own_member, not_named}
+use Rattle.agent_model.specs.Agent.{restored}
+use Rattle.agent_model.specs.Others.{basis_of, block_post}
 use Rattle.agent_model.specs.Views.Entering.{Entered, NotMember, NotNamed, KeeperFailed}
 use Rattle.session_model.specs.Sessions.{Said, Session, acknowledged, put_question}
 use Rattle.script_driver.specs.Run.{Outcome, Goes, Ends, Refuses, Exceeds}
 use Rattle.script_model.specs.declared.command.Command.{Command}
 use Rattle.script_model.specs.declared.command.Command.TheVariants as command
-use Rattle.world_model.specs.Agents.{Agent, Entering, Kept, entering, hss, opened}
+use Rattle.world_model.specs.Agents.{Agent, Entering, Kept, entering, opened}
 use Rattle.world_model.specs.Keepers.{asked_to_save, fails_next}
 use Rattle.world_model.specs.World.{NamedSession, Participant, World, entries, participant, session_named, view_named, with_participant, with_session, without_session}
 use Rattle.world_model.specs.Story.{Story, began_of, beginning, having_begun}
@@ -54,12 +51,12 @@ use Rattle.world_laws.proofs.Frames.{all_mapped, into_map}
 use Rattle.world_laws.proofs.Lines.{meets_it, meets_more}
 use Rattle.world_laws.proofs.NodeFates.{fate_rest}
 use Rattle.world_laws.proofs.SignedAmong.{met_stays, met_then}
-use Rattle.world_laws.proofs.SignedHeads.{from_map}
 use Rattle.world_laws.specs.Calm.{IsQuiet}
 use Rattle.world_laws.proofs.CalmNodes.{HeldStays, KeepsRings, asked_rings}
 use Rattle.world_laws.proofs.CalmStates.{ArePending, IsMore, IsOwnPost, asked_more, asked_pending, found_placed, made_left, made_own, more_post, more_posts, more_then, placed, placed_more, same_more}
 use Rattle.world_laws.proofs.CalmSteps.{put_data}
 use Rattle.world_laws.proofs.CalmLines.{each_filtered}
+use Rattle.world_laws.proofs.CalmCommands.{PendingStays, either, entering_stays, one_r, session_in, snap_fails_so, snap_posts}
 use Rattle.durability_laws.proofs.Holding.{AreOrderly}
 use Rattle.durability_laws.proofs.Stretches.{AreTrue, IsAckHeld, IsRingOf, IsTrueAt, Stretch, put_ends}
 use Rattle.durability_laws.proofs.States.{InStep, good_later, kept_ring, more_heard, still_acked}
@@ -68,67 +65,6 @@ use Rattle.durability_laws.proofs.Scenes.{runs_go, steps_go}
 use Rattle.durability_laws.proofs.Lines.{LineGoes, changes_go, entries_are, goes_nowhere, goes_then, newcomer_found, newcomer_goes, publishes_go, scene_goes, scene_goes_to, sent_step}
 
 -- ---- agents
-
--- what an agent has to publish stays as it enters a view
-abbrev PendingStays : Agent → Entering → Type 0
-PendingStays a (Entered after) = after.pending ≡ a.pending
-PendingStays a NotMember = Unit {0}
-PendingStays a (NotNamed log) = Unit {0}
-PendingStays a (KeeperFailed after) = after.pending ≡ a.pending
-
-entering_stays : (a : Agent) (view : View) (failing : Bool) → PendingStays a (entering a view failing).0
-entering_stays a view failing = by (is_own_member hss a view) (not_named a view)
-  where
-    saves : (failing_before fails : Bool) → PendingStays a (cond {A = Entering × Option Kept} failing_before (KeeperFailed a, None) (cond fails (KeeperFailed (failed a)) (Entered (entered a view)), Some (kept_of (entered a view)))).0
-    saves true fails = refl
-    saves false true = refl
-    saves false false = refl
-
-    by : (b : Bool) (o : Option Key) → PendingStays a (cond {A = Entering × Option Kept} b (entering_with a view failing o) (NotMember, None)).0
-    by true None = saves a.has_failed failing
-    by true (Some log) = tt
-    by false o = tt
-
--- the posts of an agent of which a snapshot was made are those that it had, and blocks
-snap_posts : (a : Agent) (root : Key) (blocks : List (List ℕ)) (failing : Bool) (p : Post) → Contains (snapping a root blocks failing).0.0.pending p → is_head p.kind ≡ true → Contains a.pending p
-snap_posts a root blocks failing p = by a.has_failed failing
-  where
-    made : List (List ℕ)
-    made = filter (λ b. not (is_pending_block a.pending b)) blocks
-
-    new : Contains (map block_post made) p → is_head p.kind ≡ true → Contains a.pending p
-    new c head = let found = from_map block_post made p c in let no : false ≡ true = subst (λ (x : Post). is_head x.kind ≡ true) found.2 head in absurd cc
-
-    by : (failing_before fails : Bool) → Contains (cond {A = (Agent × Bool) × Option Kept} failing_before ((a, false), None) (cond {A = Agent × Bool} fails (failed a, false) (snapped a root blocks, true), Some (kept_of (snapped a root blocks)))).0.0.pending p → is_head p.kind ≡ true → Contains a.pending p
-    by true fails c head = c
-    by false true c head = c
-    by false false c head = ⊎_elim (λ old. old) (λ late. new late head) (Contains-append_cases a.pending (map block_post (filter (λ b. not (is_pending_block a.pending b)) blocks)) p c)
-
-abbrev snap_out : Agent → Key → List (List ℕ) → Bool → Bool → (Agent × Bool) × Option Kept
-snap_out a root blocks failing_before fails = cond failing_before ((a, false), None) (cond fails (failed a, false) (snapped a root blocks, true), Some (kept_of (snapped a root blocks)))
-
-snap_fails_so : (a : Agent) (root : Key) (blocks : List (List ℕ)) (failing : Bool) → (snapping a root blocks failing).0.1 ≡ false → (snapping a root blocks failing).0.0.pending ≡ a.pending
-snap_fails_so a root blocks failing = by a.has_failed failing
-  where
-    by : (failing_before fails : Bool) → (snap_out a root blocks failing_before fails).0.1 ≡ false → (snap_out a root blocks failing_before fails).0.0.pending ≡ a.pending
-    by true fails e = refl
-    by false true e = refl
-    by false false e = absurd cc
-
-session_in : (P : Session → Type 0) (ss : List NamedSession) (n : List ℕ) (s : Session) → option_map (λ (t : NamedSession). t.session) (find (λ (t : NamedSession). bytes_eq t.name n) ss) ≡ Some s → AllByRecursion (λ t. P t.session) ss → P s
-session_in P [] n s is h = cc is
-session_in P (t ∷ ss) n s is h = by (bytes_eq t.name n) is (λ e. session_in P ss n s e h.1)
-  where
-    by : (b : Bool) → option_map (λ (x : NamedSession). x.session) (cond b (Some t) (find (λ (x : NamedSession). bytes_eq x.name n) ss)) ≡ Some s → (option_map (λ (x : NamedSession). x.session) (find (λ (x : NamedSession). bytes_eq x.name n) ss) ≡ Some s → P s) → P s
-    by true e later = let same : t.session ≡ s = cc e in subst P same h.0
-    by false e later = later e
-
-either : (b : Bool) (P : Session → Type 0) (t : NamedSession) (n : List ℕ) (s : Session) → P t.session → P s → P (cond {A = NamedSession} b (record { name = n; session = s }) t).session
-either true P t n s old new = new
-either false P t n s old new = old
-
-one_r : (a b : ℕ) → Some a ≡ Some b → a ≡ b
-one_r a b e = cc e
 
 module _ (ring : Stretch) where
   -- ---- asks of a put within a line

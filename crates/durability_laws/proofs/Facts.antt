@@ -1,31 +1,18 @@
 -- What holds of the ring at each line of a calm run, line by line.
-use Rattle.std.proofs.Common.{◌≡◌, inl, inr, ⊎_elim, ℕ, suc, ◌+◌, ◌<◌, ◌≤◌, Bool, true, false, cond, not, nat_lt, List, [], ◌∷◌, length, map, filter, Option, Some, refl, sym, ap, ◌∙◌, subst, arith, Contains}
-use Rattle.std.specs.Prelude.{fold}
-use Rattle.std.proofs.lemmas.Bool.{leb-false}
-use Rattle.std.proofs.lemmas.List.{length-append, length-map}
+use Rattle.std.proofs.Common.{◌≡◌, inl, inr, ⊎_elim, ℕ, ◌+◌, ◌<◌, ◌≤◌, Bool, true, false, not, List, [], ◌∷◌, length, map, filter, Some, refl, sym, ap, ◌∙◌, subst, arith}
+use Rattle.std.proofs.lemmas.List.{length-map}
 use Rattle.ring_model.specs.Members.{IsAmong, IsAscending}
 use Rattle.ring_model.specs.Ring.{IsCoveredRing}
 use Rattle.log_heads.specs.Signed.{hss_judged}
-use Rattle.log_model.proofs.Lists.{in_nothing}
 use Rattle.dht_ids.specs.Peers.{place}
-use Rattle.dht_ids.specs.declared.ask.Answer.{Answer}
-use Rattle.dht_ids.specs.declared.ask.Ask.{Ask}
 use Rattle.dht_ids.specs.declared.peer.Peer.{Peer}
-use Rattle.chord_core.specs.State.{alone_node}
-use Rattle.script_driver.specs.Run.{Outcome, Goes, Ends, Refuses, Exceeds}
+use Rattle.script_driver.specs.Run.{Goes}
 use Rattle.world_model.specs.Nodes.{Node}
-use Rattle.world_model.specs.World.{World, live_peers, peer_of, with_node}
-use Rattle.world_model.specs.Story.{Story}
-use Rattle.world_model.specs.Fates.{FateOf, Fates}
-use Rattle.world_model.specs.Fates.FateOf.{lost as was_lost, stopped as was_stopped, answers as was_answered}
-use Rattle.world_model.specs.Fates.Fates.{none as fates_end, more as fates_on}
-use Rattle.world_model.specs.Logs.{Played, beside}
-use Rattle.world_model.specs.Ring.{JoinLine, empty_node, joined_node, live_in_order, peer_numbered, stop_line, with_peer}
-use Rattle.world_model.specs.Ring.JoinLine.{before_ring as join_before_ring, known as join_known, exceeds as join_exceeds, alone as join_alone, joins as join_joins, fails as join_fails}
-use Rattle.world_model.specs.Rounds.{IsRoundOf, RoundLine}
-use Rattle.world_model.specs.Rounds.RoundLine.{before_ring as round_before_ring, goes as round_goes}
-use Rattle.round_laws.specs.RingOf.{AreNamed, AreNodes, IsSettledIn, LosesNone, links_in, lives_in}
-use Rattle.round_laws.proofs.Nodes.{lives_by, lives_shape, made_by, made_shape, order_by, order_shape, replaced}
+use Rattle.world_model.specs.World.{World, peer_of}
+use Rattle.world_model.specs.Ring.{JoinLine, live_in_order, peer_numbered, stop_line}
+use Rattle.world_model.specs.Rounds.{IsRoundOf}
+use Rattle.round_laws.specs.RingOf.{AreNamed, AreNodes, IsSettledIn, links_in, lives_in}
+use Rattle.round_laws.proofs.Nodes.{lives_by, lives_shape, made_by, made_shape, order_by, order_shape}
 use Rattle.round_laws.proofs.Joining.{join_line_joins}
 use Rattle.round_laws.proofs.Owning.{AreDistinct, distinct_ascending}
 use Rattle.round_laws.proofs.Rounding.{base_of, in_order, leaves_the_rest, leaves_who_lives, nodes_of, order_ascending, round_mends_join, shapes_of, within_of}
@@ -34,36 +21,8 @@ use Rattle.round_laws.proofs.Standing.{peer_or_not}
 use Rattle.round_laws.proofs.Stopping.{one_more_passes, round_mends_since, stop_line_stops}
 use Rattle.world_laws.specs.Calm.{Joined, Since, Stopped}
 use Rattle.world_laws.proofs.CalmNodes.{AreKnown, IsRing, KeepsRings, base_from}
-use Rattle.world_laws.proofs.CalmRounds.{HasNodes, HasStopped, IsSince, covered_then, just_settled}
+use Rattle.world_laws.proofs.CalmRounds.{covered_then, few_ordered, HasNodes, HasStopped, IsSince, joins_few, just_settled, loses_none, stopped_rest}
 use Rattle.durability_laws.proofs.Stretches.{IsStandingRing}
-
-pub loses_none : (w next : World) → w.lost ≡ [] → LosesNone w next
-loses_none w next e k above most h = in_nothing k (subst (λ l. Contains l k) e h)
-
--- ---- lists
-
-ordered_one : (qs : List Peer) (p : Peer) → length (with_peer qs p) ≡ suc (length qs)
-ordered_one [] p = refl
-ordered_one (q ∷ qs) p = by (nat_lt (place p) (place q)) (ordered_one qs p)
-  where
-    by : (b : Bool) → length (with_peer qs p) ≡ suc (length qs) → length (cond b (p ∷ q ∷ qs) (q ∷ with_peer qs p)) ≡ suc (suc (length qs))
-    by true e = refl
-    by false e = ap suc e
-
-ordered_all : (ps qs : List Peer) → length (fold with_peer qs ps) ≡ length qs + length ps
-ordered_all [] qs = omega arith
-ordered_all (p ∷ ps) qs = let rest = ordered_all ps (with_peer qs p) in let one = ordered_one qs p in omega (arith, rest, one)
-
-few_live : (nodes : List Node) → length (map peer_of (filter (λ n. n.is_live) nodes)) ≤ length nodes
-few_live [] = omega arith
-few_live (n ∷ nodes) = by n.is_live (few_live nodes)
-  where
-    by : (b : Bool) → length (map peer_of (filter (λ n. n.is_live) nodes)) ≤ length nodes → length (map peer_of (cond b (n ∷ filter (λ n. n.is_live) nodes) (filter (λ n. n.is_live) nodes))) ≤ suc (length nodes)
-    by true h = omega (arith, h)
-    by false h = omega (arith, h)
-
-few_ordered : (w : World) → length w.nodes ≤ 256 → length (live_in_order w) ≤ 512
-few_ordered w few = let all = ordered_all (live_peers w) [] in let some = few_live w.nodes in omega (arith, all, some, few)
 
 -- ---- lines that change no ring
 
@@ -110,16 +69,6 @@ still_stopped r k w next same h = record {
 }
 
 -- ---- a node stops
-
-no_node_none : {next : World} {output : List ℕ} → Refuses ≡ Goes next output → ⊥
-no_node_none e = cc e
-
-stopped_rest : (w next : World) (n : Node) (output : List ℕ) → stop_line w (Some n) ≡ Goes next output → (next.lost ≡ w.lost) × (next.replicas ≡ w.replicas)
-stopped_rest w next n output e = by n.is_live e
-  where
-    by : (b : Bool) → cond b (Goes (with_node w (record n { is_live = false })) []) Refuses ≡ Goes next output → (next.lost ≡ w.lost) × (next.replicas ≡ w.replicas)
-    by true g = let is : with_node w (record n { is_live = false }) ≡ next = cc g in (ap (λ (v : World). v.lost) (sym is), ap (λ (v : World). v.replicas) (sym is))
-    by false g = absurd (no_node_none g)
 
 pub stop_step : (r k : ℕ) (w next : World) (n : Node) (output : List ℕ) → HasNodes r w → HasStopped r k w → k + 1 < r → IsAmong n w.nodes → stop_line w (Some n) ≡ Goes next output → HasNodes r next × HasStopped r (k + 1) next
 stop_step r k w next n output h s short among e = (
@@ -172,73 +121,12 @@ round_settles r w next Joined h s round = round_mends_join hss_judged r w next (
 
 -- ---- a node joins
 
-replaced_long : (n : Node) (nodes : List Node) → length (replaced n nodes) ≡ length nodes
-replaced_long n [] = refl
-replaced_long n (m ∷ nodes) = ap suc (replaced_long n nodes)
-
-fate_few : {w next : World} {to : Peer} {question : Ask} {given : Answer} → FateOf hss_judged w to question given next → (next.lost ≡ w.lost) × (next.replicas ≡ w.replicas) × (length next.nodes ≡ length w.nodes)
-fate_few (was_lost l) = (refl, refl, refl)
-fate_few (was_stopped n l is dead) = (refl, refl, refl)
-fate_few (was_answered n l is live) = (refl, refl, replaced_long _ _)
-
-pub fates_few : {w next : World} {asks : List (Peer × (Ask × Answer))} → Fates hss_judged w asks next → (next.lost ≡ w.lost) × (next.replicas ≡ w.replicas) × (length next.nodes ≡ length w.nodes)
-fates_few fates_end = (refl, refl, refl)
-fates_few (fates_on to question given fate rest) = let one = fate_few fate in let later = fates_few rest in (later.0 ∙ one.0, later.1 ∙ one.1, later.2 ∙ one.2)
-
-pub record JoinsFew (w next : World) : Type 0 where
-  pub lost : next.lost ≡ w.lost
-  pub replicas : next.replicas ≡ w.replicas
-  pub few : length w.nodes ≤ 256 → length next.nodes ≤ 256
-
-one_world : (a b : World) (x y : List ℕ) → Goes a x ≡ Goes b y → a ≡ b
-one_world a b x y e = cc e
-
-joins_few : (w next : World) (number : ℕ) (o : Option ℕ) (out : Outcome World) (output : List ℕ) → JoinLine hss_judged w number o out → out ≡ Goes next output → JoinsFew w next
-joins_few w next number _ _ output join_before_ring e = absurd cc
-joins_few w next number _ _ output (join_known r h) e = absurd cc
-joins_few w next number _ _ output (join_exceeds r h g) e = absurd cc
-joins_few w next number _ _ output (join_alone r h room none) e = subst (JoinsFew w) (one_world _ next _ output e) (record {
-  lost = refl;
-  replicas = refl;
-  few = λ few. let long = length-append w.nodes (empty_node (alone_node (peer_numbered number) r) ∷ []) in let space = leb-false 256 (length w.nodes) room in omega (arith, long, space);
-})
-joins_few w next number _ _ output (join_joins r through p ps mid h room least looks) e = let f = fates_few looks.fates in subst (JoinsFew w) (one_world _ next _ output e) (record {
-  lost = f.0;
-  replicas = f.1;
-  few = λ few. let long = length-append mid.nodes (joined_node (peer_numbered number) r (p ∷ ps) ∷ []) in let space = leb-false 256 (length w.nodes) room in let same = f.2 in omega (arith, long, space, same);
-})
-joins_few w next number _ _ output (join_fails r through found mid h room least looks nobody) e = let f = fates_few looks.fates in subst (JoinsFew w) (one_world _ next _ output e) (record { lost = f.0; replicas = f.1; few = λ few. let same = f.2 in omega (arith, few, same) })
-
 pub join_step : (r number : ℕ) (w next : World) (output : List ℕ) → HasNodes r w → IsSettledIn w r → JoinLine hss_judged w number (Some r) (Goes next output) → HasNodes r next × IsSince r next Joined
 join_step r number w next output h settled line =
     let few = h.few in
     let join = join_line_joins hss_judged r number w next output h.nodes h.named (omega (arith, few)) settled line (loses_none w next h.none_lost) in
     let rest = joins_few w next number (Some r) (Goes next output) output line refl in
     (record { nodes = join.1; named = join.2; few = rest.few h.few; none_lost = rest.lost ∙ h.none_lost; replicas = rest.replicas ∙ h.replicas }, (peer_numbered number, join.0))
-
--- ---- runs
-
-pub beside_goes : (st : Story) (o : Outcome World) (mid : Played) (output : List ℕ) → Goes mid output ≡ beside st o → o ≡ Goes mid.0 output
-beside_goes st (Goes next words) mid output e = by e
-  where
-    worlds : Goes mid output ≡ Goes (next, st) words → mid ≡ (next, st)
-    worlds e = cc e
-
-    texts : Goes mid output ≡ Goes (next, st) words → output ≡ words
-    texts e = cc e
-
-    by : Goes mid output ≡ Goes (next, st) words → Goes next words ≡ Goes mid.0 output
-    by e = λ i. Goes (sym (worlds e) i).0 (sym (texts e) i)
-beside_goes st Ends mid output e = absurd cc
-beside_goes st Refuses mid output e = absurd cc
-beside_goes st Exceeds mid output e = absurd cc
-
-pub round_line : (r : ℕ) (w next : World) (o : Option ℕ) (out : Outcome World) (output : List ℕ) → RoundLine hss_judged w o out → o ≡ Some r → out ≡ Goes next output → IsRoundOf hss_judged r w next
-round_line r w next _ _ output round_before_ring e f = absurd cc
-round_line r w next _ _ output (round_goes s mid round) e f = subst (λ v. IsRoundOf hss_judged r w v) (one_world mid next [] output f) (subst (λ k. IsRoundOf hss_judged k w mid) (same_number s r e) round)
-  where
-    same_number : (a b : ℕ) → Some a ≡ Some b → a ≡ b
-    same_number a b e = cc e
 
 -- ---- all of it
 

@@ -4,7 +4,7 @@ use Rattle.std.specs.Prelude.{is_some}
 use Rattle.std.specs.Option.{option_or}
 use Rattle.std.specs.Ordering.{eq_by_cmp}
 use Rattle.std.specs.FinMap.Entries.{find as value_at, find-put, is_sorted, is_sorted-put, put}
-use Rattle.std.proofs.lemmas.Bool.{le-ltb, ltb-true, ltb-false}
+use Rattle.std.proofs.lemmas.Bool.{le-ltb}
 use Rattle.ivy_base.specs.declared.key.Key.{Key}
 use Rattle.ivy_base.specs.Naming.{key_cmp, name}
 use Rattle.ring_model.specs.Blocks.{raised}
@@ -31,41 +31,16 @@ use Rattle.world_model.specs.Rounds.{question_as}
 use Rattle.round_laws.specs.RingOf.{own_node}
 use Rattle.round_laws.specs.Holding.{held_in, rank}
 use Rattle.round_laws.proofs.Nodes.{at, at_id, at_other, at_same, replaced, same_id, same_or_not, ties}
-use Rattle.round_laws.proofs.Standing.{KeepsRing, peer_or_not}
-use Rattle.round_laws.proofs.Repairing.{put_keeps}
+use Rattle.round_laws.proofs.Standing.{peer_or_not}
 use Rattle.round_laws.proofs.Holding.{held_at, node_here, node_is, node_other}
 use Rattle.round_laws.proofs.Storing.{StoresAt, stores_at, under}
 use Rattle.round_laws.proofs.Untouched.{Untouched, store}
-use Rattle.world_laws.proofs.CalmNodes.{HeldStays, IsHeld, IsIn}
+use Rattle.world_laws.proofs.CalmNodes.{HeldStays, IsHeld, IsIn, keeps_ring, raised_from, raised_to}
 use Rattle.durability_laws.proofs.BlockKinds.{AreApart, FitsIn, HoldsOf, IsOf, one_kind}
 use Rattle.durability_laws.specs.Laws.{IsWithinLimit}
 use Rattle.durability_laws.proofs.Rooms.{fits}
 
--- ---- ranks
-
-raised_to : (f : Block → ℕ) (o : Option Block) (v w : ℕ) → option_map f o ≡ raised v (Some w) → (c : Block) × (o ≡ Some c) × (v ≤ f c) × (w ≤ f c)
-raised_to f o v w e = by o (nat_lt w v) refl e
-  where
-    by : (o : Option Block) (b : Bool) → nat_lt w v ≡ b → option_map f o ≡ cond b (Some v) (Some w) → (c : Block) × (o ≡ Some c) × (v ≤ f c) × (w ≤ f c)
-    by None true t e = absurd (none_some v e)
-    by None false t e = absurd (none_some w e)
-    by (Some c) true t e = let same : f c ≡ v = some_same (f c) v e in let l = ltb-true w v t in (c, refl, omega (arith, same), omega (arith, same, l))
-    by (Some c) false t e = let same : f c ≡ w = some_same (f c) w e in let l = ltb-false w v t in (c, refl, omega (arith, same, l), omega (arith, same))
-
-raised_from : (f : Block → ℕ) (o before : Option Block) (v : ℕ) → option_map f o ≡ raised v (option_map f before) → (c : Block) × (o ≡ Some c) × (v ≤ f c)
-raised_from f None None v e = absurd (none_some v e)
-raised_from f (Some c) None v e = let same : f c ≡ v = some_same (f c) v e in (c, refl, omega (arith, same))
-raised_from f o (Some b) v e = let found = raised_to f o v (f b) e in (found.0, found.1, found.2)
-
 -- ---- what nodes know stays in asks for data
-
-pub keeps_ring : (question : Ask) → IsForData question → KeepsRing hss_judged question
-keeps_ring (ask.Route key) h n = (refl, refl)
-keeps_ring ask.Near h n = absurd h
-keeps_ring (ask.Notify peer) h n = absurd h
-keeps_ring (ask.Get key) h n = (refl, refl)
-keeps_ring (ask.PutBlock key bytes) h n = put_keeps hss_judged Content key bytes n
-keeps_ring (ask.PutHead key bytes) h n = put_keeps hss_judged Head key bytes n
 
 -- ---- a block that is taken, and one that is refused
 

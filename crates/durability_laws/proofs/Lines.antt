@@ -1,5 +1,5 @@
 -- Lines that change no node but by asks of sessions: the world goes on so.
-use Rattle.std.proofs.Common.{◌≡◌, ◌⊎◌, inl, inr, ⊎_elim, ℕ, Bool, true, false, cond, List, [], ◌∷◌, ◌++◌, map, find, Some, None, refl, sym, ap, ◌∙◌, subst, Contains, is_some}
+use Rattle.std.proofs.Common.{◌≡◌, ◌⊎◌, ⊎_elim, ℕ, false, List, [], ◌∷◌, map, find, Some, refl, sym, ap, ◌∙◌, subst, Contains, is_some}
 use Rattle.std.specs.Prelude.{fold}
 use Rattle.std.specs.List.{AllByRecursion}
 use Rattle.std.specs.Str.{bytes_eq}
@@ -22,39 +22,12 @@ use Rattle.round_laws.proofs.Nodes.{at, made_by, made_shape}
 use Rattle.world_laws.proofs.CalmNodes.{HeldStays, IsHeld, IsRing, same_rings}
 use Rattle.world_laws.proofs.CalmPuts.{entries_by}
 use Rattle.world_laws.proofs.CalmStates.{ArePending, IsMore, IsOwnPost, made_own, more_posts, more_then, same_more}
+use Rattle.world_laws.proofs.CalmLines.{found_before, found_last, old_or_last}
 use Rattle.durability_laws.proofs.Stretches.{IsAckHeld, IsRingOf, Stretch}
 use Rattle.durability_laws.proofs.States.{InStep, IsGood, SceneGoes, WorldGoes, good_later, kept_ring, still_acked, still_in_step}
 use Rattle.durability_laws.proofs.Scenes.{runs_go}
 
 -- ---- lists
-
-pub found_before : {A : Type 0} (test : A → Bool) (xs ys : List A) (x : A) → find test xs ≡ Some x → find test (xs ++ ys) ≡ Some x
-found_before test [] ys x is = cc is
-found_before test (y ∷ xs) ys x is = by (test y) is (found_before test xs ys x)
-  where
-    by : (b : Bool) → cond b (Some y) (find test xs) ≡ Some x → (find test xs ≡ Some x → find test (xs ++ ys) ≡ Some x) → cond b (Some y) (find test (xs ++ ys)) ≡ Some x
-    by true h later = h
-    by false h later = later h
-
-pub found_last : {A : Type 0} (test : A → Bool) (xs : List A) (x : A) → is_some (find test xs) ≡ false → test x ≡ true → find test (xs ++ x ∷ []) ≡ Some x
-found_last test [] x none t = ap (λ b. cond b (Some x) None) t
-found_last test (y ∷ xs) x none t = by (test y) none (λ h. found_last test xs x h t)
-  where
-    by : (b : Bool) → is_some (cond b (Some y) (find test xs)) ≡ false → (is_some (find test xs) ≡ false → find test (xs ++ x ∷ []) ≡ Some x) → cond b (Some y) (find test (xs ++ x ∷ [])) ≡ Some x
-    by true h later = absurd cc
-    by false h later = later h
-
-pub old_or_last : {A : Type 0} (test : A → Bool) (xs : List A) (x y : A) → find test (xs ++ x ∷ []) ≡ Some y → (find test xs ≡ Some y) ⊎ (x ≡ y)
-old_or_last test [] x y is = by (test x) is
-  where
-    by : (b : Bool) → cond b (Some x) None ≡ Some y → (find test [] ≡ Some y) ⊎ (x ≡ y)
-    by true h = inr (cc h)
-    by false h = cc h
-old_or_last test (z ∷ xs) x y is = by (test z) is (old_or_last test xs x y)
-  where
-    by : (b : Bool) → cond b (Some z) (find test (xs ++ x ∷ [])) ≡ Some y → (find test (xs ++ x ∷ []) ≡ Some y → (find test xs ≡ Some y) ⊎ (x ≡ y)) → (cond b (Some z) (find test xs) ≡ Some y) ⊎ (x ≡ y)
-    by true h later = inl h
-    by false h later = later h
 
 module _ (ring : Stretch) where
   abbrev pub LineGoes : World → Story → World → Story → Type 0

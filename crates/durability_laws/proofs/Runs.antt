@@ -35,7 +35,7 @@ use Rattle.world_laws.specs.Keeps.{HasRing, Keeps}
 use Rattle.world_laws.proofs.AllLines.{does_line}
 use Rattle.world_laws.proofs.CalmHeld.{apart_of, calmly_keeps, moment_keeps}
 use Rattle.world_laws.proofs.CalmNodes.{IsMadeRing}
-use Rattle.world_laws.proofs.CalmRounds.{HasNodes, just_settled}
+use Rattle.world_laws.proofs.CalmRounds.{beside_goes, HasNodes, just_settled, round_line}
 use Rattle.world_laws.proofs.CalmRuns.{IsFirst, first_of, some_command}
 use Rattle.world_laws.proofs.CalmStates.{IsMore, more_then, same_more}
 use Rattle.world_laws.proofs.EachLine.{each_line_keeps}
@@ -45,7 +45,7 @@ use Rattle.durability_laws.proofs.BlockKinds.{AreApart, fewer_apart}
 use Rattle.durability_laws.specs.Laws.{IsWithinLimit}
 use Rattle.durability_laws.proofs.Holding.{IsOrderly}
 use Rattle.durability_laws.proofs.Commands.{command_goes}
-use Rattle.durability_laws.proofs.Facts.{HasFacts, beside_goes, join_facts, quiet_facts, ring_in, round_facts, round_line, standing, stop_facts}
+use Rattle.durability_laws.proofs.Facts.{HasFacts, join_facts, quiet_facts, ring_in, round_facts, standing, stop_facts}
 use Rattle.durability_laws.proofs.Worlds.{HoldsAll, IsStanding, IsState, quiet_state, state_holds, stretch}
 use Rattle.durability_laws.proofs.Changes.{join_more, join_state, round_more, round_state, stop_more, stop_state}
 

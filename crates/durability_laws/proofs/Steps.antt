@@ -1,11 +1,10 @@
 -- Steps of sessions while the ring stays: what nodes hold stays, what is answered is true, and where a put is acknowledged an owner holds its post.
-use Rattle.std.proofs.Common.{◌≡◌, ◌⊎◌, ⊎_elim, ap, ℕ, Bool, true, false, cond, List, [], ◌∷◌, ◌++◌, length, filter, Option, Some, refl, sym, ◌∙◌, subst, nat_lt, le_refl, Contains, not}
-use Rattle.std.proofs.lemmas.Bool.{le-ltb}
+use Rattle.std.proofs.Common.{◌≡◌, ◌⊎◌, ⊎_elim, ap, ℕ, Bool, true, false, cond, List, [], ◌∷◌, ◌++◌, length, Option, Some, refl, sym, ◌∙◌, subst, Contains}
 use Rattle.std.specs.List.{AllByRecursion}
 use Rattle.ivy_base.specs.declared.key.Key.{Key}
 use Rattle.ring_model.specs.Members.{first}
 use Rattle.log_heads.specs.Signed.{hss_judged}
-use Rattle.log_model.proofs.Lists.{each, each_append, each_from, from_filter}
+use Rattle.log_model.proofs.Lists.{each_append}
 use Rattle.dht_ids.specs.Asked.{IsForData, told}
 use Rattle.dht_ids.specs.declared.ask.Answer.{Answer}
 use Rattle.dht_ids.specs.declared.ask.Ask.{Ask}
@@ -19,7 +18,7 @@ use Rattle.agent_model.specs.Agent.{is_head}
 use Rattle.session_model.specs.Courses.{Fails, LacksMemory}
 use Rattle.session_model.specs.Courses.Fails.{fails, goes_on}
 use Rattle.session_model.specs.Courses.LacksMemory.{lacks}
-use Rattle.session_model.specs.Sessions.{Cache, Hears, IsPutOfPost, Over, Publishing, Refreshing, Said, Session, Stage, Takes, TakesAll, TakesSome, acknowledged, after_put, held_back, is_log, put_question, wanted_key}
+use Rattle.session_model.specs.Sessions.{Cache, Hears, IsPutOfPost, Over, Publishing, Refreshing, Said, Session, Stage, Takes, TakesAll, TakesSome, acknowledged, after_put, put_question, wanted_key}
 use Rattle.session_model.specs.Sessions.Hears.{gets_on, got, puts_on, puts}
 use Rattle.session_model.specs.Sessions.Takes.{posted, cached}
 use Rattle.session_model.specs.Sessions.TakesAll.{none as takes_none, more as takes_more}
@@ -35,24 +34,14 @@ use Rattle.node_store.specs.declared.kind.Kind.TheVariants.{Content, Head}
 use Rattle.world_laws.proofs.CalmNodes.{HeldStays, IsHeld, KeepsRings, put_answers, same_rings}
 use Rattle.world_laws.proofs.CalmPuts.{IsHeldFor, block_of, kind_of, question_is}
 use Rattle.world_laws.proofs.CalmStates.{ArePending, IsMore, IsOwnPost, asked_more, found_placed, more_posts, placed, placed_more, placed_pending, posts_at}
-use Rattle.world_laws.proofs.CalmSteps.{put_data}
+use Rattle.world_laws.proofs.CalmSteps.{fewer_own, never_less, put_data}
 use Rattle.durability_laws.proofs.BlockKinds.{FitsIn, IsFit, fit_of, of_fit, post_fits}
 use Rattle.durability_laws.proofs.Holding.{AreOrderly, put_held, put_is_held, taken_of}
 use Rattle.durability_laws.proofs.Stretches.{Answers, AreTrue, IsAckHeld, IsMade, IsPutTrue, IsRingOf, IsTrueAt, Stretch, is_routed, put_ends, who_answers}
 use Rattle.durability_laws.proofs.Stretches.Answers.{gives as has_answered, is_silent}
 use Rattle.durability_laws.proofs.States.{AskGoes, InStep, IsGood, SceneGoes, ask_goes, good_later, more_heard, still_acked, still_in_step}
 
-never_less : (n : ℕ) → nat_lt n n ≡ false
-never_less n = le-ltb n n (le_refl n)
-
 -- ---- what sessions ask
-
-fewer_own : (w : World) (p : Post) (posts : List Post) → AllByRecursion (IsOwnPost w) posts → AllByRecursion (IsOwnPost w) (held_back p posts)
-fewer_own w p posts h = by (is_log p.kind)
-  where
-    by : (b : Bool) → AllByRecursion (IsOwnPost w) (cond b (filter (λ (q : Post). not (is_head q.kind)) posts) posts)
-    by true = each_from (IsOwnPost w) (filter (λ (q : Post). not (is_head q.kind)) posts) (λ q among. each (IsOwnPost w) posts q h (from_filter (λ (q : Post). not (is_head q.kind)) posts q among).0)
-    by false = h
 
 module _ (ring : Stretch) where
   -- ---- one ask

@@ -5,7 +5,7 @@ ghost use Rattle.std.specs.Prelude.{◌≡◌};
 use crate::records::named;
 use crate::text::Text;
 use dht_ids::Judged;
-use ivy_base::{Key, Moment, Op, PubKey, head_key};
+use ivy_base::{Format, Key, Moment, Op, PubKey, head_key};
 use log_records::Record;
 use std::alloc::Global;
 use version_vectors::{Entry, Vector};
@@ -80,6 +80,7 @@ impl Log {
             } else {
                 Op::Cancel { seq: 1 }
             },
+            format: Format::One,
         }
     }
 

@@ -5,7 +5,7 @@ use crate::line::Line;
 use crate::text::Text;
 use dht_ids::{Judge, Judged};
 use ivy_base::{Key, PubKey};
-use log_records::{Head, PlainJudge, Record, RecordFault, plain_head};
+use log_records::{Head, MOST_CITED, PlainJudge, Record, RecordFault, plain_head};
 
 /// Tells the bytes as a record of the owner's.
 pub fn record(line: &mut Line<'_>, bytes: &[u8]) {
@@ -38,7 +38,7 @@ pub fn named(out: &mut Text, record: &Record) -> Key {
 
 /// Adds a record that was read.
 fn put_record(out: &mut Text, record: &Record, bytes: &[u8]) {
-    if record.vector.len() > 32 {
+    if record.vector.len() > MOST_CITED as usize {
         out.add("too many logs");
     } else {
         let name = named(out, record);

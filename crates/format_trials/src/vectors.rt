@@ -2,8 +2,9 @@
 
 use crate::line::Line;
 use crate::text::Text;
+use block_parts::BlockFault;
 use ivy_base::Bytes;
-use version_vectors::{Entry, Vector, VectorFault};
+use version_vectors::{Entry, Vector};
 use xdr_codec::{XdrRead, XdrWrite};
 
 /// The most entries that a vector of a line has.
@@ -58,8 +59,8 @@ pub fn vector(line: &mut Line<'_>, bytes: &[u8]) {
     let mut reader = XdrRead::new(bytes);
     match Vector::read(line.text.alloc, &mut reader, most) {
         Ok(vector) => put_front(&mut line.text, &vector, bytes, reader.rest()),
-        Err(VectorFault::Malformed) => line.text.add("malformed"),
-        Err(VectorFault::Memory) => line.text.add("out of memory"),
+        Err(BlockFault::Malformed) => line.text.add("malformed"),
+        Err(BlockFault::Memory) => line.text.add("out of memory"),
     }
 }
 

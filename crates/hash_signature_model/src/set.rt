@@ -1,6 +1,8 @@
 ghost use Rattle.std.specs.Prelude.{◌≡◌};
 ghost use Rattle.hash_signature_model.specs.Parameters.{ots_type, lms_type, top, chains, digest_digits, checksum_factor, levels, leaves};
 
+use thiserror::Error;
+
 /// The Winternitz parameter w of a one-time signature: how many bits of a digest one chain signs.
 #[derive(Clone, Copy, PartialEq, Eq)]
 pub enum Width {
@@ -113,12 +115,15 @@ pub struct Set {
 }
 
 /// Why a signature isn't accepted: the first fault in reading order, and `Wrong` only after all was read.
-#[derive(Clone, Copy)]
+#[derive(Clone, Copy, Debug, Error)]
 pub enum LmsFault {
     /// A type number of RFC 8554 outside the profile: the one-time types 1 and 2, the tree types 7, 8 and 9.
+    #[error("a type number is outside the profile")]
     Unsupported,
     /// The bytes spell no public key of the profile, or no signature for that key.
+    #[error("the bytes are no public key of the profile, or no signature for the key")]
     Malformed,
     /// The signature gives another root.
+    #[error("the signature gives another root")]
     Wrong,
 }

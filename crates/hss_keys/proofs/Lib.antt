@@ -1,4 +1,5 @@
 pub mod Levels
+pub mod PlainKeys
 pub mod Acceptance
 pub mod Signing
 pub mod Saving

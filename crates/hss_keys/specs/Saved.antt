@@ -6,7 +6,8 @@ use Rattle.hash_signature_model.specs.declared.set.Width.{Width}
 use Rattle.hash_signature_model.specs.declared.set.Width.TheVariants.{W4, W8}
 use Rattle.hash_signature_model.specs.declared.set.Set.{Set}
 use Rattle.hash_signature_model.specs.Parameters.{levels}
-use Rattle.hss_keys.specs.Signer.{Signer, capacity}
+use Rattle.log_model.specs.Signing.{Signing}
+use Rattle.hss_keys.specs.Signer.{Signer, capacity, left_of, next_signature, one_more_made, owner_of}
 
 -- w, the bits of a digest that one chain signs
 abbrev pub bits : Width → ℕ
@@ -40,3 +41,7 @@ pub record IsSigner (signer : Signer) : Type 0 where
 -- saved bytes are of one signer
 abbrev pub SavedOnce : Type 0
 SavedOnce = (a b : Signer) → IsSigner a → IsSigner b → saved_bytes a ≡ saved_bytes b → a ≡ b
+
+-- what a signer of hierarchical signatures has and does
+abbrev pub hss : Signing Signer
+hss = record { key = owner_of; remaining = left_of; signature = next_signature; next = one_more_made; saved = saved_bytes }

@@ -16,8 +16,8 @@ pub fn no_leaf_signs_twice()
 /// A law and no code: a key that is loaded from the bytes of a saved key equals that key, and so, however often a key
 /// signs, is saved and is loaded again, it signs what the key that was saved last would sign.
 pub fn loads_give_the_saved_key<S: Signs>()
-    ensures equal { (key loaded : S) → S.is_whole key → S.is_whole loaded → S.saved loaded ≡ S.saved key → loaded ≡ key }
-    ensures signatures { LoadsGiveTheSaved S.signature S.next S.is_whole S.saved }
+    ensures equal { (key loaded : S) → S.is_whole key → S.is_whole loaded → S.signing.saved loaded ≡ S.signing.saved key → loaded ≡ key }
+    ensures signatures { LoadsGiveTheSaved S.signing.signature S.signing.next S.is_whole S.signing.saved }
 {}
 
 /// A law and no code: which leaves each signature of an [`crate::Hss`] uses, however often it signs, is saved and is

@@ -1,33 +1,43 @@
-//! Hierarchical signatures of RFC 8554 (HSS): one to three levels of signature trees, each of which signs the public key
-//! of the next one, and the last the message.
+//! Hierarchical signatures of RFC 8554 (HSS): one to three levels of signature trees. Each level signs the
+//! public key of the next one, and the last level signs the message.
 //!
-//! Layer: over `lms_core`, which grows and checks one level, `ivy_base`, which has the public keys of participants, and
-//! `dht_ids`, which says why nothing was signed.
-//! For the layers above: [`Hss::verify`] answers yes exactly where RFC 8554 accepts, and otherwise the first fault in
-//! reading order, the key before the signature; `Wrong` comes only after all was read. An [`Hss`] is seen as what it was
-//! made from and how many signatures it made: what [`Hss::sign`] gives is the next signature of the definitions, byte for
-//! byte, is accepted under [`Hss::owner`], and is counted; `Spent` comes exactly where [`Hss::left`] is 0, and nothing has
-//! changed after an error. No two signatures of a key use the same leaf, and an upper leaf signs one key alone
-//! ([`no_leaf_signs_twice`]); that no copy of a key signs beside it is the caller's to see to. [`Hss::save`] gives a key's
-//! bytes, which are no other key's ([`saved_bytes_are_of_one_signer`]), and [`Hss::load`] the key again, or `Malformed`
-//! exactly where the bytes are no key's.
+//! Layer: over `lms_core`, which grows and checks one level, `ivy_base`, which has the public keys of
+//! participants, and `dht_ids`, which says why nothing was signed.
 //!
-//! [`Signs`] is what the owner of a log needs of a key that signs: which signature comes next, what the key is then, and
-//! that its saved bytes are those of no other key. So a key that is loaded equals the one that was saved, and goes on
-//! where that was ([`loads_give_the_saved_key`]); which leaves each signature of an [`Hss`] then uses, however often it is
-//! saved and loaded, says [`signatures_name_their_leaves`].
+//! For the layers above:
+//! - [`Hss::verify`] answers yes exactly where RFC 8554 accepts. Otherwise it gives the first fault in
+//!   reading order, the key before the signature; `Wrong` comes only after all was read.
+//! - Contracts see an [`Hss`] as what it was made from and how many signatures it made. [`Hss::sign`] gives
+//!   the next signature of the definitions, byte for byte; it is accepted under [`Hss::owner`], and is
+//!   counted.
+//! - `Spent` comes exactly where [`Hss::left`] is 0. After an error nothing has changed.
+//! - No two signatures of a key use the same leaf, and an upper leaf signs one key alone
+//!   ([`no_leaf_signs_twice`]). That no copy of a key signs beside it is the caller's duty.
+//! - [`Hss::save`] gives a key's bytes, which are no other key's ([`saved_bytes_are_of_one_signer`]).
+//!   [`Hss::load`] gives the key again, or `Malformed` exactly where the bytes are no key's.
 //!
-//! Definitions: `specs/Hss.antt` says by `HssAccepts` when a signature is accepted, level by level over
-//! `hash_signature_model`'s `Accepts`, and `specs/Reading.antt` by `hss_verdict` which fault counts, and by `leaves_named`
-//! which leaves stand in a signature; `proofs/Acceptance.antt` proves that its yes and `HssAccepts` are one.
-//! `specs/Signer.antt` has the signer's side: which leaves signature n uses, how the lower trees are derived, and the
-//! bytes, `specs/Saved.antt` the bytes of a saved key, and `specs/Uses.antt` what a key signs that is saved and loaded. Of
-//! `specs/Checks.antt` and `specs/SavedReading.antt` only the functions inside speak.
+//! [`Signs`] is what the owner of a log needs of a key that signs. It says which signature comes next, what
+//! the key is then, and that its saved bytes are those of no other key. So a key that is loaded equals the
+//! one that was saved, and goes on where that was ([`loads_give_the_saved_key`]).
+//! [`signatures_name_their_leaves`] says which leaves each signature of an [`Hss`] then uses, however often
+//! it is saved and loaded.
 //!
-//! Costs: nothing allocates in [`Hss::verify`] and nothing is copied but a level's key. A signature is hashed once for each
-//! level, the message's first; after a level that is wrong those above are not hashed, and where the bytes are refused none
-//! is. A key that signs keeps a tree for each level, 64 bytes for each leaf, and the signature of each lower tree's key. A
-//! signature costs one leaf of the lowest tree, and a tree is grown only where the leaf above it changes.
+//! Definitions:
+//! - `specs/Hss.antt` says by `HssAccepts` when a signature is accepted, level by level over `Accepts` of
+//!   `hash_signature_model`.
+//! - `specs/Reading.antt` says by `hss_verdict` which fault counts, and by `leaves_named` which leaves stand
+//!   in a signature. `proofs/Acceptance.antt` proves that its yes and `HssAccepts` are one.
+//! - `specs/Signer.antt` has the signer's side: which leaves signature n uses, how the lower trees are
+//!   derived, and the bytes.
+//! - `specs/Saved.antt` has the bytes of a saved key, and `specs/Uses.antt` what a key signs that is saved
+//!   and loaded.
+//! - `specs/Checks.antt` and `specs/SavedReading.antt` serve the functions inside.
+//!
+//! Costs: nothing allocates in [`Hss::verify`], and nothing is copied but a level's key. A signature is
+//! hashed once for each level, the message's first. After a level that is wrong those above are not hashed;
+//! where the bytes are refused none is. A key that signs keeps a tree for each level, 64 bytes for each leaf,
+//! and the signature of each lower tree's key. A signature costs one leaf of the lowest tree. A tree is grown
+//! only where the leaf above it changes.
 #![tactic(auto)]
 
 mod laws;

@@ -8,8 +8,7 @@
 
 use ivy_base::Memory;
 use ivy_cli::run;
-use ivy_io::{Failing, Sink, Source, StdSink, StdSource};
-use ivy_io::{FixedClock, MemKeepers, MemPorts};
+use ivy_io::{Failing, FixedClock, MemKeepers, MemPorts, Sink, Source, StdSink, StdSource};
 use std::env;
 use std::io::ErrorKind;
 use std::process::ExitCode;

@@ -17,7 +17,8 @@ use Rattle.turn_taking.specs.Taking.{IsWithin}
 use Rattle.version_vectors.specs.Vectors.{IsVector}
 use Rattle.replay_engine.specs.Places.{AreNew}
 use Rattle.nfs_laws.specs.Lengths.{AnswersFit, FinishesFit, PlansFit}
-use Rattle.agent_model.specs.Agent.{Signing, joined, own_key}
+use Rattle.log_model.specs.Signing.{Signing}
+use Rattle.agent_model.specs.Agent.{joined, own_key}
 use Rattle.agent_model.specs.Taking.{TakesNew, refresh_with, with_new}
 use Rattle.ivy_agent.specs.Answering.{Answers, MayGoOn}
 use Rattle.ivy_agent.specs.Taking.{MayTakeFrom, TakesAndAnswers}

@@ -37,7 +37,8 @@ use Rattle.ivy_agent.proofs.Fronts.{held_front, newest_is_reached}
 use Rattle.ivy_agent.proofs.Records.{written_are_next}
 use Rattle.turn_taking.specs.Taking.{IsWithin}
 use Rattle.replay_engine.specs.Engines.{Engine, holding}
-use Rattle.agent_model.specs.Agent.{Agent, Kept as Saved, Signing, failed, joined, kept_of, own_key, own_reach}
+use Rattle.log_model.specs.Signing.{Signing}
+use Rattle.agent_model.specs.Agent.{Agent, Kept as Saved, failed, joined, kept_of, own_key, own_reach}
 use Rattle.agent_model.specs.SavedBytes.{ArePostsSpelled, IsKept, kept_bytes}
 use Rattle.agent_model.specs.Standing.{going_on}
 use Rattle.agent_model.specs.Taking.{TakesNew, refresh_with, with_new}
@@ -170,15 +171,15 @@ module _ {K S : Type 0} (signs : Signing S) (IsWhole : S → Type 0) (saves : K 
 
   -- the definition's turn, where this becomes of the agent
   as_answered : (x : Agent S) (written : List Record) (saving : Option (Saved S)) (fails : Bool) (reply : Reply) → Becomes signs view a h fails written x saving
-      → IsByDefinition signs (refresh_with batch basis) a view fails asked now h written reply
-      → (saving ≡ None → (other : Bool) → Becomes signs view a h other written x saving × IsByDefinition signs (refresh_with batch basis) a view other asked now h written reply)
+      → IsByDefinition signs (refresh_with batch basis) (record { agent = a; view = view; now = now; fails = fails }) asked h written reply
+      → (saving ≡ None → (other : Bool) → Becomes signs view a h other written x saving × IsByDefinition signs (refresh_with batch basis) (record { agent = a; view = view; now = now; fails = other }) asked h written reply)
       → IfSome saving (IsKept signs IsWhole) → (keeper keeper_after : K) → Saves saves keeper (option_map (kept_bytes signs) saving) fails keeper_after
       → (y : Agent S) → y ≡ x → (t : Turned) → t.applied ≡ applied_between gone.held h.held + length written → t.reply ≡ bytes_of reply → t.posts ≡ x.pending → t.front ≡ joined x.holding
       → IsAnswered signs IsWhole saves view (refresh_with batch basis) asked now (record { agent = a; keeper = keeper }) t (record { agent = y; keeper = keeper_after })
   as_answered x written saving fails reply becomes by_definition either may_be keeper keeper_after left y y_is t count bytes posts front =
-      let turns_so : (f : Bool) → Becomes signs view a h f written x saving → IsByDefinition signs (refresh_with batch basis) a view f asked now h written reply
-      → Turns signs (refresh_with batch basis) a view f asked now (Answered reply t.applied) y saving =
-      (λ f becomes by_definition. subst (λ (p : ℕ × Agent S). Turns signs (refresh_with batch basis) a view f asked now (Answered reply p.0) p.1 saving) (λ i. (sym count i, sym y_is i))
+      let turns_so : (f : Bool) → Becomes signs view a h f written x saving → IsByDefinition signs (refresh_with batch basis) (record { agent = a; view = view; now = now; fails = f }) asked h written reply
+      → Turns signs (refresh_with batch basis) (record { agent = a; view = view; now = now; fails = f }) asked (Answered reply t.applied) y saving =
+      (λ f becomes by_definition. subst (λ (p : ℕ × Agent S). Turns signs (refresh_with batch basis) (record { agent = a; view = view; now = now; fails = f }) asked (Answered reply p.0) p.1 saving) (λ i. (sym count i, sym y_is i))
       (turning.answers h written reply x saving takes.caught_up takes.above refl may_take becomes by_definition)) in
       record {
         fails = fails;
@@ -379,7 +380,7 @@ module _ {K S : Type 0} (signs : Signing S) (IsWhole : S → Type 0) (saves : K 
               has_failed = (is ∙ sym may_write.unfailed) i;
             }) in (
               as_answered x written (Some (kept_of x)) false (written_reply view asked ops h written) (turning.saves drafted.start drafted.last may_write refl)
-                  (subst (λ (l : List Record). IsByDefinition signs (refresh_with batch basis) a view false asked now h l (written_reply view asked ops h l)) drafted.written
+                  (subst (λ (l : List Record). IsByDefinition signs (refresh_with batch basis) (record { agent = a; view = view; now = now; fails = false }) asked h l (written_reply view asked ops h l)) drafted.written
                   (saved_by_definition signs a view batch basis from.under.0 new asked now well from.under.1 taken ops served_is))
                   (λ none. absurd cc) (kept_with_them IsWhole whole_next) keeper keeper_after (subst (λ (b : Bool). saves keeper (kept_bytes signs (kept_of x)) b keeper_after) is asked_to)
                   y y_is done.turned count_is bytes (w.given.posts ∙ ap (λ (q : Kept S). q.pending) kept_is ∙ drafted.signed.posts) (w.given.its_front ∙ done_front),
@@ -404,7 +405,7 @@ module _ {K S : Type 0} (signs : Signing S) (IsWhole : S → Type 0) (saves : K 
               has_failed = is i;
             }) in (
               as_answered (failed (taking signs a h)) written (Some (kept_of x)) true (lost_reply asked) (loses drafted.start drafted.last may_write refl)
-                  (subst (λ (l : List Record). IsByDefinition signs (refresh_with batch basis) a view true asked now h l (lost_reply asked)) drafted.written
+                  (subst (λ (l : List Record). IsByDefinition signs (refresh_with batch basis) (record { agent = a; view = view; now = now; fails = true }) asked h l (lost_reply asked)) drafted.written
                   (lost_by_definition signs a view batch basis from.under.0 new asked now well from.under.1 taken ops served_is))
                   (λ none. absurd cc) (kept_with_them IsWhole whole_next) keeper keeper_after (subst (λ (b : Bool). saves keeper (kept_bytes signs (kept_of x)) b keeper_after) is asked_to)
                   y y_is done.turned count_is bytes (w.given.posts ∙ ap (λ (q : Kept S). q.pending) kept_is) (w.given.its_front ∙ done_front),

@@ -6,7 +6,6 @@ use Rattle.std.proofs.lemmas.List.Elements.{Contains-append_right}
 use Rattle.ivy_base.specs.declared.key.Key.{Key}
 use Rattle.ivy_base.specs.declared.key.PubKey.{PubKey}
 use Rattle.ivy_base.specs.Naming.{head_key_of, key_cmp}
-use Rattle.ivy_base.proofs.NameLemmas.{length-name, bytes-name}
 use Rattle.tree_model.proofs.Keys.{keys_total}
 use Rattle.tree_model.proofs.Sound.{from_test, to_test}
 use Rattle.log_model.specs.Chain.{IsGood}
@@ -20,6 +19,7 @@ use Rattle.turn_laws.proofs.Entries.{each_put}
 use Rattle.turn_laws.proofs.Heads.{member_named}
 use Rattle.ivy_agent.specs.Newest.{newest_stamp, with_newest}
 use Rattle.ivy_agent.specs.Appended.{MayBeCited, WithNewestMayBeCited}
+use Rattle.ivy_agent.proofs.HeadKeys.{head_is_key}
 use Rattle.ivy_agent.proofs.Fronts.{newest_is_last}
 use Rattle.ivy_agent.proofs.Records.{IsSpelled}
 
@@ -27,7 +27,7 @@ use Rattle.ivy_agent.proofs.Records.{IsSpelled}
 stamp_spelled : (view : View) (own : PubKey) (r : Record) → IsGood view own r → IsSpelled (head_key_of own, (own_entry r).1)
 stamp_spelled view own r good =
     let few = good.spelled.few in
-    (record { size = length-name own.0; each = bytes-name own.0 }, good.spelled.some, omega (arith, few), name_is_key r good.spelled)
+    (head_is_key own, good.spelled.some, omega (arith, few), name_is_key r good.spelled)
 
 pub with_newest_may_be_cited : WithNewestMayBeCited
 with_newest_may_be_cited view own records f member good cited = by (newest_stamp records) refl

@@ -36,7 +36,7 @@ use Rattle.turn_laws.proofs.Whole.{at_entry}
 use Rattle.turn_model.specs.Basis.{Holding}
 use Rattle.turn_model.specs.Turn.{linked}
 use Rattle.agent_model.specs.Agent.{joined}
-use Rattle.ivy_agent.specs.Appended.{MayBeCited, WrittenIsClosed, written_over}
+use Rattle.ivy_agent.specs.Appended.{heading, MayBeCited, WrittenIsClosed, written_over}
 use Rattle.ivy_agent.proofs.Records.{IsSpelled, MayCite, all_lighter, ascend_with, may_cite, name_of_new, new_is_good, none_heavier}
 
 -- ---- the end of the own log
@@ -104,7 +104,7 @@ chosen_grows false n m k l h le = h
 
 module _ (view : View) (base : Vector) (own : PubKey) (v : Vector) (now : Moment) (member : Contains view.members own) (cites : MayCite view own v) (moment : IsMoment now) where
   abbrev next : Stamp → Op → Record
-  next t op = new_record own (t.seq + 1) t.name v now op
+  next t op = new_record (heading own v now) (t.seq + 1) t.name op
 
   full_next : (t : Stamp) (op : Op) (k : Key) → seq_of (full_vector (next t op)) k ≡ cond (eq_by_cmp key_cmp k (head_key_of own)) (t.seq + 1) (seq_of v k)
   full_next t op k = seq_with v (next t op) k cites.of_others
@@ -180,10 +180,10 @@ module _ (view : View) (base : Vector) (own : PubKey) (v : Vector) (now : Moment
           ))
           (each (Stands view base s) v e over.stands within is))
 
-  all_more : (s : List Record) (t : Stamp) (ops : List Op) → IsOver view base own v s t → AllMayBeWritten own (t.seq + 1) ops → IsClosed view base (s ++ linked own v now (t.seq + 1) t.name ops)
+  all_more : (s : List Record) (t : Stamp) (ops : List Op) → IsOver view base own v s t → AllMayBeWritten own (t.seq + 1) ops → IsClosed view base (s ++ linked (heading own v now) (t.seq + 1) t.name ops)
   all_more s t [] over may = subst (λ (l : List Record). IsClosed view base l) (sym (append-nil s)) over.closed
   all_more s t (op ∷ ops) over may =
-      subst (λ (l : List Record). IsClosed view base l) (append_assoc s (next t op ∷ []) (linked own v now (t.seq + 1 + 1) (next t op).name ops))
+      subst (λ (l : List Record). IsClosed view base l) (append_assoc s (next t op ∷ []) (linked (heading own v now) (t.seq + 1 + 1) (next t op).name ops))
       (all_more (s ++ next t op ∷ []) (own_entry (next t op)).1 ops (one_more s t op over may.0) may.1)
 
 -- ---- over what is held
@@ -331,6 +331,6 @@ written_is_closed view own now h ops well member sorted cited closed moment begu
         let named : option_map_or (λ x. x.name) (stamp_at (joined h) (head_key_of own)) no_name ≡ t.name = ap (λ (o : Option Stamp). option_map_or (λ x. x.name) o no_name) e in
         let v : Vector = without_log (head_key_of own) (joined h) in
         let over = is_over view own h well member sorted closed t cited begun e in
-        subst (λ (k : Key). IsClosed view h.basis.front (h.held ++ linked own v now (seq_of (joined h) (head_key_of own) + 1) k ops)) (sym named)
-        (subst (λ (n : ℕ). IsClosed view h.basis.front (h.held ++ linked own v now (n + 1) t.name ops)) (sym number)
+        subst (λ (k : Key). IsClosed view h.basis.front (h.held ++ linked (heading own v now) (seq_of (joined h) (head_key_of own) + 1) k ops)) (sym named)
+        (subst (λ (n : ℕ). IsClosed view h.basis.front (h.held ++ linked (heading own v now) (n + 1) t.name ops)) (sym number)
         (all_more view h.basis.front own v now member (may_cite view own (joined h) well cited) moment h.held t ops over (subst (λ (n : ℕ). AllMayBeWritten own (n + 1) ops) number may)))

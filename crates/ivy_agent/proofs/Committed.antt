@@ -12,7 +12,7 @@ use Rattle.tree_model.specs.Tree.{Tree}
 use Rattle.turn_model.specs.Turn.{Asked}
 use Rattle.replay_engine.specs.Places.{AreBehind}
 use Rattle.replay_engine.specs.Engines.{Engine, holding, taken_in, undone}
-use Rattle.agent_model.specs.Agent.{Signing}
+use Rattle.log_model.specs.Signing.{Signing}
 use Rattle.agent_model.specs.SavedBytes.{kept_bytes}
 use Rattle.agent_model.specs.Turning.{with_held}
 use Rattle.ivy_agent.specs.Saves.{saved_of, IsWholeAfter}

@@ -4,6 +4,7 @@ use Rattle.std.proofs.lemmas.List.{append-nil, map-append}
 use Rattle.std.proofs.lemmas.List.Sums.{fold-append}
 use Rattle.nfs_model.specs.Changing.{finish}
 use Rattle.ivy_base.specs.declared.key.Key.{Key}
+use Rattle.ivy_base.specs.declared.format.Format.TheVariants.{One}
 use Rattle.ivy_base.specs.declared.operation.Moment.{Moment}
 use Rattle.ivy_base.specs.declared.operation.Op.{Op}
 use Rattle.ivy_base.specs.Naming.{NamesTellApart, head_key_of}
@@ -17,14 +18,15 @@ use Rattle.log_records.specs.declared.edge.Edge.{Edge}
 use Rattle.log_records.specs.Batches.{Batch, AreUnder}
 use Rattle.nfs_model.specs.declared.replies.Reply.{Reply}
 use Rattle.turn_model.specs.Basis.{Basis, Holding, HoldsAll, Knows, kept_tree}
-use Rattle.turn_model.specs.Turn.{Agent as Inputs, Asked, Turned, appended, own_seq, turn_on}
+use Rattle.turn_model.specs.Turn.{Inputs, Asked, Turned, appended, own_seq, turn_on}
 use Rattle.turn_model.proofs.Kept.{kept_tree_is_replay}
 use Rattle.ivy_agent.specs.Appended.{written_over}
 use Rattle.ivy_agent.specs.Laws.{with_save}
 use Rattle.ivy_agent.specs.Serving.{Served, Replies, Writes, serve_on, turned_by}
 use Rattle.ivy_agent.proofs.Records.{written_is_appended}
 use Rattle.ivy_agent.proofs.ServedTurns.{inputs_with_save, replies_whatever_is_saved, writes_are_saved}
-use Rattle.agent_model.specs.Agent.{Agent, Signing, joined, own}
+use Rattle.log_model.specs.Signing.{Signing}
+use Rattle.agent_model.specs.Agent.{Agent, joined, own}
 use Rattle.agent_model.specs.Candidates.{MayTurn}
 use Rattle.agent_model.specs.Standing.{Standing, going_on}
 use Rattle.agent_model.specs.Taking.{TakesNew, refresh_with, with_new}
@@ -74,7 +76,7 @@ module _ {S : Type 0} (signs : Signing S) (a : Agent S) (view : View) (batch : B
     served_is : serve_on by (replay taken) (own_seq (own signs a) taken) asked now ≡ served
     served_is = (λ i. serve_on by (sym tree_is i) (seq_is i) asked now)
 
-    turn_by : (fails : Bool) (turned : Turned) → turned ≡ turn_on (with_save by fails) taken asked now → IsTurnBy signs heads met s knew known batch.held a view fails asked now taken turned
+    turn_by : (fails : Bool) (turned : Turned) → turned ≡ turn_on (with_save by fails) taken asked now → IsTurnBy signs (record { heads = heads; met = met; standing = s; knew = knew; started = batch.held }) (record { agent = a; view = view; now = now; fails = fails }) known asked taken turned
     turn_by fails turned is = record {
       candidates = its.1.candidates;
       of_heads = its.1.of_heads;
@@ -83,7 +85,7 @@ module _ {S : Type 0} (signs : Signing S) (a : Agent S) (view : View) (batch : B
     }
 
     module _ (fails : Bool) (reply : Reply) (is : served ≡ Replies reply) where
-      of_replies : IsTurnOf signs heads met s knew known batch.held a view fails asked now held [] reply
+      of_replies : IsTurnOf signs (record { heads = heads; met = met; standing = s; knew = knew; started = batch.held }) (record { agent = a; view = view; now = now; fails = fails }) known asked held [] reply
       of_replies =
           let law = replies_whatever_is_saved by taken asked now reply (served_is ∙ is) in
           let turned : Turned = record { reply = reply; set = taken } in
@@ -103,10 +105,10 @@ module _ {S : Type 0} (signs : Signing S) (a : Agent S) (view : View) (batch : B
       abbrev written : List Record
       written = written_over (own signs a) now (joined held) ops
 
-      same : (taken ++ written ≡ appended (own signs a) now taken ops) × (kept_tree (with_held held written) ≡ replay (appended (own signs a) now taken ops))
+      same : (taken ++ written ≡ appended (own signs a) One now taken ops) × (kept_tree (with_held held written) ≡ replay (appended (own signs a) One now taken ops))
       same = written_is_appended view (own signs a) now taken held ops closed its.1.holds front_is
 
-      of_saved : IsTurnOf signs heads met s knew known batch.held a view false asked now held written (written_reply view asked ops held written)
+      of_saved : IsTurnOf signs (record { heads = heads; met = met; standing = s; knew = knew; started = batch.held }) (record { agent = a; view = view; now = now; fails = false }) known asked held written (written_reply view asked ops held written)
       of_saved = record {
         taken = taken;
         turned = turned_by by taken asked now (Writes ops);
@@ -116,7 +118,7 @@ module _ {S : Type 0} (signs : Signing S) (a : Agent S) (view : View) (batch : B
         holds = its.1.holds;
       }
 
-      of_lost : IsTurnOf signs heads met s knew known batch.held a view true asked now held written (lost_reply asked)
+      of_lost : IsTurnOf signs (record { heads = heads; met = met; standing = s; knew = knew; started = batch.held }) (record { agent = a; view = view; now = now; fails = true }) known asked held written (lost_reply asked)
       of_lost = record {
         taken = taken;
         turned = record { reply = lost_reply asked; set = taken };
@@ -127,13 +129,13 @@ module _ {S : Type 0} (signs : Signing S) (a : Agent S) (view : View) (batch : B
       }
 
   -- where it replies, whatever would become of a save
-  pub replies_by_definition : (fails : Bool) (reply : Reply) → served ≡ Replies reply → IsByDefinition signs (refresh_with batch basis) a view fails asked now held [] reply
+  pub replies_by_definition : (fails : Bool) (reply : Reply) → served ≡ Replies reply → IsByDefinition signs (refresh_with batch basis) (record { agent = a; view = view; now = now; fails = fails }) asked held [] reply
   replies_by_definition fails reply is heads met s knew known apart knows may = of_replies heads met s knew known apart knows may fails reply is
 
   -- where it writes and saves
-  pub saved_by_definition : (ops : List Op) → served ≡ Writes ops → IsByDefinition signs (refresh_with batch basis) a view false asked now held (written_over (own signs a) now (joined held) ops) (written_reply view asked ops held (written_over (own signs a) now (joined held) ops))
+  pub saved_by_definition : (ops : List Op) → served ≡ Writes ops → IsByDefinition signs (refresh_with batch basis) (record { agent = a; view = view; now = now; fails = false }) asked held (written_over (own signs a) now (joined held) ops) (written_reply view asked ops held (written_over (own signs a) now (joined held) ops))
   saved_by_definition ops is heads met s knew known apart knows may = of_saved heads met s knew known apart knows may ops is
 
   -- where the save fails
-  pub lost_by_definition : (ops : List Op) → served ≡ Writes ops → IsByDefinition signs (refresh_with batch basis) a view true asked now held (written_over (own signs a) now (joined held) ops) (lost_reply asked)
+  pub lost_by_definition : (ops : List Op) → served ≡ Writes ops → IsByDefinition signs (refresh_with batch basis) (record { agent = a; view = view; now = now; fails = true }) asked held (written_over (own signs a) now (joined held) ops) (lost_reply asked)
   lost_by_definition ops is heads met s knew known apart knows may = of_lost heads met s knew known apart knows may ops is

@@ -17,7 +17,8 @@ use Rattle.ivy_agent.specs.Newest.{newest_stamp, stamp_of, with_newest}
 use Rattle.ivy_agent.specs.declared.written.Before.{Before}
 use Rattle.ivy_agent.proofs.Fronts.{newest_is_last, newest_is_reached}
 use Rattle.ivy_agent.proofs.Records.{written_are_next}
-use Rattle.agent_model.specs.Agent.{Signing, own_key, record_post}
+use Rattle.log_model.specs.Signing.{Signing}
+use Rattle.agent_model.specs.Agent.{own_key, record_post}
 use Rattle.ivy_agent.specs.Drafts.{IsDraft, IsSigned}
 use Rattle.ivy_agent.specs.declared.saving.Kept.{Kept}
 use Rattle.ivy_agent.specs.declared.drafts.Draft.{Draft}

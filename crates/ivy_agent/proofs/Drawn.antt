@@ -9,7 +9,7 @@ use Rattle.log_model.specs.View.{View}
 use Rattle.log_records.specs.Records.{record_of, records_of}
 use Rattle.turn_model.specs.Basis.{Holding}
 use Rattle.turn_model.specs.Turn.{Asked}
-use Rattle.agent_model.specs.Agent.{Signing}
+use Rattle.log_model.specs.Signing.{Signing}
 use Rattle.ivy_agent.specs.Drafts.{IsDraft}
 use Rattle.ivy_agent.specs.Writing.{HasWritten, WritesDraft}
 use Rattle.ivy_agent.specs.declared.saving.Kept.{Kept}

@@ -8,7 +8,8 @@ use Rattle.log_model.specs.View.{View}
 use Rattle.turn_model.specs.Basis.{Holding, nothing_held}
 use Rattle.turn_taking.specs.Taking.{IsWithin}
 use Rattle.replay_engine.specs.Engines.{Engine, holding}
-use Rattle.agent_model.specs.Agent.{Agent, Signing, joined, own_key}
+use Rattle.log_model.specs.Signing.{Signing}
+use Rattle.agent_model.specs.Agent.{Agent, joined, own_key}
 use Rattle.agent_model.specs.Standing.{Standing, anew_in}
 use Rattle.ivy_agent.specs.Holders.{Holder, IsSound, Stands, StandsIn, agent_of}
 use Rattle.ivy_agent.specs.Entering.{IsTakenIn, kept_in}

@@ -9,7 +9,8 @@ use Rattle.log_records.specs.Batches.{Batch}
 use Rattle.turn_model.specs.Basis.{Basis, Holding}
 use Rattle.turn_model.specs.Turn.{Asked}
 use Rattle.replay_engine.specs.Engines.{Engine, holding}
-use Rattle.agent_model.specs.Agent.{Agent, Signing, own, own_key}
+use Rattle.log_model.specs.Signing.{Signing}
+use Rattle.agent_model.specs.Agent.{Agent, own, own_key}
 use Rattle.agent_model.specs.Standing.{going_on}
 use Rattle.agent_model.specs.Taking.{refresh_with}
 use Rattle.agent_model.specs.Turning.{is_behind, is_below_tide}

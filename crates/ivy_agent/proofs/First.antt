@@ -13,7 +13,8 @@ use Rattle.replay_engine.specs.Engines.{Engine, holding}
 use Rattle.snapshot_model.specs.Blocks.{IsVectorSpelled}
 use Rattle.agent_model.specs.Agent as model
 use Rattle.wire_model.specs.Xdr.{IsAny}
-use Rattle.agent_model.specs.Agent.{Agent, Signing, joined, kept_of, opened, own_key}
+use Rattle.log_model.specs.Signing.{Signing}
+use Rattle.agent_model.specs.Agent.{Agent, joined, kept_of, opened, own_key}
 use Rattle.agent_model.specs.SavedBytes.{ArePostsSpelled, IsKept, kept_bytes}
 use Rattle.ivy_agent.specs.Holders.{Holder, IsSound, Stands, agent_of}
 use Rattle.ivy_agent.specs.Saves.{saved_of, HasSaved, IsWholeAfter}
@@ -22,6 +23,7 @@ use Rattle.ivy_agent.specs.declared.saving.SaveFault.{SaveFault}
 use Rattle.ivy_agent.specs.declared.saving.SaveFault.TheVariants as fault
 use Rattle.ivy_agent.specs.declared.saving.Kept.{Kept}
 use Rattle.ivy_agent.specs.declared.opening.Opened.{Opened}
+use Rattle.ivy_agent.proofs.HeadKeys.{head_is_key}
 use Rattle.ivy_agent.proofs.Opened.{first_stamp}
 
 -- with the signer's own word
@@ -60,7 +62,7 @@ module _ {S : Type 0} (signs : Signing S) where
         let first = opening own now in
         let log_is : head_key_of own ≡ head_key_of (own_key signs o.kept.signer) = (λ i. head_key_of (record { 0 = sym is.its_key i })) in
         let sound : IsSound signs (agent_of o.kept o.engine None false) (head_key_of own) [] =
-        first_sound o.kept (head_key_of own) first.name o.engine log_is (is_key own.0) (is_key (record_block first)) is.outside is.its_floor is.spelled is.no_snapshot is.nothing in
+        first_sound o.kept (head_key_of own) first.name o.engine log_is (head_is_key own) (is_key (record_block first)) is.outside is.its_floor is.spelled is.no_snapshot is.nothing in
         subst (λ (t : Key × Vector). IsSound signs (agent_of o.kept o.engine None false) t.0 t.1) (λ i. (sym is.its_log i, sym is.its_front i)) sound
 
     -- it is the agent of the definition

@@ -27,7 +27,7 @@ use Rattle.turn_laws.proofs.Starts.{stamp_at-without_log, sorted_without_log}
 use Rattle.turn_model.specs.Turn.{linked, own_seq, own_name}
 use Rattle.agent_model.specs.Agent.{joined}
 use Rattle.ivy_agent.specs.Newest.{newest_stamp, with_newest}
-use Rattle.ivy_agent.specs.Appended.{AppendedFront, HeldFront, NewestIsLast, NewestIsReached, written_over}
+use Rattle.ivy_agent.specs.Appended.{heading, AppendedFront, HeldFront, NewestIsLast, NewestIsReached, written_over}
 
 -- ---- a join, log by log
 
@@ -134,10 +134,10 @@ module _ (own : PubKey) (f : Vector) (sorted : Sorted f) where
   newest_or o rs = last_or o (map (λ r. (own_entry r).1) rs)
 
   all_more : (v : Vector) (o : Option Stamp) (now : Moment) (n : ℕ) (prev : Key) (ops : List Op) → reach o < n → IsOver v o
-      → IsOver (fold join v (map full_vector (linked own cited now n prev ops))) (newest_or o (linked own cited now n prev ops))
+      → IsOver (fold join v (map full_vector (linked (heading own cited now) n prev ops))) (newest_or o (linked (heading own cited now) n prev ops))
   all_more v o now n prev [] after over = over
   all_more v o now n prev (op ∷ ops) after over =
-      let r : Record = new_record own n prev cited now op in
+      let r : Record = new_record (heading own cited now) n prev op in
       all_more (join v (full_vector r)) (Some (own_entry r).1) now (n + 1) r.name ops (omega arith) (one_more v o (own_entry r).1 after over)
 
   over_is : (v : Vector) (s : Stamp) → IsOver v (Some s) → v ≡ put key_cmp log s f
@@ -151,11 +151,11 @@ module _ (own : PubKey) (f : Vector) (sorted : Sorted f) where
   some_newest s (r ∷ rs) = some_newest (own_entry r).1 rs
 
   pub joined_front : (now : Moment) (n : ℕ) (prev : Key) (ops : List Op) → reach (stamp_at f log) < n
-      → fold join f (map full_vector (linked own cited now n prev ops)) ≡ with_newest own (newest_stamp (linked own cited now n prev ops)) f
+      → fold join f (map full_vector (linked (heading own cited now) n prev ops)) ≡ with_newest own (newest_stamp (linked (heading own cited now) n prev ops)) f
   joined_front now n prev [] after = refl
   joined_front now n prev (op ∷ ops) after =
-      let r : Record = new_record own n prev cited now op in
-      let rs : List Record = linked own cited now (n + 1) r.name ops in
+      let r : Record = new_record (heading own cited now) n prev op in
+      let rs : List Record = linked (heading own cited now) (n + 1) r.name ops in
       let newest = some_newest (own_entry r).1 rs in
       let over = all_more f (stamp_at f log) now n prev (op ∷ ops) after is_over_itself in
       over_is (fold join f (map full_vector (r ∷ rs))) newest.0
@@ -194,11 +194,11 @@ newest_is_last [] t e = absurd (cc e)
 newest_is_last (r ∷ rs) t e = last_from r rs t e
 
 reached_from : (own : PubKey) (v : Vector) (now : Moment) (s t : Stamp) (n : ℕ) (prev : Key) (ops : List Op) → s.seq + 1 ≡ n
-    → last_or (Some s) (map (λ x. (own_entry x).1) (linked own v now n prev ops)) ≡ Some t → t.seq ≡ s.seq + length ops
+    → last_or (Some s) (map (λ x. (own_entry x).1) (linked (heading own v now) n prev ops)) ≡ Some t → t.seq ≡ s.seq + length ops
 reached_from own v now s t n prev [] next e =
     let same : s.seq ≡ t.seq = ap (λ (x : Stamp). x.seq) (some_is s t e) in omega (arith, same)
 reached_from own v now s t n prev (op ∷ ops) next e =
-    let r : Record = new_record own n prev v now op in
+    let r : Record = new_record (heading own v now) n prev op in
     let more = reached_from own v now (own_entry r).1 t (n + 1) r.name ops refl e in
     omega (arith, next, more)
 
@@ -207,6 +207,6 @@ newest_is_reached own now f [] t e = absurd (cc e)
 newest_is_reached own now f (op ∷ ops) t e =
     let log : Key = head_key_of own in
     let n : ℕ = seq_of f log + 1 in
-    let r : Record = new_record own n (option_map_or (λ x. x.name) (stamp_at f log) no_name) (without_log log f) now op in
+    let r : Record = new_record (heading own (without_log log f) now) n (option_map_or (λ x. x.name) (stamp_at f log) no_name) op in
     let more = reached_from own (without_log log f) now (own_entry r).1 t (n + 1) r.name ops refl e in
     (omega (arith, more), omega arith)

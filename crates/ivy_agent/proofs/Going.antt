@@ -17,7 +17,8 @@ use Rattle.turn_laws.proofs.Whole.{at_entry}
 use Rattle.turn_model.specs.Basis.{Basis, Holding}
 use Rattle.turn_taking.specs.Taking.{IsWithin}
 use Rattle.turn_taking.proofs.Dominating.{far}
-use Rattle.agent_model.specs.Agent.{Agent, Signing, joined, own}
+use Rattle.log_model.specs.Signing.{Signing}
+use Rattle.agent_model.specs.Agent.{Agent, joined, own}
 use Rattle.agent_model.specs.Standing.{dominates, going_on}
 use Rattle.ivy_agent.specs.Bounds.{HasBounds}
 use Rattle.ivy_agent.specs.Grounds.{IsGround, taken_basis}

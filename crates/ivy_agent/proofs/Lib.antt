@@ -1,3 +1,4 @@
+pub mod HeadKeys
 pub mod Posts
 pub mod Floors
 pub mod Counted
@@ -20,6 +21,8 @@ pub mod Trees
 pub mod News
 pub mod Takes
 pub mod Short
+pub mod Faultless
+pub mod Caused
 pub mod Answered
 pub mod Citing
 pub mod Published

@@ -12,10 +12,12 @@ use Rattle.turn_model.specs.Basis.{nothing_held}
 use Rattle.dht_ids.specs.declared.post.Post.{Post}
 use Rattle.dht_ids.specs.declared.post.PostKind.TheVariants as kind
 use Rattle.replay_engine.specs.Engines.{holding}
-use Rattle.agent_model.specs.Agent.{Signing, own_key, sealed}
+use Rattle.log_model.specs.Signing.{Signing}
+use Rattle.agent_model.specs.Agent.{own_key, sealed}
 use Rattle.agent_model.specs.SavedBytes.{ArePostsSpelled, AreOpaque}
 use Rattle.ivy_agent.specs.Making.{IsOpening}
 use Rattle.ivy_agent.specs.declared.opening.Opened.{Opened}
+use Rattle.ivy_agent.proofs.HeadKeys.{head_is_key}
 
 -- the first record's stamp under a name
 abbrev pub first_stamp : Key → Stamp
@@ -32,7 +34,7 @@ module _ {S : Type 0} (signs : Signing S) (signer : S) (now : Moment) (o : Opene
   posts_spelled : AreOpaque block → AreOpaque head → ArePostsSpelled (first_posts (head_key_of own) (name block) block head)
   posts_spelled counted head_counted = record {
     few = omega arith;
-    each = ((is_key block, inr refl, counted), ((is_key own.0, inl refl, head_counted), tt));
+    each = ((is_key block, inr refl, counted), ((head_is_key own, inl refl, head_counted), tt));
   }
 
   -- of the key and the names as they were told

@@ -24,7 +24,8 @@ use Rattle.ivy_agent.specs.Laws.{IsPlanned}
 use Rattle.ivy_agent.specs.Serving.{Replies, Writes}
 use Rattle.ivy_agent.proofs.Records.{writes_may_stand, written_are_good, written_go_behind}
 use Rattle.ivy_agent.proofs.ServedTurns.{writes_are_planned}
-use Rattle.agent_model.specs.Agent.{Signing, joined, own_key}
+use Rattle.log_model.specs.Signing.{Signing}
+use Rattle.agent_model.specs.Agent.{joined, own_key}
 use Rattle.ivy_agent.specs.Answering.{Answers, IsCall, MayGoOn, goes_by, served_on, replies, writes}
 use Rattle.nfs_model.specs.declared.replies.Reply.{Reply}
 use Rattle.ivy_agent.specs.Outcomes.{Gives, kept_to}

@@ -6,10 +6,11 @@ use Rattle.log_model.specs.Record.{Record}
 use Rattle.log_model.specs.Spelling.{HasSpelling, IsKey, longest_record}
 use Rattle.log_model.specs.Vector.{Stamp}
 use Rattle.log_model.proofs.Lists.{each, each_append, each_from}
-use Rattle.snapshot_model.proofs.MadeLists.{is_key}
 use Rattle.dht_ids.specs.declared.post.Post.{Post}
-use Rattle.agent_model.specs.Agent.{Signing, head_post, is_head, own_key, record_post, with_posts}
+use Rattle.log_model.specs.Signing.{Signing}
+use Rattle.agent_model.specs.Agent.{head_post, is_head, own_key, record_post, with_posts}
 use Rattle.agent_model.specs.SavedBytes.{AreOpaque, ArePostsSpelled, HasItsName}
+use Rattle.ivy_agent.proofs.HeadKeys.{head_is_key}
 use Rattle.ivy_agent.proofs.Records.{posts_are_named}
 use Rattle.ivy_agent.proofs.Settled.{some_spelled}
 
@@ -29,5 +30,5 @@ posts_spelled signs signer newest pending written before h counted head few = re
   few = few;
   each = each_append IsPost (filter (λ p. not (is_head p.kind)) pending ++ map record_post written) (head_post signs signer newest ∷ [])
       (each_append IsPost (filter (λ p. not (is_head p.kind)) pending) (map record_post written) (some_spelled (λ p. not (is_head p.kind)) pending before).each (each_written written h counted))
-      ((is_key (own_key signs signer).0, inl refl, head), tt);
+      ((head_is_key (own_key signs signer), inl refl, head), tt);
 }

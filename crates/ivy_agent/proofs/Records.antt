@@ -36,7 +36,7 @@ use Rattle.turn_model.proofs.Kept.{kept_tree_is_replay}
 use Rattle.turn_model.proofs.Plans.{plan_may_be_written}
 use Rattle.agent_model.specs.Agent.{joined}
 use Rattle.agent_model.specs.Turning.{AreNext, with_held}
-use Rattle.ivy_agent.specs.Appended.{MayBeCited, PostsAreNamed, WrittenAreGood, WrittenAreNext, WrittenGoBehind, WrittenIsAppended, WritesMayStand, written_over}
+use Rattle.ivy_agent.specs.Appended.{heading, MayBeCited, PostsAreNamed, WrittenAreGood, WrittenAreNext, WrittenGoBehind, WrittenIsAppended, WritesMayStand, written_over}
 use Rattle.ivy_agent.proofs.ServedTurns.{writes_are_planned}
 
 pub writes_may_stand : WritesMayStand
@@ -48,9 +48,9 @@ writes_may_stand a t seq asked now ops keys caller fits moment e =
 -- ---- good records
 
 -- a name is a key, by the digest alone
-pub name_of_new : (own : PubKey) (n : ℕ) (prev : Key) (v : Vector) (now : Moment) (op : Op) → IsKey (new_record own n prev v now op).name
+pub name_of_new : (own : PubKey) (n : ℕ) (prev : Key) (v : Vector) (now : Moment) (op : Op) → IsKey (new_record (heading own v now) n prev op).name
 name_of_new own n prev v now op =
-    let r : Record = new_record own n prev v now op in
+    let r : Record = new_record (heading own v now) n prev op in
     record { size = length-name (record_block r); each = bytes-name (record_block r) }
 
 abbrev pub IsSpelled : Entry → Type 0
@@ -64,7 +64,7 @@ pub record MayCite (view : View) (own : PubKey) (v : Vector) : Type 0 where
   pub short : length v ≤ 32
   pub named : AllByRecursion (λ e. IsTrue (is_named view e.0)) v
 
-pub new_is_good : (view : View) (own : PubKey) (n : ℕ) (prev : Key) (v : Vector) (now : Moment) (op : Op) → MayCite view own v → IsMoment now → 2 ≤ n → IsKey prev → MayBeWritten own n op → IsGood view own (new_record own n prev v now op)
+pub new_is_good : (view : View) (own : PubKey) (n : ℕ) (prev : Key) (v : Vector) (now : Moment) (op : Op) → MayCite view own v → IsMoment now → 2 ≤ n → IsKey prev → MayBeWritten own n op → IsGood view own (new_record (heading own v now) n prev op)
 new_is_good view own n prev v now op cites moment later key may = record {
   owned = refl;
   spelled = record {
@@ -78,6 +78,7 @@ new_is_good view own n prev v now op cites moment later key may = record {
     of_others = cites.of_others;
     operation = may.fits;
     ends_first = (λ e. absurd (omega (arith, later, e)), λ e. absurd (may.no_end e));
+    first_plain = λ e. refl;
     first_alone = λ e. absurd (omega (arith, later, e));
     named = refl;
   };
@@ -86,11 +87,11 @@ new_is_good view own n prev v now op cites moment later key may = record {
 }
 
 all_good : (view : View) (own : PubKey) (v : Vector) (now : Moment) → MayCite view own v → IsMoment now → (n : ℕ) (prev : Key) (ops : List Op) → 2 ≤ n → IsKey prev → AllMayBeWritten own n ops
-    → AllByRecursion (IsGood view own) (linked own v now n prev ops)
+    → AllByRecursion (IsGood view own) (linked (heading own v now) n prev ops)
 all_good view own v now cites moment n prev [] later key may = tt
 all_good view own v now cites moment n prev (op ∷ ops) later key may = (
   new_is_good view own n prev v now op cites moment later key may.0,
-  all_good view own v now cites moment (n + 1) (new_record own n prev v now op).name ops (omega (arith, later)) (name_of_new own n prev v now op) may.1,
+  all_good view own v now cites moment (n + 1) (new_record (heading own v now) n prev op).name ops (omega (arith, later)) (name_of_new own n prev v now op) may.1,
 )
 
 -- the own log's newest record in a front has a key as its name
@@ -122,13 +123,13 @@ written_are_good view own now f ops well cited moment begun may =
 
 -- ---- the next records
 
-all_next : (own : PubKey) (v : Vector) (now : Moment) (n : ℕ) (prev : Key) (ops : List Op) → AreNext n (linked own v now (n + 1) prev ops)
+all_next : (own : PubKey) (v : Vector) (now : Moment) (n : ℕ) (prev : Key) (ops : List Op) → AreNext n (linked (heading own v now) (n + 1) prev ops)
 all_next own v now n prev [] = tt
-all_next own v now n prev (op ∷ ops) = (refl, all_next own v now (n + 1) (new_record own (n + 1) prev v now op).name ops)
+all_next own v now n prev (op ∷ ops) = (refl, all_next own v now (n + 1) (new_record (heading own v now) (n + 1) prev op).name ops)
 
-as_many : (own : PubKey) (v : Vector) (now : Moment) (n : ℕ) (prev : Key) (ops : List Op) → length (linked own v now n prev ops) ≡ length ops
+as_many : (own : PubKey) (v : Vector) (now : Moment) (n : ℕ) (prev : Key) (ops : List Op) → length (linked (heading own v now) n prev ops) ≡ length ops
 as_many own v now n prev [] = refl
-as_many own v now n prev (op ∷ ops) = ap (λ (k : ℕ). suc k) (as_many own v now (n + 1) (new_record own n prev v now op).name ops)
+as_many own v now n prev (op ∷ ops) = ap (λ (k : ℕ). suc k) (as_many own v now (n + 1) (new_record (heading own v now) n prev op).name ops)
 
 pub written_are_next : WrittenAreNext
 written_are_next own now f ops =
@@ -140,32 +141,32 @@ written_are_next own now f ops =
 
 module _ (own : PubKey) (v : Vector) (now : Moment) where
   -- a record that is lighter than the first of them is before all
-  before_all : (x : Record) (n : ℕ) (prev : Key) (ops : List Op) → weight x < n + weight_of v → AllByRecursion (λ r. IsBefore x r) (linked own v now n prev ops)
+  before_all : (x : Record) (n : ℕ) (prev : Key) (ops : List Op) → weight x < n + weight_of v → AllByRecursion (λ r. IsBefore x r) (linked (heading own v now) n prev ops)
   before_all x n prev [] light = tt
   before_all x n prev (op ∷ ops) light =
-      let r : Record = new_record own n prev v now op in
+      let r : Record = new_record (heading own v now) n prev op in
       (lighter_is_before x r light, before_all x (n + 1) r.name ops (omega (arith, light)))
 
-  all_ascend : (n : ℕ) (prev : Key) (ops : List Op) → IsAscending (linked own v now n prev ops)
+  all_ascend : (n : ℕ) (prev : Key) (ops : List Op) → IsAscending (linked (heading own v now) n prev ops)
   all_ascend n prev [] = tt
   all_ascend n prev (op ∷ ops) =
-      let r : Record = new_record own n prev v now op in
+      let r : Record = new_record (heading own v now) n prev op in
       (before_all r (n + 1) r.name ops (omega arith), all_ascend (n + 1) r.name ops)
 
   -- lighter records are before each of them
-  behind_each : (held : List Record) (n : ℕ) (prev : Key) (ops : List Op) → AllByRecursion (λ q. weight q < n + weight_of v) held → AllByRecursion (λ r. AllByRecursion (λ q. IsBefore q r) held) (linked own v now n prev ops)
+  behind_each : (held : List Record) (n : ℕ) (prev : Key) (ops : List Op) → AllByRecursion (λ q. weight q < n + weight_of v) held → AllByRecursion (λ r. AllByRecursion (λ q. IsBefore q r) held) (linked (heading own v now) n prev ops)
   behind_each held n prev [] light = tt
   behind_each held n prev (op ∷ ops) light =
-      let r : Record = new_record own n prev v now op in (
+      let r : Record = new_record (heading own v now) n prev op in (
         each_from (λ q. IsBefore q r) held (λ q c. lighter_is_before q r (each (λ x. weight x < n + weight_of v) held q light c)),
         behind_each held (n + 1) r.name ops (each_from (λ x. weight x < n + 1 + weight_of v) held (λ q c. let less = each (λ x. weight x < n + weight_of v) held q light c in omega (arith, less))),
       )
 
   -- and ascend with them, where they do
-  pub ascend_with : (s : List Record) (n : ℕ) (prev : Key) (ops : List Op) → IsAscending s → AllByRecursion (λ q. weight q < n + weight_of v) s → IsAscending (s ++ linked own v now n prev ops)
+  pub ascend_with : (s : List Record) (n : ℕ) (prev : Key) (ops : List Op) → IsAscending s → AllByRecursion (λ q. weight q < n + weight_of v) s → IsAscending (s ++ linked (heading own v now) n prev ops)
   ascend_with [] n prev ops up light = all_ascend n prev ops
   ascend_with (x ∷ s) n prev ops up light =
-      (each_append (IsBefore x) s (linked own v now n prev ops) up.0 (before_all x n prev ops light.0), ascend_with s n prev ops up.1 light.1)
+      (each_append (IsBefore x) s (linked (heading own v now) n prev ops) up.0 (before_all x n prev ops light.0), ascend_with s n prev ops up.1 light.1)
 
 -- none of these records weighs more than a vector that goes as far as each
 pub none_heavier : (s : List Record) (f : Vector) → Sorted f → AllByRecursion HasSpelling s → AllByRecursion (λ w. Dominates f w) (map full_vector s) → AllByRecursion (λ q. weight q ≤ weight_of f) s

@@ -8,7 +8,7 @@ use Rattle.turn_model.specs.Basis.{Basis, Holding}
 use Rattle.turn_model.specs.Turn.{Asked}
 use Rattle.log_fetch.specs.declared.standing.Standing.{Standing}
 use Rattle.log_fetch.specs.Standings.{standing_of}
-use Rattle.agent_model.specs.Agent.{Signing}
+use Rattle.log_model.specs.Signing.{Signing}
 use Rattle.agent_model.specs.Standing.{Refresh, anew_in, going_on}
 use Rattle.agent_model.specs.Taking.{refresh_with}
 use Rattle.agent_model.specs.Turning.{TurnEnd, Turns}
@@ -30,7 +30,7 @@ module _ {K S : Type 0} (signs : Signing S) (IsWhole : S → Type 0) (saves : K 
 
   module _ (brought : Refresh) (view : View) where
     abbrev Ends : TurnEnd → Holder K S → Type 0
-    Ends end after = (fails : Bool) → Turns signs brought before.agent view fails asked now end after.agent None
+    Ends end after = (fails : Bool) → Turns signs brought (record { agent = before.agent; view = view; now = now; fails = fails }) asked end after.agent None
 
     refused : (end : TurnEnd) (standing : Standing) (after : Holder K S) → Ends end after → after.keeper ≡ before.keeper → standing_of standing ≡ anew_in signs after.agent view
         → IsRefused signs IsWhole saves view brought asked now before end standing after

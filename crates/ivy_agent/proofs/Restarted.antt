@@ -8,7 +8,8 @@ use Rattle.turn_model.specs.Basis.{nothing_held}
 use Rattle.ivy_io.specs.Keepers.{GivesKept, KeeperState}
 use Rattle.replay_engine.specs.Engines.{Engine, holding}
 use Rattle.agent_model.specs.Agent as model
-use Rattle.agent_model.specs.Agent.{Signing, joined, own_key}
+use Rattle.log_model.specs.Signing.{Signing}
+use Rattle.agent_model.specs.Agent.{joined, own_key}
 use Rattle.agent_model.specs.SavedBytes.{IsKept}
 use Rattle.agent_saves.specs.Saves.{AreSavedOf, IsCounted}
 use Rattle.ivy_agent.specs.Holders.{Holder, IsSound, Stands, agent_of}

@@ -14,9 +14,10 @@ use Rattle.nfs_model.specs.declared.replies.Reply.{Reply}
 use Rattle.nfs_model.specs.declared.replies.Reply.TheVariants.{Refused}
 use Rattle.nfs_model.specs.Reading.{answer}
 use Rattle.nfs_model.specs.Changing.{is_changing, Plan, Refuse, Nothing, Operations, plan}
-use Rattle.turn_model.specs.Turn.{Agent as Inputs, Asked, Turned, bare_tail, by_plan, own_seq, turn_on}
+use Rattle.turn_model.specs.Turn.{Inputs, Asked, Turned, bare_tail, by_plan, own_seq, turn_on}
 use Rattle.log_model.specs.View.{View}
-use Rattle.agent_model.specs.Agent.{Agent, Signing}
+use Rattle.log_model.specs.Signing.{Signing}
+use Rattle.agent_model.specs.Agent.{Agent}
 use Rattle.agent_model.specs.Turning.{inputs, inputs_before}
 use Rattle.ivy_agent.specs.Serving.{Served, Replies, Writes, is_full, serve_on, serve_plan, turned_by}
 use Rattle.ivy_agent.specs.Laws.{IsPlanned, with_save}

@@ -6,7 +6,7 @@ use Rattle.log_model.specs.View.{View}
 use Rattle.log_model.specs.Vector.{Vector}
 use Rattle.dht_ids.specs.declared.post.Post.{Post}
 use Rattle.replay_engine.specs.Engines.{Engine}
-use Rattle.agent_model.specs.Agent.{Signing}
+use Rattle.log_model.specs.Signing.{Signing}
 use Rattle.agent_model.specs.SavedBytes.{ArePostsSpelled}
 use Rattle.ivy_agent.specs.Holders.{IsSound, Stands, agent_of}
 use Rattle.ivy_agent.specs.declared.saving.Kept.{Kept}

@@ -22,10 +22,10 @@ use Rattle.nfs_model.specs.Reading.{answer}
 use Rattle.nfs_model.specs.Results.{before, fattr, result, status_number, tail, wcc}
 use Rattle.nfs_laws.specs.Lengths.{AnswersFit, FinishesFit, IsShortPlan, PlansFit}
 use Rattle.turn_model.specs.Basis.{Holding, kept_tree}
-use Rattle.turn_model.specs.Turn.{Agent as Inputs, Asked, bare_tail}
+use Rattle.turn_model.specs.Turn.{Inputs, Asked, bare_tail}
 use Rattle.ivy_agent.specs.Serving.{Replies, Writes, is_full, serve_on, serve_plan}
 use Rattle.ivy_agent.proofs.ServedTurns.{writes_are_planned}
-use Rattle.agent_model.specs.Agent.{Signing}
+use Rattle.log_model.specs.Signing.{Signing}
 use Rattle.agent_model.specs.Turning.{with_held}
 use Rattle.ivy_agent.specs.Answering.{Answers, goes_by, replies, writes}
 use Rattle.ivy_agent.specs.Bounds.{HasBounds}

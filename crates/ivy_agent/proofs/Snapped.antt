@@ -22,7 +22,8 @@ use Rattle.snapshot_model.specs.Spelling.{root_name, snapshot_blocks}
 use Rattle.snapshot_model.proofs.MadeLists.{is_key}
 use Rattle.snapshot_store.specs.Puts.{basis_with}
 use Rattle.agent_model.specs.Agent as model
-use Rattle.agent_model.specs.Agent.{Agent, Signing, failed, joined, kept_of}
+use Rattle.log_model.specs.Signing.{Signing}
+use Rattle.agent_model.specs.Agent.{Agent, failed, joined, kept_of}
 use Rattle.agent_model.specs.Others.{basis_of, block_post, is_pending_block, snapped}
 use Rattle.agent_model.specs.SavedBytes.{AreOpaque, ArePostsSpelled, HasItsName, IsKept, kept_bytes}
 use Rattle.ivy_agent.specs.Holders.{Holder, IsSound, Stands, agent_of}

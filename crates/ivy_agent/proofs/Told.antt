@@ -13,7 +13,7 @@ use Rattle.replay_engine.specs.Rows.{IsRow}
 use Rattle.log_fetch.specs.Standings.{standing_of}
 use Rattle.log_fetch.specs.declared.standing.Standing.{Standing}
 use Rattle.replay_engine.specs.Engines.{Engine, holding}
-use Rattle.agent_model.specs.Agent.{Signing}
+use Rattle.log_model.specs.Signing.{Signing}
 use Rattle.agent_model.specs.Standing.{standing_in}
 use Rattle.ivy_agent.specs.Edges.{KnowsOthers, newest_edges}
 use Rattle.ivy_agent.specs.Holders.{Holder, IsSound, agent_of}

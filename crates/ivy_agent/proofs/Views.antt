@@ -10,7 +10,8 @@ use Rattle.log_fetch.specs.declared.turned.TurnFault.{TurnFault}
 use Rattle.log_fetch.specs.declared.turned.TurnFault.TheVariants as fault
 use Rattle.turn_model.specs.Basis.{Holding}
 use Rattle.turn_model.specs.Turn.{Asked}
-use Rattle.agent_model.specs.Agent.{Agent, Kept, Signing}
+use Rattle.log_model.specs.Signing.{Signing}
+use Rattle.agent_model.specs.Agent.{Agent, Kept}
 use Rattle.agent_model.specs.Standing.{Refresh}
 use Rattle.agent_model.specs.Turning.{Becomes, TurnEnd, Turns}
 use Rattle.agent_model.specs.Turning.Becomes.{reads, saves, loses}
@@ -25,7 +26,7 @@ module _ {S : Type 0} (signs : Signing S) where
   becomes_view view a h fails _ _ _ (loses before last may failing) = refl
 
   turns_view : (brought : Refresh) (a : Agent S) (view : View) (fails : Bool) (asked : Asked) (now : Moment) (end : TurnEnd) (after : Agent S) (saving : Option (Kept S))
-      → Turns signs brought a view fails asked now end after saving → after.view ≡ a.view
+      → Turns signs brought (record { agent = a; view = view; now = now; fails = fails }) asked end after saving → after.view ≡ a.view
   turns_view brought a view fails asked now _ _ _ (behind is) = refl
   turns_view brought a view fails asked now _ _ _ (below caught_up is) = refl
   turns_view brought a view fails asked now _ _ _ (answers h written reply after saving caught_up above base may becomes by) = becomes_view view a h fails written after saving becomes

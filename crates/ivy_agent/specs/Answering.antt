@@ -12,9 +12,10 @@ use Rattle.wire_model.specs.Rpc.{IsIdentity}
 use Rattle.nfs_model.specs.Arguments.{ArgumentsFit}
 use Rattle.nfs_model.specs.declared.replies.Reply.{Reply}
 use Rattle.turn_model.specs.Basis.{Holding, kept_tree}
-use Rattle.turn_model.specs.Turn.{Agent as Inputs, Asked}
+use Rattle.turn_model.specs.Turn.{Inputs, Asked}
 use Rattle.ivy_agent.specs.Serving.{Served, Replies, Writes as IsToWrite, serve_on}
-use Rattle.agent_model.specs.Agent.{Signing, own_key}
+use Rattle.log_model.specs.Signing.{Signing}
+use Rattle.agent_model.specs.Agent.{own_key}
 use Rattle.ivy_agent.specs.Bounds.{HasBounds}
 use Rattle.ivy_agent.specs.Outcomes.{Gives, kept_to}
 use Rattle.ivy_agent.specs.Writing.{WritesDraft}

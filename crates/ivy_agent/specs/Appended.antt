@@ -6,6 +6,7 @@ use Rattle.std.specs.Ordering.{is_lt}
 use Rattle.std.specs.FinMap.Entries.{is_sorted}
 use Rattle.causal_order.specs.Over as over
 use Rattle.ivy_base.specs.declared.key.PubKey.{PubKey}
+use Rattle.ivy_base.specs.declared.format.Format.TheVariants.{One}
 use Rattle.ivy_base.specs.declared.operation.Moment.{Moment}
 use Rattle.ivy_base.specs.declared.operation.Op.{Op}
 use Rattle.ivy_base.specs.Naming.{head_key_of, key_cmp}
@@ -14,14 +15,14 @@ use Rattle.log_model.specs.Chain.{IsGood, AllMayBeWritten}
 use Rattle.log_model.specs.Closed.{IsAscending, IsClosed}
 use Rattle.log_model.specs.Laws.{NumbersAreKeys}
 use Rattle.log_model.specs.Rank.{front, own_entry, record_cmp}
-use Rattle.log_model.specs.Record.{Record}
+use Rattle.log_model.specs.Record.{Heading, Record}
 use Rattle.log_model.specs.Replay.{replay}
 use Rattle.log_model.specs.Spelling.{HasSpelling, IsKey, IsMoment, longest_record, no_name}
-use Rattle.log_model.specs.Vector.{Stamp, Vector, seq_of, stamp_at, without_log}
+use Rattle.log_model.specs.Vector.{Stamp, Vector, seq_of, stamp_at}
 use Rattle.log_model.specs.View.{View, IsView, is_named}
 use Rattle.nfs_model.specs.Arguments.{ArgumentsFit}
 use Rattle.turn_model.specs.Basis.{Holding, HoldsAll, kept_tree}
-use Rattle.turn_model.specs.Turn.{Agent as Inputs, Asked, appended, linked}
+use Rattle.turn_model.specs.Turn.{Inputs, Asked, appended, heading_over, linked}
 use Rattle.version_vectors.specs.Vectors.{IsVector}
 use Rattle.wire_model.specs.Rpc.{IsIdentity}
 use Rattle.agent_model.specs.Agent.{joined, record_post}
@@ -30,16 +31,22 @@ use Rattle.agent_model.specs.Turning.{AreNext, with_held}
 use Rattle.ivy_agent.specs.Newest.{newest_stamp, with_newest}
 use Rattle.ivy_agent.specs.Serving.{Writes, serve_on}
 
+-- what records have in common that a turn writes
+abbrev pub heading : PubKey → Vector → Moment → Heading
+heading own cited now = record { owner = own; format = One; vector = cited; moment = now }
+
 -- one record for each operation, behind the own log's newest record of the front, and citing all else of it
 abbrev pub written_over : PubKey → Moment → Vector → List Op → List Record
 written_over own now f ops =
-    linked own (without_log (head_key_of own) f) now (seq_of f (head_key_of own) + 1) (option_map_or (λ t. t.name) (stamp_at f (head_key_of own)) no_name) ops
+    linked (heading_over own One now f) (seq_of f (head_key_of own) + 1)
+    (option_map_or (λ t. t.name) (stamp_at f (head_key_of own)) no_name) ops
 
 -- ---- fronts
 
 -- With what is appended to a set, its front has the own log's newest record.
 abbrev pub AppendedFront : Type 0
-AppendedFront = (own : PubKey) (now : Moment) (s : List Record) (ops : List Op) → front (appended own now s ops) ≡ with_newest own (newest_stamp (written_over own now (front s) ops)) (front s)
+AppendedFront = (own : PubKey) (now : Moment) (s : List Record) (ops : List Op)
+    → front (appended own One now s ops) ≡ with_newest own (newest_stamp (written_over own now (front s) ops)) (front s)
 
 -- So has the front of what is held.
 abbrev pub HeldFront : Type 0
@@ -104,4 +111,5 @@ WrittenIsClosed = (view : View) (own : PubKey) (now : Moment) (h : Holding) (ops
 -- The set with what is appended is the one with what is written over what is held, and its replay is the tree that is held then.
 abbrev pub WrittenIsAppended : Type 0
 WrittenIsAppended = (view : View) (own : PubKey) (now : Moment) (s : List Record) (h : Holding) (ops : List Op) → IsClosed view s → HoldsAll view s h → front s ≡ joined h
-    → (s ++ written_over own now (joined h) ops ≡ appended own now s ops) × (kept_tree (with_held h (written_over own now (joined h) ops)) ≡ replay (appended own now s ops))
+    → (s ++ written_over own now (joined h) ops ≡ appended own One now s ops)
+    × (kept_tree (with_held h (written_over own now (joined h) ops)) ≡ replay (appended own One now s ops))

@@ -9,7 +9,7 @@ use Rattle.log_fetch.specs.declared.turned.Turned.{Turned}
 use Rattle.log_fetch.specs.declared.turned.TurnFault.{TurnFault}
 use Rattle.log_fetch.specs.Standings.{standing_of}
 use Rattle.turn_model.specs.Turn.{Asked}
-use Rattle.agent_model.specs.Agent.{Signing}
+use Rattle.log_model.specs.Signing.{Signing}
 use Rattle.agent_model.specs.Others.{settled}
 use Rattle.agent_model.specs.Standing.{Refresh, standing_in}
 use Rattle.ivy_agent.specs.Holders.{Holder}

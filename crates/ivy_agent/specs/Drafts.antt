@@ -10,7 +10,8 @@ use Rattle.log_records.specs.Records.{records_of}
 use Rattle.ivy_agent.specs.Appended.{written_over}
 use Rattle.ivy_agent.specs.Newest.{newest_stamp, with_newest}
 use Rattle.dht_ids.specs.declared.post.Post.{Post}
-use Rattle.agent_model.specs.Agent.{Signing, head_post, own_key, record_post, with_posts}
+use Rattle.log_model.specs.Signing.{Signing}
+use Rattle.agent_model.specs.Agent.{head_post, own_key, record_post, with_posts}
 use Rattle.agent_model.specs.SavedBytes.{AreOpaque}
 use Rattle.ivy_agent.specs.declared.saving.Kept.{Kept}
 use Rattle.ivy_agent.specs.declared.drafts.Next.{Next}

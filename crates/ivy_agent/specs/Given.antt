@@ -1,5 +1,5 @@
 -- What a turn is served on and gives, as the code has it.
-use Rattle.turn_model.specs.Turn.{Agent as Inputs}
+use Rattle.turn_model.specs.Turn.{Inputs}
 use Rattle.ivy_agent.specs.Serving.{Served, Replies, Writes}
 use Rattle.ivy_agent.specs.declared.serving.On.{On}
 use Rattle.ivy_agent.specs.declared.serving.Served.{Served as Given}

@@ -9,7 +9,8 @@ use Rattle.causal_order.specs.Over.{IsClosed}
 use Rattle.turn_model.specs.Basis.{nothing_held}
 use Rattle.turn_taking.specs.Taking.{IsWithin}
 use Rattle.replay_engine.specs.Engines.{Engine, holding}
-use Rattle.agent_model.specs.Agent.{Agent, Signing, joined, kept_of, own}
+use Rattle.log_model.specs.Signing.{Signing}
+use Rattle.agent_model.specs.Agent.{Agent, joined, kept_of, own}
 use Rattle.agent_model.specs.SavedBytes.{IsKept}
 use Rattle.ivy_agent.specs.Bounds.{HasBounds}
 use Rattle.ivy_agent.specs.declared.saving.Kept.{Kept}
@@ -18,10 +19,6 @@ use Rattle.ivy_agent.specs.declared.saving.Kept.{Kept}
 pub record Holder (K S : Type 0) : Type 0 where
   pub agent : Agent S
   pub keeper : K
-
--- a signer's words as one
-abbrev pub signing : {S : Type 0} → (S → List ℕ) → (S → ℕ) → (S → List ℕ → List ℕ) → (S → S) → (S → List ℕ) → Signing S
-signing key remaining signature next saved = record { key = key; remaining = remaining; signature = signature; next = next; saved = saved }
 
 -- the agent of these parts
 abbrev pub agent_of : {S : Type 0} → Kept S → Engine → Option Key → Bool → Agent S

@@ -10,7 +10,7 @@ use Rattle.nfs_model.specs.declared.replies.NfsStatus.TheVariants.{ServerFault}
 use Rattle.nfs_model.specs.declared.replies.Reply.{Reply}
 use Rattle.nfs_model.specs.declared.replies.Reply.TheVariants.{Refused}
 use Rattle.nfs_model.specs.Changing.{is_changing, Operations, plan}
-use Rattle.turn_model.specs.Turn.{Agent as Inputs, Asked, bare_tail, own_seq, turn_on}
+use Rattle.turn_model.specs.Turn.{Inputs, Asked, bare_tail, own_seq, turn_on}
 use Rattle.ivy_agent.specs.Serving.{Replies, Writes, serve_on, turned_by}
 
 -- A turn on a set is what is served on its replay, from where the own log ends in the set.

@@ -1,4 +1,5 @@
 pub mod Bounds
+pub mod Causes
 pub mod Holders
 pub mod Saves
 pub mod Making

@@ -4,7 +4,8 @@ use Rattle.ivy_base.specs.declared.operation.Moment.{Moment}
 use Rattle.ivy_base.specs.Naming.{head_key_of}
 use Rattle.log_model.specs.Rank.{own_entry}
 use Rattle.log_model.specs.Chain.{opening}
-use Rattle.agent_model.specs.Agent.{Signing, own_key, opened, kept_of, record_post, head_post}
+use Rattle.log_model.specs.Signing.{Signing}
+use Rattle.agent_model.specs.Agent.{own_key, opened, kept_of, record_post, head_post}
 use Rattle.agent_model.specs.SavedBytes.{ArePostsSpelled, IsKept, kept_bytes}
 use Rattle.turn_model.specs.Basis.{nothing_held}
 use Rattle.replay_engine.specs.Engines.{holding}

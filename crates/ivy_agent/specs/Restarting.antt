@@ -2,7 +2,8 @@
 use Rattle.std.specs.Prelude.{◌≡◌, ℕ, List, Option, Some, None, IfSome, Result, Ok, Err}
 use Rattle.ivy_io.specs.Causes.{counted}
 use Rattle.ivy_io.specs.Keepers.{KeeperState}
-use Rattle.agent_model.specs.Agent.{Kept, Signing, restored}
+use Rattle.log_model.specs.Signing.{Signing}
+use Rattle.agent_model.specs.Agent.{Kept, restored}
 use Rattle.agent_model.specs.SavedBytes.{IsKept, kept_bytes}
 use Rattle.agent_saves.specs.Saves.{AreSavedOf, AreSavedOfNone, IsCounted}
 use Rattle.ivy_agent.specs.Holders.{Holder}

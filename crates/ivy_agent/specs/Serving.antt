@@ -1,5 +1,6 @@
 -- What a turn answers on a tree, or what it is to write.
 use Rattle.std.specs.Prelude.{ℕ, ◌+◌, nat_lt, Bool, ◌||◌, ◌==◌, List, length, if◌then◌else◌}
+use Rattle.ivy_base.specs.declared.format.Format.TheVariants.{One}
 use Rattle.ivy_base.specs.declared.operation.Moment.{Moment}
 use Rattle.ivy_base.specs.declared.operation.Op.{Op}
 use Rattle.tree_model.specs.Tree.{Tree}
@@ -12,7 +13,7 @@ use Rattle.nfs_model.specs.declared.replies.Reply.{Reply}
 use Rattle.nfs_model.specs.declared.replies.Reply.TheVariants.{Refused}
 use Rattle.nfs_model.specs.Reading.{answer}
 use Rattle.nfs_model.specs.Changing.{is_changing, Plan, Refuse, Nothing, Operations, plan, finish}
-use Rattle.turn_model.specs.Turn.{Agent as Inputs, Asked, Turned, bare_tail, appended}
+use Rattle.turn_model.specs.Turn.{Inputs, Asked, Turned, bare_tail, appended}
 
 -- a reply, and nothing is written; or operations that are to be written before the reply
 pub data Served : Type 0 where
@@ -43,7 +44,7 @@ serve_on a t seq asked now =
 abbrev pub turned_by : Inputs → List Record → Asked → Moment → Served → Turned
 turned_by a s asked now (Replies reply) = record { reply = reply; set = s }
 turned_by a s asked now (Writes ops) =
-    (let more = appended a.own now s ops in record {
+    (let more = appended a.own One now s ops in record {
       reply = finish (replay s) (replay more) a.view asked.caller asked.args ops;
       set = more;
     })

@@ -5,7 +5,8 @@ use Rattle.log_model.specs.View.{View}
 use Rattle.turn_model.specs.Basis.{Basis}
 use Rattle.dht_ids.specs.declared.post.Post.{Post}
 use Rattle.snapshot_model.specs.Spelling.{root_name, snapshot_blocks}
-use Rattle.agent_model.specs.Agent.{Agent, Kept as Saving, Signing}
+use Rattle.log_model.specs.Signing.{Signing}
+use Rattle.agent_model.specs.Agent.{Agent, Kept as Saving}
 use Rattle.agent_model.specs.Others.{basis_of, block_post, is_pending_block, snapping}
 use Rattle.agent_model.specs.SavedBytes.{ArePostsSpelled, IsKept, kept_bytes}
 use Rattle.ivy_agent.specs.Holders.{Holder}

@@ -15,7 +15,8 @@ use Rattle.causal_order.specs.Over.{IsClosed}
 use Rattle.turn_model.specs.Basis.{Holding}
 use Rattle.turn_model.specs.Turn.{Asked}
 use Rattle.turn_model.specs.Work.{applied_between}
-use Rattle.agent_model.specs.Agent.{Signing, joined, own_key}
+use Rattle.log_model.specs.Signing.{Signing}
+use Rattle.agent_model.specs.Agent.{joined, own_key}
 use Rattle.agent_model.specs.Taking.{TakesNew, refresh_with, with_new}
 use Rattle.agent_model.specs.Turning.{is_behind, is_below_tide}
 use Rattle.turn_taking.specs.Taking.{IsWithin}

@@ -12,7 +12,8 @@ use Rattle.turn_model.specs.Basis.{Basis, Holding, nothing_held}
 use Rattle.turn_model.specs.Turn.{Asked}
 use Rattle.log_fetch.specs.declared.standing.Standing.{Standing}
 use Rattle.log_fetch.specs.Standings.{standing_of}
-use Rattle.agent_model.specs.Agent.{Agent, Kept, Signing, joined, own}
+use Rattle.log_model.specs.Signing.{Signing}
+use Rattle.agent_model.specs.Agent.{Agent, Kept, joined, own}
 use Rattle.agent_model.specs.SavedBytes.{IsKept, kept_bytes}
 use Rattle.agent_model.specs.Standing.{Refresh, anew_in, going_on}
 use Rattle.agent_model.specs.Taking.{refresh_with}
@@ -40,8 +41,8 @@ module _ {K S : Type 0} (signs : Signing S) (IsWhole : S → Type 0) (saves : K 
   -- By whether the save fails: how it ends, the agent, and the keeper; and what is saved may be. Where nothing is to be saved it is so whether or not a save would fail.
   pub record TurnsAs (fails : Bool) (end : TurnEnd) (after : Holder K S) : Type 0 where
     pub saving : Option (Kept S)
-    pub turns : Turns signs brought before.agent view fails asked now end after.agent saving
-    pub either : saving ≡ None → (other : Bool) → Turns signs brought before.agent view other asked now end after.agent saving
+    pub turns : Turns signs brought (record { agent = before.agent; view = view; now = now; fails = fails }) asked end after.agent saving
+    pub either : saving ≡ None → (other : Bool) → Turns signs brought (record { agent = before.agent; view = view; now = now; fails = other }) asked end after.agent saving
     pub keeper : Saves saves before.keeper (option_map (kept_bytes signs) saving) fails after.keeper
     pub kept : IfSome saving (IsKept signs IsWhole)
 

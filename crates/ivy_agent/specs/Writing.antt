@@ -13,7 +13,7 @@ use Rattle.nfs_model.specs.Changing.{finish}
 use Rattle.turn_model.specs.Basis.{Holding, kept_tree}
 use Rattle.turn_model.specs.Turn.{Asked, bare_tail}
 use Rattle.replay_engine.specs.Engines.{Engine, holding, undone}
-use Rattle.agent_model.specs.Agent.{Signing}
+use Rattle.log_model.specs.Signing.{Signing}
 use Rattle.agent_model.specs.SavedBytes.{kept_bytes}
 use Rattle.agent_model.specs.Turning.{with_held}
 use Rattle.ivy_agent.specs.Saves.{saved_of}

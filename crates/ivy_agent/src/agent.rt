@@ -9,11 +9,12 @@ ghost use Rattle.agent_model.specs.Agent.{joined, own};
 ghost use Rattle.agent_model.specs.Standing.{anew_in, going_on, standing_in};
 ghost use Rattle.log_fetch.specs.Standings.{asked_of, refresh_of, standing_of};
 ghost use Rattle.replay_engine.specs.Engines.{holding};
-ghost use Rattle.ivy_agent.specs.Holders.{IsSound, agent_of, signing};
+ghost use Rattle.ivy_agent.specs.Holders.{IsSound, agent_of};
 ghost use Rattle.ivy_agent.specs.Making.{Makes};
 ghost use Rattle.ivy_agent.specs.Entering.{Enters, GoesIn, IsTakenIn, MayEnter};
 ghost use Rattle.ivy_agent.specs.Answering.{IsCall};
 ghost use Rattle.ivy_agent.specs.Bounds.{HasBounds};
+ghost use Rattle.ivy_agent.specs.Causes.{EnterHasCause, MakeHasCause, MayEnterHasCause, ReplyHasCause};
 ghost use Rattle.ivy_agent.specs.Taking.{MayTakeFrom};
 ghost use Rattle.ivy_agent.specs.Turns.{ComesFrom, ComesTo, IsFetchedIn, Refuses, TakesTurn, dropping};
 
@@ -64,13 +65,13 @@ pub struct Agent<K: Keeper, S: Signs> {
 }
 
 impl<K: Keeper, S: Signs> Model for Agent<K, S> {
-    ghost use Rattle.ivy_agent.specs.Holders.{Holder, IsSound, agent_of, signing};
+    ghost use Rattle.ivy_agent.specs.Holders.{Holder, IsSound, agent_of};
 
     ghost Value = { Holder K S };
 
     ghost view = { λ a. record { agent = agent_of a.kept a.engine a.to_load a.has_failed; keeper = a.keeper } };
 
-    ghost invariant = { λ a. IsSound (signing S.key S.remaining S.signature S.next S.saved) (agent_of a.kept a.engine a.to_load a.has_failed) a.kept.log a.front };
+    ghost invariant = { λ a. IsSound S.signing (agent_of a.kept a.engine a.to_load a.has_failed) a.kept.log a.front };
 }
 
 impl<K: Keeper, S: Signs + Drop> Agent<K, S> {
@@ -78,15 +79,17 @@ impl<K: Keeper, S: Signs + Drop> Agent<K, S> {
     ///
     /// # Errors
     ///
-    /// `Spent` exactly where the signer signs nothing more. `Keeper` where the save fails. Either way, and where memory runs out
-    /// (`Memory`), the keeper is given back; but for a failed save it is as it was. The signer is dropped.
+    /// `Spent` exactly where the signer signs nothing more. `Keeper` where the save fails, with which the keeper's count rises.
+    /// Either way, and where memory runs out (`Memory`), the keeper is given back; but for a failed save it is as it was. The
+    /// signer is dropped.
     pub fn create(
         alloc: Global,
         mut keeper: K,
         signs: S,
         now: Moment,
     ) -> Result<Self, (K, MakeFault)>
-        ensures { Makes (signing S.key S.remaining S.signature S.next S.saved) S.is_whole K.saves keeper signs now result }
+        ensures makes { Makes S.signing S.is_whole K.saves keeper signs now result }
+        ensures cause { MakeHasCause K.faults keeper result }
     {
         if signs.left() == 0 {
             return Err((keeper, MakeFault::Spent));
@@ -112,7 +115,7 @@ impl<K: Keeper, S: Signs + Drop> Agent<K, S> {
 impl<K: Keeper, S: Signs> Agent<K, S> {
     /// The agent of these parts.
     fn of(alloc: Global, keeper: K, opened: Opened<S>) -> Self
-        requires { IsSound (signing S.key S.remaining S.signature S.next S.saved) (agent_of opened.kept opened.engine None false) opened.kept.log opened.front }
+        requires { IsSound S.signing (agent_of opened.kept opened.engine None false) opened.kept.log opened.front }
         ensures { result ≡ record { agent = agent_of opened.kept opened.engine None false; keeper = keeper } }
     {
         Agent {
@@ -134,7 +137,8 @@ impl<K: Keeper, S: Signs> Agent<K, S> {
     /// least such log. `Keeper` where the save fails, after which the agent saves no more, or where one failed before, and then
     /// the keeper isn't asked. `Memory` where memory runs out, and then nothing has changed.
     pub fn enter(&mut self, alloc: Global, view: View) -> Result<(), EnterFault>
-        ensures { Enters (signing S.key S.remaining S.signature S.next S.saved) S.is_whole K.saves view self.old result self.new }
+        ensures enters { Enters S.signing S.is_whole K.saves view self.old result self.new }
+        ensures cause { EnterHasCause K.faults self.old result self.new }
     {
         self.may_enter(&view)?;
         self.go_in(alloc, view)
@@ -142,7 +146,8 @@ impl<K: Keeper, S: Signs> Agent<K, S> {
 
     /// Whether the view may be entered, and the keeper asked. The error is that of [`Agent::enter`] which comes else.
     fn may_enter(&self, view: &View) -> Result<(), EnterFault>
-        ensures { MayEnter (signing S.key S.remaining S.signature S.next S.saved) view.now self.now.agent result }
+        ensures may { MayEnter S.signing view.now self.now.agent result }
+        ensures cause { MayEnterHasCause self.now.agent.has_failed result }
     {
         if !is_among(view.members(), &self.kept.signer.owner()) {
             return Err(EnterFault::NotMember);
@@ -158,8 +163,9 @@ impl<K: Keeper, S: Signs> Agent<K, S> {
 
     /// Enters a view that takes in what the agent knows. The error is `Keeper` or `Memory`.
     fn go_in(&mut self, alloc: Global, view: View) -> Result<(), EnterFault>
-        requires { IsTakenIn (signing S.key S.remaining S.signature S.next S.saved) view self.old.agent }
-        ensures { GoesIn (signing S.key S.remaining S.signature S.next S.saved) S.is_whole K.saves view self.old result self.new }
+        requires { IsTakenIn S.signing view self.old.agent }
+        ensures goes { GoesIn S.signing S.is_whole K.saves view self.old result self.new }
+        ensures cause { EnterHasCause K.faults self.old result self.new }
     {
         let Ok(nothing) = hold_nothing(alloc) else {
             return Err(EnterFault::Memory);
@@ -182,7 +188,7 @@ impl<K: Keeper, S: Signs> Agent<K, S> {
     /// What a session is given of the agent. The error is want of memory.
     pub fn standing(&self, alloc: Global) -> Result<Standing, Memory>
         requires { IsSomeAnd self.now.agent.view (λ view. Unit {0}) }
-        ensures { IfOk result (λ s. IfSome self.now.agent.view (λ view. standing_of s ≡ standing_in (signing S.key S.remaining S.signature S.next S.saved) self.now.agent view)) }
+        ensures { IfOk result (λ s. IfSome self.now.agent.view (λ view. standing_of s ≡ standing_in S.signing self.now.agent view)) }
     {
         let Some(view) = &self.kept.view else {
             unreachable!();
@@ -205,7 +211,7 @@ impl<K: Keeper, S: Signs> Agent<K, S> {
     /// What a refusal is told as. Where memory runs out nothing has changed.
     fn refuse(&mut self, alloc: Global, refusal: Refusal) -> TurnFault
         requires { IsSomeAnd self.old.agent.view (λ view. Unit {0}) }
-        ensures { IfSome self.old.agent.view (λ view. Refuses (signing S.key S.remaining S.signature S.next S.saved) view self.old refusal result self.new) }
+        ensures { IfSome self.old.agent.view (λ view. Refuses S.signing view self.old refusal result self.new) }
     {
         match refusal {
             Refusal::Behind => match self.anew(alloc) {
@@ -223,7 +229,7 @@ impl<K: Keeper, S: Signs> Agent<K, S> {
     /// What a session is given that begins anew, without a snapshot. The error is want of memory.
     fn anew(&self, alloc: Global) -> Result<Standing, Memory>
         requires { IsSomeAnd self.now.agent.view (λ view. Unit {0}) }
-        ensures { IfOk result (λ s. IfSome self.now.agent.view (λ view. standing_of s ≡ anew_in (signing S.key S.remaining S.signature S.next S.saved) self.now.agent view)) }
+        ensures { IfOk result (λ s. IfSome self.now.agent.view (λ view. standing_of s ≡ anew_in S.signing self.now.agent view)) }
     {
         let mut standing = self.standing(alloc)?;
         standing.basis = None;
@@ -235,7 +241,7 @@ impl<K: Keeper, S: Signs> Agent<K, S> {
     fn drop_held(&mut self, alloc: Global) -> Result<Standing, Memory>
         requires { IsSomeAnd self.old.agent.view (λ view. Unit {0}) }
         ensures ok { OnOk result (self.new ≡ record self.old { agent = dropping self.old.agent }) }
-        ensures standing { IfOk result (λ s. IfSome self.old.agent.view (λ view. standing_of s ≡ anew_in (signing S.key S.remaining S.signature S.next S.saved) (dropping self.old.agent) view)) }
+        ensures standing { IfOk result (λ s. IfSome self.old.agent.view (λ view. standing_of s ≡ anew_in S.signing (dropping self.old.agent) view)) }
         ensures err { OnErr result (self.new ≡ self.old) }
     {
         let Ok(nothing) = hold_nothing(alloc) else {
@@ -268,7 +274,7 @@ impl<K: Keeper, S: Signs> Agent<K, S> {
 
     /// The public key of the agent's log.
     pub fn owner(&self) -> PubKey
-        ensures { result ≡ own (signing S.key S.remaining S.signature S.next S.saved) self.now.agent }
+        ensures { result ≡ own S.signing self.now.agent }
     {
         self.kept.signer.owner()
     }
@@ -327,8 +333,9 @@ impl<K: Keeper, S: Signs + Drop> Agent<K, S> {
         requires batch { IsSomeAnd self.old.agent.view (λ view. IsFetchedIn view refresh.batch) }
         requires bounds { IfSome refresh.basis (λ basis. HasBounds basis.tree) }
         requires call { IsCall (asked_of asked.now) now }
-        ensures turn { IfSome self.old.agent.view (λ view. TakesTurn (signing S.key S.remaining S.signature S.next S.saved) S.is_whole K.saves view (refresh_of refresh) (asked_of asked.now) now self.old result self.new) }
+        ensures turn { IfSome self.old.agent.view (λ view. TakesTurn S.signing S.is_whole K.saves view (refresh_of refresh) (asked_of asked.now) now self.old result self.new) }
         ensures steps { IfOk result (λ turned. steps.new ≡ steps.old + turned.applied) }
+        ensures cause { IfOk result (λ turned. ReplyHasCause (K.faults self.old.keeper) (K.faults self.new.keeper) self.old.agent.has_failed turned) }
         ensures short { IfOk result (λ turned. length turned.reply ≤ 32772) }
     {
         match self.take_turn(alloc, refresh, asked, now, steps) {
@@ -350,8 +357,9 @@ impl<K: Keeper, S: Signs + Drop> Agent<K, S> {
         requires batch { IsSomeAnd self.old.agent.view (λ view. IsFetchedIn view refresh.batch) }
         requires bounds { IfSome refresh.basis (λ basis. HasBounds basis.tree) }
         requires call { IsCall (asked_of asked.now) now }
-        ensures turn { IfSome self.old.agent.view (λ view. ComesTo (signing S.key S.remaining S.signature S.next S.saved) S.is_whole K.saves view (refresh_of refresh) (asked_of asked.now) now self.old result self.new) }
+        ensures turn { IfSome self.old.agent.view (λ view. ComesTo S.signing S.is_whole K.saves view (refresh_of refresh) (asked_of asked.now) now self.old result self.new) }
         ensures steps { IfOk result (λ turned. steps.new ≡ steps.old + turned.applied) }
+        ensures cause { IfOk result (λ turned. ReplyHasCause (K.faults self.old.keeper) (K.faults self.new.keeper) self.old.agent.has_failed turned) }
         ensures short { IfOk result (λ turned. length turned.reply ≤ 32772) }
     {
         let Refresh { batch, basis } = refresh;
@@ -373,8 +381,9 @@ impl<K: Keeper, S: Signs + Drop> Agent<K, S> {
     ) -> Result<Turned, Refusal>
         requires batch { IsSomeAnd self.old.agent.view (λ view. IsFetchedIn view batch) }
         requires call { IsCall (asked_of asked.now) now }
-        ensures turn { IfSome self.old.agent.view (λ view. ComesFrom (signing S.key S.remaining S.signature S.next S.saved) S.is_whole K.saves view batch (asked_of asked.now) now self.old self.old.agent.holding result self.new) }
+        ensures turn { IfSome self.old.agent.view (λ view. ComesFrom S.signing S.is_whole K.saves view batch (asked_of asked.now) now self.old self.old.agent.holding result self.new) }
         ensures steps { IfOk result (λ turned. steps.new ≡ steps.old + turned.applied) }
+        ensures cause { IfOk result (λ turned. ReplyHasCause (K.faults self.old.keeper) (K.faults self.new.keeper) self.old.agent.has_failed turned) }
         ensures short { IfOk result (λ turned. length turned.reply ≤ 32772) }
     {
         let done = turn_on(
@@ -405,12 +414,13 @@ impl<K: Keeper, S: Signs + Drop> Agent<K, S> {
         now: Moment,
         steps: &mut Steps<L>,
     ) -> Result<Turned, Refusal>
-        requires from { IsSomeAnd self.old.agent.view (λ view. MayTakeFrom view (own (signing S.key S.remaining S.signature S.next S.saved) self.old.agent) self.old.agent.floor (holding ground.engine) batch) }
+        requires from { IsSomeAnd self.old.agent.view (λ view. MayTakeFrom view (own S.signing self.old.agent) self.old.agent.floor (holding ground.engine) batch) }
         requires front { ground.front ≡ joined (holding ground.engine) }
         requires going { (basis : Option Basis) × (going_on self.old.agent basis ≡ holding ground.engine) }
         requires call { IsCall (asked_of asked.now) now }
-        ensures turn { IfSome self.old.agent.view (λ view. ComesFrom (signing S.key S.remaining S.signature S.next S.saved) S.is_whole K.saves view batch (asked_of asked.now) now self.old (holding ground.engine) result self.new) }
+        ensures turn { IfSome self.old.agent.view (λ view. ComesFrom S.signing S.is_whole K.saves view batch (asked_of asked.now) now self.old (holding ground.engine) result self.new) }
         ensures steps { IfOk result (λ turned. steps.new ≡ steps.old + turned.applied) }
+        ensures cause { IfOk result (λ turned. ReplyHasCause (K.faults self.old.keeper) (K.faults self.new.keeper) self.old.agent.has_failed turned) }
         ensures short { IfOk result (λ turned. length turned.reply ≤ 32772) }
     {
         let done = turn_on(

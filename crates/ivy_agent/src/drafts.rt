@@ -8,7 +8,6 @@ ghost use Rattle.log_model.specs.Vector.{join, seq_of};
 ghost use Rattle.log_records.specs.Records.{records_of};
 ghost use Rattle.ivy_agent.specs.Newest.{stamp_of, with_newest};
 ghost use Rattle.agent_model.specs.Agent.{head_post, own_key, record_post};
-ghost use Rattle.ivy_agent.specs.Holders.{signing};
 ghost use Rattle.agent_model.specs.SavedBytes.{kept_bytes};
 ghost use Rattle.ivy_agent.specs.Saves.{HasSaved, IsWholeAfter, saved_of};
 ghost use Rattle.ivy_agent.specs.Drafts.{IsDraft, IsSigned, kept_with};
@@ -67,10 +66,10 @@ pub fn make_draft<S: Signs + Drop>(
     now: Moment,
     ops: Vec<Op>,
 ) -> Result<Draft<S>, Memory>
-    requires log { kept.now.log ≡ head_key_of (own_key (signing S.key S.remaining S.signature S.next S.saved) kept.now.signer) }
+    requires log { kept.now.log ≡ head_key_of (own_key S.signing kept.now.signer) }
     requires few { seq_of front.now kept.now.log + length ops.items ≤ most_records }
-    requires is_left { S.remaining kept.now.signer ≢ 0 }
-    ensures { IfOk result (IsDraft (signing S.key S.remaining S.signature S.next S.saved) kept.now front.now now ops.items) }
+    requires is_left { S.signing.remaining kept.now.signer ≢ 0 }
+    ensures { IfOk result (IsDraft S.signing kept.now front.now now ops.items) }
 {
     let own = kept.signer.owner();
     let written = write_over(alloc, &own, front, now, ops)?;
@@ -95,12 +94,12 @@ fn follow<S: Signs + Drop>(
     newest: Option<Before>,
     posts: Vec<Post>,
 ) -> Result<(Next<S>, Vector), Memory>
-    requires log { kept.now.log ≡ head_key_of (own_key (signing S.key S.remaining S.signature S.next S.saved) kept.now.signer) }
-    requires is_left { S.remaining kept.now.signer ≢ 0 }
+    requires log { kept.now.log ≡ head_key_of (own_key S.signing kept.now.signer) }
+    requires is_left { S.signing.remaining kept.now.signer ≢ 0 }
     requires some { IfSome newest (λ b. 1 ≤ b.seq) }
     requires few { IfSome newest (λ b. b.seq ≤ most_records) }
     ensures newest { OnOk result (IsSomeAnd newest (λ b. Unit {0})) }
-    ensures signed { IfOk result (λ n. IfSome newest (λ b. (written : List Seen) → posts.items ≡ map record_post written → IsSigned (signing S.key S.remaining S.signature S.next S.saved) kept.now written (stamp_of b) n.0.signer n.0.pending)) }
+    ensures signed { IfOk result (λ n. IfSome newest (λ b. (written : List Seen) → posts.items ≡ map record_post written → IsSigned S.signing kept.now written (stamp_of b) n.0.signer n.0.pending)) }
     ensures front { IfOk result (λ n. n.1 ≡ with_newest own.now (option_map stamp_of newest) front.now) }
     ensures floor { IfOk result (λ n. n.0.floor ≡ join kept.now.floor n.1) }
 {
@@ -148,11 +147,11 @@ fn sign<S: Signs + Drop>(
     posts: Vec<Post>,
     newest: Before,
 ) -> Result<(S, Posts), Memory>
-    requires log { kept.now.log ≡ head_key_of (own_key (signing S.key S.remaining S.signature S.next S.saved) kept.now.signer) }
-    requires is_left { S.remaining kept.now.signer ≢ 0 }
+    requires log { kept.now.log ≡ head_key_of (own_key S.signing kept.now.signer) }
+    requires is_left { S.signing.remaining kept.now.signer ≢ 0 }
     requires some { 1 ≤ newest.seq }
     requires few { newest.seq ≤ most_records }
-    ensures { IfOk result (λ signed. (written : List Seen) → posts.items ≡ map record_post written → IsSigned (signing S.key S.remaining S.signature S.next S.saved) kept.now written (stamp_of newest) signed.0 signed.1) }
+    ensures { IfOk result (λ signed. (written : List Seen) → posts.items ≡ map record_post written → IsSigned S.signing kept.now written (stamp_of newest) signed.0 signed.1) }
 {
     let mut signer = kept.signer.copy(alloc)?;
     let head = head_over(alloc, &mut signer, kept.log, newest)?;
@@ -167,13 +166,13 @@ fn head_over<S: Signs>(
     log: Key,
     newest: Before,
 ) -> Result<Post, Memory>
-    requires log { log ≡ head_key_of (own_key (signing S.key S.remaining S.signature S.next S.saved) signer.old) }
-    requires is_left { S.remaining signer.old ≢ 0 }
+    requires log { log ≡ head_key_of (own_key S.signing signer.old) }
+    requires is_left { S.signing.remaining signer.old ≢ 0 }
     requires some { 1 ≤ newest.seq }
     requires few { newest.seq ≤ most_records }
-    ensures post { IfOk result (λ post. post ≡ head_post (signing S.key S.remaining S.signature S.next S.saved) signer.old (stamp_of newest)) }
-    ensures next { OnOk result (signer.new ≡ S.next signer.old) }
-    ensures key { S.key signer.new ≡ S.key signer.old }
+    ensures post { IfOk result (λ post. post ≡ head_post S.signing signer.old (stamp_of newest)) }
+    ensures next { OnOk result (signer.new ≡ S.signing.next signer.old) }
+    ensures key { S.signing.key signer.new ≡ S.signing.key signer.old }
 {
     match seal(alloc, signer, newest.seq, newest.name) {
         Ok(head) => Ok(Post {
@@ -192,9 +191,9 @@ pub fn save_next<K: Keeper, S: Signs + Drop>(
     kept: &mut Kept<S>,
     mut next: Next<S>,
 ) -> Result<(), SaveFault>
-    requires log { kept.old.log ≡ head_key_of (own_key (signing S.key S.remaining S.signature S.next S.saved) kept.old.signer) }
-    requires key { S.key next.signer ≡ S.key kept.old.signer }
-    ensures saved { HasSaved K.saves keeper.old (kept_bytes (signing S.key S.remaining S.signature S.next S.saved) (saved_of (kept_with kept.old next))) result keeper.new }
+    requires log { kept.old.log ≡ head_key_of (own_key S.signing kept.old.signer) }
+    requires key { S.signing.key next.signer ≡ S.signing.key kept.old.signer }
+    ensures saved { HasSaved K.saves keeper.old (kept_bytes S.signing (saved_of (kept_with kept.old next))) result keeper.new }
     ensures whole { IsWholeAfter (S.is_whole next.signer) result }
     ensures ok { OnOk result (kept.new ≡ kept_with kept.old next) }
     ensures err { OnErr result (kept.new ≡ kept.old) }

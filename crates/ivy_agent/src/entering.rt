@@ -5,9 +5,9 @@ ghost use Rattle.ivy_base.specs.Naming.{head_key_of};
 ghost use Rattle.agent_model.specs.Agent.{own_key};
 ghost use Rattle.agent_model.specs.SavedBytes.{kept_bytes};
 ghost use Rattle.agent_model.specs.Views.{was_former, is_refused_in};
-ghost use Rattle.ivy_agent.specs.Holders.{signing};
 ghost use Rattle.ivy_agent.specs.Saves.{saved_of, HasSaved, IsWholeAfter};
 ghost use Rattle.ivy_agent.specs.Entering.{kept_in};
+ghost use Rattle.ivy_agent.specs.Causes.{SaveHasCause};
 
 use crate::saving::{Kept, SaveFault, save};
 use hss_keys::Signs;
@@ -60,8 +60,9 @@ pub fn save_in<K: Keeper, S: Signs>(
     kept: &mut Kept<S>,
     view: View,
 ) -> Result<(), SaveFault>
-    requires { kept.old.log ≡ head_key_of (own_key (signing S.key S.remaining S.signature S.next S.saved) kept.old.signer) }
-    ensures saved { HasSaved K.saves keeper.old (kept_bytes (signing S.key S.remaining S.signature S.next S.saved) (saved_of (kept_in view kept.old))) result keeper.new }
+    requires { kept.old.log ≡ head_key_of (own_key S.signing kept.old.signer) }
+    ensures saved { HasSaved K.saves keeper.old (kept_bytes S.signing (saved_of (kept_in view kept.old))) result keeper.new }
+    ensures cause { SaveHasCause K.faults keeper.old result keeper.new }
     ensures whole { IsWholeAfter (S.is_whole kept.old.signer) result }
     ensures ok { OnOk result (kept.new ≡ kept_in view kept.old) }
     ensures err { OnErr result (kept.new ≡ kept.old) }

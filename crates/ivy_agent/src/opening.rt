@@ -10,7 +10,6 @@ ghost use Rattle.turn_model.specs.Basis.{nothing_held};
 ghost use Rattle.replay_engine.specs.Engines.{holding};
 ghost use Rattle.agent_model.specs.Agent.{sealed};
 ghost use Rattle.agent_model.specs.SavedBytes.{AreOpaque};
-ghost use Rattle.ivy_agent.specs.Holders.{signing};
 ghost use Rattle.ivy_agent.specs.Making.{IsOpening};
 
 use crate::posting::are_counted;
@@ -18,7 +17,7 @@ use crate::saving::Kept;
 use dht_ids::{Post, PostKind, Posts};
 use fs_tree::{Basis, Tree};
 use hss_keys::Signs;
-use ivy_base::{Bytes, Key, Memory, Moment, Op, PubKey, head_key, name_of};
+use ivy_base::{Bytes, Format, Key, Memory, Moment, Op, PubKey, head_key, name_of};
 use log_heads::seal;
 use log_records::Record;
 use replay_engine::Engine;
@@ -42,8 +41,8 @@ pub struct Opened<S> {
 /// Opens the signer's log at that moment: its opening record is made, and a head is signed over it. The error is want of
 /// memory, and then the signer is dropped.
 pub fn open<S: Signs + Drop>(alloc: Global, mut signer: S, now: Moment) -> Result<Opened<S>, Memory>
-    requires { S.remaining signer ≢ 0 }
-    ensures { IfOk result (IsOpening (signing S.key S.remaining S.signature S.next S.saved) signer now) }
+    requires { S.signing.remaining signer ≢ 0 }
+    ensures { IfOk result (IsOpening S.signing signer now) }
 {
     match begin(alloc, &mut signer, now) {
         Ok(
@@ -86,8 +85,8 @@ pub struct Begun {
 
 /// Makes the opening record of the signer's log, and signs a head over it. The error is want of memory.
 fn begin<S: Signs>(alloc: Global, signer: &mut S, now: Moment) -> Result<Begun, Memory>
-    requires { S.remaining signer.old ≢ 0 }
-    ensures { IfOk result (λ b. IsOpening (signing S.key S.remaining S.signature S.next S.saved) signer.old now (record { kept = record { signer = signer.new; log = b.log; view = None; floor = b.floor; pending = b.pending; snapshot = None }; engine = b.engine; front = b.front })) }
+    requires { S.signing.remaining signer.old ≢ 0 }
+    ensures { IfOk result (λ b. IsOpening S.signing signer.old now (record { kept = record { signer = signer.new; log = b.log; view = None; floor = b.floor; pending = b.pending; snapshot = None }; engine = b.engine; front = b.front })) }
 {
     let own = signer.owner();
     let log = head_key(&own);
@@ -112,13 +111,13 @@ fn first_posts<S: Signs>(
     log: Key,
     now: Moment,
 ) -> Result<(Key, Posts), Memory>
-    requires { S.remaining signer.old ≢ 0 }
+    requires { S.signing.remaining signer.old ≢ 0 }
     ensures name { IfOk result (λ p. p.0 ≡ name (record_block (opening own now))) }
-    ensures posts { IfOk result (λ p. p.1 ≡ record { key = p.0; bytes = record_block (opening own now); kind = Log } ∷ record { key = log; bytes = sealed (signing S.key S.remaining S.signature S.next S.saved) signer.old (record { seq = 1; name = p.0 }); kind = Head } ∷ []) }
+    ensures posts { IfOk result (λ p. p.1 ≡ record { key = p.0; bytes = record_block (opening own now); kind = Log } ∷ record { key = log; bytes = sealed S.signing signer.old (record { seq = 1; name = p.0 }); kind = Head } ∷ []) }
     ensures block { OnOk result (AreOpaque (record_block (opening own now))) }
-    ensures head { IfOk result (λ p. AreOpaque (sealed (signing S.key S.remaining S.signature S.next S.saved) signer.old (record { seq = 1; name = p.0 }))) }
-    ensures next { OnOk result (signer.new ≡ S.next signer.old) }
-    ensures key { S.key signer.new ≡ S.key signer.old }
+    ensures head { IfOk result (λ p. AreOpaque (sealed S.signing signer.old (record { seq = 1; name = p.0 }))) }
+    ensures next { OnOk result (signer.new ≡ S.signing.next signer.old) }
+    ensures key { S.signing.key signer.new ≡ S.signing.key signer.old }
 {
     let block = first_block(alloc, own, now)?;
     let name = name_of(block.as_slice());
@@ -172,6 +171,7 @@ fn opening(alloc: Global, own: PubKey, now: Moment) -> Record
         vector: Vector::empty(alloc),
         moment: now,
         op: Op::End,
+        format: Format::One,
     }
 }
 
@@ -197,10 +197,10 @@ fn floor_of(alloc: Global, log: Key, name: Key) -> Result<Vector, Memory>
 
 /// The head over a log's first record, which is of that name. The error is want of memory.
 fn seal_first<S: Signs>(alloc: Global, signer: &mut S, name: Key) -> Result<Bytes, Memory>
-    requires { S.remaining signer.old ≢ 0 }
-    ensures head { IfOk result (λ bytes. bytes ≡ sealed (signing S.key S.remaining S.signature S.next S.saved) signer.old (record { seq = 1; name = name })) }
-    ensures next { OnOk result (signer.new ≡ S.next signer.old) }
-    ensures key { S.key signer.new ≡ S.key signer.old }
+    requires { S.signing.remaining signer.old ≢ 0 }
+    ensures head { IfOk result (λ bytes. bytes ≡ sealed S.signing signer.old (record { seq = 1; name = name })) }
+    ensures next { OnOk result (signer.new ≡ S.signing.next signer.old) }
+    ensures key { S.signing.key signer.new ≡ S.signing.key signer.old }
 {
     match seal(alloc, signer, 1, name) {
         Ok(head) => head.write(alloc),

@@ -10,7 +10,6 @@ ghost use Rattle.replay_engine.specs.Engines.{holding};
 ghost use Rattle.ivy_agent.specs.Given.{served_of};
 ghost use Rattle.ivy_agent.specs.Serving.{Writes as IsToWrite};
 ghost use Rattle.agent_model.specs.Agent.{joined, own_key};
-ghost use Rattle.ivy_agent.specs.Holders.{signing};
 ghost use Rattle.ivy_agent.specs.Answering.{Answers, IsCall, MayGoOn, served_on};
 ghost use Rattle.ivy_agent.specs.Outcomes.{Gives, kept_to};
 ghost use Rattle.ivy_agent.specs.Writing.{StandsAs};
@@ -42,7 +41,7 @@ fn serve_held<S: Signs>(
 ) -> Result<Served, Memory>
     requires view { IsSomeAnd kept.now.view (λ view. Unit {0}) }
     requires few { seq_of front.now kept.now.log ≤ most_records }
-    ensures { IfOk result (λ served. IfSome kept.now.view (λ view. served_of served ≡ served_on (signing S.key S.remaining S.signature S.next S.saved) view kept.now has_failed (holding engine.now) front.now (asked_of asked.now) now)) }
+    ensures { IfOk result (λ served. IfSome kept.now.view (λ view. served_of served ≡ served_on S.signing view kept.now has_failed (holding engine.now) front.now (asked_of asked.now) now)) }
 {
     let Some(view) = &kept.view else {
         unreachable!();
@@ -74,14 +73,14 @@ fn write_on<K: Keeper, S: Signs + Drop, L: Ledger>(
     applied: u64,
     steps: &mut Steps<L>,
 ) -> Result<Done, Memory>
-    requires log { kept.old.log ≡ head_key_of (own_key (signing S.key S.remaining S.signature S.next S.saved) kept.old.signer) }
-    requires view { IsSomeAnd kept.old.view (λ view. MayGoOn view (own_key (signing S.key S.remaining S.signature S.next S.saved) kept.old.signer) kept.old.floor front (holding engine.old)) }
+    requires log { kept.old.log ≡ head_key_of (own_key S.signing kept.old.signer) }
+    requires view { IsSomeAnd kept.old.view (λ view. MayGoOn view (own_key S.signing kept.old.signer) kept.old.floor front (holding engine.old)) }
     requires call { IsCall (asked_of asked.now) now }
     requires some { engine.old.before ≢ [] }
     requires held { IsRow engine.old.held }
     requires front { front ≡ joined (holding engine.old) }
-    requires served { IsSomeAnd kept.old.view (λ view. served_on (signing S.key S.remaining S.signature S.next S.saved) view kept.old has_failed (holding engine.old) front (asked_of asked.now) now ≡ IsToWrite ops.now) }
-    ensures done { IfOk result (λ done. IfSome kept.old.view (λ view. Answers (signing S.key S.remaining S.signature S.next S.saved) S.is_whole K.saves view (asked_of asked.now) now kept.old has_failed (holding engine.old) front keeper.old applied kept.new (holding engine.new) keeper.new done)) }
+    requires served { IsSomeAnd kept.old.view (λ view. served_on S.signing view kept.old has_failed (holding engine.old) front (asked_of asked.now) now ≡ IsToWrite ops.now) }
+    ensures done { IfOk result (λ done. IfSome kept.old.view (λ view. Answers S.signing S.is_whole K.saves view (asked_of asked.now) now kept.old has_failed (holding engine.old) front keeper.old applied kept.new (holding engine.new) keeper.new done)) }
     ensures kept { OnErr result (kept.new ≡ kept.old) }
     ensures keeper { OnErr result (keeper.new ≡ keeper.old) }
     ensures engine { OnErr result (StandsAs engine.old engine.new) }
@@ -134,14 +133,14 @@ pub fn answer<K: Keeper, S: Signs + Drop, L: Ledger>(
     applied: u64,
     steps: &mut Steps<L>,
 ) -> Result<Done, Memory>
-    requires log { kept.old.log ≡ head_key_of (own_key (signing S.key S.remaining S.signature S.next S.saved) kept.old.signer) }
-    requires view { IsSomeAnd kept.old.view (λ view. MayGoOn view (own_key (signing S.key S.remaining S.signature S.next S.saved) kept.old.signer) kept.old.floor front (holding engine.old)) }
+    requires log { kept.old.log ≡ head_key_of (own_key S.signing kept.old.signer) }
+    requires view { IsSomeAnd kept.old.view (λ view. MayGoOn view (own_key S.signing kept.old.signer) kept.old.floor front (holding engine.old)) }
     requires call { IsCall (asked_of asked.now) now }
     requires few { seq_of front kept.old.log ≤ most_records }
     requires some { engine.old.before ≢ [] }
     requires held { IsRow engine.old.held }
     requires front { front ≡ joined (holding engine.old) }
-    ensures done { IfOk result (λ done. IfSome kept.old.view (λ view. Answers (signing S.key S.remaining S.signature S.next S.saved) S.is_whole K.saves view (asked_of asked.now) now kept.old has_failed (holding engine.old) front keeper.old applied kept.new (holding engine.new) keeper.new done)) }
+    ensures done { IfOk result (λ done. IfSome kept.old.view (λ view. Answers S.signing S.is_whole K.saves view (asked_of asked.now) now kept.old has_failed (holding engine.old) front keeper.old applied kept.new (holding engine.new) keeper.new done)) }
     ensures kept { OnErr result (kept.new ≡ kept.old) }
     ensures keeper { OnErr result (keeper.new ≡ keeper.old) }
     ensures engine { OnErr result (StandsAs engine.old engine.new) }

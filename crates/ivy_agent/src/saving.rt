@@ -7,8 +7,8 @@ ghost use Rattle.xdr_codec.specs.Writing.{padded};
 ghost use Rattle.log_model.specs.Spelling.{vector_entry};
 ghost use Rattle.agent_model.specs.Agent.{own_key};
 ghost use Rattle.agent_model.specs.SavedBytes.{kept_bytes, kind_number, post_bytes, view_bytes};
-ghost use Rattle.ivy_agent.specs.Holders.{signing};
 ghost use Rattle.ivy_agent.specs.Saves.{saved_of, AreShort, HasSaved, IsWholeAfter};
+ghost use Rattle.ivy_agent.specs.Causes.{SaveHasCause};
 
 use block_parts::opaque_len;
 use dht_ids::{Post, PostKind, Posts};
@@ -73,8 +73,9 @@ pub fn save<K: Keeper, S: Signs>(
     keeper: &mut K,
     kept: &Kept<S>,
 ) -> Result<(), SaveFault>
-    requires { kept.now.log ≡ head_key_of (own_key (signing S.key S.remaining S.signature S.next S.saved) kept.now.signer) }
-    ensures saved { HasSaved K.saves keeper.old (kept_bytes (signing S.key S.remaining S.signature S.next S.saved) (saved_of kept.now)) result keeper.new }
+    requires { kept.now.log ≡ head_key_of (own_key S.signing kept.now.signer) }
+    ensures saved { HasSaved K.saves keeper.old (kept_bytes S.signing (saved_of kept.now)) result keeper.new }
+    ensures cause { SaveHasCause K.faults keeper.old result keeper.new }
     ensures whole { IsWholeAfter (S.is_whole kept.now.signer) result }
 {
     let Ok(bytes) = bytes_of(alloc, kept) else {
@@ -88,8 +89,8 @@ pub fn save<K: Keeper, S: Signs>(
 
 /// The bytes that are saved. The error is that of [`save`] which isn't the keeper's.
 fn bytes_of<S: Signs>(alloc: Global, kept: &Kept<S>) -> Result<Bytes, Memory>
-    requires { kept.now.log ≡ head_key_of (own_key (signing S.key S.remaining S.signature S.next S.saved) kept.now.signer) }
-    ensures bytes { IfOk result (λ bytes. bytes ≡ kept_bytes (signing S.key S.remaining S.signature S.next S.saved) (saved_of kept.now)) }
+    requires { kept.now.log ≡ head_key_of (own_key S.signing kept.now.signer) }
+    ensures bytes { IfOk result (λ bytes. bytes ≡ kept_bytes S.signing (saved_of kept.now)) }
     ensures whole { OnOk result (S.is_whole kept.now.signer) }
 {
     let signer = kept.signer.save(alloc)?;

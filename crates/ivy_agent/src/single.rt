@@ -4,7 +4,6 @@ ghost use Rattle.std.specs.Prelude.{◌≡◌, ◌≤◌, ◌<◌, length, IfOk,
 ghost use Rattle.log_fetch.specs.Standings.{asked_of, refresh_of};
 ghost use Rattle.ivy_agent.specs.Answering.{IsCall};
 ghost use Rattle.ivy_agent.specs.Bounds.{HasBounds};
-ghost use Rattle.ivy_agent.specs.Holders.{signing};
 ghost use Rattle.ivy_agent.specs.Turns.{IsFetchedIn, TakesTurn};
 
 use crate::agent::Agent;
@@ -65,7 +64,7 @@ fn turn_in<K: Keeper, S: Signs + Drop, L: Ledger>(
     requires batch { IsSomeAnd agent.old.agent.view (λ view. IsFetchedIn view refresh.batch) }
     requires bounds { IfSome refresh.basis (λ basis. HasBounds basis.tree) }
     requires call { IsCall (asked_of asked.now) now }
-    ensures turn { IfSome agent.old.agent.view (λ view. TakesTurn (signing S.key S.remaining S.signature S.next S.saved) S.is_whole K.saves view (refresh_of refresh) (asked_of asked.now) now agent.old result agent.new) }
+    ensures turn { IfSome agent.old.agent.view (λ view. TakesTurn S.signing S.is_whole K.saves view (refresh_of refresh) (asked_of asked.now) now agent.old result agent.new) }
     ensures short { IfOk result (λ turned. length turned.reply ≤ 32772) }
 {
     let mut steps = Steps::<L>::new(blank);

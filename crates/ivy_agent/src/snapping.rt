@@ -11,9 +11,9 @@ ghost use Rattle.version_vectors.specs.Ranks.{rank_of};
 ghost use Rattle.agent_model.specs.Agent.{joined, own_key};
 ghost use Rattle.agent_model.specs.Others.{basis_of, block_post, is_block, is_pending_block};
 ghost use Rattle.agent_model.specs.SavedBytes.{AreOpaque, kept_bytes};
-ghost use Rattle.ivy_agent.specs.Holders.{signing};
 ghost use Rattle.ivy_agent.specs.Saves.{saved_of, HasSaved, IsWholeAfter};
 ghost use Rattle.ivy_agent.specs.Snapping.{IsSnapshot, kept_snapped, posts_of_new};
+ghost use Rattle.ivy_agent.specs.Causes.{SaveHasCause};
 
 use crate::posting::join_posts;
 use crate::saving::{Kept, SaveFault, save};
@@ -144,8 +144,9 @@ pub fn save_snapshot<K: Keeper, S: Signs>(
     kept: &mut Kept<S>,
     snapshot: Snapshot,
 ) -> Result<(), SaveFault>
-    requires { kept.old.log ≡ head_key_of (own_key (signing S.key S.remaining S.signature S.next S.saved) kept.old.signer) }
-    ensures saved { HasSaved K.saves keeper.old (kept_bytes (signing S.key S.remaining S.signature S.next S.saved) (saved_of (kept_snapped snapshot kept.old))) result keeper.new }
+    requires { kept.old.log ≡ head_key_of (own_key S.signing kept.old.signer) }
+    ensures saved { HasSaved K.saves keeper.old (kept_bytes S.signing (saved_of (kept_snapped snapshot kept.old))) result keeper.new }
+    ensures cause { SaveHasCause K.faults keeper.old result keeper.new }
     ensures whole { IsWholeAfter (S.is_whole kept.old.signer) result }
     ensures ok { OnOk result (kept.new ≡ kept_snapped snapshot kept.old) }
     ensures err { OnErr result (kept.new ≡ kept.old) }

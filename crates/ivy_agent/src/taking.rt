@@ -14,10 +14,10 @@ ghost use Rattle.replay_engine.specs.Places.{AreNew};
 ghost use Rattle.turn_model.specs.Work.{applied_between};
 ghost use Rattle.agent_model.specs.Agent.{joined, own_key};
 ghost use Rattle.agent_model.specs.Taking.{with_new};
-ghost use Rattle.ivy_agent.specs.Holders.{signing};
 ghost use Rattle.turn_taking.specs.Taking.{Takes};
 ghost use Rattle.ivy_agent.specs.Answering.{Answers, IsCall, MayGoOn};
 ghost use Rattle.ivy_agent.specs.Taking.{MayTakeFrom, TurnsOn};
+ghost use Rattle.ivy_agent.specs.Causes.{ReplyHasCause};
 
 use crate::outcome::answer;
 use crate::saving::Kept;
@@ -48,15 +48,15 @@ pub fn answer_with<K: Keeper, S: Signs + Drop, L: Ledger>(
     now: Moment,
     steps: &mut Steps<L>,
 ) -> Result<Done, Memory>
-    requires log { kept.old.log ≡ head_key_of (own_key (signing S.key S.remaining S.signature S.next S.saved) kept.old.signer) }
-    requires view { IsSomeAnd kept.old.view (λ view. MayGoOn view (own_key (signing S.key S.remaining S.signature S.next S.saved) kept.old.signer) kept.old.floor front (with_new (holding engine.old) (records_of new.items))) }
+    requires log { kept.old.log ≡ head_key_of (own_key S.signing kept.old.signer) }
+    requires view { IsSomeAnd kept.old.view (λ view. MayGoOn view (own_key S.signing kept.old.signer) kept.old.floor front (with_new (holding engine.old) (records_of new.items))) }
     requires call { IsCall (asked_of asked.now) now }
     requires few { seq_of front kept.old.log ≤ most_records }
     requires held { IsRow engine.old.held }
     requires row { IsRow (records_of new.items) }
     requires new { AreNew engine.old.held (records_of new.items) }
     requires front { front ≡ joined (with_new (holding engine.old) (records_of new.items)) }
-    ensures done { IfOk result (λ done. IfSome kept.old.view (λ view. Answers (signing S.key S.remaining S.signature S.next S.saved) S.is_whole K.saves view (asked_of asked.now) now kept.old has_failed (with_new (holding engine.old) (records_of new.items)) front keeper.old (applied_between engine.old.held (in_order (engine.old.held ++ records_of new.items))) kept.new (holding engine.new) keeper.new done)) }
+    ensures done { IfOk result (λ done. IfSome kept.old.view (λ view. Answers S.signing S.is_whole K.saves view (asked_of asked.now) now kept.old has_failed (with_new (holding engine.old) (records_of new.items)) front keeper.old (applied_between engine.old.held (in_order (engine.old.held ++ records_of new.items))) kept.new (holding engine.new) keeper.new done)) }
     ensures kept { OnErr result (kept.new ≡ kept.old) }
     ensures keeper { OnErr result (keeper.new ≡ keeper.old) }
     ensures engine { OnErr result (holding engine.new ≡ holding engine.old) }
@@ -93,9 +93,9 @@ fn take_new<S: Signs>(
     front: &Vector,
     batch: Batch,
 ) -> Result<Taken, Memory>
-    requires from { IsSomeAnd kept.now.view (λ view. MayTakeFrom view (own_key (signing S.key S.remaining S.signature S.next S.saved) kept.now.signer) kept.now.floor (holding engine.now) batch) }
+    requires from { IsSomeAnd kept.now.view (λ view. MayTakeFrom view (own_key S.signing kept.now.signer) kept.now.floor (holding engine.now) batch) }
     requires front { front.now ≡ joined (holding engine.now) }
-    ensures { IfOk result (λ taken. IfSome kept.now.view (λ view. Takes view (own_key (signing S.key S.remaining S.signature S.next S.saved) kept.now.signer) kept.now.floor batch (holding engine.now) taken)) }
+    ensures { IfOk result (λ taken. IfSome kept.now.view (λ view. Takes view (own_key S.signing kept.now.signer) kept.now.floor batch (holding engine.now) taken)) }
 {
     let Some(view) = &kept.view else {
         unreachable!();
@@ -126,12 +126,13 @@ pub fn turn_on<K: Keeper, S: Signs + Drop, L: Ledger>(
     now: Moment,
     steps: &mut Steps<L>,
 ) -> Result<Done, Refusal>
-    requires log { kept.old.log ≡ head_key_of (own_key (signing S.key S.remaining S.signature S.next S.saved) kept.old.signer) }
-    requires from { IsSomeAnd kept.old.view (λ view. MayTakeFrom view (own_key (signing S.key S.remaining S.signature S.next S.saved) kept.old.signer) kept.old.floor (holding engine.old) batch) }
+    requires log { kept.old.log ≡ head_key_of (own_key S.signing kept.old.signer) }
+    requires from { IsSomeAnd kept.old.view (λ view. MayTakeFrom view (own_key S.signing kept.old.signer) kept.old.floor (holding engine.old) batch) }
     requires well { IsSomeAnd kept.old.view IsView }
     requires call { IsCall (asked_of asked.now) now }
     requires front { front.now ≡ joined (holding engine.old) }
-    ensures turned { IfSome kept.old.view (λ view. TurnsOn (signing S.key S.remaining S.signature S.next S.saved) S.is_whole K.saves view batch (asked_of asked.now) now kept.old has_failed (holding engine.old) keeper.old result kept.new (holding engine.new) keeper.new) }
+    ensures cause { IfOk result (λ done. ReplyHasCause (K.faults keeper.old) (K.faults keeper.new) has_failed done.turned) }
+    ensures turned { IfSome kept.old.view (λ view. TurnsOn S.signing S.is_whole K.saves view batch (asked_of asked.now) now kept.old has_failed (holding engine.old) keeper.old result kept.new (holding engine.new) keeper.new) }
     ensures kept { OnErr result (kept.new ≡ kept.old) }
     ensures keeper { OnErr result (keeper.new ≡ keeper.old) }
     ensures engine { OnErr result (holding engine.new ≡ holding engine.old) }

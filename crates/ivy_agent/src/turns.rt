@@ -5,7 +5,7 @@ ghost use Rattle.log_model.specs.View.{View};
 ghost use Rattle.log_fetch.specs.Standings.{asked_of, refresh_of};
 ghost use Rattle.ivy_agent.specs.Answering.{IsCall};
 ghost use Rattle.ivy_agent.specs.Bounds.{HasBounds};
-ghost use Rattle.ivy_agent.specs.Holders.{Holder, signing};
+ghost use Rattle.ivy_agent.specs.Holders.{Holder};
 ghost use Rattle.ivy_agent.specs.Turns.{IsFetchedIn};
 ghost use Rattle.ivy_agent.specs.Calls.{Settles, Stands, Turns as TakesTurn};
 
@@ -33,7 +33,7 @@ pub trait Turns<K: Keeper, S: Signs> {
     /// What a session is given of the agent, which stays as it is. The error is want of memory.
     fn standing(&self, alloc: Global, pass: &mut Self::Pass) -> Result<Standing, Memory>
         requires { IsSomeAnd (view self.now pass.old) (λ view. Unit {0}) }
-        ensures stands { Stands (signing S.key S.remaining S.signature S.next S.saved) (comes self.now pass.old) (leaves self.now pass.new) (view self.now pass.old) result }
+        ensures stands { Stands S.signing (comes self.now pass.old) (leaves self.now pass.new) (view self.now pass.old) result }
         ensures view { view self.now pass.new ≡ view self.now pass.old };
 
     /// A turn of the agent, as [`ivy_agent::Agent::turn`] takes it, with its refusals. A reply has 32,772 bytes at most.
@@ -48,7 +48,7 @@ pub trait Turns<K: Keeper, S: Signs> {
         requires batch { IsSomeAnd (view self.now pass.old) (λ view. IsFetchedIn view refresh.batch) }
         requires bounds { IfSome refresh.basis (λ basis. HasBounds basis.tree) }
         requires call { IsCall (asked_of asked.now) now }
-        ensures turn { TakesTurn (signing S.key S.remaining S.signature S.next S.saved) S.is_whole K.saves (comes self.now pass.old) (leaves self.now pass.new) (view self.now pass.old) (refresh_of refresh) (asked_of asked.now) now result }
+        ensures turn { TakesTurn S.signing S.is_whole K.saves (comes self.now pass.old) (leaves self.now pass.new) (view self.now pass.old) (refresh_of refresh) (asked_of asked.now) now result }
         ensures view { view self.now pass.new ≡ view self.now pass.old }
         ensures short { IfOk result (λ turned. length turned.reply ≤ 32772) };
 

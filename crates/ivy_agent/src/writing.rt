@@ -16,7 +16,6 @@ ghost use Rattle.ivy_agent.specs.Appended.{written_over};
 ghost use Rattle.replay_engine.specs.Engines.{holding, taken_in, undone};
 ghost use Rattle.agent_model.specs.Agent.{joined, own_key};
 ghost use Rattle.agent_model.specs.SavedBytes.{kept_bytes};
-ghost use Rattle.ivy_agent.specs.Holders.{signing};
 ghost use Rattle.replay_engine.specs.Rows.{IsRow};
 ghost use Rattle.replay_engine.specs.Places.{AreBehind};
 ghost use Rattle.ivy_agent.specs.Saves.{saved_of, HasSaved, IsWholeAfter};
@@ -170,11 +169,11 @@ fn conclude<K: Keeper, S: Signs + Drop>(
     front: &Vector,
     applied: u64,
 ) -> Result<Turned, SaveFault>
-    requires log { kept.old.log ≡ head_key_of (own_key (signing S.key S.remaining S.signature S.next S.saved) kept.old.signer) }
-    requires key { S.key next.signer ≡ S.key kept.old.signer }
+    requires log { kept.old.log ≡ head_key_of (own_key S.signing kept.old.signer) }
+    requires key { S.signing.key next.signer ≡ S.signing.key kept.old.signer }
     requires view { IsSomeAnd kept.old.view (λ view. Unit {0}) }
     requires some { engine.now.before ≢ [] }
-    ensures saved { HasSaved K.saves keeper.old (kept_bytes (signing S.key S.remaining S.signature S.next S.saved) (saved_of (kept_with kept.old next))) result keeper.new }
+    ensures saved { HasSaved K.saves keeper.old (kept_bytes S.signing (saved_of (kept_with kept.old next))) result keeper.new }
     ensures whole { IsWholeAfter (S.is_whole next.signer) result }
     ensures count { IfOk result (λ t. t.applied ≡ applied) }
     ensures ok { OnOk result (kept.new ≡ kept_with kept.old next) }
@@ -214,13 +213,13 @@ fn try_to_write<K: Keeper, S: Signs + Drop, L: Ledger>(
     applied: u64,
     steps: &mut Steps<L>,
 ) -> Result<Turned, SaveFault>
-    requires log { kept.old.log ≡ head_key_of (own_key (signing S.key S.remaining S.signature S.next S.saved) kept.old.signer) }
-    requires key { S.key next.signer ≡ S.key kept.old.signer }
+    requires log { kept.old.log ≡ head_key_of (own_key S.signing kept.old.signer) }
+    requires key { S.signing.key next.signer ≡ S.signing.key kept.old.signer }
     requires view { IsSomeAnd kept.old.view (λ view. Unit {0}) }
     requires some { engine.old.before ≢ [] }
     requires row { IsRow (records_of records.items) }
     requires behind { AreBehind engine.old.held (records_of records.items) }
-    ensures saved { HasSaved K.saves keeper.old (kept_bytes (signing S.key S.remaining S.signature S.next S.saved) (saved_of (kept_with kept.old next))) result keeper.new }
+    ensures saved { HasSaved K.saves keeper.old (kept_bytes S.signing (saved_of (kept_with kept.old next))) result keeper.new }
     ensures whole { IsWholeAfter (S.is_whole next.signer) result }
     ensures count { IfOk result (λ t. t.applied ≡ applied) }
     ensures steps { IsWholeAfter (steps.new ≡ steps.old + length records.items) result }
@@ -260,8 +259,8 @@ fn commit<K: Keeper, S: Signs + Drop, L: Ledger>(
     applied: u64,
     steps: &mut Steps<L>,
 ) -> Result<Done, Memory>
-    requires log { kept.old.log ≡ head_key_of (own_key (signing S.key S.remaining S.signature S.next S.saved) kept.old.signer) }
-    requires key { S.key draft.next.signer ≡ S.key kept.old.signer }
+    requires log { kept.old.log ≡ head_key_of (own_key S.signing kept.old.signer) }
+    requires key { S.signing.key draft.next.signer ≡ S.signing.key kept.old.signer }
     requires view { IsSomeAnd kept.old.view (λ view. Unit {0}) }
     requires some { engine.old.before ≢ [] }
     requires held { IsRow engine.old.held }
@@ -269,7 +268,7 @@ fn commit<K: Keeper, S: Signs + Drop, L: Ledger>(
     requires behind { AreBehind engine.old.held (records_of draft.records.items) }
     requires floor { lost.floor ≡ join kept.old.floor front }
     requires given { Gives (lost_reply (asked_of asked.now)) (kept_to kept.old front) front applied lost.turned }
-    ensures done { IfOk result (λ done. IfSome kept.old.view (λ view. HasWritten (signing S.key S.remaining S.signature S.next S.saved) S.is_whole K.saves view (asked_of asked.now) ops.now kept.old (holding engine.old) front keeper.old applied draft kept.new (holding engine.new) keeper.new done)) }
+    ensures done { IfOk result (λ done. IfSome kept.old.view (λ view. HasWritten S.signing S.is_whole K.saves view (asked_of asked.now) ops.now kept.old (holding engine.old) front keeper.old applied draft kept.new (holding engine.new) keeper.new done)) }
     ensures kept { OnErr result (kept.new ≡ kept.old) }
     ensures keeper { OnErr result (keeper.new ≡ keeper.old) }
     ensures engine { OnErr result (StandsAs engine.old engine.new) }
@@ -323,10 +322,10 @@ fn prepare<S: Signs + Drop>(
     ops: &Ops,
     applied: u64,
 ) -> Result<Prepared<S>, Memory>
-    requires log { kept.now.log ≡ head_key_of (own_key (signing S.key S.remaining S.signature S.next S.saved) kept.now.signer) }
+    requires log { kept.now.log ≡ head_key_of (own_key S.signing kept.now.signer) }
     requires few { seq_of front.now kept.now.log + length ops.now ≤ most_records }
-    requires is_left { S.remaining kept.now.signer ≢ 0 }
-    ensures draft { IfOk result (λ p. IsDraft (signing S.key S.remaining S.signature S.next S.saved) kept.now front.now now ops.now p.draft) }
+    requires is_left { S.signing.remaining kept.now.signer ≢ 0 }
+    ensures draft { IfOk result (λ p. IsDraft S.signing kept.now front.now now ops.now p.draft) }
     ensures floor { IfOk result (λ p. p.lost.floor ≡ join kept.now.floor front.now) }
     ensures given { IfOk result (λ p. Gives (lost_reply (asked_of asked.now)) (kept_to kept.now front.now) front.now p.applied p.lost.turned) }
     ensures count { IfOk result (λ p. p.applied ≡ applied + length p.draft.records.items) }
@@ -369,15 +368,15 @@ pub fn write<K: Keeper, S: Signs + Drop, L: Ledger>(
     applied: u64,
     steps: &mut Steps<L>,
 ) -> Result<Done, Memory>
-    requires log { kept.old.log ≡ head_key_of (own_key (signing S.key S.remaining S.signature S.next S.saved) kept.old.signer) }
+    requires log { kept.old.log ≡ head_key_of (own_key S.signing kept.old.signer) }
     requires few { seq_of front kept.old.log + length ops.now ≤ most_records }
-    requires is_left { S.remaining kept.old.signer ≢ 0 }
+    requires is_left { S.signing.remaining kept.old.signer ≢ 0 }
     requires view { IsSomeAnd kept.old.view (λ view. Unit {0}) }
     requires some { engine.old.before ≢ [] }
     requires held { IsRow engine.old.held }
-    requires row { IsRow (written_over (own_key (signing S.key S.remaining S.signature S.next S.saved) kept.old.signer) now front ops.now) }
-    requires behind { AreBehind engine.old.held (written_over (own_key (signing S.key S.remaining S.signature S.next S.saved) kept.old.signer) now front ops.now) }
-    ensures done { IfOk result (λ done. IfSome kept.old.view (λ view. WritesDraft (signing S.key S.remaining S.signature S.next S.saved) S.is_whole K.saves view (asked_of asked.now) now ops.now kept.old (holding engine.old) front keeper.old applied kept.new (holding engine.new) keeper.new done)) }
+    requires row { IsRow (written_over (own_key S.signing kept.old.signer) now front ops.now) }
+    requires behind { AreBehind engine.old.held (written_over (own_key S.signing kept.old.signer) now front ops.now) }
+    ensures done { IfOk result (λ done. IfSome kept.old.view (λ view. WritesDraft S.signing S.is_whole K.saves view (asked_of asked.now) now ops.now kept.old (holding engine.old) front keeper.old applied kept.new (holding engine.new) keeper.new done)) }
     ensures kept { OnErr result (kept.new ≡ kept.old) }
     ensures keeper { OnErr result (keeper.new ≡ keeper.old) }
     ensures engine { OnErr result (StandsAs engine.old engine.new) }

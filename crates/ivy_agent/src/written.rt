@@ -8,11 +8,11 @@ ghost use Rattle.log_model.specs.Spelling.{new_record, no_name};
 ghost use Rattle.log_model.specs.Vector.{seq_of, stamp_at};
 ghost use Rattle.log_records.specs.Records.{record_of, records_of};
 ghost use Rattle.turn_model.specs.Turn.{linked};
-ghost use Rattle.ivy_agent.specs.Appended.{written_over};
+ghost use Rattle.ivy_agent.specs.Appended.{heading, written_over};
 ghost use Rattle.ivy_agent.specs.Newest.{newest_stamp, stamp_of, with_newest};
 
 use dht_ids::{Post, PostKind};
-use ivy_base::{Key, Memory, Moment, Op, PubKey, head_key, name_of};
+use ivy_base::{Format, Key, Memory, Moment, Op, PubKey, head_key, name_of};
 use log_records::Record;
 use std::alloc::Global;
 use version_vectors::{Entry, Vector};
@@ -50,7 +50,7 @@ pub fn write_records(
     ops: Vec<Op>,
 ) -> Result<Written, Memory>
     requires { before.seq + length ops.items < 2 ^ 32 }
-    ensures records { IfOk result (λ w. records_of w.records.items ≡ linked own.now cited.now now (before.seq + 1) before.name ops.items) }
+    ensures records { IfOk result (λ w. records_of w.records.items ≡ linked (heading own.now cited.now now) (before.seq + 1) before.name ops.items) }
     ensures posts { IfOk result (λ w. w.posts.items ≡ map record_post (records_of w.records.items)) }
 {
     let mut records = Vec::with_capacity(alloc, ops.len())?;
@@ -112,7 +112,7 @@ fn write_one(
     op: Op,
 ) -> Result<(Record, Post), Memory>
     requires { before.seq + 1 < 2 ^ 32 }
-    ensures record { IfOk result (λ w. record_of w.0 ≡ new_record own.now (before.seq + 1) before.name cited.now now op) }
+    ensures record { IfOk result (λ w. record_of w.0 ≡ new_record (heading own.now cited.now now) (before.seq + 1) before.name op) }
     ensures post { IfOk result (λ w. w.1 ≡ record_post (record_of w.0)) }
 {
     let record = Record {
@@ -122,6 +122,7 @@ fn write_one(
         vector: cited.copy(alloc)?,
         moment: now,
         op,
+        format: Format::One,
     };
     let bytes = record.write(alloc)?;
     let post = Post {

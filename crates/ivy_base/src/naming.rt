@@ -1,16 +1,43 @@
 //! How blocks, logs and inodes are named, and which names a directory may hold.
 
-ghost use Rattle.std.specs.Prelude.{◌≡◌, ◌↔◌, IsTrue};
-ghost use Rattle.ivy_base.specs.Naming.{name, head_key_of, inode_number, IsFileName};
+ghost use Rattle.std.specs.Prelude.{◌≡◌, ◌↔◌, IsTrue, take};
+ghost use Rattle.sha2.specs.Sha256.{sha256};
+ghost use Rattle.ivy_base.specs.Naming.{name, head_key_of, inode_number, is_named_by_sha256, IsFileName};
 
 use crate::key::{Key, PubKey};
 use sha1::Sha1;
+use sha2::{Digest, Sha256};
 
-/// The name of a block: the SHA-1 (FIPS 180-4) of its bytes.
+/// The name of a block: the first 20 bytes of the SHA-256 of its bytes where these begin with a tag of format 2, and else their
+/// SHA-1 (FIPS 180-4).
+#[tactic(auto, unfolding(crate::specs::Naming::name))]
 pub fn name_of(bytes: &[u8]) -> Key
     ensures { result ≡ name bytes.now }
 {
-    Key(Sha1::digest(bytes))
+    if is_named_by_sha256(bytes) {
+        first_twenty(&Sha256::digest(bytes))
+    } else {
+        Key(Sha1::digest(bytes))
+    }
+}
+
+/// Whether the bytes begin with a tag of format 2.
+fn is_named_by_sha256(bytes: &[u8]) -> bool
+    ensures { result ≡ is_named_by_sha256 bytes.now }
+{
+    let tag = &bytes[..bytes.len().min(4)];
+    [*b"IVR2", *b"IVS2", *b"IVL2", *b"IVE2", *b"IVI2", *b"IVD2"]
+        .iter()
+        .any(|t: &[u8; 4]| tag == t.as_slice())
+}
+
+/// The first 20 bytes of a digest.
+fn first_twenty(whole: &[u8; 32]) -> Key
+    ensures { result.0 ≡ take 20 whole.now }
+{
+    let mut front = [0; 20];
+    front.copy_from_slice(&whole[..20]);
+    Key(front)
 }
 
 /// Where the head of the owner's log lies, which stands for the log: the SHA-1 of the owner's public key.

@@ -1,7 +1,7 @@
 //! Logs that were written in turn.
 
 use dht_ids::Judged;
-use ivy_base::{Key, Memory, Moment, Op, PubKey, head_key};
+use ivy_base::{Format, Key, Memory, Moment, Op, PubKey, head_key};
 use log_records::Record;
 use std::alloc::Global;
 use version_vectors::{Entry, Vector};
@@ -87,6 +87,7 @@ fn write(alloc: Global, log: &mut Log, vector: Vector) -> Result<(), Memory> {
         } else {
             Op::Cancel { seq: 1 }
         },
+        format: Format::One,
     };
     let name = record.name(alloc)?;
     log.newest = Judged { seq, name };

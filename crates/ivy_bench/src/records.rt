@@ -2,7 +2,7 @@
 
 use crate::measured::{Copies, Measured, Task, repeat};
 use crate::words::Words;
-use ivy_base::{Bytes, Key, Memory, Moment, Op, PubKey};
+use ivy_base::{Bytes, Format, Key, Memory, Moment, Op, PubKey};
 use log_records::Record;
 use std::alloc::Global;
 use std::rt::Clock;
@@ -45,6 +45,7 @@ fn record(alloc: Global, bytes: Bytes) -> Result<Record, Memory> {
             offset: 8192,
             bytes,
         },
+        format: Format::One,
     })
 }
 

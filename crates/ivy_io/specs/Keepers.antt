@@ -22,6 +22,16 @@ SaveReplaces (Some old) new bytes result = MatchResult result (λ _. new ≡ Som
 abbrev pub SaveCounts : {E : Type 0} → ℕ → ℕ → Result Unit E → Type 0
 SaveCounts old new result = MatchResult result (λ _. new ≡ old) (λ _. new ≡ counted old)
 
+-- the count after a save, by whether it failed
+abbrev pub after_try : Bool → ℕ → ℕ
+after_try fails faults = if fails then counted faults else faults
+
+-- where it is known what was kept: the new bytes are, or, where the save failed, the old ones may be
+abbrev pub KeepsAfter : Option (Option (List ℕ)) → List ℕ → Bool → Option (Option (List ℕ)) → Type 0
+KeepsAfter None bytes fails new = new ≡ None
+KeepsAfter (Some old) bytes false new = new ≡ Some (Some bytes)
+KeepsAfter (Some old) bytes true new = (new ≡ Some (Some bytes)) ⊎ (new ≡ Some old)
+
 -- these bytes may be given, or that refusal, where it is known what is kept
 abbrev pub GivesKept : Option (Option (List ℕ)) → Result (List ℕ) KeepFault → Type 0
 GivesKept None result = Unit {0}

@@ -2,6 +2,7 @@ pub mod Causes
 pub mod Known
 pub mod States
 pub mod Keepers
+pub mod KeeperLaws
 pub mod Faults
 pub mod Names
 pub mod Links

@@ -1,6 +1,6 @@
-ghost use Rattle.std.specs.Prelude.{ℕ, Bool, List};
+ghost use Rattle.std.specs.Prelude.{◌≡◌, ℕ, Bool, List};
 ghost use Rattle.std.specs.declared.option.Option.{Option};
-ghost use Rattle.ivy_io.specs.Keepers.{SaveCounts, SaveReplaces, SaveIs, LoadCounts, LoadGives};
+ghost use Rattle.ivy_io.specs.Keepers.{SaveCounts, SaveReplaces, SaveIs, LoadCounts, LoadGives, KeepsAfter, after_try};
 
 use crate::{Failed, KeepFault};
 use ivy_base::Bytes;
@@ -27,4 +27,11 @@ pub trait Keeper {
     fn load(&mut self, alloc: Global) -> Result<Bytes, KeepFault>
         ensures bytes { LoadGives (kept self.old) (kept self.new) result }
         ensures cause { LoadCounts (faults self.old) (faults self.new) result };
+
+    /// The count rises exactly with each save that fails.
+    ghost counts: { (before after : Self) (bytes : List ℕ) (fails : Bool) → saves before bytes fails after → faults after ≡ after_try fails (faults before) };
+
+    /// Where it is known what is kept: after a save that didn't fail the new bytes are, and after one that failed the new
+    /// ones or the old.
+    ghost keeps: { (before after : Self) (bytes : List ℕ) (fails : Bool) → saves before bytes fails after → KeepsAfter (kept before) bytes fails (kept after) };
 }

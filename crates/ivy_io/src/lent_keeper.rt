@@ -77,11 +77,17 @@ impl LentKeeper {
 }
 
 impl Keeper for LentKeeper {
+    ghost use Rattle.ivy_io.specs.KeeperLaws.{memory_counts, memory_keeps};
+
     ghost kept = { λ k. Some k.kept };
 
     ghost faults = { λ k. k.faults };
 
     ghost saves = { λ k bytes failed new. (failed ≡ fails_next k) × (new ≡ after_save k bytes) };
+
+    ghost counts = { memory_counts };
+
+    ghost keeps = { memory_keeps };
 
     fn save(&mut self, bytes: Bytes) -> Result<(), Failed>
         ensures is { SaveIs (λ failed new. (failed ≡ fails_next self.old) × (new ≡ after_save self.old bytes)) self.new result }

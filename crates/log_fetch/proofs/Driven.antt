@@ -41,7 +41,7 @@ module _ (view : View) (owner : PubKey) (start floor : Vector) (edge : Option Ed
     walked = [];
     faults = [];
     brought_is = refl;
-    goes_on = λ {more} {others} {end} tries. subst (λ (l : List Stamp). Tries view owner start floor edge l more others end) is.0 tries;
+    goes_on = λ {more} {others} {end} tries. subst (λ (l : List Stamp). Tries (record { view = view; owner = owner; start = start; floor = floor; edge = edge }) l more others end) is.0 tries;
     fault_is = is.3;
     owner_is = ap (λ (w : Walking). w.owner) is.1;
     held_is = is.2;
@@ -58,18 +58,18 @@ module _ (view : View) (owner : PubKey) (start floor : Vector) (edge : Option Ed
         (subst (λ (o : PubKey). HasCome o (t.head.seq - seq_of start (head_key_of owner)) t.head.name h.walked t.walk.left t.walk.next t.walk.found) h.owner_is h.walk_is) key want
 
     -- the log wants that block
-    pub log_wants : (faults : List ChainFault) × Tries view owner start floor edge all brought faults (Lacks (Content key)) × (t.fault ≡ first_of faults)
+    pub log_wants : (faults : List ChainFault) × Tries (record { view = view; owner = owner; start = start; floor = floor; edge = edge }) all brought faults (Lacks (Content key)) × (t.fault ≡ first_of faults)
     log_wants = (
       h.faults ++ [],
-      subst (λ (b : List Brought). Tries view owner start floor edge all b (h.faults ++ []) (Lacks (Content key))) (sym h.brought_is) (h.goes_on (head_wants walks.1)),
+      subst (λ (b : List Brought). Tries (record { view = view; owner = owner; start = start; floor = floor; edge = edge }) all b (h.faults ++ []) (Lacks (Content key))) (sym h.brought_is) (h.goes_on (head_wants walks.1)),
       h.fault_is ∙ ap first_of (sym (append-nil h.faults)),
     )
 
     -- and where the block can't be had, it stops
-    pub log_stops : (miss : Miss) → (faults : List ChainFault) × Tries view owner start floor edge all (brought ++ BlockOf key (Err miss) ∷ []) faults (Stops miss) × (t.fault ≡ first_of faults)
+    pub log_stops : (miss : Miss) → (faults : List ChainFault) × Tries (record { view = view; owner = owner; start = start; floor = floor; edge = edge }) all (brought ++ BlockOf key (Err miss) ∷ []) faults (Stops miss) × (t.fault ≡ first_of faults)
     log_stops miss = (
       h.faults ++ [],
-      subst (λ (b : List Brought). Tries view owner start floor edge all b (h.faults ++ []) (Stops miss)) (sym (append_assoc h.passed h.walked (BlockOf key (Err miss) ∷ [])) ∙ ap (λ (b : List Brought). b ++ BlockOf key (Err miss) ∷ []) (sym h.brought_is))
+      subst (λ (b : List Brought). Tries (record { view = view; owner = owner; start = start; floor = floor; edge = edge }) all b (h.faults ++ []) (Stops miss)) (sym (append_assoc h.passed h.walked (BlockOf key (Err miss) ∷ [])) ∙ ap (λ (b : List Brought). b ++ BlockOf key (Err miss) ∷ []) (sym h.brought_is))
           (h.goes_on (head_misses (is_missed owner walks.1 miss))),
       h.fault_is ∙ ap first_of (sym (append-nil h.faults)),
     )

@@ -2,6 +2,7 @@
 use Rattle.std.proofs.Common.{◌≡◌, ℕ, zero, suc, ◌+◌, ◌-◌, ◌*◌, ◌<◌, ◌≤◌, arith}
 use Rattle.std.specs.Prelude.{◌^◌}
 use Rattle.std.proofs.Math.Nat.{mul-le-mul_left, mul-lt-mul_of_pos_left, mul-suc}
+use Rattle.log_model.specs.View.{most_members}
 use Rattle.log_fetch.specs.Fetching.{most_asks, most_left}
 
 module _ (most : ℕ) where
@@ -34,6 +35,6 @@ pub some_asks : 0 < most_asks
 some_asks = omega (arith, first_asks)
 
 -- a fetch that begins
-pub first_left : (gets : ℕ) → gets < 17 * (2 + 2 ^ 96) → most_asks * gets < most_left
+pub first_left : (gets : ℕ) → gets < (most_members + 1) * (2 + 2 ^ 96) → most_asks * gets < most_left
 unfolding most_left
-first_left gets less = fewer_gets most_asks gets (17 * (2 + 2 ^ 96)) some_asks less
+first_left gets less = fewer_gets most_asks gets ((most_members + 1) * (2 + 2 ^ 96)) some_asks less

@@ -61,13 +61,13 @@ module _ (s : agent.Standing) (start : Vector) where
   abbrev little : agent.Standing
   little = record s { held = []; to_load = None; pending = [] }
 
-  log_widens : {owner : PubKey} {brought : List Brought} {notes : List session.Note} {end : LogEnd} → Fetches little start owner brought notes end → Fetches s start owner brought notes end
+  log_widens : {owner : PubKey} {brought : List Brought} {notes : List session.Note} {end : LogEnd} → Fetches (record { standing = little; start = start }) owner brought notes end → Fetches (record { standing = s; start = start }) owner brought notes end
   log_widens (wants_heads other) = wants_heads other
   log_widens (no_heads miss other) = no_heads miss other
   log_widens (of_heads heads tried brought faults end other are tries) = of_heads heads tried brought faults end other are tries
   log_widens (own_log brought faults end own tries) = own_log brought faults end own tries
 
-  widens : {owners : List PubKey} {brought : List Brought} {notes : List session.Note} {chains : List agent.Chain} {end : RefreshEnd} → FetchesAll little start owners brought notes chains end → FetchesAll s start owners brought notes chains end
+  widens : {owners : List PubKey} {brought : List Brought} {notes : List session.Note} {chains : List agent.Chain} {end : RefreshEnd} → FetchesAll (record { standing = little; start = start }) owners brought notes chains end → FetchesAll (record { standing = s; start = start }) owners brought notes chains end
   widens all_done = all_done
   widens (stays log e) = stays (log_widens log) e
   widens (one_more log e rest) = one_more (log_widens log) e (widens rest)
@@ -78,8 +78,8 @@ module _ (s : agent.Standing) (start : Vector) where
   given_widens given notes chains Done h = h
 
   module _ (k : Known) (is : IsSeen s k) where
-    pub fetches_as : {brought : List Brought} {notes : List session.Note} {chains : List agent.Chain} {end : RefreshEnd} → FetchesAll (seen k) start k.view.members brought notes chains end → FetchesAll s start s.view.members brought notes chains end
-    fetches_as {brought} {notes} {chains} {end} fetches = widens (subst (λ (x : agent.Standing). FetchesAll x start x.view.members brought notes chains end) is fetches)
+    pub fetches_as : {brought : List Brought} {notes : List session.Note} {chains : List agent.Chain} {end : RefreshEnd} → FetchesAll (record { standing = seen k; start = start }) k.view.members brought notes chains end → FetchesAll (record { standing = s; start = start }) s.view.members brought notes chains end
+    fetches_as {brought} {notes} {chains} {end} fetches = widens (subst (λ (x : agent.Standing). FetchesAll (record { standing = x; start = start }) x.view.members brought notes chains end) is fetches)
 
     pub given_as : (given : Fetched) (notes : List session.Note) (chains : List agent.Chain) (end : RefreshEnd) → IsGiven (seen k) start given notes chains end → IsGiven s start given notes chains end
     given_as given notes chains end h = given_widens given notes chains end (subst (λ (x : agent.Standing). IsGiven x start given notes chains end) is h)
@@ -349,7 +349,7 @@ module _ {J : Type 0} (judges : Judges J) (judge : J) (replicas : ℕ) (entries 
   -- ---- what was brought comes to some end
 
   pub stands_at : (st : State J) (s : agent.Standing) (start : Vector) (parts : List Part) (current : List Heard) → FetchIsAfter judges s start parts current (At st)
-      → (notes : List session.Note) × (chains : List agent.Chain) × (end : RefreshEnd) × FetchesAll s start s.view.members (brought_in parts) notes chains end × ((want : Want) → aim_in st ≡ Some want → end ≡ Needs want)
+      → (notes : List session.Note) × (chains : List agent.Chain) × (end : RefreshEnd) × FetchesAll (record { standing = s; start = start }) s.view.members (brought_in parts) notes chains end × ((want : Want) → aim_in st ≡ Some want → end ≡ Needs want)
   stands_at (state.Free g) s start parts current h =
       let w = free_goes_on start (brought_in parts) g h.asking.1 in (w.notes, w.chains, w.end, fetches_as s start g.known h.asking.0 w.fetches, λ want e. cc e)
   stands_at (state.Asking g x) s start parts current h =

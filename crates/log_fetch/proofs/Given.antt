@@ -38,7 +38,7 @@ module _ (view : View) (owner : PubKey) (start floor : Vector) (edge : Option Ed
   GivesOwn (Gives records) = (owner_of records ≡ owner) × GoesOnFrom view (stamp_in start records) edge records
   GivesOwn GivesNone = Unit {0}
 
-  pub gives_own : {all : List Stamp} {brought : List Brought} {faults : List ChainFault} {end : LogEnd} → Tries view owner start floor edge all brought faults end → GivesOwn end
+  pub gives_own : {all : List Stamp} {brought : List Brought} {faults : List ChainFault} {end : LogEnd} → Tries (record { view = view; owner = owner; start = start; floor = floor; edge = edge }) all brought faults end → GivesOwn end
   gives_own none_left = tt
   gives_own (head_wants w) = tt
   gives_own (head_misses w) = tt

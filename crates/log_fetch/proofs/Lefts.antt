@@ -3,6 +3,7 @@ use Rattle.std.proofs.Common.{◌≡◌, ℕ, zero, suc, ◌+◌, ◌-◌, ◌*�
 use Rattle.std.specs.Prelude.{◌≢◌}
 use Rattle.ivy_base.specs.declared.key.Key.{Key}
 use Rattle.ivy_base.specs.declared.memory.Memory.{Memory}
+use Rattle.log_model.specs.View.{most_members}
 use Rattle.log_fetch.specs.declared.trial.Settled.{Settled}
 use Rattle.log_fetch.specs.declared.trial.Settled.TheVariants as settled
 use Rattle.log_fetch.specs.Concluding.{LeavesNoMore}
@@ -61,7 +62,7 @@ pub none_behind : (members before now : ℕ) → members ≤ now → 0 + (2 + 2 
 none_behind members before now over = omega (arith, over)
 
 -- of few members there are so many
-pub few_members : (members left : ℕ) → members ≤ 16 → left ≤ (2 + 2 ^ 96) * (members - 0) → left < 17 * (2 + 2 ^ 96)
+pub few_members : (members left : ℕ) → members ≤ most_members → left ≤ (2 + 2 ^ 96) * (members - 0) → left < (most_members + 1) * (2 + 2 ^ 96)
 few_members members left few most = omega (arith, few, most)
 
 -- those of the member under way fell, or went on to the members behind it

@@ -7,7 +7,7 @@ use Rattle.ivy_base.specs.Naming.{head_key_of}
 use Rattle.tree_model.specs.Tree.{same_key}
 use Rattle.tree_model.proofs.Keys.{same_key_itself}
 use Rattle.tree_model.proofs.Sound.{both_true}
-use Rattle.log_model.specs.View.{View, IsView, have_own_head_keys}
+use Rattle.log_model.specs.View.{View, IsView, have_own_head_keys, most_members}
 use Rattle.log_model.proofs.Lists.{here, there, in_cons, in_nothing, passes}
 
 -- the rest at a place begins with the item there
@@ -83,5 +83,5 @@ module _ (v : View) (k : ℕ) (owner : PubKey) (rest : List PubKey) (is_view : I
   pub is_new : Contains (take k v.members) owner → ⊥
   is_new = not_before v.members v.former is_view.apart k owner rest owner_is
 
-  pub few : k < 16
+  pub few : k < most_members
   few = let less = within v.members k owner rest owner_is in let most = is_view.few in omega (arith, less, most)

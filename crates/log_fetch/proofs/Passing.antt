@@ -49,8 +49,8 @@ module _ (k : Known) (old new : Passed) (batch : Batch) (owner : PubKey) (floor_
       subst (StandsWith k old new owner all brought) (sym is.0) (same, stands.1, stands.2, tried)
   passes_on all brought (settled.Over first) waits stands is =
       let batch_is : new.batch ≡ batch = ap (λ (p : Passed). p.batch) is.1 in
-      let tries : Tries k.view owner old.batch.held k.floor (edge_in k.edges (head_key_of owner)) all brought stands.0 stands.1 =
-      subst (λ (v : Vector). Tries k.view owner old.batch.held v (edge_in k.edges (head_key_of owner)) all brought stands.0 stands.1) floor_is stands.2 in
+      let tries : Tries (record { view = k.view; owner = owner; start = old.batch.held; floor = k.floor; edge = edge_in k.edges (head_key_of owner) }) all brought stands.0 stands.1 =
+      subst (λ (v : Vector). Tries (record { view = k.view; owner = owner; start = old.batch.held; floor = v; edge = edge_in k.edges (head_key_of owner) }) all brought stands.0 stands.1) floor_is stands.2 in
       let noted : noted_for (head_key_of owner) first ≡ map note_of (session.note_of (head_key_of owner) stands.0) = ap (noted_for (head_key_of owner)) stands.3 ∙ same_notes (head_key_of owner) stands.0 in
       let new_is : new ≡ one_more old new.batch (map note_of (session.note_of (head_key_of owner) stands.0)) =
       is.1 ∙ ap (λ (b : Batch). one_more old b (noted_for (head_key_of owner) first)) (sym batch_is) ∙ ap (one_more old new.batch) noted in
@@ -95,7 +95,7 @@ held_is old new (Gives records) gives = ap (λ (b : Batch). b.held) gives.1
 held_is old new GivesNone gives = ap (λ (b : Batch). b.held) gives
 
 module _ (view : View) (owner : PubKey) (old new : Batch) (floor : Vector) (edge : Option Edge) (all : List Stamp) (brought : List Brought) (faults : List ChainFault) where
-  chains_grow : (end : LogEnd) → Tries view owner old.held floor edge all brought faults end → GivesTo old new end → map chain_of new.chains ≡ map chain_of old.chains ++ chains_of owner end
+  chains_grow : (end : LogEnd) → Tries (record { view = view; owner = owner; start = old.held; floor = floor; edge = edge }) all brought faults end → GivesTo old new end → map chain_of new.chains ≡ map chain_of old.chains ++ chains_of owner end
   chains_grow (Lacks want) tries gives = absurd gives
   chains_grow (Stops miss) tries gives = absurd gives
   chains_grow (Gives records) tries gives =
@@ -119,8 +119,8 @@ module _ (k : Known) (old new : Passed) (owner : PubKey) (next : IsNext k old ow
     goes_on = on;
   }
     where
-      tries : Tries k.view owner start k.floor (edge_in k.edges (head_key_of owner)) all walked stands.0 stands.1
-      tries = subst (λ (v : Vector). Tries k.view owner v k.floor (edge_in k.edges (head_key_of owner)) all walked stands.0 stands.1) h.started stands.2
+      tries : Tries (record { view = k.view; owner = owner; start = start; floor = k.floor; edge = edge_in k.edges (head_key_of owner) }) all walked stands.0 stands.1
+      tries = subst (λ (v : Vector). Tries (record { view = k.view; owner = owner; start = v; floor = k.floor; edge = edge_in k.edges (head_key_of owner) }) all walked stands.0 stands.1) h.started stands.2
 
       own_notes : List session.Note
       own_notes = session.note_of (head_key_of owner) stands.0
@@ -131,18 +131,18 @@ module _ (k : Known) (old new : Passed) (owner : PubKey) (next : IsNext k old ow
       grown : map chain_of new.batch.chains ≡ map chain_of old.batch.chains ++ own_chains
       grown = chains_grow k.view owner old.batch new.batch k.floor (edge_in k.edges (head_key_of owner)) all walked stands.0 stands.1 stands.2 stands.3
 
-      on : {more : List Brought} {others : List session.Note} {chains : List agent.Chain} {end : RefreshEnd} → FetchesAll (seen k) start (drop new.at k.view.members) more others chains end
-          → FetchesAll (seen k) start k.view.members ((before ++ (came ++ walked)) ++ more) ((h.noted ++ own_notes) ++ others) (map chain_of new.batch.chains ++ chains) end
+      on : {more : List Brought} {others : List session.Note} {chains : List agent.Chain} {end : RefreshEnd} → FetchesAll (record { standing = seen k; start = start }) (drop new.at k.view.members) more others chains end
+          → FetchesAll (record { standing = seen k; start = start }) k.view.members ((before ++ (came ++ walked)) ++ more) ((h.noted ++ own_notes) ++ others) (map chain_of new.batch.chains ++ chains) end
       on {more} {others} {chains} {end} fetches =
-          let rest : FetchesAll (seen k) start (drop (old.at + 1) k.view.members) more others chains end =
-          subst (λ (n : ℕ). FetchesAll (seen k) start (drop n k.view.members) more others chains end) at_is fetches in
-          let these : FetchesAll (seen k) start (owner ∷ drop (old.at + 1) k.view.members) ((came ++ walked) ++ more) (own_notes ++ others) (own_chains ++ chains) end =
+          let rest : FetchesAll (record { standing = seen k; start = start }) (drop (old.at + 1) k.view.members) more others chains end =
+          subst (λ (n : ℕ). FetchesAll (record { standing = seen k; start = start }) (drop n k.view.members) more others chains end) at_is fetches in
+          let these : FetchesAll (record { standing = seen k; start = start }) (owner ∷ drop (old.at + 1) k.view.members) ((came ++ walked) ++ more) (own_notes ++ others) (own_chains ++ chains) end =
           one_through (seen k) start owner (drop (old.at + 1) k.view.members) came walked all stands.0 stands.1 heads_came tries (over_is old.batch new.batch stands.1 stands.3) rest in
-          let whole : FetchesAll (seen k) start k.view.members (before ++ ((came ++ walked) ++ more)) (h.noted ++ (own_notes ++ others)) (map chain_of old.batch.chains ++ (own_chains ++ chains)) end =
-          h.goes_on (subst (λ (l : List PubKey). FetchesAll (seen k) start l ((came ++ walked) ++ more) (own_notes ++ others) (own_chains ++ chains) end) (sym next.owner_is) these) in
-          subst (λ (b : List Brought). FetchesAll (seen k) start k.view.members b ((h.noted ++ own_notes) ++ others) (map chain_of new.batch.chains ++ chains) end) (sym (append_assoc before (came ++ walked) more))
-          (subst (λ (n : List session.Note). FetchesAll (seen k) start k.view.members (before ++ ((came ++ walked) ++ more)) n (map chain_of new.batch.chains ++ chains) end) (sym (append_assoc h.noted own_notes others))
-          (subst (λ (c : List agent.Chain). FetchesAll (seen k) start k.view.members (before ++ ((came ++ walked) ++ more)) (h.noted ++ (own_notes ++ others)) c end)
+          let whole : FetchesAll (record { standing = seen k; start = start }) k.view.members (before ++ ((came ++ walked) ++ more)) (h.noted ++ (own_notes ++ others)) (map chain_of old.batch.chains ++ (own_chains ++ chains)) end =
+          h.goes_on (subst (λ (l : List PubKey). FetchesAll (record { standing = seen k; start = start }) l ((came ++ walked) ++ more) (own_notes ++ others) (own_chains ++ chains) end) (sym next.owner_is) these) in
+          subst (λ (b : List Brought). FetchesAll (record { standing = seen k; start = start }) k.view.members b ((h.noted ++ own_notes) ++ others) (map chain_of new.batch.chains ++ chains) end) (sym (append_assoc before (came ++ walked) more))
+          (subst (λ (n : List session.Note). FetchesAll (record { standing = seen k; start = start }) k.view.members (before ++ ((came ++ walked) ++ more)) n (map chain_of new.batch.chains ++ chains) end) (sym (append_assoc h.noted own_notes others))
+          (subst (λ (c : List agent.Chain). FetchesAll (record { standing = seen k; start = start }) k.view.members (before ++ ((came ++ walked) ++ more)) (h.noted ++ (own_notes ++ others)) c end)
           (sym (ap (λ (c : List agent.Chain). c ++ chains) grown ∙ append_assoc (map chain_of old.batch.chains) own_chains chains)) whole))
 
   -- and the batch is as it is to be
@@ -181,7 +181,7 @@ module _ (k : Known) (old new : Passed) (owner : PubKey) (next : IsNext k old ow
             (subst (λ (p : PubKey). GoesOnFrom k.view (stamp_in old.batch.held records) (edge_in k.edges (head_key_of p)) records) (sym own) onward, tt));
       }
 
-      by : (end : LogEnd) → Tries k.view owner old.batch.held k.floor (edge_in k.edges (head_key_of owner)) all walked stands.0 end → GivesTo old.batch new.batch end → IsPassing k new
+      by : (end : LogEnd) → Tries (record { view = k.view; owner = owner; start = old.batch.held; floor = k.floor; edge = edge_in k.edges (head_key_of owner) }) all walked stands.0 end → GivesTo old.batch new.batch end → IsPassing k new
       by (Lacks want) tries gives = absurd gives
       by (Stops miss) tries gives = absurd gives
       by (Gives records) tries gives = let own = gives_own k.view owner old.batch.held k.floor (edge_in k.edges (head_key_of owner)) tries in taken gives.0 records own.0 own.1 gives.1

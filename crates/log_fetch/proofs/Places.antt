@@ -6,10 +6,10 @@ use Rattle.std.proofs.lemmas.List.{drop-append-le, take-append-le, length-drop}
 use Rattle.ivy_base.specs.declared.key.Key.{Key}
 use Rattle.ivy_base.specs.declared.key.PubKey.{PubKey}
 use Rattle.ivy_base.specs.Naming.{head_key_of}
-use Rattle.ivy_base.proofs.NameLemmas.{length-name}
+use Rattle.ivy_base.proofs.NameLemmas.{length-digest}
 use Rattle.wire_model.specs.Xdr.{word, moment, array}
 use Rattle.log_model.specs.Record.{Record}
-use Rattle.log_model.specs.Spelling.{record_tag, record_kind, record_block, vector_entry, body, IsRecordOf, HasSpelling}
+use Rattle.log_model.specs.Spelling.{record_tag, record_kind, record_block, vector_entry, body, IsRecordOf, HasSpelling, longest_record}
 use Rattle.log_model.specs.Chain.{HasMadeNumber}
 use Rattle.log_records.specs.Records.{ReadFault}
 use Rattle.log_records.specs.declared.fault.RecordFault.{RecordFault}
@@ -38,8 +38,8 @@ front_length tag kind log t k l = omega (arith, length-append (tag ++ kind) log,
 -- the record's block names the one before it there
 pub names_before : (r : Record) → HasSpelling r → (take 20 (drop 28 (record_block r)) ≡ r.prev.0) × (48 ≤ length (record_block r))
 names_before r f =
-    at_place (record_tag ++ word (record_kind r.op) ++ (head_key_of r.owner).0) r.prev.0 (word r.seq) (moment r.moment) (array vector_entry r.vector) (body r.op)
-    (front_length record_tag (word (record_kind r.op)) (head_key_of r.owner).0 refl refl (length-name r.owner.0)) f.prev.size
+    at_place (record_tag r.format ++ word (record_kind r.op) ++ (head_key_of r.owner).0) r.prev.0 (word r.seq) (moment r.moment) (array vector_entry r.vector) (body r.op)
+    (front_length (record_tag r.format) (word (record_kind r.op)) (head_key_of r.owner).0 refl refl (length-digest r.owner.0)) f.prev.size
 
 pub is_long : (owner : PubKey) (bytes : List ℕ) → ReadFault owner bytes BadNumber → 48 ≤ length bytes
 is_long owner bytes f = subst (λ (b : List ℕ). 48 ≤ length b) (sym (f.2.spelled)) (names_before f.1 f.2.fits).1
@@ -58,7 +58,7 @@ misnumbered owner bytes prev f e =
 pub garbled : (owner : PubKey) (bytes : List ℕ) (fault : RecordFault) → fault ≢ Memory → fault ≢ BadNumber → ReadFault owner bytes fault → (r : Record) → IsRecordOf owner bytes r → ⊥
 garbled owner bytes Malformed m n f r is = f.1 r is
 garbled owner bytes TooLong m n f r is =
-    let short : length bytes ≤ 12288 = subst (λ (b : List ℕ). length b ≤ 12288) (sym is.spelled) (short_records r is.fits) in
+    let short : length bytes ≤ longest_record = subst (λ (b : List ℕ). length b ≤ longest_record) (sym is.spelled) (short_records r is.fits) in
     absurd (omega (arith, f, short))
 garbled owner bytes BadNumber m n f r is = absurd (n refl)
 garbled owner bytes Memory m n f r is = absurd (m refl)

@@ -50,10 +50,10 @@ of_block stage.Through key e = cc e
 
 module _ (start : Vector) (brought : List Brought) (g : Gathering) (h : Gathers start brought g) where
   abbrev Comes : List Brought → List session.Note → RefreshEnd → Type 0
-  Comes more notes end = FetchesAll (seen g.known) start g.known.view.members more notes (map chain_of g.passed.batch.chains ++ []) end
+  Comes more notes end = FetchesAll (record { standing = seen g.known; start = start }) g.known.view.members more notes (map chain_of g.passed.batch.chains ++ []) end
 
   -- what becomes of the members that are left becomes of all
-  comes : (more : List Brought) (notes : List session.Note) (end : RefreshEnd) → FetchesAll (seen g.known) start (drop g.passed.at g.known.view.members) more notes [] end → Comes (h.before ++ more) (h.passed.noted ++ notes) end
+  comes : (more : List Brought) (notes : List session.Note) (end : RefreshEnd) → FetchesAll (record { standing = seen g.known; start = start }) (drop g.passed.at g.known.view.members) more notes [] end → Comes (h.before ++ more) (h.passed.noted ++ notes) end
   comes more notes end fetches = h.passed.goes_on fetches
 
   same : (what : List Brought) → h.before ++ (h.now ++ what) ≡ brought ++ what
@@ -165,7 +165,7 @@ module _ (start : Vector) (brought : List Brought) (g : Gathering) (h : Gathers 
     pub notes : List session.Note
     pub chains : List agent.Chain
     pub end : RefreshEnd
-    pub fetches : FetchesAll (seen g.known) start g.known.view.members brought notes chains end
+    pub fetches : FetchesAll (record { standing = seen g.known; start = start }) g.known.view.members brought notes chains end
     pub no_miss : is_miss end ≡ false
 
   some_wanted : (left : ℕ) (next : Key) → left ≢ 0 → wanted_at left next ≡ Some next

@@ -34,7 +34,7 @@ module _ (view : View) (owner : PubKey) (edge : Option Edge) (old new : Batch) w
 
 -- where no head is to be tried, the log is through
 pub nothing_to_try : (view : View) (owner : PubKey) (edge : Option Edge) (old : Batch) (all : List Stamp) → all ≡ [] → StandsAt view owner edge all [] old old (settled.Over None)
-nothing_to_try view owner edge old all none = ([], GivesNone, subst (λ (l : List Stamp). Tries view owner old.held old.floor edge l [] [] GivesNone) (sym none) none_left, refl, refl)
+nothing_to_try view owner edge old all none = ([], GivesNone, subst (λ (l : List Stamp). Tries (record { view = view; owner = owner; start = old.held; floor = old.floor; edge = edge }) l [] [] GivesNone) (sym none) none_left, refl, refl)
 
 weaken : {T E : Type 0} (P Q : T → Type 0) → ((x : T) → P x → Q x) → (r : Result T E) → IfOk r P → IfOk r Q
 weaken P Q f (Ok x) h = f x h

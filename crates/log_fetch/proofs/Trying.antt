@@ -66,12 +66,12 @@ module _ (view : View) (owner : PubKey) (start floor : Vector) (edge : Option Ed
   -- the head was passed over: what becomes of the others becomes of all
   pub passes_over : (b : Batch) → b.held ≡ start → b.floor ≡ floor → (t : Stamp) (next : Key) (found : Option (List Record)) (walked : List Brought) → HasCome owner (count_of t) t.name walked 0 next found
       → (fault : ChainFault) → fault ≢ Memory → FailsFor view b t edge (oldest_first found) fault
-      → {ts : List Stamp} {more : List Brought} {others : List ChainFault} {end : LogEnd} → Tries view owner start floor edge ts more others end → Tries view owner start floor edge (t ∷ ts) (walked ++ more) (fault ∷ others) end
+      → {ts : List Stamp} {more : List Brought} {others : List ChainFault} {end : LogEnd} → Tries (record { view = view; owner = owner; start = start; floor = floor; edge = edge }) ts more others end → Tries (record { view = view; owner = owner; start = start; floor = floor; edge = edge }) (t ∷ ts) (walked ++ more) (fault ∷ others) end
   passes_over b bh bf t next found walked (still_wants w some e k) fault some_fault fails tries = absurd (some refl)
   passes_over b bh bf t next found walked (ends_garbled w) fault some_fault fails {ts} {more} {others} {end} tries =
-      subst (λ (f : ChainFault). Tries view owner start floor edge (t ∷ ts) (walked ++ more) (f ∷ others) end) (sym fails) (is_garbled w tries)
+      subst (λ (f : ChainFault). Tries (record { view = view; owner = owner; start = start; floor = floor; edge = edge }) (t ∷ ts) (walked ++ more) (f ∷ others) end) (sym fails) (is_garbled w tries)
   passes_over b bh bf t next None walked (ends_whole {records} w k) fault some_fault fails {ts} {more} {others} {end} tries =
-      subst (λ (f : ChainFault). Tries view owner start floor edge (t ∷ ts) (walked ++ more) (f ∷ others) end) (sym fails)
+      subst (λ (f : ChainFault). Tries (record { view = view; owner = owner; start = start; floor = floor; edge = edge }) (t ∷ ts) (walked ++ more) (f ∷ others) end) (sym fails)
       (is_passed w (λ e. cc e) (unsound view start edge t records k) tries)
   passes_over b bh bf t next (Some found) walked (ends_whole {records} w k) fault some_fault fails tries =
       let same : ChainFails view start floor t edge (reverse found) fault =
@@ -80,13 +80,13 @@ module _ (view : View) (owner : PubKey) (start floor : Vector) (edge : Option Ed
 
   -- its records were taken
   pub is_taken : (t : Stamp) (next : Key) (found : Option (List Record)) (walked : List Brought) → HasCome owner (count_of t) t.name walked 0 next found → (records : List Record) → oldest_first found ≡ Some records
-      → IsSound view start edge t records → IsOnward start floor records → (ts : List Stamp) → Tries view owner start floor edge (t ∷ ts) walked [] (Gives records)
+      → IsSound view start edge t records → IsOnward start floor records → (ts : List Stamp) → Tries (record { view = view; owner = owner; start = start; floor = floor; edge = edge }) (t ∷ ts) walked [] (Gives records)
   is_taken t next found walked (still_wants w some e k) records same sound onward ts = absurd (some refl)
   is_taken t next found walked (ends_garbled w) records same sound onward ts = cc same
   is_taken t next None walked (ends_whole w k) records same sound onward ts = cc same
   is_taken t next (Some found) walked (ends_whole {records = other} w k) records same sound onward ts =
       let one : reverse other ≡ records = ap reverse (sym k) ∙ some_one (reverse found) records same in
-      subst (λ (l : List Record). Tries view owner start floor edge (t ∷ ts) walked [] (Gives l)) one
+      subst (λ (l : List Record). Tries (record { view = view; owner = owner; start = start; floor = floor; edge = edge }) (t ∷ ts) walked [] (Gives l)) one
       (is_given w (subst (IsSound view start edge t) (sym one) sound) (subst (IsOnward start floor) (sym one) onward))
     where
       some_one : (a c : List Record) → Some a ≡ Some c → a ≡ c
@@ -105,34 +105,34 @@ first_more (f ∷ faults) fault = refl
 module _ (view : View) (edge : Option Edge) (t : Trying) (old new : Batch) (chain : Option (List Record)) (chain_is : chain ≡ oldest_first t.walk.found) (over : t.walk.left ≡ 0) where
   pub ends_taken : IsTakenAs view old new t.head edge chain None → EndsWith view edge t old new t.fault
   ends_taken taken = λ owner all brought h.
-      let tries : Tries view owner old.held old.floor edge (t.head ∷ t.rest) h.walked [] (Gives taken.0) =
+      let tries : Tries (record { view = view; owner = owner; start = old.held; floor = old.floor; edge = edge }) (t.head ∷ t.rest) h.walked [] (Gives taken.0) =
       is_taken view owner old.held old.floor edge t.head t.walk.next t.walk.found h.walked (come view owner old.held old.floor edge t all brought h over) taken.0 (sym chain_is ∙ taken.1) taken.2 taken.3 t.rest in (
         h.faults ++ [],
         Gives taken.0,
-        subst (λ (b : List Brought). Tries view owner old.held old.floor edge all b (h.faults ++ []) (Gives taken.0)) (sym h.brought_is) (h.goes_on tries),
+        subst (λ (b : List Brought). Tries (record { view = view; owner = owner; start = old.held; floor = old.floor; edge = edge }) all b (h.faults ++ []) (Gives taken.0)) (sym h.brought_is) (h.goes_on tries),
         h.fault_is ∙ ap first_of (sym (append-nil h.faults)),
         (t.head, taken.4),
       )
 
   passed : (fault : ChainFault) → IsTakenAs view old new t.head edge chain (Some fault) → (owner : PubKey) (all : List Stamp) (brought : List Brought) (h : HasTried view owner old.held old.floor edge all brought t)
-      → {more : List Brought} {others : List ChainFault} {end : LogEnd} → Tries view owner old.held old.floor edge t.rest more others end
-      → Tries view owner old.held old.floor edge all (brought ++ more) (h.faults ++ fault ∷ [] ++ others) end
+      → {more : List Brought} {others : List ChainFault} {end : LogEnd} → Tries (record { view = view; owner = owner; start = old.held; floor = old.floor; edge = edge }) t.rest more others end
+      → Tries (record { view = view; owner = owner; start = old.held; floor = old.floor; edge = edge }) all (brought ++ more) (h.faults ++ fault ∷ [] ++ others) end
   passed fault taken owner all brought h {more} {others} {end} tries =
-      let on : Tries view owner old.held old.floor edge (t.head ∷ t.rest) (h.walked ++ more) (fault ∷ others) end =
+      let on : Tries (record { view = view; owner = owner; start = old.held; floor = old.floor; edge = edge }) (t.head ∷ t.rest) (h.walked ++ more) (fault ∷ others) end =
       passes_over view owner old.held old.floor edge old refl refl t.head t.walk.next t.walk.found h.walked (come view owner old.held old.floor edge t all brought h over) fault taken.1
       (subst (λ (l : Option (List Record)). FailsFor view old t.head edge l fault) chain_is taken.2) tries in
-      subst (λ (b : List Brought). Tries view owner old.held old.floor edge all b (h.faults ++ fault ∷ [] ++ others) end) (sym (append_assoc h.passed h.walked more) ∙ ap (λ (b : List Brought). b ++ more) (sym h.brought_is))
-      (subst (λ (f : List ChainFault). Tries view owner old.held old.floor edge all (h.passed ++ (h.walked ++ more)) f end) (sym (append_assoc h.faults (fault ∷ []) others)) (h.goes_on on))
+      subst (λ (b : List Brought). Tries (record { view = view; owner = owner; start = old.held; floor = old.floor; edge = edge }) all b (h.faults ++ fault ∷ [] ++ others) end) (sym (append_assoc h.passed h.walked more) ∙ ap (λ (b : List Brought). b ++ more) (sym h.brought_is))
+      (subst (λ (f : List ChainFault). Tries (record { view = view; owner = owner; start = old.held; floor = old.floor; edge = edge }) all (h.passed ++ (h.walked ++ more)) f end) (sym (append_assoc h.faults (fault ∷ []) others)) (h.goes_on on))
 
   first_fault : (fault : ChainFault) (owner : PubKey) (all : List Stamp) (brought : List Brought) (h : HasTried view owner old.held old.floor edge all brought t) → or_fault t.fault fault ≡ first_of (h.faults ++ fault ∷ [])
   first_fault fault owner all brought h = ap (λ (f : Option ChainFault). or_fault f fault) h.fault_is ∙ first_more h.faults fault
 
   pub ends_passed : (fault : ChainFault) → IsTakenAs view old new t.head edge chain (Some fault) → t.rest ≡ [] → (first : Option ChainFault) → first ≡ or_fault t.fault fault → EndsWith view edge t old new first
   ends_passed fault taken none first first_is = λ owner all brought h.
-      let p = passed fault taken owner all brought h (subst (λ (l : List Stamp). Tries view owner old.held old.floor edge l [] [] GivesNone) (sym none) none_left) in (
+      let p = passed fault taken owner all brought h (subst (λ (l : List Stamp). Tries (record { view = view; owner = owner; start = old.held; floor = old.floor; edge = edge }) l [] [] GivesNone) (sym none) none_left) in (
         h.faults ++ fault ∷ [] ++ [],
         GivesNone,
-        subst (λ (b : List Brought). Tries view owner old.held old.floor edge all b (h.faults ++ fault ∷ [] ++ []) GivesNone) (append-nil brought) p,
+        subst (λ (b : List Brought). Tries (record { view = view; owner = owner; start = old.held; floor = old.floor; edge = edge }) all b (h.faults ++ fault ∷ [] ++ []) GivesNone) (append-nil brought) p,
         first_is ∙ first_fault fault owner all brought h ∙ ap first_of (sym (append-nil (h.faults ++ fault ∷ []))),
         taken.0,
       )
@@ -154,7 +154,7 @@ module _ (view : View) (edge : Option Edge) (t : Trying) (old new : Batch) (chai
       walked = [];
       faults = h.faults ++ fault ∷ [];
       brought_is = sym (append-nil brought);
-      goes_on = λ {more} {others} {end} tries. passed fault taken owner all brought h (subst (λ (l : List Stamp). Tries view owner old.held old.floor edge l more others end) is.0 tries);
+      goes_on = λ {more} {others} {end} tries. passed fault taken owner all brought h (subst (λ (l : List Stamp). Tries (record { view = view; owner = owner; start = old.held; floor = old.floor; edge = edge }) l more others end) is.0 tries);
       fault_is = is.3 ∙ first_is ∙ first_fault fault owner all brought h;
       owner_is = ap (λ (w : Walking). w.owner) is.1 ∙ h.owner_is;
       held_is = is.2 ∙ h.held_is;

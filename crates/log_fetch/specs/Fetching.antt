@@ -3,6 +3,7 @@ use Rattle.std.specs.Prelude.{◌≡◌, ◌≢◌, ◌⊎◌, ℕ, ◌+◌, ◌
 use Rattle.ivy_base.specs.declared.key.Key.{Key}
 use Rattle.ivy_base.specs.declared.key.PubKey.{PubKey}
 use Rattle.log_model.specs.Vector.{Vector}
+use Rattle.log_model.specs.View.{most_members}
 use Rattle.dht_ids.specs.Asked.{told}
 use Rattle.dht_ids.specs.declared.ask.Answer.{Answer}
 use Rattle.dht_ids.specs.declared.ask.Ask.{Ask}
@@ -103,9 +104,9 @@ left_in state.Over = 0
 abbrev pub fetch_left : {J : Type 0} → Fetching J → ℕ
 fetch_left f = left_in f.state
 
--- more than a fetch that begins may make: a view has at most 16 members
+-- more than a fetch that begins may make: a view has few members
 unfoldable pub most_left : ℕ
-most_left = most_asks * (17 * (2 + 2 ^ 96))
+most_left = most_asks * ((most_members + 1) * (2 + 2 ^ 96))
 
 -- ---- what always holds
 
@@ -125,7 +126,7 @@ IsSound judge replicas state.Over = Unit {0}
 module _ (judged : Key → List ℕ → Option Judged) (replicas : ℕ) (entries : List Peer) (s : agent.Standing) (start : Vector) where
   -- this is wanted next
   abbrev pub IsNeeded : List Part → Want → Type 0
-  IsNeeded parts want = (notes : List session.Note) × (chains : List agent.Chain) × FetchesAll s start s.view.members (brought_in parts) notes chains (Needs want)
+  IsNeeded parts want = (notes : List session.Note) × (chains : List agent.Chain) × FetchesAll (record { standing = s; start = start }) s.view.members (brought_in parts) notes chains (Needs want)
 
   -- each part came of what was wanted then: by the asks of a whole get, or by none, where it is a block that was at hand
   pub data AreParts : List Part → Type 0 where
@@ -148,7 +149,7 @@ IsGiven s start given notes chains Done =
 
 -- what was brought came to this end, by which this is given
 abbrev pub EndsAs : agent.Standing → Vector → List Brought → Fetched → RefreshEnd → Type 0
-EndsAs s start brought given end = (notes : List session.Note) × (chains : List agent.Chain) × FetchesAll s start s.view.members brought notes chains end × IsGiven s start given notes chains end
+EndsAs s start brought given end = (notes : List session.Note) × (chains : List agent.Chain) × FetchesAll (record { standing = s; start = start }) s.view.members brought notes chains end × IsGiven s start given notes chains end
 
 -- behind these asks of the get on its way, or none without one
 abbrev pub IsAsking : {J : Type 0} → Judges J → List Peer → agent.Standing → Vector → List Brought → List Heard → State J → Type 0
@@ -234,7 +235,7 @@ is_miss Done = false
 abbrev pub HasFailed : {J : Type 0} → Judges J → Fetching J → Bool → Type 0
 HasFailed judges f failed =
     (s : agent.Standing) (start : Vector) (parts : List Part) (current : List Heard) → FetchIsAfter judges s start parts current f → fetch_awaited f ≡ None
-    → (current ≡ []) × (notes : List session.Note) × (chains : List agent.Chain) × (end : RefreshEnd) × FetchesAll s start s.view.members (brought_in parts) notes chains end × (is_miss end ≡ failed)
+    → (current ≡ []) × (notes : List session.Note) × (chains : List agent.Chain) × (end : RefreshEnd) × FetchesAll (record { standing = s; start = start }) s.view.members (brought_in parts) notes chains end × (is_miss end ≡ failed)
 
 -- ---- a law
 
@@ -242,4 +243,4 @@ HasFailed judges f failed =
 abbrev pub FetchStands : {J : Type 0} → Judges J → Type 0
 FetchStands {J} judges =
     (f : Fetching J) (s : agent.Standing) (start : Vector) (parts : List Part) (current : List Heard) → FetchIsAfter judges s start parts current f
-    → (notes : List session.Note) × (chains : List agent.Chain) × (end : RefreshEnd) × FetchesAll s start s.view.members (brought_in parts) notes chains end × ((want : Want) → fetch_aim f ≡ Some want → end ≡ Needs want)
+    → (notes : List session.Note) × (chains : List agent.Chain) × (end : RefreshEnd) × FetchesAll (record { standing = s; start = start }) s.view.members (brought_in parts) notes chains end × ((want : Want) → fetch_aim f ≡ Some want → end ≡ Needs want)

@@ -102,8 +102,8 @@ pub record HasPassed (k : Known) (start : Vector) (brought : List Brought) (p : 
   pub started : p.batch.held ≡ start
   pub noted : List session.Note
   pub notes_are : p.notes ≡ map note_of noted
-  pub goes_on : {more : List Brought} {others : List session.Note} {chains : List agent.Chain} {end : RefreshEnd} → FetchesAll (seen k) start (drop p.at k.view.members) more others chains end
-      → FetchesAll (seen k) start k.view.members (brought ++ more) (noted ++ others) (map chain_of p.batch.chains ++ chains) end
+  pub goes_on : {more : List Brought} {others : List session.Note} {chains : List agent.Chain} {end : RefreshEnd} → FetchesAll (record { standing = seen k; start = start }) (drop p.at k.view.members) more others chains end
+      → FetchesAll (record { standing = seen k; start = start }) k.view.members (brought ++ more) (noted ++ others) (map chain_of p.batch.chains ++ chains) end
 
 -- the fetch has come this far, over that start, with what was brought
 pub record Gathers (start : Vector) (brought : List Brought) (g : Gathering) : Type 0 where
@@ -159,7 +159,7 @@ abbrev pub StandsWith : Known → Passed → Passed → PubKey → List Stamp �
 StandsWith k old new owner all brought (Some t) =
     (new ≡ old) × (t.walk.left ≢ 0) × (t.walk.owner ≡ owner) × HasTried k.view owner old.batch.held k.floor (edge_in k.edges (head_key_of owner)) all brought t
 StandsWith k old new owner all brought None =
-    (faults : List ChainFault) × (end : LogEnd) × Tries k.view owner old.batch.held k.floor (edge_in k.edges (head_key_of owner)) all brought faults end
+    (faults : List ChainFault) × (end : LogEnd) × Tries (record { view = k.view; owner = owner; start = old.batch.held; floor = k.floor; edge = edge_in k.edges (head_key_of owner) }) all brought faults end
     × GivesTo old.batch new.batch end × (new ≡ one_more old new.batch (map note_of (session.note_of (head_key_of owner) faults)))
 
 abbrev pub BeginsLog : Known → Passed → Passed → PubKey → List Stamp → Option Trying → Type 0

@@ -18,7 +18,7 @@ use Rattle.log_fetch.specs.Trying.{Trying, HasTried, first_of, GivesTo, trial_le
 abbrev pub StandsAt : View → PubKey → Option Edge → List Stamp → List Brought → Batch → Batch → Settled → Type 0
 StandsAt view owner edge all brought old new (settled.Waits t) = (new ≡ old) × (t.walk.left ≢ 0) × (t.walk.owner ≡ owner) × HasTried view owner old.held old.floor edge all brought t
 StandsAt view owner edge all brought old new (settled.Over fault) =
-    (faults : List ChainFault) × (end : LogEnd) × Tries view owner old.held old.floor edge all brought faults end × (fault ≡ first_of faults) × GivesTo old new end
+    (faults : List ChainFault) × (end : LogEnd) × Tries (record { view = view; owner = owner; start = old.held; floor = old.floor; edge = edge }) all brought faults end × (fault ≡ first_of faults) × GivesTo old new end
 
 -- the log is begun with: of these heads some are tried
 abbrev pub Opens : View → PubKey → Option Edge → List Stamp → Batch → Batch → Settled → Type 0

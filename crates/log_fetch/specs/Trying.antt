@@ -43,8 +43,8 @@ pub record HasTried (view : View) (owner : PubKey) (start floor : Vector) (edge 
   pub walked : List Brought
   pub faults : List ChainFault
   pub brought_is : brought ≡ passed ++ walked
-  pub goes_on : {more : List Brought} {others : List ChainFault} {end : LogEnd} → Tries view owner start floor edge (t.head ∷ t.rest) more others end
-      → Tries view owner start floor edge all (passed ++ more) (faults ++ others) end
+  pub goes_on : {more : List Brought} {others : List ChainFault} {end : LogEnd} → Tries (record { view = view; owner = owner; start = start; floor = floor; edge = edge }) (t.head ∷ t.rest) more others end
+      → Tries (record { view = view; owner = owner; start = start; floor = floor; edge = edge }) all (passed ++ more) (faults ++ others) end
   pub fault_is : t.fault ≡ first_of faults
   pub owner_is : t.walk.owner ≡ owner
   pub held_is : t.held ≡ seq_of start (head_key_of owner)
@@ -75,7 +75,7 @@ GivesTo old new (Stops miss) = ⊥
 abbrev pub EndsWith : View → Option Edge → Trying → Batch → Batch → Option ChainFault → Type 0
 EndsWith view edge t old new fault =
     (owner : PubKey) (all : List Stamp) (brought : List Brought) → HasTried view owner old.held old.floor edge all brought t
-    → (faults : List ChainFault) × (end : LogEnd) × Tries view owner old.held old.floor edge all brought faults end × (fault ≡ first_of faults) × GivesTo old new end
+    → (faults : List ChainFault) × (end : LogEnd) × Tries (record { view = view; owner = owner; start = old.held; floor = old.floor; edge = edge }) all brought faults end × (fault ≡ first_of faults) × GivesTo old new end
 
 -- the next head is tried, and nothing was brought for it yet
 abbrev pub GoesOnWith : View → Option Edge → Trying → Batch → Trying → Type 0

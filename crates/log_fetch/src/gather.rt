@@ -3,6 +3,7 @@
 ghost use Rattle.std.specs.Prelude.{◌≡◌, ◌≢◌, ◌*◌, ◌+◌, ◌^◌, ◌<◌, ◌↔◌, IsTrue, [], ◌++◌, map, Some, None, Ok, IfOk, OnOk, OnErr};
 ghost use Rattle.ivy_base.specs.declared.key.PubKey.{PubKey};
 ghost use Rattle.ivy_base.specs.Naming.{head_key_of};
+ghost use Rattle.log_model.specs.View.{most_members};
 ghost use Rattle.session_model.specs.Brought.{stamp_of};
 ghost use Rattle.log_fetch.specs.Trying.{trial_left};
 ghost use Rattle.log_fetch.specs.Logs.{settled_left};
@@ -82,7 +83,7 @@ impl Gather {
     pub(crate) fn start(alloc: Global, standing: &Standing) -> Result<Gather, Memory>
         ensures known { IfOk result (λ gather. gather.known ≡ known_of standing.now) }
         ensures started { IfOk result (Gathers standing.now.held []) }
-        ensures left { IfOk result (λ gather. gets_in gather < 17 * (2 + 2 ^ 96)) }
+        ensures left { IfOk result (λ gather. gets_in gather < (most_members + 1) * (2 + 2 ^ 96)) }
     {
         let known = Known::of(alloc, standing)?;
         let mut passed = Passed::none(alloc, standing)?;
@@ -327,7 +328,7 @@ fn go_on_log(
 
 /// Takes how the owner's log stands: a block is wanted of it, or it is through. The error is want of memory.
 fn pass(passed: &mut Passed, owner: &PubKey, settled: Settled) -> Result<Option<Trial>, Memory>
-    requires { passed.old.at < 16 }
+    requires { passed.old.at < most_members }
     ensures passes { IfOk result (PassesAs passed.old passed.new owner.now settled) }
     ensures batch { passed.new.batch ≡ passed.old.batch }
     ensures at { passed.new.at ≡ at_behind passed.old.at settled }

@@ -1,18 +1,22 @@
 //! Signed heads of logs, sealed and judged (Ivy).
 //!
-//! Layer: over `log_records`, which reads heads, `hss_keys`, which checks their signatures, and `dht_ids`, whose trait of
-//! judges [`HssJudge`] implements; below the nodes that hold heads and the crates that fetch them.
-//! For the layers above: [`HssJudge`] takes exactly the bytes that are a head, under the SHA-1 of its public key, with an
-//! accepted signature; [`signed_heads_are_judged`] is the law that what it answers, a function of the key and the bytes
-//! alone, says so. [`seal`] makes the head that a key of any kind signs, and
-//! [`sealed_heads_are_judged`] is the law that each head of such a key of `hss_keys` is taken, with its number and name.
+//! Layer: over `log_records`, which reads heads, `hss_keys`, which checks their signatures, and `dht_ids`,
+//! whose trait of judges [`HssJudge`] implements. Nodes that hold heads and crates that fetch them stand
+//! above.
 //!
-//! Definitions: what a head is and what its signature signs are `log_model`'s `IsHeadOf` and `head_message`, and when a
-//! signature is accepted is `hss_keys`' `HssAccepts`; `specs/Signed.antt` joins them, and has the function and the law;
-//! `specs/Sealed.antt` has the law of sealed heads.
+//! For the layers above:
+//! - [`HssJudge`] takes exactly the bytes that are a head, under the SHA-1 of its public key, with an
+//!   accepted signature. [`signed_heads_are_judged`] is the law that its answer, a function of the key and
+//!   the bytes alone, says so.
+//! - [`seal`] makes the head that a key of any kind signs. [`sealed_heads_are_judged`] is the law that each
+//!   head of such a key of `hss_keys` is taken, with its number and name.
 //!
-//! Costs: nothing allocates and nothing is copied but the owner's key and the name. The signature, which takes hundreds
-//! to thousands of hashes, is checked only where the key is right, which takes one SHA-1.
+//! Definitions: what a head is and what its signature signs are `IsHeadOf` and `head_message` of `log_model`.
+//! When a signature is accepted is `HssAccepts` of `hss_keys`. `specs/Signed.antt` joins them, and has the
+//! function and the law; `specs/Sealed.antt` has the law of sealed heads.
+//!
+//! Costs: nothing allocates, and nothing is copied but the owner's key and the name. The signature, which
+//! takes hundreds to thousands of hashes, is checked only where the key is right, which takes one SHA-1.
 #![tactic(auto)]
 
 pub mod judge;

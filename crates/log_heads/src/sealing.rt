@@ -51,15 +51,15 @@ impl Head {
 pub fn seal<S: Signs>(alloc: Global, signs: &mut S, seq: u32, name: Key) -> Result<Head, SignFault>
     requires some { 1 ≤ seq }
     requires few { seq ≤ most_records }
-    ensures owner { IfOk result (λ h. h.owner.0 ≡ S.key signs.old) }
+    ensures owner { IfOk result (λ h. h.owner.0 ≡ S.signing.key signs.old) }
     ensures record { IfOk result (λ h. (h.seq ≡ seq) × (h.name ≡ name)) }
     ensures signed { IfOk result (λ h. S.accepts h.owner.0 (head_message h.owner (stamp seq name)) h.signature) }
-    ensures next { IfOk result (λ h. h.signature ≡ S.signature signs.old (head_message h.owner (stamp seq name))) }
-    ensures after { OnOk result (signs.new ≡ S.next signs.old) }
-    ensures counted { OnOk result (S.remaining signs.new + 1 ≡ S.remaining signs.old) }
-    ensures same_key { S.key signs.new ≡ S.key signs.old }
+    ensures next { IfOk result (λ h. h.signature ≡ S.signing.signature signs.old (head_message h.owner (stamp seq name))) }
+    ensures after { OnOk result (signs.new ≡ S.signing.next signs.old) }
+    ensures counted { OnOk result (S.signing.remaining signs.new + 1 ≡ S.signing.remaining signs.old) }
+    ensures same_key { S.signing.key signs.new ≡ S.signing.key signs.old }
     ensures kept { OnErr result (signs.new ≡ signs.old) }
-    ensures spent { (result ≡ Err Spent) ↔ (S.remaining signs.old ≡ 0) }
+    ensures spent { (result ≡ Err Spent) ↔ (S.signing.remaining signs.old ≡ 0) }
 {
     let owner = signs.owner();
     let signature = signs.sign(alloc, &message_of(&owner, seq, &name)[..])?;

@@ -14,9 +14,9 @@ use Rattle.ivy_base.specs.Naming.{key_cmp, owner_cmp, head_key_of}
 use Rattle.ivy_base.proofs.NameLemmas.{length-name, bytes-name}
 use Rattle.tree_model.specs.Apply.{apply, apply_all, empty_tree}
 use Rattle.tree_model.specs.Tree.{Tree}
-use Rattle.log_model.specs.View.{View, is_member, is_named}
+use Rattle.log_model.specs.View.{View, is_member, is_named, most_cited}
 use Rattle.log_model.specs.Vector.{Stamp, Vector, stamp_at, reach, seq_of, Dominates, later_or, with_entry, weight_of}
-use Rattle.log_model.specs.Record.{Record}
+use Rattle.log_model.specs.Record.{Record, Heading}
 use Rattle.log_model.specs.Spelling.{record_block, new_record, HasSpelling, IsKey, IsMoment}
 use Rattle.log_model.specs.Rank.{own_entry, full_vector, weight}
 use Rattle.log_model.specs.Chain.{IsGood, Follows, GoesOn, IsChain, MayBeWritten, AllMayBeWritten}
@@ -74,7 +74,7 @@ pub record IsOver (view : View) (s : List Record) (own : PubKey) (v : Vector) (p
   pub in_order : Sorted v
   pub of_others : stamp_at v (head_key_of own) ≡ None
   pub entries : AllByRecursion (λ e. IsKey e.0 × (1 ≤ e.1.seq) × (e.1.seq < 2 ^ 32) × IsKey e.1.name) v
-  pub short : length v ≤ 32
+  pub short : length v ≤ most_cited
   pub named : AllByRecursion (λ e. IsTrue (is_named view e.0)) v
   -- each entry of a member's log is a record of the set
   pub stands : AllByRecursion (λ e. IsTrue (is_member view e.0) → (c : Record) × Contains s c × (own_entry c ≡ e)) v
@@ -84,8 +84,8 @@ pub record IsOver (view : View) (s : List Record) (own : PubKey) (v : Vector) (p
   pub began : 1 ≤ p.seq
   pub named_well : IsKey p.name
 
-abbrev pub next_record : PubKey → Vector → Moment → Record → Op → Record
-next_record own v now p op = new_record own (p.seq + 1) p.name v now op
+abbrev pub next_record : Heading → Record → Op → Record
+next_record h p op = new_record h (p.seq + 1) p.name op
 
 -- names are well-formed keys: a fact of the digest alone
 pub name_is_key : (r : Record) → HasSpelling r → IsKey r.name
@@ -144,20 +144,21 @@ pub record Goes (view : View) (s : List Record) (own : PubKey) (v : Vector) (r :
   pub above : AllByRecursion (λ q. weight q < weight r) s
 
 -- a closed set with the next record is closed, and that record is above all others
-pub goes : (view : View) (s : List Record) (own : PubKey) (v : Vector) (p : Record) (now : Moment) (op : Op)
-    → IsClosed view s → Contains view.members own → IsMoment now → EndsWith s own p → IsOver view s own v p → MayBeWritten own (p.seq + 1) op → Goes view s own v (next_record own v now p op)
-goes view s own v p now op closed member moment ends over may = record {
-  closed = push_closed view s own p r closed member ends good follows causes light;
-  ends = record { first = ends.first; rest = ends.rest ++ r ∷ []; log = log_push own s r true (owner_itself own) ∙ ap (λ l. l ++ r ∷ []) ends.log; last = last_push ends.first ends.rest r };
+pub goes : (view : View) (s : List Record) (h : Heading) (p : Record) (op : Op)
+    → IsClosed view s → Contains view.members h.owner → IsMoment h.moment → EndsWith s h.owner p → IsOver view s h.owner h.vector p → MayBeWritten h.owner (p.seq + 1) op
+    → Goes view s h.owner h.vector (next_record h p op)
+goes view s h p op closed member moment ends over may = record {
+  closed = push_closed view s h.owner p r closed member ends good follows causes light;
+  ends = record { first = ends.first; rest = ends.rest ++ r ∷ []; log = log_push h.owner s r true (owner_itself h.owner) ∙ ap (λ l. l ++ r ∷ []) ends.log; last = last_push ends.first ends.rest r };
   over = record {
     in_order = over.in_order;
     of_others = over.of_others;
     entries = over.entries;
     short = over.short;
     named = over.named;
-    stands = each_from (λ e. IsTrue (is_member view e.0) → (c : Record) × Contains (s ++ r ∷ []) c × (own_entry c ≡ e)) v
-        (λ e in_vector is. let w = each (λ e. IsTrue (is_member view e.0) → (c : Record) × Contains s c × (own_entry c ≡ e)) v e over.stands in_vector is in (w.0, Contains-append_left s (r ∷ []) w.0 w.1, w.2));
-    covers = each_append (λ q. Dominates (with_entry v (own_entry r)) (full_vector q)) s (r ∷ []) (each_from (λ q. Dominates (with_entry v (own_entry r)) (full_vector q)) s (λ q c. known q c)) (λ log. omega arith, tt);
+    stands = each_from (λ e. IsTrue (is_member view e.0) → (c : Record) × Contains (s ++ r ∷ []) c × (own_entry c ≡ e)) h.vector
+        (λ e in_vector is. let w = each (λ e. IsTrue (is_member view e.0) → (c : Record) × Contains s c × (own_entry c ≡ e)) h.vector e over.stands in_vector is in (w.0, Contains-append_left s (r ∷ []) w.0 w.1, w.2));
+    covers = each_append (λ q. Dominates (with_entry h.vector (own_entry r)) (full_vector q)) s (r ∷ []) (each_from (λ q. Dominates (with_entry h.vector (own_entry r)) (full_vector q)) s (λ q c. known q c)) (λ log. omega arith, tt);
     owned = refl;
     began = omega arith;
     named_well = name_is_key r good.spelled;
@@ -166,23 +167,23 @@ goes view s own v p now op closed member moment ends over may = record {
 }
   where
     r : Record
-    r = next_record own v now p op
+    r = next_record h p op
 
-    known : (q : Record) → Contains s q → Dominates (with_entry v (own_entry (next_record own v now p op))) (full_vector q)
-    known q c = Dominates-trans (with_entry v (own_entry (next_record own v now p op))) (with_entry v (own_entry p)) (full_vector q) (grown v p (next_record own v now p op) over.owned over.of_others (omega arith)) (each (λ q. Dominates (with_entry v (own_entry p)) (full_vector q)) s q over.covers c)
+    known : (q : Record) → Contains s q → Dominates (with_entry h.vector (own_entry (next_record h p op))) (full_vector q)
+    known q c = Dominates-trans (with_entry h.vector (own_entry (next_record h p op))) (with_entry h.vector (own_entry p)) (full_vector q) (grown h.vector p (next_record h p op) over.owned over.of_others (omega arith)) (each (λ q. Dominates (with_entry h.vector (own_entry p)) (full_vector q)) s q over.covers c)
 
-    none_p : stamp_at v (head_key_of p.owner) ≡ None
-    none_p = subst (λ (o : PubKey). stamp_at v (head_key_of o) ≡ None) (sym over.owned) over.of_others
+    none_p : stamp_at h.vector (head_key_of p.owner) ≡ None
+    none_p = subst (λ (o : PubKey). stamp_at h.vector (head_key_of o) ≡ None) (sym over.owned) over.of_others
 
-    light : AllByRecursion (λ q. weight q < weight (next_record own v now p op)) s
-    light = each_from (λ q. weight q < weight (next_record own v now p op)) s (λ q c.
+    light : AllByRecursion (λ q. weight q < weight (next_record h p op)) s
+    light = each_from (λ q. weight q < weight (next_record h p op)) s (λ q c.
         let spelled = (good_of view s q closed c).spelled in
         let same = weight-full_vector q spelled in
-        let le = weight-mono (full_vector q) (with_entry v (own_entry p)) (sorted_with_entry v (own_entry p) over.in_order) (sorted_with_entry q.vector (own_entry q) spelled.in_order) (each (λ q. Dominates (with_entry v (own_entry p)) (full_vector q)) s q over.covers c) in
-        let more = weight_with v p none_p in
+        let le = weight-mono (full_vector q) (with_entry h.vector (own_entry p)) (sorted_with_entry h.vector (own_entry p) over.in_order) (sorted_with_entry q.vector (own_entry q) spelled.in_order) (each (λ q. Dominates (with_entry h.vector (own_entry p)) (full_vector q)) s q over.covers c) in
+        let more = weight_with h.vector p none_p in
         omega arith)
 
-    good : IsGood view own (next_record own v now p op)
+    good : IsGood view h.owner (next_record h p op)
     good = record {
       owned = refl;
       spelled = record {
@@ -197,35 +198,37 @@ goes view s own v p now op closed member moment ends over may = record {
         operation = may.fits;
         ends_first = (λ e. let b = over.began in absurd (omega arith), λ e. absurd (may.no_end e));
         first_alone = λ e. let b = over.began in absurd (omega arith);
+        first_plain = λ e. let b = over.began in absurd (omega arith);
         named = refl;
       };
       number = may.number;
       named = over.named;
     }
 
-    follows : Follows p (next_record own v now p op)
-    follows = record { seq = refl; prev = refl; grows = known p (last_stands s own p ends) }
+    follows : Follows p (next_record h p op)
+    follows = record { seq = refl; prev = refl; grows = known p (last_stands s h.owner p ends) }
 
-    causes : HasCauses view s (next_record own v now p op)
-    causes = each_from (λ e. IsTrue (is_member view e.0) → (c : Record) × Contains s c × IsCause c e (next_record own v now p op)) v
-        (λ e in_vector is. let w = each (λ e. IsTrue (is_member view e.0) → (c : Record) × Contains s c × (own_entry c ≡ e)) v e over.stands in_vector is in
-        (w.0, w.1, record { cited = w.2; lighter = each (λ q. weight q < weight (next_record own v now p op)) s w.0 light w.1; known = known w.0 w.1 }))
+    causes : HasCauses view s (next_record h p op)
+    causes = each_from (λ e. IsTrue (is_member view e.0) → (c : Record) × Contains s c × IsCause c e (next_record h p op)) h.vector
+        (λ e in_vector is. let w = each (λ e. IsTrue (is_member view e.0) → (c : Record) × Contains s c × (own_entry c ≡ e)) h.vector e over.stands in_vector is in
+        (w.0, w.1, record { cited = w.2; lighter = each (λ q. weight q < weight (next_record h p op)) s w.0 light w.1; known = known w.0 w.1 }))
 
 -- ---- all that a turn writes
 
 -- one record for each operation, each after the one before
-abbrev pub written : PubKey → Vector → Moment → Record → List Op → List Record
-written own v now p [] = []
-written own v now p (op ∷ ops) = next_record own v now p op ∷ written own v now (next_record own v now p op) ops
+abbrev pub written : Heading → Record → List Op → List Record
+written h p [] = []
+written h p (op ∷ ops) = next_record h p op ∷ written h (next_record h p op) ops
 
-pub all_go : (view : View) (s : List Record) (own : PubKey) (v : Vector) (p : Record) (now : Moment) (ops : List Op)
-    → IsClosed view s → Contains view.members own → IsMoment now → EndsWith s own p → IsOver view s own v p → AllMayBeWritten own (p.seq + 1) ops → IsClosed view (s ++ written own v now p ops)
-all_go view s own v p now [] closed member moment ends over may = subst (λ (l : List Record). IsClosed view l) (sym (append-nil s)) closed
-all_go view s own v p now (op ∷ ops) closed member moment ends over may =
-    let one = goes view s own v p now op closed member moment ends over may.0 in
-    let r : Record = next_record own v now p op in
-    subst (λ (l : List Record). IsClosed view l) (append_assoc s (r ∷ []) (written own v now r ops))
-    (all_go view (s ++ r ∷ []) own v r now ops one.closed member moment one.ends one.over may.1)
+pub all_go : (view : View) (s : List Record) (h : Heading) (p : Record) (ops : List Op)
+    → IsClosed view s → Contains view.members h.owner → IsMoment h.moment → EndsWith s h.owner p → IsOver view s h.owner h.vector p → AllMayBeWritten h.owner (p.seq + 1) ops
+    → IsClosed view (s ++ written h p ops)
+all_go view s h p [] closed member moment ends over may = subst (λ (l : List Record). IsClosed view l) (sym (append-nil s)) closed
+all_go view s h p (op ∷ ops) closed member moment ends over may =
+    let one = goes view s h p op closed member moment ends over may.0 in
+    let r : Record = next_record h p op in
+    subst (λ (l : List Record). IsClosed view l) (append_assoc s (r ∷ []) (written h r ops))
+    (all_go view (s ++ r ∷ []) h r ops one.closed member moment one.ends one.over may.1)
 
 -- ---- the tree of a larger set
 

@@ -3,6 +3,7 @@ use Rattle.std.specs.Prelude.{◌≡◌, ℕ, ◌+◌, ◌≤◌, List, [], ◌�
 use Rattle.std.specs.List.{AllByRecursion}
 use Rattle.ivy_base.specs.declared.key.Key.{Key}
 use Rattle.ivy_base.specs.declared.key.PubKey.{PubKey}
+use Rattle.ivy_base.specs.declared.format.Format.TheVariants.{One}
 use Rattle.ivy_base.specs.declared.operation.Moment.{Moment}
 use Rattle.ivy_base.specs.declared.operation.Op.{Op}
 use Rattle.ivy_base.specs.declared.operation.Op.TheVariants as op
@@ -15,7 +16,7 @@ use Rattle.log_model.specs.Rank.{full_vector}
 
 -- the first record of a log, which its owner makes with it
 abbrev pub opening : PubKey → Moment → Record
-opening own now = new_record own 1 no_name [] now op.End
+opening own now = new_record (record { owner = own; format = One; vector = []; moment = now }) 1 no_name op.End
 
 -- an inode's number is the one that its record makes
 abbrev pub HasMadeNumber : PubKey → ℕ → Op → Type 0

@@ -4,6 +4,8 @@ use Rattle.std.specs.List.{AllByRecursion, list_all}
 use Rattle.std.specs.FinMap.Entries.{is_sorted}
 use Rattle.ivy_base.specs.declared.key.Key.{Key}
 use Rattle.ivy_base.specs.declared.key.PubKey.{PubKey}
+use Rattle.ivy_base.specs.declared.format.Format.{Format}
+use Rattle.ivy_base.specs.declared.format.Format.TheVariants.{One, Two}
 use Rattle.ivy_base.specs.declared.operation.Kind.{Kind}
 use Rattle.ivy_base.specs.declared.operation.Kind.TheVariants.{Reg, Dir, Lnk}
 use Rattle.ivy_base.specs.declared.operation.Moment.{Moment}
@@ -13,7 +15,7 @@ use Rattle.ivy_base.specs.declared.operation.Op.TheVariants as op
 use Rattle.ivy_base.specs.Naming.{name, key_cmp, head_key_of, IsFileName}
 use Rattle.wire_model.specs.Xdr.{word, double_word, opaque, optional, array, moment}
 use Rattle.log_model.specs.Vector.{Entry, Vector, Stamp, stamp_at}
-use Rattle.log_model.specs.Record.{Record}
+use Rattle.log_model.specs.Record.{Record, Heading, heading_of}
 use Rattle.log_model.specs.View.{most_cited}
 
 -- a kind as an inode's record has it (RFC 1813, section 2.5, ftype3)
@@ -51,29 +53,35 @@ body op.End = []
 abbrev pub vector_entry : Entry → List ℕ
 vector_entry e = e.0.0 ++ word e.1.seq ++ e.1.name.0
 
--- what each record's block begins with: "IVR1"
-abbrev pub record_tag : List ℕ
-record_tag = 73 ∷ 86 ∷ 82 ∷ 49 ∷ []
+-- the last byte of a tag: the format's digit
+abbrev pub format_digit : Format → ℕ
+format_digit One = 49
+format_digit Two = 50
 
--- the tag, the parts that each record has, and the operation's own
-abbrev pub block_of_parts : PubKey → ℕ → Key → Vector → Moment → Op → List ℕ
-block_of_parts owner seq prev vector moment_made op =
-    record_tag ++ word (record_kind op) ++ (head_key_of owner).0 ++ prev.0 ++ word seq ++ moment moment_made
-    ++ array vector_entry vector ++ body op
+-- what each record's block begins with: "IVR1" or "IVR2"
+abbrev pub record_tag : Format → List ℕ
+record_tag format = 73 ∷ 86 ∷ 82 ∷ format_digit format ∷ []
+
+-- the block of the record of that number behind the one of that name: the tag, the parts that each record has, and the operation's own
+abbrev pub block_of : Heading → ℕ → Key → Op → List ℕ
+block_of h seq prev op =
+    record_tag h.format ++ word (record_kind op) ++ (head_key_of h.owner).0 ++ prev.0 ++ word seq ++ moment h.moment
+    ++ array vector_entry h.vector ++ body op
 
 abbrev pub record_block : Record → List ℕ
-record_block r = block_of_parts r.owner r.seq r.prev r.vector r.moment r.op
+record_block r = block_of (heading_of r) r.seq r.prev r.op
 
--- the record of these parts, under the name of its block
-abbrev pub new_record : PubKey → ℕ → Key → Vector → Moment → Op → Record
-new_record owner seq prev vector moment_made op = record {
-  owner = owner;
+-- that record, under the name of its block
+abbrev pub new_record : Heading → ℕ → Key → Op → Record
+new_record h seq prev op = record {
+  owner = h.owner;
   seq = seq;
   prev = prev;
-  vector = vector;
-  moment = moment_made;
+  vector = h.vector;
+  moment = h.moment;
   op = op;
-  name = name (block_of_parts owner seq prev vector moment_made op);
+  format = h.format;
+  name = name (block_of h seq prev op);
 }
 
 -- ---- which records have a spelling
@@ -137,8 +145,8 @@ abbrev pub IsEndOp : Op → Type 0
 IsEndOp op.End = Unit {0}
 IsEndOp _ = ⊥
 
--- The record has a block that a reader takes, and its name. A log begins with End, which stands nowhere else, and its first record cites nothing;
--- a vector has at most 32 entries, ascending by head key, none of them of the own log
+-- The record has a block that a reader takes, and its name. A log begins with End, which stands nowhere else, and its first record cites nothing and has
+-- format 1; a vector's entries ascend by head key, none of them of the own log
 pub record HasSpelling (r : Record) : Type 0 where
   pub some : 1 ≤ r.seq
   pub few : r.seq ≤ most_records
@@ -151,6 +159,7 @@ pub record HasSpelling (r : Record) : Type 0 where
   pub operation : OperationFits r.op
   pub ends_first : (r.seq ≡ 1) ↔ IsEndOp r.op
   pub first_alone : r.seq ≡ 1 → (r.prev ≡ no_name) × (r.vector ≡ [])
+  pub first_plain : r.seq ≡ 1 → r.format ≡ One
   pub named : r.name ≡ name (record_block r)
 
 -- the block is this record of the owner's

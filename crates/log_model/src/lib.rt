@@ -2,18 +2,23 @@
 //!
 //! Layer: definitions and laws, over the words of `ivy_base`, the spellings of `wire_model` and the trees of
 //! `tree_model`; no code of the program.
-//! For the layers above: a set of records is an ascending list; its chains, its closed part and its replay are
-//! what the definitions say, and [`closed_sets`] is the laws that they keep.
-//! Definitions: `specs/Record.antt`, `specs/Spelling.antt` (the block of a record, and which records have one),
-//! `specs/Vector.antt`, `specs/Rank.antt` (weights, the order of records, fronts), `specs/View.antt`,
-//! `specs/Chain.antt`, `specs/Closed.antt`, `specs/Part.antt`, `specs/Replay.antt`; the laws: `specs/Laws.antt`.
+//!
+//! For the layers above: a set of records is an ascending list. Its chains, its closed part and its replay
+//! are what the definitions say; [`closed_sets`] has the laws that they keep.
+//!
+//! Definitions: `specs/Record.antt`, `specs/Spelling.antt` (the block of a record, and which records have
+//! one), `specs/Vector.antt`, `specs/Rank.antt` (weights, the order of records, fronts), `specs/View.antt`,
+//! `specs/Chain.antt`, `specs/Closed.antt`, `specs/Part.antt`, `specs/Replay.antt`. The laws:
+//! `specs/Laws.antt`.
 #![tactic(auto)]
 
 ghost use Rattle.log_model.specs.Laws.{OpeningIsClosed, ClosedPartIsOne, PartIsLargest, UnionIsClosed, LaterRecordsApply, FrontOutweighs, RecordsMakeKeys};
 
-/// Laws of closed sets: a new log is one; of records that are at hand there is one largest closed part, and it
-/// is there; a union of two is one. Records above a set only add to its tree, and what is written over the front
-/// of a set comes after all of it. The inodes of their trees have keys as their numbers.
+/// Laws of closed sets.
+/// - A new log is one. Available records have one largest closed part, and it exists. A union of two closed
+///   sets is one.
+/// - Records above a set only add to its tree. What is written over the front of a set comes after all of it.
+/// - The inodes of their trees have keys as their numbers.
 pub fn closed_sets()
     ensures opening { OpeningIsClosed }
 

@@ -2,8 +2,8 @@
 use Rattle.std.proofs.Common.{ℕ, List, [], sym, ◌∙◌}
 use Rattle.std.proofs.lemmas.List.{append-nil}
 use Rattle.wire_model.specs.OneReading.{HasNoFront}
-use Rattle.log_records.specs.declared.part_fault.PartFault.{PartFault}
-use Rattle.log_records.specs.declared.part_fault.PartFault.TheVariants.{Malformed, Memory}
+use Rattle.block_parts.specs.declared.fault.BlockFault.{BlockFault}
+use Rattle.block_parts.specs.declared.fault.BlockFault.TheVariants.{Malformed, Memory}
 use Rattle.log_records.specs.Reading.{Refuses, IsSpelled, RefusesWhole}
 
 -- where nothing follows
@@ -12,6 +12,6 @@ no_whole {spell} absent x f = absent.none x [] (record { fits = f.fits; spelled 
 
 -- a whole is refused as its part is
 pub refused_whole : {A B : Type 0} {Fits : A → Type 0} {spell : A → List ℕ} {Whole : B → Type 0} {written : B → List ℕ} {bytes middle : List ℕ}
-    → (HasNoFront Fits spell middle → HasNoFront Whole written bytes) → (fault : PartFault) → Refuses Fits spell middle fault → RefusesWhole Whole written bytes fault
+    → (HasNoFront Fits spell middle → HasNoFront Whole written bytes) → (fault : BlockFault) → Refuses Fits spell middle fault → RefusesWhole Whole written bytes fault
 refused_whole absent Malformed f = no_whole (absent f)
 refused_whole absent Memory f = tt

@@ -3,6 +3,7 @@ use Rattle.std.proofs.Common.{◌≡◌, ℕ, ◌+◌, ◌-◌, ◌<◌, ◌≤�
 use Rattle.std.specs.Prelude.{◌↔◌, IsTrue, nat_eq}
 use Rattle.std.proofs.lemmas.Bool.{eqb-true, eq-eqb}
 use Rattle.ivy_base.specs.declared.key.Key.{Key}
+use Rattle.ivy_base.specs.declared.format.Format.TheVariants.{One}
 use Rattle.ivy_base.specs.declared.operation.Kind.{Kind}
 use Rattle.ivy_base.specs.declared.operation.Change.{Change}
 use Rattle.ivy_base.specs.declared.operation.Op.{Op}
@@ -11,6 +12,7 @@ use Rattle.log_model.specs.Vector.{Stamp, reach}
 use Rattle.log_model.specs.Record.{Record}
 use Rattle.log_model.specs.Spelling.{IsKey, IsBlock, IsMode, IsTarget, IsChange, OperationFits, IsEndOp, HasSpelling, no_name}
 use Rattle.log_model.specs.Chain.{IsFirst}
+use Rattle.block_parts.specs.Parts.{longest_file}
 use Rattle.log_records.specs.Parts.{IsPlace}
 use Rattle.log_records.specs.Spelled.{IsInPlace}
 use Rattle.log_records.specs.Batches.{MayBeNext}
@@ -34,9 +36,9 @@ pub no_inode_fits : {o : Op} {number : Key} {kind : Kind} {mode uid gid : ℕ} {
 no_inode_fits is e tested = of_op is (λ h. absurd (cc (h, e)), λ f. tested.1 f.1)
 
 pub write_fits : {o : Op} {number : Key} {offset : ℕ} {bytes text : List ℕ} {b : Bool}
-    → o ≡ op.Write number offset bytes → IsKey number → text ≡ bytes → IsTrue b ↔ ((1 ≤ length text) × (length text ≤ 8192) × (offset + length text ≤ 16777216)) → IsTrue b ↔ OperationFits o
+    → o ≡ op.Write number offset bytes → IsKey number → text ≡ bytes → IsTrue b ↔ ((1 ≤ length text) × (length text ≤ 8192) × (offset + length text ≤ longest_file)) → IsTrue b ↔ OperationFits o
 write_fits {offset} is number same tested =
-    let t = of_text (λ (x : List ℕ). (1 ≤ length x) × (length x ≤ 8192) × (offset + length x ≤ 16777216)) same tested in
+    let t = of_text (λ (x : List ℕ). (1 ≤ length x) × (length x ≤ 8192) × (offset + length x ≤ longest_file)) same tested in
     of_op is (λ h. let p = t.0 h in (number, p.0, p.1, p.2), λ f. t.1 (f.1, f.2, f.3))
 
 pub link_fits : {o : Op} {dir number : Key} {name : List ℕ} {b : Bool}
@@ -83,9 +85,9 @@ is_not_end {o} other = (λ h. absurd (cc h), λ e. absurd (other (the_end o e)))
 
 -- ---- whether it stands where it may
 
-pub first_in_place : (r : Record) {b : Bool} → r.seq ≡ 1 → IsEndOp r.op → IsTrue b ↔ ((r.prev ≡ no_name) × (r.vector ≡ [])) → IsTrue b ↔ IsInPlace r
+pub first_in_place : (r : Record) {b : Bool} → r.seq ≡ 1 → IsEndOp r.op → IsTrue b ↔ (((r.prev ≡ no_name) × (r.vector ≡ [])) × (r.format ≡ One)) → IsTrue b ↔ IsInPlace r
 first_in_place r first ends alone =
-    (λ h. record { ends_first = (λ e. ends, λ e. first); first_alone = λ e. alone.0 h }, λ p. alone.1 (p.first_alone first))
+    (λ h. record { ends_first = (λ e. ends, λ e. first); first_alone = λ e. (alone.0 h).0; first_plain = λ e. (alone.0 h).1 }, λ p. alone.1 (p.first_alone first, p.first_plain first))
 
 pub no_end_first : (r : Record) {b : Bool} → r.seq ≡ 1 → b ≡ false → IsTrue b ↔ IsEndOp r.op → IsTrue b ↔ IsInPlace r
 no_end_first r first fails ends = (λ h. absurd (cc (h, fails)), λ p. ends.1 (p.ends_first.0 first))

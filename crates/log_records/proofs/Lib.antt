@@ -18,3 +18,4 @@ pub mod LastBlock
 pub mod PlaceLemmas
 pub mod ChainTests
 pub mod Put
+pub mod Standing

@@ -13,6 +13,7 @@ use Rattle.wire_model.specs.Xdr.{IsWord, IsDoubleWord, IsWordMoment}
 use Rattle.wire_model.proofs.OneReading.{◌▷◌, of_parts, of_fewer, one_word, one_double_word, one_moment, one_short_opaque, one_optional, one_raw}
 use Rattle.block_parts.proofs.OneParts.{one_kind}
 use Rattle.log_model.specs.Spelling.{record_kind, body, IsMoment, IsTarget, IsChange, OperationFits}
+use Rattle.block_parts.specs.Parts.{longest_file}
 use Rattle.log_records.specs.Parts.{change_block, IsOfKind}
 use Rattle.log_records.specs.Shapes.{IsChangeShape, HasShape, IsShapeOf}
 use Rattle.log_records.proofs.ReadParts.{one_long_key}
@@ -36,7 +37,7 @@ few_words : (o : Option ℕ) → IfSome o (λ n. n ≤ 4095) → IfSome o IsWord
 few_words None f = tt
 few_words (Some n) f = omega (arith, f)
 
-few_double_words : (o : Option ℕ) → IfSome o (λ n. n ≤ 16777216) → IfSome o IsDoubleWord
+few_double_words : (o : Option ℕ) → IfSome o (λ n. n ≤ longest_file) → IfSome o IsDoubleWord
 few_double_words None f = tt
 few_double_words (Some n) f = omega (arith, f)
 

@@ -9,16 +9,16 @@ use Rattle.wire_model.specs.OneReading.{ReadsOne, IsFront}
 use Rattle.wire_model.proofs.OneReading.{whole}
 use Rattle.log_model.specs.Vector.{stamp_at}
 use Rattle.log_model.specs.Record.{Record}
-use Rattle.log_model.specs.Spelling.{record_kind, body, record_block, new_record, HasSpelling, IsRecordOf}
+use Rattle.log_model.specs.Spelling.{record_kind, body, record_block, new_record, longest_record, HasSpelling, IsRecordOf}
 use Rattle.log_model.specs.Standing.{StandsAmong}
 use Rattle.log_model.proofs.Standing.{one_block}
 use Rattle.log_records.specs.declared.frame.Frame.{Frame}
-use Rattle.log_records.specs.declared.part_fault.PartFault.{PartFault}
-use Rattle.log_records.specs.declared.part_fault.PartFault.TheVariants as part
+use Rattle.block_parts.specs.declared.fault.BlockFault.{BlockFault}
+use Rattle.block_parts.specs.declared.fault.BlockFault.TheVariants as block
 use Rattle.log_records.specs.Parts.{IsOfKind}
 use Rattle.log_records.specs.Frames.{frame_block, AreParts, parts_block, IsWellPlaced}
 use Rattle.log_records.specs.Shapes.{IsShapeOf, IsFrameShape, AreShapes}
-use Rattle.log_records.specs.Reading.{Refuses, fault_of_part, IsSpelled, RefusesWhole}
+use Rattle.log_records.specs.Reading.{Refuses, fault_of_block, IsSpelled, RefusesWhole}
 use Rattle.log_records.specs.Records.{ReadFault}
 use Rattle.log_records.specs.Laws.{RecordsAreOne}
 use Rattle.wire_model.proofs.Dependent.{no_first_by, one_by}
@@ -44,16 +44,16 @@ one_of_shapes log = one_by shape_in (one_frame_shape log) (λ f. one_shape f.kin
 parts_shape : (log : Key) (p : Frame × Op) → AreParts log p → AreShapes p
 parts_shape log p f = (frame_shape log p.0 f.0, kind_shape p.0.kind p.1 f.1)
 
-pub no_frame : (log : Key) (bytes : List ℕ) (fault : PartFault) → Refuses IsFrameShape (frame_block log) bytes fault → RefusesWhole AreShapes (parts_block log) bytes fault
+pub no_frame : (log : Key) (bytes : List ℕ) (fault : BlockFault) → Refuses IsFrameShape (frame_block log) bytes fault → RefusesWhole AreShapes (parts_block log) bytes fault
 no_frame log bytes fault f = refused_whole {Whole = AreShapes} {written = parts_block log} (λ absent. no_first_by shape_in body absent) fault f
 
 pub no_operation : (log : Key) (bytes rest : List ℕ) (frame : Frame) → IsFront IsFrameShape (frame_block log) bytes frame rest
-    → (fault : PartFault) → RefusesWhole (IsShapeOf frame.kind) body rest fault → RefusesWhole AreShapes (parts_block log) bytes fault
-no_operation log bytes rest frame front part.Malformed absent = λ p g.
+    → (fault : BlockFault) → RefusesWhole (IsShapeOf frame.kind) body rest fault → RefusesWhole AreShapes (parts_block log) bytes fault
+no_operation log bytes rest frame front block.Malformed absent = λ p g.
     let e : frame_block log p.0 ++ body p.1 ≡ frame_block log frame ++ rest = sym g.spelled ∙ front.spelled in
     let q = (one_frame_shape log).one p.0 frame (body p.1) rest g.fits.0 front.fits e in
     absent p.1 (record { fits = subst (λ (f : Frame). IsShapeOf f.kind p.1) q.0 g.fits.1; spelled = sym q.1 })
-no_operation log bytes rest frame front part.Memory absent = tt
+no_operation log bytes rest frame front block.Memory absent = tt
 
 pub parts_read : (log : Key) {bytes rest : List ℕ} {frame : Frame} {o : Op} → IsFront IsFrameShape (frame_block log) bytes frame rest → IsSpelled (IsShapeOf frame.kind) body rest o
     → IsSpelled AreShapes (parts_block log) bytes (frame, o)
@@ -73,13 +73,13 @@ kind_fits (op.SetAttrs number change) = omega arith
 kind_fits op.End = omega arith
 
 abbrev pub frame_in : Record → Frame
-frame_in r = record { kind = record_kind r.op; prev = r.prev; seq = r.seq; moment = r.moment; vector = r.vector }
+frame_in r = record { format = r.format; kind = record_kind r.op; prev = r.prev; seq = r.seq; moment = r.moment; vector = r.vector }
 
 abbrev pub parts_in : Record → Frame × Op
 parts_in r = (frame_in r, r.op)
 
 abbrev pub record_with : PubKey → Frame × Op → Record
-record_with owner p = new_record owner p.0.seq p.0.prev p.0.vector p.0.moment p.1
+record_with owner p = new_record (record { owner = owner; format = p.0.format; vector = p.0.vector; moment = p.0.moment }) p.0.seq p.0.prev p.1
 
 parts_fit : (r : Record) → HasSpelling r → AreParts (head_key_of r.owner) (parts_in r)
 parts_fit r f = (
@@ -101,7 +101,7 @@ spelled_by owner r e = ap (λ (o : PubKey). parts_block (head_key_of o) (parts_i
 
 -- a record is that of its parts
 as_read : (r : Record) → HasSpelling r → r ≡ record_with r.owner (parts_in r)
-as_read r f = ap (λ (n : Key). record { owner = r.owner; seq = r.seq; prev = r.prev; vector = r.vector; moment = r.moment; op = r.op; name = n }) f.named
+as_read r f = ap (λ (n : Key). record { owner = r.owner; seq = r.seq; prev = r.prev; vector = r.vector; moment = r.moment; op = r.op; format = r.format; name = n }) f.named
 
 pub one_record : RecordsAreOne
 one_record owner = record {
@@ -132,17 +132,17 @@ record_parts : (owner : PubKey) (bytes : List ℕ) (r : Record) → IsRecordOf o
 record_parts owner bytes r f = record { fits = owned_parts owner r f.owned f.fits; spelled = f.spelled ∙ spelled_by owner r f.owned }
 
 well_placed : (r : Record) → HasSpelling r → IsWellPlaced (frame_in r) r.op
-well_placed r f = record { ends_first = f.ends_first; first_alone = f.first_alone }
+well_placed r f = record { ends_first = f.ends_first; first_alone = f.first_alone; first_plain = f.first_plain }
 
-pub no_record : (owner : PubKey) (bytes : List ℕ) (log : Key) → log ≡ head_key_of owner → length bytes ≤ 12288 → (fault : PartFault)
-    → RefusesWhole AreShapes (parts_block log) bytes fault → ReadFault owner bytes (fault_of_part fault)
-no_record owner bytes log e short part.Malformed absent = (
+pub no_record : (owner : PubKey) (bytes : List ℕ) (log : Key) → log ≡ head_key_of owner → length bytes ≤ longest_record → (fault : BlockFault)
+    → RefusesWhole AreShapes (parts_block log) bytes fault → ReadFault owner bytes (fault_of_block fault)
+no_record owner bytes log e short block.Malformed absent = (
   short,
   λ r f.
       let p : IsSpelled (AreParts log) (parts_block log) bytes (parts_in r) = rw e (record_parts owner bytes r f) in
       absent (parts_in r) (record { fits = parts_shape log (parts_in r) p.fits; spelled = p.spelled }),
 )
-no_record owner bytes log e short part.Memory absent = tt
+no_record owner bytes log e short block.Memory absent = tt
 
 -- the record of what was read has no block where the bytes are that of no record
 pub unspelled : (owner : PubKey) (bytes : List ℕ) (log : Key) (p : Frame × Op) → log ≡ head_key_of owner → IsSpelled AreShapes (parts_block log) bytes p → (HasSpelling (record_with owner p) → ⊥)
@@ -184,6 +184,7 @@ is_record owner bytes log p e f placed = record {
     operation = f.fits.1.1;
     ends_first = placed.ends_first;
     first_alone = placed.first_alone;
+    first_plain = placed.first_plain;
     named = refl;
   };
   spelled = f.spelled ∙ ap (λ (k : Key). parts_block k p) e ∙ ap (λ (k : ℕ). parts_block (head_key_of owner) (record p.0 { kind = k }, p.1)) (sym f.fits.1.0);

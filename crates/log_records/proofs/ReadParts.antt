@@ -3,6 +3,8 @@ use Rattle.std.proofs.Common.{◌≡◌, ℕ, ◌<◌, ◌^◌, List, [], ◌++�
 use Rattle.std.specs.Prelude.{◌≢◌}
 use Rattle.std.proofs.lemmas.List.{append-nil}
 use Rattle.ivy_base.specs.declared.key.Key.{Key}
+use Rattle.ivy_base.specs.declared.format.Format.{Format}
+use Rattle.ivy_base.specs.declared.format.Format.TheVariants.{One, Two}
 use Rattle.ivy_base.specs.declared.operation.Kind.{Kind}
 use Rattle.ivy_base.specs.declared.operation.Kind.TheVariants.{Reg, Dir, Lnk}
 use Rattle.wire_model.specs.Xdr.{word, moment, IsWord, IsWordMoment, IsOfLength, IsAny}
@@ -12,9 +14,10 @@ use Rattle.wire_model.proofs.Fronts.{none_of_fewer, only_misfit}
 use Rattle.wire_model.specs.Parts.{Told, Reads, as_it_stands}
 use Rattle.wire_model.proofs.Made.{Made}
 use Rattle.wire_model.proofs.PartByPart.{◌▸◌, part, made_read, number_read, number_missed}
-use Rattle.log_model.specs.Spelling.{IsBlock, IsKey, kind_number}
+use Rattle.log_model.specs.Spelling.{IsBlock, IsKey, kind_number, record_tag}
 use Rattle.block_parts.specs.Parts.{constant_bytes, key_bytes, kind_word}
 use Rattle.log_records.specs.Heads.{IsNumber}
+use Rattle.log_records.specs.Parts.{tag_number}
 use Rattle.log_records.specs.Reading.{IsSpelled}
 use Rattle.log_records.specs.Shapes.{IsKeyLong}
 
@@ -134,6 +137,33 @@ kind_read is f = number_read kind_number kind_below (λ k. refl) f is
 
 pub no_kind_read : {a b c : Option (List ℕ)} {n : ℕ} {k : Kind} → ((l : Kind) → kind_number l ≢ n) → c ≡ None → Reads IsWord word a n b → Reads IsAny kind_word a k c
 no_kind_read other gone f = number_missed kind_number kind_below (λ k. refl) f other gone
+
+-- ---- the tag of a record
+
+tag_below : (f : Format) → tag_number f < 2 ^ 32
+tag_below One = omega arith
+tag_below Two = omega arith
+
+tag_spelled : (f : Format) → record_tag f ≡ word (tag_number f)
+tag_spelled One = refl
+tag_spelled Two = refl
+
+pub one_tag : ReadsOne IsAny record_tag
+one_tag = record { one = tags }
+  where
+    tags : (x y : Format) (r s : List ℕ) → IsAny x → IsAny y → record_tag x ++ r ≡ record_tag y ++ s → (x ≡ y) × (r ≡ s)
+    tags One One r s f g e = (refl, (one_word.one (tag_number One) (tag_number One) r s (tag_below One) (tag_below One) e).1)
+    tags One Two r s f g e = let p = one_word.one (tag_number One) (tag_number Two) r s (tag_below One) (tag_below Two) e in absurd (omega (arith, p.0))
+    tags Two One r s f g e = let p = one_word.one (tag_number Two) (tag_number One) r s (tag_below Two) (tag_below One) e in absurd (omega (arith, p.0))
+    tags Two Two r s f g e = (refl, (one_word.one (tag_number Two) (tag_number Two) r s (tag_below Two) (tag_below Two) e).1)
+
+pub format_read : {a b : Option (List ℕ)} {n : ℕ} {f : Format} → tag_number f ≡ n → Reads IsWord word a n b → Reads IsAny record_tag a f b
+format_read is f = number_read tag_number tag_below tag_spelled f is
+
+pub no_format_read : {a b c : Option (List ℕ)} {n : ℕ} {f : Format} → ((g : Format) → tag_number g ≢ n) → c ≡ None → Reads IsWord word a n b → Reads IsAny record_tag a f c
+no_format_read other gone f = number_missed tag_number tag_below tag_spelled f other gone
+
+-- ---- moments
 
 made_moment : Made {A = ℕ × ℕ} (λ p. IsWord p.0 × IsWord p.1) (λ p. word p.0 ++ word p.1) IsWordMoment moment (λ p. record { sec = p.0; nsec = p.1 })
 made_moment = record { whole = λ p f. f; spelled = λ p. refl; parts = λ m f. record { part = (m.sec, m.nsec); fits = f; same = refl } }

@@ -5,7 +5,7 @@ use Rattle.ivy_base.specs.declared.operation.Moment.{Moment}
 use Rattle.ivy_base.specs.declared.operation.Op.{Op}
 use Rattle.ivy_base.specs.declared.operation.Op.TheVariants as op
 use Rattle.ivy_base.specs.Naming.{head_key_of}
-use Rattle.ivy_base.proofs.NameLemmas.{length-name}
+use Rattle.ivy_base.proofs.NameLemmas.{length-digest}
 use Rattle.wire_model.specs.Xdr.{word, double_word, opaque, optional, moment, array}
 use Rattle.xdr_codec.proofs.Lengths.{length-opaque}
 use Rattle.log_model.specs.Spelling.{kind_number, record_tag, record_kind, body, vector_entry, OperationFits}
@@ -68,8 +68,8 @@ short_records r f =
     let vector = length-vector r.vector (record { entries = f.entries; in_order = f.in_order }) in
     omega (
       arith,
-      seven (record_tag ++ word (record_kind r.op)) (head_key_of r.owner).0 r.prev.0 (word r.seq) (moment r.moment) (array vector_entry r.vector) (body r.op),
-      length-name r.owner.0,
+      seven (record_tag r.format ++ word (record_kind r.op)) (head_key_of r.owner).0 r.prev.0 (word r.seq) (moment r.moment) (array vector_entry r.vector) (body r.op),
+      length-digest r.owner.0,
       f.prev.size,
       vector,
       f.short,

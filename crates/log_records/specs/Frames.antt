@@ -1,6 +1,7 @@
 -- A record's block in two: what stands in front of each operation, and the operation.
 use Rattle.std.specs.Prelude.{◌≡◌, ℕ, List, [], ◌++◌, None, ◌↔◌}
 use Rattle.ivy_base.specs.declared.key.Key.{Key}
+use Rattle.ivy_base.specs.declared.format.Format.TheVariants.{One}
 use Rattle.ivy_base.specs.declared.operation.Op.{Op}
 use Rattle.wire_model.specs.Xdr.{word, array, moment, IsWord}
 use Rattle.log_model.specs.Vector.{Vector, stamp_at}
@@ -23,7 +24,7 @@ pub record IsFrame (log : Key) (f : Frame) : Type 0 where
   pub cited : IsCited log f.vector
 
 abbrev pub frame_block : Key → Frame → List ℕ
-frame_block log f = record_tag ++ word f.kind ++ log.0 ++ f.prev.0 ++ word f.seq ++ moment f.moment ++ array vector_entry f.vector
+frame_block log f = record_tag f.format ++ word f.kind ++ log.0 ++ f.prev.0 ++ word f.seq ++ moment f.moment ++ array vector_entry f.vector
 
 -- a frame, and an operation of its kind
 abbrev pub AreParts : Key → Frame × Op → Type 0
@@ -32,7 +33,8 @@ AreParts log p = IsFrame log p.0 × IsOfKind p.0.kind p.1
 abbrev pub parts_block : Key → Frame × Op → List ℕ
 parts_block log p = frame_block log p.0 ++ body p.1
 
--- a log begins with End, which stands nowhere else, and its first record cites nothing
+-- a log begins with End, which stands nowhere else, and its first record cites nothing and has format 1
 pub record IsWellPlaced (f : Frame) (op : Op) : Type 0 where
   pub ends_first : (f.seq ≡ 1) ↔ IsEndOp op
   pub first_alone : f.seq ≡ 1 → (f.prev ≡ no_name) × (f.vector ≡ [])
+  pub first_plain : f.seq ≡ 1 → f.format ≡ One

@@ -10,7 +10,7 @@ use Rattle.log_records.specs.declared.fault.RecordFault.TheVariants.{Malformed, 
 
 -- a record as the definitions have it: of these parts, under the name of its block
 abbrev pub record_of : Record → log.Record
-record_of r = new_record r.owner r.seq r.prev r.vector r.moment r.op
+record_of r = new_record (record { owner = r.owner; format = r.format; vector = r.vector; moment = r.moment }) r.seq r.prev r.op
 
 abbrev pub records_of : List Record → List log.Record
 records_of rs = map record_of rs

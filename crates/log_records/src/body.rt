@@ -7,32 +7,25 @@ ghost use Rattle.log_records.specs.Shapes.{IsShapeOf};
 ghost use Rattle.log_records.specs.Reading.{IsSpelled, RefusesWhole};
 
 use crate::change::read_change;
-use crate::part_fault::PartFault;
 use crate::parts::{read_key, read_kind};
+use block_parts::{BlockFault, LONGEST_NAME, LONGEST_PIECE, LONGEST_TARGET};
 use ivy_base::{Bytes, Memory, Op};
 use std::alloc::Global;
 use xdr_codec::Parts;
 
-/// The most bytes of a name, of a symbolic link's text, and of what is written at once.
-const LONGEST_NAME: u32 = 255;
-
-const LONGEST_TARGET: u32 = 1024;
-
-const LONGEST_PIECE: u32 = 8192;
-
 /// The operation of a record of that kind, 1 to 9, that the bytes are.
-pub fn read_operation(alloc: Global, bytes: &[u8], kind: u32) -> Result<Op, PartFault>
+pub fn read_operation(alloc: Global, bytes: &[u8], kind: u32) -> Result<Op, BlockFault>
     ensures ok { IfOk result (λ op. IsSpelled (IsShapeOf kind) body bytes.now op) }
     ensures err { IfErr result (RefusesWhole (IsShapeOf kind) body bytes.now) }
 {
     let mut parts = Parts::of(bytes);
     let Ok(op) = read_body(alloc, &mut parts, kind) else {
-        return Err(PartFault::Memory);
+        return Err(BlockFault::Memory);
     };
     if parts.are_read() {
         Ok(op)
     } else {
-        Err(PartFault::Malformed)
+        Err(BlockFault::Malformed)
     }
 }
 

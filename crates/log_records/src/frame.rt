@@ -6,15 +6,12 @@ ghost use Rattle.log_records.specs.Frames.{frame_block};
 ghost use Rattle.log_records.specs.Shapes.{IsFrameShape};
 ghost use Rattle.log_records.specs.Reading.{Refuses};
 
-use crate::part_fault::PartFault;
-use crate::parts::{read_key, read_moment, read_same, read_tag};
-use ivy_base::{Key, Moment};
+use crate::parts::{read_format, read_key, read_moment, read_same};
+use block_parts::BlockFault;
+use ivy_base::{Format, Key, Moment};
 use std::alloc::Global;
 use version_vectors::Vector;
 use xdr_codec::{Parts, XdrRead};
-
-/// What the block of a record begins with, as a number: "IVR1".
-pub const TAG: u32 = 0x4956_5231;
 
 /// The most logs that a record cites.
 pub const MOST_CITED: u32 = 32;
@@ -22,6 +19,7 @@ pub const MOST_CITED: u32 = 32;
 /// All of a record but its owner and its operation, of which the kind is known.
 #[derive(Drop)]
 pub struct Frame {
+    pub format: Format,
     pub kind: u32,
     pub prev: Key,
     pub seq: u32,
@@ -35,23 +33,24 @@ pub fn read_frame<'a>(
     alloc: Global,
     bytes: &'a [u8],
     log: &Key,
-) -> Result<(Frame, &'a [u8]), PartFault>
+) -> Result<(Frame, &'a [u8]), BlockFault>
     ensures ok { IfOk result (λ p. IsFront IsFrameShape (frame_block log.now) bytes.now p.0 p.1.now) }
     ensures err { IfErr result (Refuses IsFrameShape (frame_block log.now) bytes.now) }
 {
     let mut parts = Parts::of(bytes);
-    read_tag(&mut parts, TAG);
+    let format = read_format(&mut parts);
     let kind = parts.u32();
     read_same(&mut parts, log);
     let prev = read_key(&mut parts);
     let seq = parts.u32();
     let moment = read_moment(&mut parts);
     let Some(rest) = parts.rest() else {
-        return Err(PartFault::Malformed);
+        return Err(BlockFault::Malformed);
     };
     let mut reader = XdrRead::new(rest);
     let vector = Vector::read(alloc, &mut reader, MOST_CITED)?;
     let frame = Frame {
+        format,
         kind,
         prev,
         seq,

@@ -1,23 +1,66 @@
 //! Reading the parts that records and heads share.
 
-ghost use Rattle.std.specs.Prelude.{◌≡◌, ◌≢◌, ◌≤◌, ◌↔◌, IsTrue, length, MatchOption};
+ghost use Rattle.std.specs.Prelude.{◌≡◌, ◌≢◌, ◌+◌, ◌≤◌, ◌++◌, ◌↔◌, IsTrue, length, MatchOption};
+ghost use Rattle.ivy_base.specs.declared.format.Format.{Format as AnyFormat};
 ghost use Rattle.ivy_base.specs.declared.operation.Kind.{Kind as AnyKind};
-ghost use Rattle.log_model.specs.Spelling.{kind_number};
+ghost use Rattle.log_model.specs.Spelling.{kind_number, record_tag};
 ghost use Rattle.wire_model.specs.Xdr.{word, moment, IsWordMoment, IsAny};
 ghost use Rattle.wire_model.specs.Parts.{Reads};
 ghost use Rattle.block_parts.specs.Parts.{constant_bytes, key_bytes, kind_word};
 ghost use Rattle.log_records.specs.Heads.{IsNumber};
-ghost use Rattle.log_records.specs.Parts.{IsPiece};
+ghost use Rattle.log_records.specs.Parts.{IsPiece, tag_number};
 ghost use Rattle.log_records.specs.Shapes.{IsKeyLong};
 
 use crate::chain::is_same;
 use crate::spelled::check_word;
 use block_parts::{LONGEST_FILE, check_block};
-use ivy_base::{Key, Kind, Moment};
-use xdr_codec::Parts;
+use ivy_base::{Format, Key, Kind, Moment};
+use xdr_codec::{Parts, XdrWrite};
 
 /// The greatest number of a record.
 pub const MOST_RECORDS: u32 = 1_048_576;
+
+/// What the block of a record of format 1 begins with, as a number: "IVR1".
+const TAG_ONE: u32 = 0x4956_5231;
+
+/// What the block of a record of format 2 begins with, as a number: "IVR2".
+const TAG_TWO: u32 = 0x4956_5232;
+
+/// The format of a record, by the tag that its block begins with.
+pub fn read_format(parts: &mut Parts) -> Format
+    ensures { Reads IsAny record_tag parts.old result parts.new }
+{
+    match format_of(parts.u32()) {
+        Some(format) => format,
+        None => {
+            parts.miss();
+            Format::One
+        }
+    }
+}
+
+/// The format of that tag, if it is one of a record's.
+fn format_of(tag: u32) -> Option<Format>
+    ensures { MatchOption result ((f : AnyFormat) → tag_number f ≢ tag) (λ f. tag_number f ≡ tag) }
+{
+    match tag {
+        TAG_ONE => Some(Format::One),
+        TAG_TWO => Some(Format::Two),
+        _ => None,
+    }
+}
+
+/// Appends the tag of a record of that format.
+pub fn put_format(out: &mut XdrWrite, format: Format)
+    requires { 4 ≤ out.old.spare }
+    ensures written { out.new.written ≡ out.old.written ++ record_tag format }
+    ensures spare { out.new.spare + 4 ≡ out.old.spare }
+{
+    match format {
+        Format::One => out.put_u32(TAG_ONE),
+        Format::Two => out.put_u32(TAG_TWO),
+    }
+}
 
 /// What the blocks of a form begin with.
 pub fn read_tag(parts: &mut Parts, tag: u32)

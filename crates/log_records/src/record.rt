@@ -15,20 +15,17 @@ ghost use Rattle.log_records.specs.Records.{record_of, IsRead, ReadFault};
 use crate::body::read_operation;
 use crate::body_writing::{body_len, kind_of, put_body};
 use crate::fault::RecordFault;
-use crate::frame::{Frame, TAG, read_frame};
-use crate::part_fault::PartFault;
+use crate::frame::{Frame, read_frame};
+use crate::parts::put_format;
 use crate::spelled::is_spelled;
-use block_parts::{put_key, put_moment};
-use ivy_base::{Bytes, Key, Memory, Moment, Op, PubKey, head_key, name_of, number_of};
+use block_parts::{BlockFault, put_key, put_moment};
+use ivy_base::{Bytes, Format, Key, Memory, Moment, Op, PubKey, head_key, name_of, number_of};
 use std::alloc::Global;
 use version_vectors::{Rank, Vector};
 use xdr_codec::XdrWrite;
 
 /// The most bytes of a record's block.
 const LONGEST_RECORD: usize = 12_288;
-
-/// In place of a name, where there is none.
-pub(crate) const NO_NAME: Key = Key([0; 20]);
 
 /// A record of a log (Ivy): one step of its owner's, written once.
 pub struct Record {
@@ -44,6 +41,8 @@ pub struct Record {
     pub moment: Moment,
     /// What it does.
     pub op: Op,
+    /// In which format it is written. The first record of a log has format 1.
+    pub format: Format,
 }
 
 // Written out, so that whatever drops one calls this and isn't proved over all of its parts once more.
@@ -56,6 +55,7 @@ impl Drop for Record {
             vector: _,
             moment: _,
             op: _,
+            format: _,
         } = self;
     }
 }
@@ -83,6 +83,7 @@ impl Record {
             vector: frame.vector,
             moment: frame.moment,
             op,
+            format: frame.format,
         };
         if !is_spelled(&record, &log) {
             return Err(RecordFault::Malformed);
@@ -110,6 +111,7 @@ impl Record {
             vector,
             moment: self.moment,
             op,
+            format: self.format,
         })
     }
 
@@ -131,7 +133,7 @@ impl Record {
         if out.reserve(room).is_err() {
             return Err(Memory);
         }
-        out.put_u32(TAG);
+        put_format(&mut out, self.format);
         out.put_u32(kind_of(&self.op));
         put_key(&mut out, &head_key(&self.owner));
         put_key(&mut out, &self.prev);
@@ -142,7 +144,7 @@ impl Record {
         Ok(out.into_bytes())
     }
 
-    /// The record's name, the SHA-1 of its block. The errors are those of [`Record::write`].
+    /// The record's name, a digest of its block: which one, its format tells. The errors are those of [`Record::write`].
     pub fn name(&self, alloc: Global) -> Result<Key, Memory>
         ensures { IfOk result (λ name. name ≡ (record_of self.now).name) }
     {
@@ -167,7 +169,7 @@ impl Record {
 
 /// The frame and the operation that the bytes are, of a record of the log with that head key.
 #[tactic(auto, using(crate::proofs::OneRecord::parts_read))]
-fn read_parts(alloc: Global, bytes: &[u8], log: &Key) -> Result<(Frame, Op), PartFault>
+fn read_parts(alloc: Global, bytes: &[u8], log: &Key) -> Result<(Frame, Op), BlockFault>
     ensures ok { IfOk result (λ parts. IsSpelled AreShapes (parts_block log.now) bytes.now parts) }
     ensures err { IfErr result (RefusesWhole AreShapes (parts_block log.now) bytes.now) }
 {

@@ -2,7 +2,9 @@
 
 ghost use Rattle.std.specs.Prelude.{◌≡◌, ◌<◌, ◌≤◌, ◌^◌, ◌+◌, ◌↔◌, [], length, IsTrue, IfSome};
 ghost use Rattle.ivy_base.specs.Naming.{head_key_of};
+ghost use Rattle.ivy_base.specs.declared.format.Format.TheVariants.{One};
 ghost use Rattle.log_model.specs.Spelling.{no_name, HasSpelling, IsMode, IsMoment, IsTarget, IsChange, OperationFits};
+ghost use Rattle.block_parts.specs.Parts.{longest_file};
 ghost use Rattle.log_records.specs.Frames.{IsCited};
 ghost use Rattle.log_records.specs.Parts.{IsPlace};
 ghost use Rattle.log_records.specs.Records.{record_of};
@@ -11,9 +13,9 @@ ghost use Rattle.log_records.specs.Spelled.{IsInPlace};
 use crate::chain::is_same;
 use crate::frame::MOST_CITED;
 use crate::parts::{is_number, is_piece};
-use crate::record::{NO_NAME, Record, is_end};
-use block_parts::{LONGEST_FILE, check_block};
-use ivy_base::{Bytes, Change, Key, Kind, Moment, Op, name_ok};
+use crate::record::{Record, is_end};
+use block_parts::{LONGEST_FILE, LONGEST_PIECE, LONGEST_TARGET, NO_NAME, check_block};
+use ivy_base::{Bytes, Change, Format, Key, Kind, Moment, Op, name_ok};
 use version_vectors::Vector;
 
 /// Whether the record has a block. `log` is its owner's head key.
@@ -44,15 +46,29 @@ fn may_cite(log: &Key, vector: &Vector) -> bool
 }
 
 /// Whether the operation is End in the first record of a log and nowhere else, and whether the first one cites
-/// nothing.
+/// nothing and has format 1.
 fn is_in_place(record: &Record) -> bool
     ensures { IsTrue result ↔ IsInPlace (record_of «record».now) }
 {
     if record.seq == 1 {
-        is_end(&record.op) && is_unlinked(&record.prev, &record.vector)
+        is_end(&record.op) && opens(record)
     } else {
         !is_end(&record.op)
     }
+}
+
+/// Whether a record names neither one before it nor one of another log, and has format 1.
+fn opens(record: &Record) -> bool
+    ensures { IsTrue result ↔ ((«record».now.prev ≡ no_name) × («record».now.vector ≡ [])) × («record».now.format ≡ One) }
+{
+    is_unlinked(&record.prev, &record.vector) && is_format_one(record.format)
+}
+
+/// Whether it is format 1.
+fn is_format_one(format: Format) -> bool
+    ensures { IsTrue result ↔ (format ≡ One) }
+{
+    matches!(format, Format::One)
 }
 
 /// Whether a record with these names neither one before it nor one of another log.
@@ -139,15 +155,15 @@ fn is_target(kind: Kind, target: &[u8]) -> bool
 {
     match kind {
         Kind::Reg | Kind::Dir => target.is_empty(),
-        Kind::Lnk => !target.is_empty() && target.len() <= 1024,
+        Kind::Lnk => !target.is_empty() && target.len() <= LONGEST_TARGET as usize,
     }
 }
 
 /// Whether there are bytes, at most 8,192, and all are within the most that a file may have.
 fn is_written(offset: u64, bytes: &[u8]) -> bool
-    ensures { IsTrue result ↔ (1 ≤ length bytes.now) × (length bytes.now ≤ 8192) × (offset + length bytes.now ≤ 16777216) }
+    ensures { IsTrue result ↔ (1 ≤ length bytes.now) × (length bytes.now ≤ 8192) × (offset + length bytes.now ≤ longest_file) }
 {
-    bytes.len() <= 8192 && is_piece(offset, bytes)
+    bytes.len() <= LONGEST_PIECE as usize && is_piece(offset, bytes)
 }
 
 /// Whether each attribute that is set has its bounds.
@@ -183,7 +199,7 @@ fn is_optional_mode(mode: Option<u32>) -> bool
 
 /// Whether the size is one that a file may have, where there is one.
 fn is_optional_size(size: Option<u64>) -> bool
-    ensures { IsTrue result ↔ IfSome size (λ n. n ≤ 16777216) }
+    ensures { IsTrue result ↔ IfSome size (λ n. n ≤ longest_file) }
 {
     match size {
         Some(size) => size <= LONGEST_FILE,

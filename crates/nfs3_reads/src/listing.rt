@@ -1,7 +1,7 @@
 //! All that a directory has: its entries, and the verifier of its listing.
 
 ghost use Rattle.std.specs.Prelude.{◌≡◌, [], ◌∷◌, IfOk, take, true};
-ghost use Rattle.ivy_base.specs.Naming.{name};
+ghost use Rattle.ivy_base.specs.Naming.{digest};
 ghost use Rattle.wire_model.specs.Xdr.{word};
 ghost use Rattle.tree_model.specs.Tree.{inode_at, is_directory};
 ghost use Rattle.nfs_model.specs.Pages.{all_entries, cookie_verifier};
@@ -54,7 +54,7 @@ fn with_parents(
 /// The verifier of the listing: the first eight bytes of the SHA-1 (FIPS 180-4) over each name's length, bytes and
 /// inode.
 fn verifier_of(listing: &[(Bytes, Key)]) -> [u8; 8]
-    ensures { result ≡ take 8 (name (names_bytes listing.now)).0 }
+    ensures { result ≡ take 8 (digest (names_bytes listing.now)).0 }
 {
     let mut hasher = Sha1::new();
     for (name, number) in listing {

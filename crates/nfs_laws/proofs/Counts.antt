@@ -64,9 +64,9 @@ all_in_logs : (owners : List PubKey) (s : List Record) → AllByRecursion (λ r.
 all_in_logs owners [] owned = omega arith
 all_in_logs owners (r ∷ s) owned = omega (arith, all_in_logs owners s owned.1, one_more owners r s owned.0)
 
-few_in_logs : (view : View) (owners : List PubKey) (s : List Record) → ((owner : PubKey) → IsChain view owner (log_of owner s)) → in_logs owners s ≤ length owners * 1048576
+few_in_logs : (view : View) (owners : List PubKey) (s : List Record) → ((owner : PubKey) → IsChain view owner (log_of owner s)) → in_logs owners s ≤ length owners * most_records
 few_in_logs view [] s chains = omega arith
 few_in_logs view (owner ∷ owners) s chains = omega (arith, few_in_chain view owner (log_of owner s) (chains owner), few_in_logs view owners s chains)
 
-pub few_in_closed : (view : View) (s : List Record) → length view.members ≤ most_members → IsClosed view s → length s ≤ 16777216
+pub few_in_closed : (view : View) (s : List Record) → length view.members ≤ most_members → IsClosed view s → length s ≤ most_members * most_records
 few_in_closed view s few closed = omega (arith, few, all_in_logs view.members s closed.members, few_in_logs view view.members s closed.chains)

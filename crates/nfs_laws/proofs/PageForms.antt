@@ -3,8 +3,8 @@ use Rattle.std.proofs.Common.{ℕ, ◌+◌, ◌-◌, ◌<◌, ◌≤◌, ◌^◌
 use Rattle.std.specs.Prelude.{nat_lt, unwrap_or, IfSome}
 use Rattle.std.specs.List.{AllByRecursion, flat_map, cons_option}
 use Rattle.ivy_base.specs.declared.key.Key.{Key}
-use Rattle.ivy_base.specs.Naming.{name, IsFileName}
-use Rattle.ivy_base.proofs.NameLemmas.{length-name}
+use Rattle.ivy_base.specs.Naming.{digest, IsFileName}
+use Rattle.ivy_base.proofs.NameLemmas.{length-digest}
 use Rattle.tree_model.specs.Tree.{Tree, Place, listing, parent, same_key}
 use Rattle.log_model.specs.Spelling.{IsKey}
 use Rattle.log_model.specs.View.{View}
@@ -115,7 +115,7 @@ plus_entries t view tree (e ∷ es) fit = (
 verifier_fits : (t : Tree) (dir : Key) → IsVerifier (cookie_verifier t dir)
 verifier_fits t dir =
     let bytes : List ℕ = flat_map (λ e. word (length e.0) ++ e.0 ++ e.1.0) (listing t dir) in
-    omega (arith, length-take 8 (name bytes).0, length-name bytes)
+    omega (arith, length-take 8 (digest bytes).0, length-digest bytes)
 
 module _ (t : Tree) (view : View) (who : Identity) (tree : TreeFits t) where
   pub form_directory : (handle : List ℕ) (cookie : ℕ) (verifier : List ℕ) (count : ℕ) → IsFittingReply (call.ReadDir handle cookie verifier count) (read_directory t view who handle cookie verifier count)

@@ -4,7 +4,7 @@ use Rattle.std.specs.Prelude.{max, nat_lt, unwrap_or, IfSome}
 use Rattle.std.specs.List.{AllByRecursion, flat_map}
 use Rattle.std.proofs.lemmas.Bool.{ltb-false}
 use Rattle.ivy_base.specs.declared.key.Key.{Key}
-use Rattle.ivy_base.specs.Naming.{name}
+use Rattle.ivy_base.specs.Naming.{digest}
 use Rattle.tree_model.specs.Tree.{Tree, listing, parent}
 use Rattle.log_model.specs.View.{View}
 use Rattle.log_model.specs.Spelling.{IsKey}
@@ -103,7 +103,7 @@ plus_sized t view [] numbers = tt
 plus_sized t view (e ∷ es) numbers = (most_listed_plus t view e numbers.0, plus_sized t view es numbers.1)
 
 most_verifier : (t : Tree) (dir : Key) → AtMost (cookie_verifier t dir) 8
-most_verifier t dir = record { most = let whole = length-take 8 (name (flat_map (λ e. word (length e.0) ++ e.0 ++ e.1.0) (listing t dir))).0 in omega (arith, whole) }
+most_verifier t dir = record { most = let whole = length-take 8 (digest (flat_map (λ e. word (length e.0) ++ e.0 ++ e.1.0) (listing t dir))).0 in omega (arith, whole) }
 
 -- the marks round the entries take 108 bytes
 most_whole_page : {entries : List ℕ} (count : ℕ) (t : Tree) (number : Key) (dir : Option Fattr) (eof : Bool) → AtMost entries (room_for_entries count)

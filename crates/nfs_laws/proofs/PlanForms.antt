@@ -6,7 +6,7 @@ use Rattle.ivy_base.specs.declared.key.PubKey.{PubKey}
 use Rattle.ivy_base.specs.declared.operation.Moment.{Moment}
 use Rattle.ivy_base.specs.declared.operation.Op.{Op}
 use Rattle.ivy_base.specs.Naming.{inode_number}
-use Rattle.ivy_base.proofs.NameLemmas.{length-name}
+use Rattle.ivy_base.proofs.NameLemmas.{length-digest}
 use Rattle.tree_model.specs.Tree.{Tree, entry, is_directory, is_file, directory_kind, file_kind, name_count}
 use Rattle.log_model.specs.View.{View}
 use Rattle.wire_model.specs.Rpc.{Identity}
@@ -65,7 +65,7 @@ module _ (t after : Tree) (view : View) (who : Identity) (now : Moment) (own : P
       (record { form = form; fits = (handle_fits view number size, attributes_fit after view number later, then_fits dir.number) })
 
   new_number : length (inode_number own seq).0 ≡ 20
-  new_number = length-name _
+  new_number = length-digest _
 
   leads_directory : (handle name : List ℕ) (what : SetWhat) → Leads (call.MkDir handle name what) (plan_directory t view who handle name what now (inode_number own seq))
   leads_directory handle name what = about_object (call.MkDir handle name what) refl handle _ (λ dir e.

@@ -9,7 +9,7 @@ use Rattle.ivy_base.specs.declared.operation.Moment.{Moment}
 use Rattle.ivy_base.specs.declared.operation.Op.{Op}
 use Rattle.ivy_base.specs.declared.operation.Op.TheVariants as op
 use Rattle.ivy_base.specs.Naming.{inode_number}
-use Rattle.ivy_base.proofs.NameLemmas.{length-name}
+use Rattle.ivy_base.proofs.NameLemmas.{length-digest}
 use Rattle.tree_model.specs.Tree.{Tree, Inode, inode_at, entry, is_directory, is_file, directory_kind, file_kind, name_count}
 use Rattle.tree_model.proofs.Sound.{both_false, not_false}
 use Rattle.log_model.specs.View.{View}
@@ -56,7 +56,7 @@ file_is_some (Some i) e = refl
 -- what a changing call goes by
 module _ (t : Tree) (view : View) (who : Identity) (now : Moment) (own : PubKey) (seq : ℕ) where
   new_number : length (inode_number own seq).0 ≡ 20
-  new_number = length-name _
+  new_number = length-digest _
 
   behind_checks : (checks : List Check) (with : Tail) (p : Plan) → (Pass checks → Goes t p) → Goes t (unless checks with p)
   behind_checks = of_plan_unless (Goes t) (goes_refused t)

@@ -7,7 +7,7 @@ use Rattle.ivy_base.specs.declared.key.PubKey.{PubKey}
 use Rattle.ivy_base.specs.declared.operation.Kind.TheVariants.{Reg, Dir}
 use Rattle.ivy_base.specs.declared.operation.Moment.{Moment}
 use Rattle.ivy_base.specs.declared.operation.Op.TheVariants as op
-use Rattle.ivy_base.specs.Naming.{root_number, inode_number}
+use Rattle.ivy_base.specs.Naming.{root_number, inode_number, name as name_of}
 use Rattle.tree_model.specs.Tree.{Tree}
 use Rattle.tree_model.specs.Apply.{empty_tree, apply_all}
 use Rattle.log_model.specs.View.{View}
@@ -70,64 +70,64 @@ abbrev refused : NfsStatus → Fattr → Reply
 refused fault dir = reply.Refused fault (tail.Attributes (Some dir))
 
 finds_directory : looked_up tree root_handle (100 ∷ []) ≡ reply.Found (handle_of view (key 1)) (Some directory) (Some (root_with 3 6))
-unfolding own view tree root_handle looked_up sha1 schedule first_words rounds hash_after compress digest_bytes
+unfolding own view tree root_handle looked_up name_of sha1 schedule first_words rounds hash_after compress digest_bytes
 finds_directory = refl
 
 finds_file : looked_up tree root_handle (102 ∷ []) ≡ reply.Found (handle_of view (key 2)) (Some file) (Some (root_with 3 6))
-unfolding own view tree root_handle looked_up sha1 schedule first_words rounds hash_after compress digest_bytes
+unfolding own view tree root_handle looked_up name_of sha1 schedule first_words rounds hash_after compress digest_bytes
 finds_file = refl
 
 finds_itself : looked_up tree root_handle (46 ∷ []) ≡ reply.Found root_handle (Some (root_with 3 6)) (Some (root_with 3 6))
-unfolding own view tree root_handle looked_up sha1 schedule first_words rounds hash_after compress digest_bytes
+unfolding own view tree root_handle looked_up name_of sha1 schedule first_words rounds hash_after compress digest_bytes
 finds_itself = refl
 
 finds_parent : looked_up tree (handle_of view (key 1)) (46 ∷ 46 ∷ []) ≡ reply.Found root_handle (Some (root_with 3 6)) (Some directory)
-unfolding own view tree root_handle looked_up sha1 schedule first_words rounds hash_after compress digest_bytes
+unfolding own view tree root_handle looked_up name_of sha1 schedule first_words rounds hash_after compress digest_bytes
 finds_parent = refl
 
 root_is_its_parent : looked_up empty_tree root_handle (46 ∷ 46 ∷ []) ≡ reply.Found root_handle (Some (root_with 2 0)) (Some (root_with 2 0))
-unfolding own view tree root_handle looked_up sha1 schedule first_words rounds hash_after compress digest_bytes
+unfolding own view tree root_handle looked_up name_of sha1 schedule first_words rounds hash_after compress digest_bytes
 root_is_its_parent = refl
 
 no_entry : looked_up empty_tree root_handle (100 ∷ []) ≡ refused status.NoEnt (root_with 2 0)
-unfolding own view tree root_handle looked_up sha1 schedule first_words rounds hash_after compress digest_bytes
+unfolding own view tree root_handle looked_up name_of sha1 schedule first_words rounds hash_after compress digest_bytes
 no_entry = refl
 
 not_a_directory : looked_up tree (handle_of view (key 2)) (100 ∷ []) ≡ refused status.NotDir file
-unfolding own view tree root_handle looked_up sha1 schedule first_words rounds hash_after compress digest_bytes
+unfolding own view tree root_handle looked_up name_of sha1 schedule first_words rounds hash_after compress digest_bytes
 not_a_directory = refl
 
 too_long : looked_up empty_tree root_handle (replicate 256 97) ≡ refused status.NameTooLong (root_with 2 0)
-unfolding own view tree root_handle looked_up sha1 schedule first_words rounds hash_after compress digest_bytes
+unfolding own view tree root_handle looked_up name_of sha1 schedule first_words rounds hash_after compress digest_bytes
 too_long = refl
 
 longest : looked_up empty_tree root_handle (replicate 255 97) ≡ refused status.NoEnt (root_with 2 0)
-unfolding own view tree root_handle looked_up sha1 schedule first_words rounds hash_after compress digest_bytes
+unfolding own view tree root_handle looked_up name_of sha1 schedule first_words rounds hash_after compress digest_bytes
 longest = refl
 
 empty_name : looked_up empty_tree root_handle [] ≡ refused status.Inval (root_with 2 0)
-unfolding own view tree root_handle looked_up sha1 schedule first_words rounds hash_after compress digest_bytes
+unfolding own view tree root_handle looked_up name_of sha1 schedule first_words rounds hash_after compress digest_bytes
 empty_name = refl
 
 slash : looked_up empty_tree root_handle (97 ∷ 47 ∷ []) ≡ refused status.Inval (root_with 2 0)
-unfolding own view tree root_handle looked_up sha1 schedule first_words rounds hash_after compress digest_bytes
+unfolding own view tree root_handle looked_up name_of sha1 schedule first_words rounds hash_after compress digest_bytes
 slash = refl
 
 zero_byte : looked_up empty_tree root_handle (0 ∷ []) ≡ refused status.Inval (root_with 2 0)
-unfolding own view tree root_handle looked_up sha1 schedule first_words rounds hash_after compress digest_bytes
+unfolding own view tree root_handle looked_up name_of sha1 schedule first_words rounds hash_after compress digest_bytes
 zero_byte = refl
 
 stale : looked_up tree (handle_of view (key 3)) (100 ∷ []) ≡ reply.Refused status.Stale (tail.Attributes None)
-unfolding own view tree root_handle looked_up sha1 schedule first_words rounds hash_after compress digest_bytes
+unfolding own view tree root_handle looked_up name_of sha1 schedule first_words rounds hash_after compress digest_bytes
 stale = refl
 
 -- a handle of another view
 stale_view : looked_up tree (handle_of (record { members = own ∷ []; former = own ∷ [] }) (key 1)) (100 ∷ []) ≡ reply.Refused status.Stale (tail.Attributes None)
-unfolding own view tree root_handle looked_up sha1 schedule first_words rounds hash_after compress digest_bytes
+unfolding own view tree root_handle looked_up name_of sha1 schedule first_words rounds hash_after compress digest_bytes
 stale_view = refl
 
 bad_handle : looked_up tree (73 ∷ 86 ∷ 89 ∷ 49 ∷ []) (100 ∷ []) ≡ reply.Refused status.BadHandle (tail.Attributes None)
-unfolding own view tree root_handle looked_up sha1 schedule first_words rounds hash_after compress digest_bytes
+unfolding own view tree root_handle looked_up name_of sha1 schedule first_words rounds hash_after compress digest_bytes
 bad_handle = refl
 
 -- ---- MKDIR
@@ -143,39 +143,39 @@ refused_plan fault dir = Refuse (reply.Refused fault (tail.Cache dir))
 
 -- of the mode 0100755 the low 12 bits are taken
 makes : planned empty_tree root_handle (100 ∷ []) ≡ Operations (op.Inode (inode_number own 2) Dir 493 0 0 [] ∷ op.Link root_number (100 ∷ []) (inode_number own 2) ∷ [])
-unfolding own view tree root_handle looked_up planned sha1 schedule first_words rounds hash_after compress digest_bytes
+unfolding own view tree root_handle looked_up planned name_of sha1 schedule first_words rounds hash_after compress digest_bytes
 makes = refl
 
 exists : planned tree root_handle (100 ∷ []) ≡ refused_plan status.Exist (only_root 3 6)
-unfolding own view tree root_handle looked_up planned sha1 schedule first_words rounds hash_after compress digest_bytes
+unfolding own view tree root_handle looked_up planned name_of sha1 schedule first_words rounds hash_after compress digest_bytes
 exists = refl
 
 dot_exists : planned tree root_handle (46 ∷ []) ≡ refused_plan status.Exist (only_root 3 6)
-unfolding own view tree root_handle looked_up planned sha1 schedule first_words rounds hash_after compress digest_bytes
+unfolding own view tree root_handle looked_up planned name_of sha1 schedule first_words rounds hash_after compress digest_bytes
 dot_exists = refl
 
 dot_dot_exists : planned empty_tree root_handle (46 ∷ 46 ∷ []) ≡ refused_plan status.Exist (only_root 2 0)
-unfolding own view tree root_handle looked_up planned sha1 schedule first_words rounds hash_after compress digest_bytes
+unfolding own view tree root_handle looked_up planned name_of sha1 schedule first_words rounds hash_after compress digest_bytes
 dot_dot_exists = refl
 
 makes_too_long : planned empty_tree root_handle (replicate 256 97) ≡ refused_plan status.NameTooLong (only_root 2 0)
-unfolding own view tree root_handle looked_up planned sha1 schedule first_words rounds hash_after compress digest_bytes
+unfolding own view tree root_handle looked_up planned name_of sha1 schedule first_words rounds hash_after compress digest_bytes
 makes_too_long = refl
 
 makes_empty : planned empty_tree root_handle [] ≡ refused_plan status.Inval (only_root 2 0)
-unfolding own view tree root_handle looked_up planned sha1 schedule first_words rounds hash_after compress digest_bytes
+unfolding own view tree root_handle looked_up planned name_of sha1 schedule first_words rounds hash_after compress digest_bytes
 makes_empty = refl
 
 makes_slash : planned empty_tree root_handle (47 ∷ []) ≡ refused_plan status.Inval (only_root 2 0)
-unfolding own view tree root_handle looked_up planned sha1 schedule first_words rounds hash_after compress digest_bytes
+unfolding own view tree root_handle looked_up planned name_of sha1 schedule first_words rounds hash_after compress digest_bytes
 makes_slash = refl
 
 makes_stale : planned empty_tree (handle_of view (key 1)) (100 ∷ []) ≡ refused_plan status.Stale no_cache_data
-unfolding own view tree root_handle looked_up planned sha1 schedule first_words rounds hash_after compress digest_bytes
+unfolding own view tree root_handle looked_up planned name_of sha1 schedule first_words rounds hash_after compress digest_bytes
 makes_stale = refl
 
 makes_in_file : planned tree (handle_of view (key 2)) (100 ∷ []) ≡ refused_plan status.NotDir (record { before = Some (record { size = 0; mtime = at 6; ctime = at 6 }); after = Some file })
-unfolding own view tree root_handle looked_up planned sha1 schedule first_words rounds hash_after compress digest_bytes
+unfolding own view tree root_handle looked_up planned name_of sha1 schedule first_words rounds hash_after compress digest_bytes
 makes_in_file = refl
 
 -- the reply once the records stand: the root before and after, with one link more
@@ -184,19 +184,19 @@ with_d = apply_all empty_tree ((at 5, op.Inode (key 1) Dir 493 0 0 []) ∷ (at 5
 
 made : finish empty_tree with_d view superuser (call.MkDir root_handle (100 ∷ []) (only_mode 493)) (op.Inode (key 1) Dir 493 0 0 [] ∷ op.Link root_number (100 ∷ []) (key 1) ∷ [])
     ≡ reply.Made (handle_of view (key 1)) (Some directory) (record { before = Some (record { size = 4096; mtime = at 0; ctime = at 0 }); after = Some (root_with 3 5) })
-unfolding own view root_handle with_d sha1 schedule first_words rounds hash_after compress digest_bytes
+unfolding own view root_handle with_d name_of sha1 schedule first_words rounds hash_after compress digest_bytes
 made = refl
 
 -- ---- these are replies to their procedures
 
 found_is_reply : IsReplyTo (call.Lookup root_handle (100 ∷ [])) (looked_up tree root_handle (100 ∷ []))
-unfolding own view tree root_handle looked_up sha1 schedule first_words rounds hash_after compress digest_bytes
+unfolding own view tree root_handle looked_up name_of sha1 schedule first_words rounds hash_after compress digest_bytes
 found_is_reply = refl
 
 refusal_is_reply : IsReplyTo (call.Lookup root_handle []) (looked_up tree root_handle [])
-unfolding own view tree root_handle looked_up sha1 schedule first_words rounds hash_after compress digest_bytes
+unfolding own view tree root_handle looked_up name_of sha1 schedule first_words rounds hash_after compress digest_bytes
 refusal_is_reply = refl
 
 made_is_reply : IsReplyTo (call.MkDir root_handle (100 ∷ []) (only_mode 493)) (finish empty_tree with_d view superuser (call.MkDir root_handle (100 ∷ []) (only_mode 493)) (op.Inode (key 1) Dir 493 0 0 [] ∷ op.Link root_number (100 ∷ []) (key 1) ∷ []))
-unfolding own view root_handle with_d sha1 schedule first_words rounds hash_after compress digest_bytes
+unfolding own view root_handle with_d name_of sha1 schedule first_words rounds hash_after compress digest_bytes
 made_is_reply = refl

@@ -16,7 +16,8 @@ use Rattle.dht_ids.specs.declared.ask.Ask.{Ask}
 use Rattle.dht_ids.specs.declared.peer.Peer.{Peer}
 use Rattle.dht_ids.specs.declared.post.Post.{Post}
 use Rattle.dhash_client.specs.GetHead.{Judges}
-use Rattle.agent_model.specs.Agent.{Agent, Signing}
+use Rattle.log_model.specs.Signing.{Signing}
+use Rattle.agent_model.specs.Agent.{Agent}
 use Rattle.agent_model.specs.Standing.{Standing as ModelStanding, standing_in}
 use Rattle.session_model.specs.Courses.{Begins, anew, answered, ended, publishing_session}
 use Rattle.session_model.specs.Courses.Begins.{alone, refreshes}

@@ -1,8 +1,9 @@
 //! What is told of a run.
 
 use crate::text::Text;
-use ivy_base::name_of;
+use ivy_base::Key;
 use ivy_play::Status;
+use sha1::Sha1;
 
 /// The most bytes that are told whole.
 const LONGEST_TEXT: usize = 1_200;
@@ -17,7 +18,7 @@ pub fn put_written(told: &mut Text, written: &[u8]) {
         return;
     }
     told.count("", written.len() as u64);
-    told.key(" bytes, SHA-1 ", &name_of(written));
+    told.key(" bytes, SHA-1 ", &Key(Sha1::digest(written)));
     told.byte(b'\n');
 }
 

@@ -9,6 +9,7 @@ use Rattle.std.proofs.lemmas.Option.{slice_get-map, slice_get-get_or}
 use Rattle.log_model.specs.Record as log
 use Rattle.log_model.specs.Rank.{Rank, rank, rank_cmp}
 use Rattle.log_model.specs.Spelling.{HasSpelling}
+use Rattle.log_model.specs.View.{most_cited}
 use Rattle.log_model.proofs.Lists.{each}
 use Rattle.log_records.specs.declared.record.Record.{Record}
 use Rattle.log_records.specs.Records.{record_of, records_of}
@@ -24,7 +25,7 @@ last_is rs o e = kept_last rs ∙ ap (λ (p : Option Record). option_map record_
 pub last_short : (rs : List Record) (x : Record) → Some x ≡ slice_get rs (length rs - 1) → IsRow (records_of rs) → length x.vector ≤ 2 ^ 31
 last_short rs x e row =
     let spelled = each HasSpelling (records_of rs) (record_of x) row.spelled (last_has (records_of rs) (record_of x) (last_is rs (Some x) e)) in
-    let short : length x.vector ≤ 32 = spelled.short in
+    let short : length x.vector ≤ most_cited = spelled.short in
     omega arith
 
 pub order_is : (held new : List Record) (x y : Record) (a b : Rank) (o : Ordering) → Some x ≡ slice_get held (length held - 1) → Some y ≡ slice_get new (length new - 1)

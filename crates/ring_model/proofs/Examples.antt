@@ -1,6 +1,6 @@
 -- The definitions, tried on a circle of eight places with members at 1, 3 and 6.
 use Rattle.std.proofs.Common.{◌≡◌, ℕ, ◌-◌, true, false, List, [], ◌∷◌, Some, refl}
-use Rattle.ring_model.specs.Circle.{be_number, turn, clockwise, is_between}
+use Rattle.ring_model.specs.Circle.{be_number, circle_size, clockwise, is_between}
 use Rattle.ring_model.specs.Arc.{is_inside}
 use Rattle.ring_model.specs.Members.{following, from_place, owners}
 use Rattle.ring_model.specs.Ring.{start}
@@ -13,7 +13,7 @@ members = 1 ∷ 3 ∷ 6 ∷ []
 number_of_bytes : be_number (1 ∷ 2 ∷ []) ≡ 258
 number_of_bytes = refl
 
-distance_over_zero : clockwise (turn - 1) 1 ≡ 2
+distance_over_zero : clockwise (circle_size - 1) 1 ≡ 2
 distance_over_zero = refl
 
 end_is_between : is_between 7 3 3 ≡ true

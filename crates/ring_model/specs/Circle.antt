@@ -11,13 +11,17 @@ be_number (b ∷ bs) = b * 256 ^ length bs + be_number bs
 abbrev pub number : Key → ℕ
 number key = be_number key.0
 
+-- how many bits an identifier has (m), and so how many fingers a node
+abbrev pub identifier_bits : ℕ
+identifier_bits = 160
+
 -- how many places the circle has
-abbrev pub turn : ℕ
-turn = 2 ^ 160
+abbrev pub circle_size : ℕ
+circle_size = 2 ^ identifier_bits
 
 -- how far b is clockwise behind a
 abbrev pub clockwise : ℕ → ℕ → ℕ
-clockwise a b = (b + (turn - a)) % turn
+clockwise a b = (b + (circle_size - a)) % circle_size
 
 -- x is on the arc from a to b, without a and with b; that is the whole circle where a is b (Chord: x in (a, b])
 abbrev pub is_between : ℕ → ℕ → ℕ → Bool

@@ -2,7 +2,7 @@
 
 ghost use Rattle.std.specs.Prelude.{◌≡◌, ◌<◌, IfOk};
 ghost use Rattle.log_model.specs.Spelling.{IsKey};
-ghost use Rattle.ring_model.specs.Circle.{number};
+ghost use Rattle.ring_model.specs.Circle.{number, identifier_bits};
 ghost use Rattle.ring_model.specs.Members.{IsAmong};
 ghost use Rattle.ring_model.specs.Ring.{start};
 ghost use Rattle.dht_ids.specs.Peers.{place};
@@ -13,13 +13,11 @@ ghost use Rattle.ring_nodes.specs.Parts.{first_found};
 
 use crate::RingNodes;
 use block_parts::check_block;
+use chord_core::FINGERS;
 use dhash_client::Miss;
 use dht_ids::{Judge, Peer, Peers, finger_start};
 use ivy_base::{Key, Memory};
 use std::alloc::Global;
-
-/// How many fingers a node has.
-const FINGERS: u32 = 160;
 
 /// Each of these peers' nodes, one after the other, fixes its fingers by look-ups from itself. The error is want of memory,
 /// or 2^64 asks.
@@ -30,7 +28,7 @@ pub fn fix_fingers<J: Judge>(
     live: &[Peer],
 ) -> Result<(), Memory>
     requires { AreAllAmong (made_peers nodes.old) live.now }
-    ensures fixes { IfOk result (λ _. (w : World) → IsNodesOf w nodes.old → EachDoes (λ v p. FixesFrom (J.judges judge.now) p 0 160 v) w live.now (with_nodes w nodes.new)) }
+    ensures fixes { IfOk result (λ _. (w : World) → IsNodesOf w nodes.old → EachDoes (λ v p. FixesFrom (J.judges judge.now) p 0 identifier_bits v) w live.now (with_nodes w nodes.new)) }
     ensures made { made_peers nodes.new ≡ made_peers nodes.old }
 {
     'peers: for peer in live {
@@ -47,7 +45,7 @@ fn fix_all<J: Judge>(
     peer: &Peer,
 ) -> Result<(), Memory>
     requires { IsAmong peer.now (made_peers nodes.old) }
-    ensures fixes { IfOk result (λ _. (w : World) → IsNodesOf w nodes.old → FixesFrom (J.judges judge.now) peer.now 0 160 w (with_nodes w nodes.new)) }
+    ensures fixes { IfOk result (λ _. (w : World) → IsNodesOf w nodes.old → FixesFrom (J.judges judge.now) peer.now 0 identifier_bits w (with_nodes w nodes.new)) }
     ensures made { made_peers nodes.new ≡ made_peers nodes.old }
 {
     'fingers: for index in 0..FINGERS {
@@ -66,7 +64,7 @@ fn fix<J: Judge>(
     index: u32,
 ) -> Result<(), Memory>
     requires made { IsAmong peer.now (made_peers nodes.old) }
-    requires index { index < 160 }
+    requires index { index < identifier_bits }
     ensures fixes { IfOk result (λ _. (w : World) → IsNodesOf w nodes.old → FixesFinger (J.judges judge.now) peer.now index w (with_nodes w nodes.new)) }
     ensures made { made_peers nodes.new ≡ made_peers nodes.old }
 {
@@ -81,9 +79,9 @@ fn fix<J: Judge>(
 
 /// Where the peer's finger of that index, 0 to 159, begins.
 fn start_of(peer: &Peer, index: u32) -> Key
-    requires { index < 160 }
+    requires { index < identifier_bits }
     ensures key { IsKey result }
-    ensures start { number result ≡ start place 160 peer.now index }
+    ensures start { number result ≡ start place identifier_bits peer.now index }
 {
     let key = finger_start(&peer.id, index + 1);
     check_block(&key.0);

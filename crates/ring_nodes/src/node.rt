@@ -4,6 +4,7 @@ ghost use Rattle.std.specs.Prelude.{◌≡◌, ◌<◌, false, fold, map, Some, 
 ghost use Rattle.node_store.specs.Stores.{without};
 ghost use Rattle.std.specs.Ordering.{eq_by_cmp};
 ghost use Rattle.ivy_base.specs.Naming.{key_cmp};
+ghost use Rattle.ring_model.specs.Circle.{identifier_bits};
 ghost use Rattle.ring_nodes.specs.Puts.{Told};
 
 use chord_core::Node;
@@ -183,7 +184,7 @@ impl RingNode {
 
     /// Makes a peer the finger of that index, 0 to 159.
     pub(crate) fn fix_finger(&mut self, index: u32, owner: Peer)
-        requires { index < 160 }
+        requires { index < identifier_bits }
         ensures { self.new ≡ fingered index owner self.old }
     {
         self.ring.fix_finger(index + 1, owner);

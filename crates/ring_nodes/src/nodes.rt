@@ -5,6 +5,7 @@ ghost use Rattle.std.specs.Bool.{OnFalse};
 ghost use Rattle.std.specs.List.{list_any};
 ghost use Rattle.std.specs.Ordering.{eq_by_cmp};
 ghost use Rattle.ivy_base.specs.Naming.{key_cmp};
+ghost use Rattle.ring_model.specs.Circle.{identifier_bits};
 ghost use Rattle.ring_model.specs.Members.{IsAmong};
 ghost use Rattle.world_model.specs.World.{World, entries, peer_of, with_numbered};
 
@@ -339,7 +340,7 @@ impl RingNodes {
     /// A peer that was made becomes that finger, 0 to 159, of the node of another.
     pub fn fix_finger(&mut self, peer: &Peer, index: u32, owner: &Peer)
         requires peer { IsAmong peer.now (made_peers self.old) }
-        requires index { index < 160 }
+        requires index { index < identifier_bits }
         requires owner { IsAmong owner.now (made_peers self.old) }
         ensures changes { Changes (fingered index owner.now) peer.now.id self.old self.new }
         ensures made { made_peers self.new ≡ made_peers self.old }

@@ -4,8 +4,8 @@ ghost use Rattle.std.specs.Prelude.{◌≡◌, ◌≢◌, ◌<◌, None, IfOk};
 ghost use Rattle.ring_model.specs.Members.{IsAmong};
 
 use crate::nodes::RingNodes;
-use dhash_client::{Miss, PutBlock};
-use dht_ids::{Ask, Judge, Peer, Want};
+use dhash_client::{Miss, PutPost};
+use dht_ids::{Ask, Judge, Peer, Post, PostKind, Want};
 use ivy_base::{Bytes, Key, Memory};
 use std::alloc::Global;
 
@@ -32,7 +32,12 @@ impl RingNodes {
         ensures made { made_peers self.new ≡ made_peers self.old }
     {
         let entries = self.entries(alloc)?;
-        let mut put = PutBlock::start(alloc, key, bytes, replicas, &entries)?;
+        let post = Post {
+            key,
+            bytes,
+            kind: PostKind::Block,
+        };
+        let mut put = PutPost::start(alloc, post, replicas, &entries)?;
         'asks: loop {
             match put.next()? {
                 Want::Ask(node, question) => {
@@ -48,7 +53,7 @@ impl RingNodes {
         &mut self,
         alloc: Global,
         judge: &J,
-        put: &mut PutBlock,
+        put: &mut PutPost,
         node: &Peer,
         question: &Ask,
     ) -> Result<(), Memory>

@@ -5,8 +5,8 @@ ghost use Rattle.std.specs.Prelude.{◌<◌};
 use crate::line::{Line, peer};
 use crate::told::{Told, put_miss};
 use crate::words::{Word, parts};
-use dhash_client::{GetBlock, GetHead, Miss, PutBlock, PutHead, Want};
-use dht_ids::{Answer, Ask, Judge, Judged, Peer, Peers, StoreFault};
+use dhash_client::{GetBlock, GetHead, Miss, PutPost, Want};
+use dht_ids::{Answer, Ask, Judge, Judged, Peer, Peers, Post, PostKind, StoreFault};
 use ivy_base::{Bytes, Key, name_of};
 
 /// The number of the node that knows the owners.
@@ -139,12 +139,22 @@ fn drive_get_head(line: &mut Line<'_>, machine: &mut GetHead<Counts>, owners: &m
     drive!(line, machine, owners)
 }
 
-fn drive_put_block(line: &mut Line<'_>, machine: &mut PutBlock, owners: &mut Owners) {
+fn drive_put(line: &mut Line<'_>, machine: &mut PutPost, owners: &mut Owners) {
     drive!(line, machine, owners)
 }
 
-fn drive_put_head(line: &mut Line<'_>, machine: &mut PutHead, owners: &mut Owners) {
-    drive!(line, machine, owners)
+/// Writes what the put of the post comes to.
+fn post_trial(
+    line: &mut Line<'_>,
+    post: Post,
+    replicas: u32,
+    entries: &Peers,
+    owners: &mut Owners,
+) {
+    match PutPost::start(line.alloc, post, replicas, entries) {
+        Ok(mut machine) => drive_put(line, &mut machine, owners),
+        Err(_) => line.fail(),
+    }
 }
 
 /// Writes what the get or the put of that name comes to: of the block `block`, and of heads, of which `head` is put, under
@@ -163,17 +173,21 @@ fn put_trial(line: &mut Line<'_>, what: &str, replicas: u32, entries: &Peers, ow
         },
         "put-block" => {
             let bytes = Bytes::from_word(line, "626c6f636b");
-            match PutBlock::start(line.alloc, block, bytes, replicas, entries) {
-                Ok(mut machine) => drive_put_block(line, &mut machine, owners),
-                Err(_) => line.fail(),
-            }
+            let post = Post {
+                key: block,
+                bytes,
+                kind: PostKind::Block,
+            };
+            post_trial(line, post, replicas, entries, owners)
         }
         "put-head" => {
             let bytes = Bytes::from_word(line, "68656164");
-            match PutHead::start(line.alloc, owner, bytes, replicas, entries) {
-                Ok(mut machine) => drive_put_head(line, &mut machine, owners),
-                Err(_) => line.fail(),
-            }
+            let post = Post {
+                key: owner,
+                bytes,
+                kind: PostKind::Head,
+            };
+            post_trial(line, post, replicas, entries, owners)
         }
         _ => line.fail(),
     }

@@ -26,7 +26,7 @@ use Rattle.round_laws.specs.RingOf.{AreApart, AreNamed, AreNodes, IsSettledIn, K
 use Rattle.round_laws.proofs.Nodes.{at, at_here, at_later, links_at, lives_by, lives_shape, made_by, made_shape, order_by, order_shape, same_or_not, shape}
 use Rattle.round_laws.proofs.Order.{among_fold, lives_made, order_lives, same_lists}
 use Rattle.round_laws.proofs.Standing.{IsBase, lives_are, node_made, stands}
-use Rattle.round_laws.proofs.Ringing.{IsNamed, apart_with, is_known, one_id, within_turn}
+use Rattle.round_laws.proofs.Ringing.{IsNamed, apart_with, is_known, one_id, within_circle}
 use Rattle.round_laws.proofs.Owning.{passes}
 use Rattle.round_laws.proofs.Rounding.{at_own, base_of, in_order, nodes_of, order_ascending, order_in, within_of}
 use Rattle.round_laws.proofs.Settling.{length_made, settled_by}
@@ -176,7 +176,7 @@ module _ (r : ℕ) (w next : World) (x : Peer) (n : Node) (a : Added r w next x 
         living = λ m l. order_in r next m nodes_then l;
         lives_all = λ m i. in_order r next m nodes_then i;
         member = member;
-        within = within_turn x a.name;
+        within = within_circle x a.name;
         list = (λ i. (new_links i).list) ∙ list;
         sized = (λ i. length (new_links i).fingers) ∙ ap length fingers ∙ length_replicated x 160;
         fingers = λ m i. all-among (λ q. IsAmong q (live_in_order next)) m (links_in next x).fingers

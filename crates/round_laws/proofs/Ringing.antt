@@ -8,7 +8,7 @@ use Rattle.std.specs.FinMap.Entries.{find as value_at}
 use Rattle.std.proofs.lemmas.Bool.{leb-true}
 use Rattle.ivy_base.specs.declared.key.Key.{Key}
 use Rattle.ivy_base.specs.Naming.{key_cmp}
-use Rattle.ivy_base.proofs.NameLemmas.{byte_of_name, length-name}
+use Rattle.ivy_base.proofs.NameLemmas.{byte_of_digest, length-digest}
 use Rattle.ring_model.specs.Circle.{be_number}
 use Rattle.ring_model.specs.Members.{IsAmong, following, from_place}
 use Rattle.ring_model.proofs.Lists.{all-among, all_from, among-cases, among_take, first_among, none_some}
@@ -76,7 +76,7 @@ abbrev pub IsNamed : Peer → Type 0
 IsNamed p = p.id ≡ node_id_of p.number
 
 bytes_of : (p : Peer) → IsNamed p → AreBytes p.id.0 × (length p.id.0 ≡ 20)
-bytes_of p e = subst (λ (k : Key). AreBytes k.0 × (length k.0 ≡ 20)) (sym e) (byte_of_name (codes "node-" ++ decimal p.number), length-name (codes "node-" ++ decimal p.number))
+bytes_of p e = subst (λ (k : Key). AreBytes k.0 × (length k.0 ≡ 20)) (sym e) (byte_of_digest (codes "node-" ++ decimal p.number), length-digest (codes "node-" ++ decimal p.number))
 
 pub one_id : (p q : Peer) → IsNamed p → IsNamed q → place p ≡ place q → p.id ≡ q.id
 one_id p q e f s =
@@ -85,8 +85,8 @@ one_id p q e f s =
     let same = one_number p.id.0 q.id.0 (a.1 ∙ sym c.1) a.0 c.0 s in
     λ i. record { 0 = same i }
 
-pub within_turn : (p : Peer) → IsNamed p → place p < 2 ^ 160
-within_turn p e = let a = bytes_of p e in let l = be_number_below p.id.0 a.0 in subst (λ n. place p < 256 ^ n) a.1 l
+pub within_circle : (p : Peer) → IsNamed p → place p < 2 ^ 160
+within_circle p e = let a = bytes_of p e in let l = be_number_below p.id.0 a.0 in subst (λ n. place p < 256 ^ n) a.1 l
 
 -- ---- the first peers
 
@@ -241,7 +241,7 @@ module _ (w next : World) (count r : ℕ) (m : Made w next count r) where
   is_settled = record {
     positive = m.positive;
     ascending = order_ascending r next nodes_are;
-    within = λ p i. within_turn p (all_named count p (subst (IsAmong p) peers (in_made p (subst (IsAmong p) order_is i))));
+    within = λ p i. within_circle p (all_named count p (subst (IsAmong p) peers (in_made p (subst (IsAmong p) order_is i))));
     living = λ p l. order_in r next p nodes_are l;
     lives_all = λ p i. in_order r next p nodes_are i;
     lists = λ p i. let n = node_in p i in (λ j. (n.2 j).list) ∙ n.1.list;

@@ -2,7 +2,7 @@
 use Rattle.std.specs.Prelude.{◌≡◌, ℕ, ◌<◌, ◌≤◌, Bool, true, false, not, List, length, map, filter, Option, Some}
 use Rattle.ivy_base.specs.declared.key.Key.{Key}
 use Rattle.ring_model.specs.Blocks.{AreMoved}
-use Rattle.ring_model.specs.Circle.{number}
+use Rattle.ring_model.specs.Circle.{number, identifier_bits}
 use Rattle.ring_model.specs.Members.{IsAmong, owners}
 use Rattle.ring_model.specs.Pass.{ArePasses}
 use Rattle.ring_model.specs.Round.{IsForgotten, AreFingersFixed, IsRound}
@@ -30,7 +30,7 @@ abbrev pub RoundLeavesWhoLives : Type 0
 RoundLeavesWhoLives = (judged : Key → List ℕ → Option Judged) (r : ℕ) (w next : World) → AreNodes r w → IsRoundOf judged r w next
     → AreNodes r next × (lives_in next ≡ lives_in w) × (live_in_order next ≡ live_in_order w) × (map peer_of next.nodes ≡ map peer_of w.nodes)
 
--- The line that makes a ring makes a settled one, of at most 256 nodes that hold nothing: places tell them apart, since names have 20 bytes.
+-- The line that makes a ring makes a settled one, of at most 256 nodes that hold nothing: places tell them apart, since digests have 20 bytes.
 abbrev pub RingLineSettles : Type 0
 RingLineSettles = (w next : World) (count r : ℕ) (output : List ℕ) → RingLine w count r (Goes next output) → AreNodes r next × IsSettledIn next r × (length next.nodes ≤ 256) × AreStores next × AreNamed (map peer_of next.nodes)
 
@@ -59,18 +59,18 @@ PassesArePasses = (judged : Key → List ℕ → Option Judged) (r : ℕ) (w nex
 -- The third part is that of a round of the ring.
 abbrev pub FingersAreFixed : Type 0
 FingersAreFixed = (judged : Key → List ℕ → Option Judged) (r : ℕ) (w next : World) (ps : List Peer) → AreNodes r w → ((p : Peer) → IsAmong p ps → lives_in w p ≡ true)
-    → EachDoes (λ v p. FixesFrom judged p 0 160 v) w ps next → LosesNone w next → AreFingersFixed place r 160 (lives_in w) ps (links_in w) (links_in next)
+    → EachDoes (λ v p. FixesFrom judged p 0 identifier_bits v) w ps next → LosesNone w next → AreFingersFixed place r identifier_bits (lives_in w) ps (links_in w) (links_in next)
 
 -- A round is one of the ring; its fourth part changes nothing that nodes know of each other.
 abbrev pub RoundIsRound : Type 0
 RoundIsRound = (judged : Key → List ℕ → Option Judged) (r : ℕ) (w next : World) → AreNodes r w → IsRoundOf judged r w next → LosesNone w next
-    → IsRound place r 160 (lives_in w) (live_in_order w) (links_in w) (links_in next)
+    → IsRound place r identifier_bits (lives_in w) (live_in_order w) (links_in w) (links_in next)
 
 -- ---- rings that are settled again
 
 -- After fewer than r stops since the ring was settled, with at most 512 members, a round makes it settled again.
 abbrev pub RoundMendsStops : Type 0
-RoundMendsStops = (judged : Key → List ℕ → Option Judged) (r : ℕ) (w next : World) (before : List Peer) → AreNodes r w → AreFewStops place r 160 before (lives_in w) (links_in w) → length before ≤ 512
+RoundMendsStops = (judged : Key → List ℕ → Option Judged) (r : ℕ) (w next : World) (before : List Peer) → AreNodes r w → AreFewStops place r identifier_bits before (lives_in w) (links_in w) → length before ≤ 512
     → IsRoundOf judged r w next → LosesNone w next → IsSettledIn next r
 
 -- So it does where the ring of v was settled, all that nodes know is as there, and nobody lives but who lived then.
@@ -85,14 +85,14 @@ RoundMendsStopLines = (judged : Key → List ℕ → Option Judged) (r k : ℕ) 
 
 -- And where all that happened since is that x joined.
 abbrev pub RoundMendsJoin : Type 0
-RoundMendsJoin = (judged : Key → List ℕ → Option Judged) (r : ℕ) (w next : World) (live : List Peer) (x : Peer) → AreNodes r w → IsJoin place r 160 live (lives_in w) x (links_in w) → length live ≤ 512
+RoundMendsJoin = (judged : Key → List ℕ → Option Judged) (r : ℕ) (w next : World) (live : List Peer) (x : Peer) → AreNodes r w → IsJoin place r identifier_bits live (lives_in w) x (links_in w) → length live ≤ 512
     → IsRoundOf judged r w next → LosesNone w next → IsSettledIn next r
 
 -- A line at which a node joins a settled ring without losses makes a ring that it joined, whether or not others live.
 abbrev pub JoinLineJoins : Type 0
 JoinLineJoins = (judged : Key → List ℕ → Option Judged) (r number : ℕ) (w next : World) (output : List ℕ) → AreNodes r w → AreNamed (map peer_of w.nodes) → length w.nodes ≤ 512 → IsSettledIn w r
     → JoinLine judged w number (Some r) (Goes next output) → LosesNone w next
-    → IsJoin place r 160 (live_in_order next) (lives_in next) (peer_numbered number) (links_in next) × AreNodes r next × AreNamed (map peer_of next.nodes)
+    → IsJoin place r identifier_bits (live_in_order next) (lives_in next) (peer_numbered number) (links_in next) × AreNodes r next × AreNamed (map peer_of next.nodes)
 
 -- ---- blocks
 

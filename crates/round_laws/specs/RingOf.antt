@@ -2,6 +2,7 @@
 use Rattle.std.specs.Prelude.{◌≡◌, ℕ, suc, ◌<◌, ◌≤◌, nat_eq, Bool, true, false, List, [], ◌∷◌, map, Contains, Option, Some, None, IfSome, ⊤, if◌then◌else◌}
 use Rattle.std.specs.List.{AllByRecursion}
 use Rattle.std.specs.Option.{option_map_or}
+use Rattle.ring_model.specs.Circle.{identifier_bits}
 use Rattle.ring_model.specs.Members.{IsAmong}
 use Rattle.ring_model.specs.Ring.{Links, IsCoveredRing, IsSettledRing}
 use Rattle.dht_ids.specs.declared.peer.Peer.{Peer}
@@ -32,7 +33,7 @@ lives_in w p = option_map_or (λ n. n.is_live) (node_of w p) false
 
 -- the ring of the live nodes is settled
 abbrev pub IsSettledIn : World → ℕ → Type 0
-IsSettledIn w r = IsSettledRing place r 160 (live_in_order w) (lives_in w) (links_in w)
+IsSettledIn w r = IsSettledRing place r identifier_bits (live_in_order w) (lives_in w) (links_in w)
 
 -- and so much of it is right that look-ups find owners
 abbrev pub IsCoveredIn : World → ℕ → Type 0

@@ -4,7 +4,7 @@ use Rattle.std.specs.Prelude.{map}
 use Rattle.std.specs.List.{flat_map, concat, AllByRecursion}
 use Rattle.wire_model.specs.OneReading.{ReadsOne, HasNoFront}
 use Rattle.wire_model.proofs.OneReading.{same_fronts, one_word}
-use Rattle.rpc_wire.specs.Frames.{header, fragment, Framed, message, marked, Fits, Begins, IsOver, IsSplit, IsTooLong}
+use Rattle.rpc_wire.specs.Frames.{header, fragment, Framed, message, marked, Fits, Begins, IsOver, IsSplit, IsTooLong, longest_message}
 
 -- ---- headers
 
@@ -97,7 +97,7 @@ pub marked_parts : (f : Framed) (r : List ℕ) → marked f ++ r ≡ whole f.ear
 marked_parts f r = append_assoc (whole f.earlier) (fragment true f.last) r ∙ ap (λ (s : List ℕ). whole f.earlier ++ s) (append_assoc (header true (length f.last)) f.last r)
 
 pub record Sizes (f : Framed) : Type 0 where
-  pub whole_size : length (concat f.earlier) + length f.last ≤ 65536
+  pub whole_size : length (concat f.earlier) + length f.last ≤ longest_message
 
 pub sizes : (f : Framed) → Fits f → Sizes f
 sizes f h = record { whole_size = omega (arith, h, length-append (concat f.earlier) f.last) }
@@ -141,7 +141,7 @@ one_marked = record {
 
 -- ---- rests
 
-over_or : (f : Framed) (r : List ℕ) (o : List (List ℕ)) (last : Bool) (n : ℕ) (more : List ℕ) → Sizes f → length (concat o) ≤ 65536 → n < 2 ^ 31 → 65536 < length (concat o) + n
+over_or : (f : Framed) (r : List ℕ) (o : List (List ℕ)) (last : Bool) (n : ℕ) (more : List ℕ) → Sizes f → length (concat o) ≤ longest_message → n < 2 ^ 31 → longest_message < length (concat o) + n
     → AmongThem f.earlier o last n ⊎ BehindThem f.earlier o (header true (length f.last) ++ (f.last ++ r)) last n more → ⊥
 over_or f r o last n more h s w g (inl a) = omega (arith, a.short, h.whole_size, g)
 over_or f r o last n more h s w g (inr b) =

@@ -6,7 +6,7 @@ use Rattle.std.specs.Int.{w32, from_be_bytes}
 use Rattle.std.proofs.lemmas.List.{length-replicate}
 use Rattle.std.proofs.lemmas.Nat.{be_bytes_4}
 use Rattle.std.proofs.lemmas.Bool.{cases_lt}
-use Rattle.rpc_wire.specs.Frames.{header, fragment, Framed, marked, IsSplit}
+use Rattle.rpc_wire.specs.Frames.{header, fragment, Framed, marked, IsSplit, longest_message}
 use Rattle.rpc_wire.specs.FrameReading.{Part, Header, Inside, Exceeded, Frames, IsInside, Stands, IsAfter}
 use Rattle.rpc_wire.specs.Streams.{nothing, standing}
 use Rattle.rpc_wire.specs.FrameLaws.{IsByte, IsBeginning, EachHasMessages, RestsAreBeginnings}
@@ -61,9 +61,9 @@ record Reached (fed : List ℕ) (taken : List (List ℕ)) : Type 0 where
 
 whole_header : (w : List (List ℕ)) (body fed : List ℕ) (taken : List (List ℕ)) (a b c byte : ℕ) → IsHeader (a ∷ b ∷ c ∷ byte ∷ []) → IsAfter fed taken (record { waiting = w; part = Header body (a ∷ b ∷ c ∷ []) }) → Reached (fed ++ byte ∷ []) taken
 whole_header w body fed taken a b c byte h after =
-    either (cases_lt 65536 (length body + h.size))
+    either (cases_lt longest_message (length body + h.size))
   where
-    either : (65536 < length body + h.size) ⊎ (length body + h.size ≤ 65536) → Reached (fed ++ byte ∷ []) taken
+    either : (longest_message < length body + h.size) ⊎ (length body + h.size ≤ longest_message) → Reached (fed ++ byte ∷ []) taken
     either (inl over) = record {
       reader = record { waiting = w; part = Exceeded };
       after = header_over w body (a ∷ b ∷ c ∷ []) (byte ∷ []) h.last h.size h.spelled h.fits over fed taken after;

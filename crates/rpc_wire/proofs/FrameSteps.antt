@@ -4,7 +4,7 @@ use Rattle.std.specs.Prelude.{map}
 use Rattle.std.specs.List.{flat_map, concat, AllByRecursion}
 use Rattle.std.proofs.lemmas.List.Concat.{flat_map-append}
 use Rattle.wire_model.specs.OneReading.{HasNoFront}
-use Rattle.rpc_wire.specs.Frames.{header, fragment, Framed, message, marked, Fits, Begins, IsOver}
+use Rattle.rpc_wire.specs.Frames.{header, fragment, Framed, message, marked, Fits, Begins, IsOver, longest_message}
 use Rattle.rpc_wire.specs.FrameReading.{Header, Inside, Exceeded, Frames, IsAtHeader, IsInside, Stands, IsAfter, Feeds}
 use Rattle.rpc_wire.specs.Streams.{nothing, standing, AfterHeader}
 use Rattle.rpc_wire.proofs.FrameLemmas.{whole, concat-append, AmongThem, BehindThem, compare, no_header, same_header, marked_parts, Sizes, sizes, joined_size}
@@ -19,14 +19,14 @@ no_message_begun : (a b : List (List ℕ)) (begun more : List ℕ) (n : ℕ) →
 no_message_begun a b begun more n f (inl x) = let apart : true ≡ false = x.earlier in absurd (cc apart)
 no_message_begun a b begun more n f (inr x) = no_header x.between begun true n more f x.spelled
 
-no_over_begun : (a b : List (List ℕ)) (begun more : List ℕ) (last : Bool) (n : ℕ) → length begun < 4 → length (concat a) ≤ 65536 → 65536 < length (concat b) + n
+no_over_begun : (a b : List (List ℕ)) (begun more : List ℕ) (last : Bool) (n : ℕ) → length begun < 4 → length (concat a) ≤ longest_message → longest_message < length (concat b) + n
     → AmongThem a b last n ⊎ BehindThem a b begun last n more → ⊥
 no_over_begun a b begun more last n f s o (inl x) = omega (arith, x.short, s, o)
 no_over_begun a b begun more last n f s o (inr x) = no_header x.between begun last n more f x.spelled
 
 pub header_rest : {rest body begun : List ℕ} → IsAtHeader rest body begun → IsRest rest
 header_rest {rest} {body} {begun} a =
-    let s : length (concat a.earlier) ≤ 65536 = omega (arith, a.short, ap length a.bytes) in
+    let s : length (concat a.earlier) ≤ longest_message = omega (arith, a.short, ap length a.bytes) in
     record {
       no_message = record {
         none = λ f r g.
@@ -38,14 +38,14 @@ header_rest {rest} {body} {begun} a =
           (compare a.earlier o.earlier begun o.last o.size o.more (omega (arith, s)) (omega (arith, o.short)) o.word_fits (sym a.spelled ∙ o.spelled));
     }
 
-no_message_inside : (a : List (List ℕ)) (f : Framed) (bytes r : List ℕ) (last : Bool) (left : ℕ) → Sizes f → length (concat a) + (length bytes + left) ≤ 65536 → (last ≡ true → 0 < left)
+no_message_inside : (a : List (List ℕ)) (f : Framed) (bytes r : List ℕ) (last : Bool) (left : ℕ) → Sizes f → length (concat a) + (length bytes + left) ≤ longest_message → (last ≡ true → 0 < left)
     → AmongThem a f.earlier true (length f.last) ⊎ BehindThem a f.earlier (header last (length bytes + left) ++ bytes) true (length f.last) (f.last ++ r) → ⊥
 no_message_inside a f bytes r last left h s m (inl x) = let apart : true ≡ false = x.earlier in absurd (cc apart)
 no_message_inside a f bytes r last left h s m (inr x) =
     let p = same_header x.between bytes last true (length bytes + left) (length f.last) (f.last ++ r) (omega arith) (omega (arith, joined_size a f.earlier x.between x.joined, h.whole_size)) (omega (arith, s)) (omega (arith, h.whole_size)) x.spelled in
     omega (arith, m p.1.last, p.1.size, ap length p.1.rest, length-append f.last r)
 
-no_over_inside : (a b : List (List ℕ)) (bytes more : List ℕ) (l last : Bool) (left n : ℕ) → length (concat a) + (length bytes + left) ≤ 65536 → length (concat b) ≤ 65536 → n < 2 ^ 31 → 65536 < length (concat b) + n
+no_over_inside : (a b : List (List ℕ)) (bytes more : List ℕ) (l last : Bool) (left n : ℕ) → length (concat a) + (length bytes + left) ≤ longest_message → length (concat b) ≤ longest_message → n < 2 ^ 31 → longest_message < length (concat b) + n
     → AmongThem a b last n ⊎ BehindThem a b (header l (length bytes + left) ++ bytes) last n more → ⊥
 no_over_inside a b bytes more l last left n s t w o (inl x) = omega (arith, x.short, s, o)
 no_over_inside a b bytes more l last left n s t w o (inr x) =
@@ -55,7 +55,7 @@ no_over_inside a b bytes more l last left n s t w o (inr x) =
 
 pub inside_rest : {rest body : List ℕ} {last : Bool} {left : ℕ} → IsInside rest body last left → IsRest rest
 inside_rest {rest} {body} {last} {left} a =
-    let s : length (concat a.earlier) + (length a.bytes + left) ≤ 65536 = omega (arith, a.short, ap length a.body_is, length-append (concat a.earlier) a.bytes) in
+    let s : length (concat a.earlier) + (length a.bytes + left) ≤ longest_message = omega (arith, a.short, ap length a.body_is, length-append (concat a.earlier) a.bytes) in
     let tail = header last (length a.bytes + left) ++ a.bytes in
     record {
       no_message = record {
@@ -114,7 +114,7 @@ record Reaches (rest body : List ℕ) (last : Bool) (left : ℕ) : Type 0 where
   bytes : List ℕ
   spelled : rest ≡ flat_map (fragment false) earlier ++ (header last (length bytes + left) ++ bytes)
   body_is : body ≡ concat earlier ++ bytes
-  short : length body + left ≤ 65536
+  short : length body + left ≤ longest_message
 
 message_done : {fed rest body : List ℕ} (taken w : List (List ℕ)) → Begins fed (taken ++ w) rest → Reaches rest body true 0 → Stands fed (taken ++ (w ++ body ∷ [])) (Header [] [])
 message_done {fed} {rest} {body} taken w b a =
@@ -168,7 +168,7 @@ pub inside_ended : (w : List (List ℕ)) (body : List ℕ) (last : Bool) (byte :
     → Feeds (byte ∷ []) (record { waiting = w; part = Inside body last 0 }) (record { waiting = w; part = Header body (byte ∷ []) })
 inside_ended w body last byte fed taken h = ended last byte h.1.begins h.2
 
-pub header_done : (w : List (List ℕ)) (body begun front : List ℕ) (last : Bool) (n : ℕ) → begun ++ front ≡ header last n → length body + n ≤ 65536
+pub header_done : (w : List (List ℕ)) (body begun front : List ℕ) (last : Bool) (n : ℕ) → begun ++ front ≡ header last n → length body + n ≤ longest_message
     → Feeds front (record { waiting = w; part = Header body begun }) (standing w body last n)
 header_done w body begun front last n e l fed taken h =
     let a = h.2 in
@@ -180,7 +180,7 @@ header_done w body begun front last n e l fed taken h =
       short = l;
     })
 
-pub header_over : (w : List (List ℕ)) (body begun front : List ℕ) (last : Bool) (n : ℕ) → begun ++ front ≡ header last n → n < 2 ^ 31 → 65536 < length body + n
+pub header_over : (w : List (List ℕ)) (body begun front : List ℕ) (last : Bool) (n : ℕ) → begun ++ front ≡ header last n → n < 2 ^ 31 → longest_message < length body + n
     → Feeds front (record { waiting = w; part = Header body begun }) (record { waiting = w; part = Exceeded })
 header_over w body begun front last n e f l fed taken h =
     let a = h.2 in
@@ -200,7 +200,7 @@ header_over w body begun front last n e f l fed taken h =
     }
 
 after_either : (w : List (List ℕ)) (body begun front : List ℕ) (last : Bool) (n : ℕ) (new : Frames) → begun ++ front ≡ header last n → n < 2 ^ 31
-    → ((length body + n ≤ 65536) × (new ≡ standing w body last n)) ⊎ ((65536 < length body + n) × (new ≡ record { waiting = w; part = Exceeded }))
+    → ((length body + n ≤ longest_message) × (new ≡ standing w body last n)) ⊎ ((longest_message < length body + n) × (new ≡ record { waiting = w; part = Exceeded }))
     → Feeds front (record { waiting = w; part = Header body begun }) new
 after_either w body begun front last n new e f (inl x) = rw x.1 (header_done w body begun front last n e x.0)
 after_either w body begun front last n new e f (inr x) = rw x.1 (header_over w body begun front last n e f x.0)

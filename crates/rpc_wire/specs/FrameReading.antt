@@ -1,7 +1,7 @@
 -- What a reader of frames holds, and what its calls mean for the bytes that it was fed.
 use Rattle.std.specs.Prelude.{◌≡◌, ℕ, ◌+◌, ◌<◌, ◌≤◌, Bool, true, false, List, [], ◌++◌, length, Result, Ok, Err}
 use Rattle.std.specs.List.{flat_map, concat}
-use Rattle.rpc_wire.specs.Frames.{header, fragment, IsSplit, IsTooLong}
+use Rattle.rpc_wire.specs.Frames.{header, fragment, IsSplit, IsTooLong, longest_message}
 use Rattle.rpc_wire.specs.declared.frames.FrameFault.{FrameFault}
 use Rattle.rpc_wire.specs.declared.frames.FrameFault.TheVariants as fault
 
@@ -22,7 +22,7 @@ pub record IsAtHeader (rest body begun : List ℕ) : Type 0 where
   pub earlier : List (List ℕ)
   pub spelled : rest ≡ flat_map (fragment false) earlier ++ begun
   pub bytes : body ≡ concat earlier
-  pub short : length body ≤ 65536
+  pub short : length body ≤ longest_message
   pub cut : length begun < 4
   -- between two fragments of one message `IsInside` has it
   pub begins : begun ≡ [] → earlier ≡ []
@@ -33,7 +33,7 @@ pub record IsInside (rest body : List ℕ) (last : Bool) (left : ℕ) : Type 0 w
   pub bytes : List ℕ
   pub spelled : rest ≡ flat_map (fragment false) earlier ++ (header last (length bytes + left) ++ bytes)
   pub body_is : body ≡ concat earlier ++ bytes
-  pub short : length body + left ≤ 65536
+  pub short : length body + left ≤ longest_message
   pub more : last ≡ true → 0 < left
 
 -- the bytes are these messages and this part of a further one

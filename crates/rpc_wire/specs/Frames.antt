@@ -25,9 +25,13 @@ message f = concat f.earlier ++ f.last
 abbrev pub marked : Framed → List ℕ
 marked f = flat_map (fragment false) f.earlier ++ fragment true f.last
 
+-- no message has more bytes
+abbrev pub longest_message : ℕ
+longest_message = 65536
+
 -- within the limit
 abbrev pub Fits : Framed → Type 0
-Fits f = length (message f) ≤ 65536
+Fits f = length (message f) ≤ longest_message
 
 -- the bytes begin with these messages, each within the limit and in any fragments, and the rest follows
 pub record Begins (bytes : List ℕ) (messages : List (List ℕ)) (rest : List ℕ) : Type 0 where
@@ -42,9 +46,9 @@ pub record IsOver (bytes : List ℕ) : Type 0 where
   pub last : Bool
   pub size : ℕ
   pub more : List ℕ
-  pub short : length (concat earlier) ≤ 65536
+  pub short : length (concat earlier) ≤ longest_message
   pub word_fits : size < 2 ^ 31
-  pub over : 65536 < length (concat earlier) + size
+  pub over : longest_message < length (concat earlier) + size
   pub spelled : bytes ≡ flat_map (fragment false) earlier ++ (header last size ++ more)
 
 -- the bytes are these whole messages, and then the rest, which begins no whole message and has no header that makes

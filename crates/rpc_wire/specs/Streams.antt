@@ -1,6 +1,6 @@
 -- What a reader's code holds, and what its steps keep.
 use Rattle.std.specs.Prelude.{◌≡◌, ◌⊎◌, ℕ, zero, suc, ◌+◌, ◌^◌, ◌<◌, ◌≤◌, Bool, true, false, List, [], ◌∷◌, ◌++◌, length}
-use Rattle.rpc_wire.specs.Frames.{header}
+use Rattle.rpc_wire.specs.Frames.{header, longest_message}
 use Rattle.rpc_wire.specs.FrameReading.{Part, Header, Inside, Exceeded, Frames, Feeds}
 use Rattle.rpc_wire.specs.declared.stream.Place.{Place}
 use Rattle.rpc_wire.specs.declared.stream.Place.TheVariants as place
@@ -29,8 +29,8 @@ standing waiting body false left = record { waiting = waiting; part = Inside bod
 -- behind a header, which may make the message too long
 abbrev pub AfterHeader : List (List ℕ) → List ℕ → List ℕ → Frames → Type 0
 AfterHeader waiting body bytes new = (last : Bool) × (size : ℕ) × (size < 2 ^ 31) × (bytes ≡ header last size)
-    × (((length body + size ≤ 65536) × (new ≡ standing waiting body last size))
-    ⊎ ((65536 < length body + size) × (new ≡ record { waiting = waiting; part = Exceeded })))
+    × (((length body + size ≤ longest_message) × (new ≡ standing waiting body last size))
+    ⊎ ((longest_message < length body + size) × (new ≡ record { waiting = waiting; part = Exceeded })))
 
 -- some bytes of the piece were fed, and the rest wasn't
 pub record FeedsSome (piece rest : List ℕ) (old new : Frames) : Type 0 where

@@ -9,13 +9,16 @@ use crate::stream::Stream;
 use ivy_base::{Bytes, Memory};
 use std::alloc::Global;
 use std::marker::Model;
+use thiserror::Error;
 
 /// Why a piece of a stream brings no further messages.
-#[derive(Clone, Copy)]
+#[derive(Clone, Copy, Debug, Error)]
 pub enum FrameFault {
     /// A fragment's header makes a message longer than 65,536 bytes.
+    #[error("a message is longer than 65,536 bytes")]
     TooLong,
     /// Want of memory. No clause ties this to a cause.
+    #[error("out of memory")]
     Memory,
 }
 

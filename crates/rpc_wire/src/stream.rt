@@ -10,7 +10,7 @@ use std::collections::VecDeque;
 use std::mem;
 
 /// The most bytes of a message.
-const MOST: usize = 65_536;
+const LONGEST_MESSAGE: usize = 65_536;
 
 /// The bit of a header that marks a message's last fragment.
 const LAST: u32 = 0x8000_0000;
@@ -164,7 +164,7 @@ impl Stream {
         let word = u32::from_be_bytes(header);
         let last = word >= LAST;
         let size = (if last { word - LAST } else { word }) as usize;
-        if self.body.len().saturating_add(size) > MOST {
+        if self.body.len().saturating_add(size) > LONGEST_MESSAGE {
             self.place = Place::TooLong;
             return Ok(());
         }

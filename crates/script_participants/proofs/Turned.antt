@@ -43,9 +43,9 @@ module _ (brought : Refresh) (asked : Asked) (now : Moment) (p : ParticipantStat
     }
       where
         by : (saving : Option Kept) → t.saving ≡ saving → Saves saves p.keeper (option_map kept_bytes saving) fails after.keeper
-            → Turns hss brought p.agent view (fails_next p.keeper) asked now end after.agent t.saving × (after.keeper ≡ asked_to_save p.keeper t.saving)
+            → Turns hss brought (record { agent = p.agent; view = view; now = now; fails = fails_next p.keeper }) asked end after.agent t.saving × (after.keeper ≡ asked_to_save p.keeper t.saving)
         by None none kept = (t.either none (fails_next p.keeper), kept ∙ ap (asked_to_save p.keeper) (sym none))
-        by (Some k) some kept = (subst (λ b. Turns hss brought p.agent view b asked now end after.agent t.saving) kept.0 t.turns, kept.1 ∙ ap (asked_to_save p.keeper) (sym some))
+        by (Some k) some kept = (subst (λ b. Turns hss brought (record { agent = p.agent; view = view; now = now; fails = b }) asked end after.agent t.saving) kept.0 t.turns, kept.1 ∙ ap (asked_to_save p.keeper) (sym some))
 
     turned_as : (result : Result Turned TurnFault) → agent.TakesTurn hss IsSigner saves view brought asked now (holder p) result after → TakesTurn view brought asked now p result (having_turned (work_told result))
     turned_as (Ok t) a = record { reply = a.reply; has_turn = has_turn a.fails (Answered a.reply t.applied) t.applied a.turns refl; gives = a.gives }

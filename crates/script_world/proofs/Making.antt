@@ -6,7 +6,7 @@ use Rattle.std.proofs.lemmas.Bool.{le-ltb, lt-ltb}
 use Rattle.ivy_base.specs.declared.key.Key.{Key}
 use Rattle.ivy_base.specs.declared.key.PubKey.{PubKey}
 use Rattle.ivy_base.specs.declared.memory.Memory.{Memory}
-use Rattle.log_model.specs.View.{View, have_own_head_keys, view_block, view_name}
+use Rattle.log_model.specs.View.{View, have_own_head_keys, most_former, most_members, view_block, view_name}
 use Rattle.dht_ids.specs.declared.ask.Ask.TheVariants as ask
 use Rattle.dht_ids.specs.declared.judge.Judged.{Judged}
 use Rattle.dhash_client.specs.declared.miss.Miss.{Miss}
@@ -79,9 +79,9 @@ or_true : (b : Bool) → (b || true) ≡ true
 or_true true = refl
 or_true false = refl
 
-large : (members former : List PubKey) → (16 < length members) ⊎ (16 < length former) → is_too_large members former ≡ true
-large members former (inl more) = ap (λ (b : Bool). b || nat_lt 16 (length former)) (lt-ltb 16 (length members) more)
-large members former (inr more) = ap (λ (b : Bool). nat_lt 16 (length members) || b) (lt-ltb 16 (length former) more) ∙ or_true (nat_lt 16 (length members))
+large : (members former : List PubKey) → (most_members < length members) ⊎ (most_former < length former) → is_too_large members former ≡ true
+large members former (inl more) = ap (λ (b : Bool). b || nat_lt most_former (length former)) (lt-ltb most_members (length members) more)
+large members former (inr more) = ap (λ (b : Bool). nat_lt most_members (length members) || b) (lt-ltb most_former (length former) more) ∙ or_true (nat_lt most_members (length members))
 
 -- whether a view has that name, as it is told
 pub viewed : {B : Type 0} (f : B → View) (o : Option B) (s : PartsState) (said name : List ℕ) (t : Bool) → said ≡ name → ((w : World) → HasParts w s → option_map f o ≡ view_named w said) → t ≡ is_some o → (w : World) → HasParts w s → is_some (view_named w name) ≡ t
@@ -109,14 +109,14 @@ module _ (judged : Key → List ℕ → Option Judged) (w : Played) (s : PartsSt
     same_heads same = told Refuses (one_head_key ms fs same)
 
     module _ (unknown : is_some (view_named w.0 name) ≡ false) (apart : have_own_head_keys (ms ++ fs) ≡ true) where
-      pub too_many : (16 < length ms) ⊎ (16 < length fs) → Line Exceeds
+      pub too_many : (most_members < length ms) ⊎ (most_former < length fs) → Line Exceeds
       too_many more = told Exceeds (exceeds ms fs unknown apart (large ms fs more))
 
-      pub view_goes : (r : ℕ) (made : View) (after : PartsState) (output : List ℕ) → s.replicas ≡ Some r → length ms ≤ 16 → length fs ≤ 16 → made ≡ view_of_keys ms fs → PutsView judged r name made s after → output ≡ []
+      pub view_goes : (r : ℕ) (made : View) (after : PartsState) (output : List ℕ) → s.replicas ≡ Some r → length ms ≤ most_members → length fs ≤ most_former → made ≡ view_of_keys ms fs → PutsView judged r name made s after → output ≡ []
           → (next : Played) × Line (Goes next output) × GoesOn w.0 after next.0
       view_goes r made after output ring few few_former made_is puts nothing =
           let its = puts w.0 has in
-          let small : is_too_large ms fs ≡ false = λ i. le-ltb 16 (length ms) few i || le-ltb 16 (length fs) few_former i in
+          let small : is_too_large ms fs ≡ false = λ i. le-ltb most_members (length ms) few i || le-ltb most_former (length fs) few_former i in
           let next : Played = (its.0, record w.1 { acked = w.1.acked ++ acked_view made its.1.came }) in (
             next,
             subst (λ (o : List ℕ). Line (Goes next o)) (sym nothing)

@@ -1,7 +1,7 @@
 -- Keys in order that are few and apart fail no test of a view.
 use Rattle.std.proofs.Common.{◌≡◌, ◌≢◌, ◌≤◌, true, List, [], ◌∷◌, ◌++◌, length, refl, subst, arith}
 use Rattle.ivy_base.specs.declared.key.PubKey.{PubKey}
-use Rattle.log_model.specs.View.{View, have_own_head_keys}
+use Rattle.log_model.specs.View.{View, have_own_head_keys, most_members, most_former}
 use Rattle.view_blocks.specs.declared.fault.ViewFault.{ViewFault}
 use Rattle.view_blocks.specs.declared.fault.ViewFault.TheVariants.{Memory}
 use Rattle.view_blocks.specs.Faults.{FailsAs}
@@ -15,7 +15,7 @@ has_one [] h = absurd (h refl)
 has_one (k ∷ ks) h = omega arith
 
 pub only_memory : (members former ordered ordered_former : List PubKey) (fault : ViewFault) → ordered ≡ in_key_order members → ordered_former ≡ in_key_order former
-    → members ≢ [] → length members ≤ 16 → length former ≤ 16 → have_own_head_keys (members ++ former) ≡ true
+    → members ≢ [] → length members ≤ most_members → length former ≤ most_former → have_own_head_keys (members ++ former) ≡ true
     → FailsAs (record { members = ordered; former = ordered_former }) fault → fault ≡ Memory
 only_memory members former ordered ordered_former fault ordered_is former_is some few few_former own fails =
     let view_is : (record { members = ordered; former = ordered_former }) ≡ view_of_keys members former = λ i. record { members = ordered_is i; former = former_is i } in

@@ -10,15 +10,18 @@ use std::alloc::Global;
 use std::collections::BTreeSet;
 use view_blocks::{View, ViewFault};
 
-/// The most members that a view has, and the most former logs.
-const MOST: usize = 16;
+/// The most members that a view has.
+const MOST_MEMBERS: usize = 16;
+
+/// The most former logs that a view has.
+const MOST_FORMER: usize = 16;
 
 /// What comes of a line that makes a view.
 #[derive(Drop)]
 pub enum Made {
     /// Two of the logs have one head key, as where a log stands twice.
     Refused,
-    /// There are more than 16 members or former logs.
+    /// There are too many members, or too many former logs.
     TooMany,
     /// The view.
     View(View),
@@ -32,7 +35,7 @@ pub fn make_view(alloc: Global, members: Vec<PubKey>, former: Vec<PubKey>) -> Re
     if !have_own_heads(alloc, &members, &former)? {
         return Ok(Made::Refused);
     }
-    if members.len() > MOST || former.len() > MOST {
+    if members.len() > MOST_MEMBERS || former.len() > MOST_FORMER {
         return Ok(Made::TooMany);
     }
     Ok(Made::View(view_in_order(alloc, members, former)?))
@@ -54,8 +57,8 @@ fn have_own_heads(alloc: Global, members: &[PubKey], former: &[PubKey]) -> Resul
 /// The view of these keys, which are put in order. The error is want of memory.
 fn view_in_order(alloc: Global, members: Vec<PubKey>, former: Vec<PubKey>) -> Result<View, Memory>
     requires some { members.items ≢ [] }
-    requires few { length members.items ≤ MOST }
-    requires few_former { length former.items ≤ MOST }
+    requires few { length members.items ≤ MOST_MEMBERS }
+    requires few_former { length former.items ≤ MOST_FORMER }
     requires own { have_own_head_keys (members.items ++ former.items) ≡ true }
     ensures { IfOk result (λ view. view ≡ view_of_keys members.items former.items) }
 {

@@ -75,7 +75,7 @@ pub record HasFloorChain (s : Standing) (start : Vector) (chains : List Chain) (
   pub beyond : above (seq_of start (head_key_of owner)) records ≡ records
   pub goes_on : go_on_from (stamp_at start (head_key_of owner)) records ≡ true
 
-module _ (met : List (List ℕ)) (s : Standing) (start : Vector) (knew : List Record) (brought : List Brought) (notes : List Note) (chains : List Chain) (apart : NamesTellApart met) (well : IsView s.view) (is_known : IsKnown s.view s.floor knew) (stand : Stand met knew) (from : StartsFrom s start knew) (are : AreMet met brought) (fetches : FetchesAll s start s.view.members brought notes chains Done) where
+module _ (met : List (List ℕ)) (s : Standing) (start : Vector) (knew : List Record) (brought : List Brought) (notes : List Note) (chains : List Chain) (apart : NamesTellApart met) (well : IsView s.view) (is_known : IsKnown s.view s.floor knew) (stand : Stand met knew) (from : StartsFrom s start knew) (are : AreMet met brought) (fetches : FetchesAll (record { standing = s; start = start }) s.view.members brought notes chains Done) where
   pub floor_chain : (owner : PubKey) (t : Stamp) → Contains s.view.members owner → stamp_at s.floor (head_key_of owner) ≡ Some t → seq_of start (head_key_of owner) < t.seq → HasFloorChain s start chains owner t
   floor_chain owner t member is far =
       let p = each (HasPart s start brought chains) s.view.members owner (parts s start fetches refl (apart_keys s.view.members s.view.former well.apart)) member in

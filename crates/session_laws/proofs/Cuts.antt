@@ -13,7 +13,7 @@ use Rattle.log_model.specs.Rank.{own_entry, full_vector}
 use Rattle.log_model.specs.Spelling.{no_name}
 use Rattle.log_model.specs.Chain.{IsGood, GoesOn, IsChain, LinkedFrom}
 use Rattle.log_model.specs.Standing.{StandsAmong, Stand}
-use Rattle.log_model.proofs.Lists.{in_cons, in_nothing, each, each_left, each_right}
+use Rattle.log_model.proofs.Lists.{each, each_left, each_right}
 use Rattle.log_model.proofs.Part.{Numbered, numbered, numbers_below, chain_front}
 use Rattle.log_records.specs.declared.edge.Edge.{Edge}
 use Rattle.log_records.specs.Batches.{EndsAt, as_edge, GoesOnFrom, KnowsEdge, HasRecord, OldestNames, PassesFloor}
@@ -22,17 +22,11 @@ use Rattle.causal_order.specs.AtHand.{above}
 use Rattle.causal_order.proofs.Starts.{above_from, above_less}
 use Rattle.turn_model.specs.Known as known
 use Rattle.turn_model.specs.Candidates.{PassesThrough}
+use Rattle.turn_laws.proofs.LinkedLogs.{divided, last_seq, linked_left}
 use Rattle.turn_laws.proofs.OneChain.{one_chain}
-use Rattle.session_laws.proofs.ReadBack.{newest_of, linked_left, linked_right, last_seq, long}
+use Rattle.session_laws.proofs.ReadBack.{newest_of, linked_right, long}
 
 -- ---- lists of records
-
-pub divided : (xs : List Record) (r : Record) → Contains xs r → (before : List Record) × (after : List Record) × (xs ≡ before ++ r ∷ after)
-divided [] r c = absurd (in_nothing r c)
-divided (x ∷ xs) r c = elim (in_cons x xs r c) [
-  | inl e ↦ ([], xs, ap (λ (y : Record). y ∷ xs) e)
-  | inr more ↦ (let w = divided xs r more in (x ∷ w.0, w.1, ap (λ (l : List Record). x ∷ l) w.2))
-]
 
 -- those of numbers above the lower ones
 above_low : (b n : ℕ) (low high : List Record) → Numbered n (low ++ high) → n + length low ≡ b + 1 → above b (low ++ high) ≡ high

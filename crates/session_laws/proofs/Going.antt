@@ -30,7 +30,7 @@ module _ (s : Standing) (start : Vector) where
   pub record FetchesTo (owner : PubKey) (brought : List Brought) : Type 0 where
     pub notes : List Note
     pub end : LogEnd
-    pub fetches : Fetches s start owner brought notes end
+    pub fetches : Fetches (record { standing = s; start = start }) owner brought notes end
 
   module _ (owner : PubKey) where
     -- the floor's own record, where it is to be fetched
@@ -41,7 +41,7 @@ module _ (s : Standing) (start : Vector) where
     Reaches = TriesTo s.view owner start s.floor (edge_at s (head_key_of owner))
 
     tries_on : {ts : List Stamp} {brought : List Brought} {faults : List ChainFault} {end : LogEnd} (want : Want) (came : Brought) → IsOfWant want came
-        → Tries s.view owner start s.floor (edge_at s (head_key_of owner)) ts brought faults end → end ≡ Lacks want → Reaches ts (brought ++ came ∷ [])
+        → Tries (record { view = s.view; owner = owner; start = start; floor = s.floor; edge = edge_at s (head_key_of owner) }) ts brought faults end → end ≡ Lacks want → Reaches ts (brought ++ came ∷ [])
     tries_on {ts} {brought} (Content key) (BlockOf name came) same tries is =
         subst (λ (k : Key). Reaches ts (brought ++ BlockOf k came ∷ [])) (sym same) (tries_go_on s.view owner start s.floor (edge_at s (head_key_of owner)) key came tries is)
     tries_on (Content key) (HeadsOf log came) same tries is = absurd same
@@ -69,7 +69,7 @@ module _ (s : Standing) (start : Vector) where
     heads_next other (Heads of) (BlockOf name came) same is = absurd same
     heads_next other (Content key) came same is = absurd (cc is)
 
-    fetch_goes_on : {brought : List Brought} {notes : List Note} {end : LogEnd} (want : Want) (came : Brought) → IsOfWant want came → Fetches s start owner brought notes end → end ≡ Lacks want → FetchesTo owner (brought ++ came ∷ [])
+    fetch_goes_on : {brought : List Brought} {notes : List Note} {end : LogEnd} (want : Want) (came : Brought) → IsOfWant want came → Fetches (record { standing = s; start = start }) owner brought notes end → end ≡ Lacks want → FetchesTo owner (brought ++ came ∷ [])
     fetch_goes_on want came of (wants_heads other) is = heads_next other want came of is
     fetch_goes_on want came of (no_heads miss other) is = absurd (cc is)
     fetch_goes_on want came of (of_heads heads tried brought faults end other are tries) is =
@@ -85,7 +85,7 @@ module _ (s : Standing) (start : Vector) where
     pub notes : List Note
     pub chains : List Chain
     pub end : RefreshEnd
-    pub fetches : FetchesAll s start owners brought notes chains end
+    pub fetches : FetchesAll (record { standing = s; start = start }) owners brought notes chains end
 
   -- one log, and the logs after it, where their first has been brought nothing
   with_fetch : (owner : PubKey) (owners : List PubKey) (brought : List Brought) → FetchesTo owner brought → AllCome owners [] → AllCome (owner ∷ owners) brought
@@ -107,7 +107,7 @@ module _ (s : Standing) (start : Vector) where
   lacks_it GivesNone want e = cc e
 
   pub all_goes_on : {owners : List PubKey} {brought : List Brought} {notes : List Note} {chains : List Chain} {end : RefreshEnd} (want : Want) (came : Brought) → IsOfWant want came
-      → FetchesAll s start owners brought notes chains end → end ≡ Needs want → AllCome owners (brought ++ came ∷ [])
+      → FetchesAll (record { standing = s; start = start }) owners brought notes chains end → end ≡ Needs want → AllCome owners (brought ++ came ∷ [])
   all_goes_on want came of all is = absurd (cc is)
   all_goes_on want came of (stays {owner = owner} {owners = owners} {brought = brought} {log = log} fetch ends) is =
       with_fetch owner owners (brought ++ came ∷ []) (fetch_goes_on owner want came of fetch (lacks_it log want (ends ∙ ap Some is))) (all_begin owners)

@@ -67,7 +67,7 @@ module _ (view : View) (owner : PubKey) (start floor : Vector) (edge : Option Ed
   pub record TriesTo (tried : List Stamp) (brought : List Brought) : Type 0 where
     pub faults : List ChainFault
     pub end : LogEnd
-    pub tries : Tries view owner start floor edge tried brought faults end
+    pub tries : Tries (record { view = view; owner = owner; start = start; floor = floor; edge = edge }) tried brought faults end
 
   -- one head, and those after it, where their first has been brought nothing
   with_walk : (t : Stamp) (ts : List Stamp) (brought : List Brought) → WalksTo owner (t.seq - seq_of start (head_key_of owner)) t.name brought → TriesTo ts [] → TriesTo (t ∷ ts) brought
@@ -96,7 +96,7 @@ module _ (view : View) (owner : PubKey) (start floor : Vector) (edge : Option Ed
   same_content : (a b : Key) → Content a ≡ Content b → a ≡ b
   same_content a b e = cc e
 
-  pub tries_go_on : {ts : List Stamp} {brought : List Brought} {faults : List ChainFault} {end : LogEnd} (wanted : Key) (came : Result (List ℕ) Miss) → Tries view owner start floor edge ts brought faults end → end ≡ Lacks (Content wanted)
+  pub tries_go_on : {ts : List Stamp} {brought : List Brought} {faults : List ChainFault} {end : LogEnd} (wanted : Key) (came : Result (List ℕ) Miss) → Tries (record { view = view; owner = owner; start = start; floor = floor; edge = edge }) ts brought faults end → end ≡ Lacks (Content wanted)
       → TriesTo ts (brought ++ BlockOf wanted came ∷ [])
   tries_go_on wanted came none_tried is = absurd (cc is)
   tries_go_on wanted came (trial_wants {t = t} {ts = ts} {brought = brought} {key = key} walk) is =
@@ -113,7 +113,7 @@ module _ (view : View) (owner : PubKey) (start floor : Vector) (edge : Option Ed
       subst (TriesTo (t ∷ ts)) (sym (append_assoc brought more (BlockOf wanted came ∷ []))) (record { faults = Bad ∷ later.faults; end = later.end; tries = trial_garbled walk later.tries })
 
   -- what heads lack is a block
-  pub tries_lack : {ts : List Stamp} {brought : List Brought} {faults : List ChainFault} {end : LogEnd} (owned : PubKey) → Tries view owner start floor edge ts brought faults end → end ≡ Lacks (Heads owned) → ⊥
+  pub tries_lack : {ts : List Stamp} {brought : List Brought} {faults : List ChainFault} {end : LogEnd} (owned : PubKey) → Tries (record { view = view; owner = owner; start = start; floor = floor; edge = edge }) ts brought faults end → end ≡ Lacks (Heads owned) → ⊥
   tries_lack owned none_tried is = cc is
   tries_lack owned (trial_wants walk) is = cc is
   tries_lack owned (trial_misses walk) is = cc is

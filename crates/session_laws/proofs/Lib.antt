@@ -4,7 +4,6 @@ mod OneHead
 mod OneLog
 pub mod OwnParts
 mod AllLogs
-pub mod SortedEntries
 pub mod NotBehind
 pub mod Refreshed
 pub mod Starting

@@ -41,7 +41,7 @@ module _ (miss : Miss) where
   same_stops a b e = cc e
 
   tries_missed : {view : View} {owner : PubKey} {start floor : Vector} {edge : Option Edge} {ts : List Stamp} {brought : List Brought} {faults : List ChainFault} {end : LogEnd}
-      → Tries view owner start floor edge ts brought faults end → end ≡ Stops miss → EndsMissed miss brought
+      → Tries (record { view = view; owner = owner; start = start; floor = floor; edge = edge }) ts brought faults end → end ≡ Stops miss → EndsMissed miss brought
   tries_missed none_tried is = absurd (cc is)
   tries_missed (trial_wants walk) is = absurd (cc is)
   tries_missed (trial_misses {miss = other} walk) is = walk_missed walk (ap Misses (same_stops other miss is))
@@ -49,7 +49,7 @@ module _ (miss : Miss) where
   tries_missed (trial_passes {brought = brought} {more = more} walk some why tries) is = behind brought more (tries_missed tries is)
   tries_missed (trial_garbled {brought = brought} {more = more} walk tries) is = behind brought more (tries_missed tries is)
 
-  fetch_missed : {s : Standing} {start : Vector} {owner : PubKey} {brought : List Brought} {notes : List Note} {end : LogEnd} → Fetches s start owner brought notes end → end ≡ Stops miss → EndsMissed miss brought
+  fetch_missed : {s : Standing} {start : Vector} {owner : PubKey} {brought : List Brought} {notes : List Note} {end : LogEnd} → Fetches (record { standing = s; start = start }) owner brought notes end → end ≡ Stops miss → EndsMissed miss brought
   fetch_missed (wants_heads other) is = absurd (cc is)
   fetch_missed {owner = owner} (no_heads lost other) is = record { before = []; last = HeadsOf owner (Err lost); parts = refl; missed = same_stops lost miss is }
   fetch_missed {owner = owner} (of_heads heads tried brought faults end other are tries) is = behind (HeadsOf owner (Ok heads) ∷ []) brought (tries_missed tries is)
@@ -61,7 +61,7 @@ module _ (miss : Miss) where
   stops_so (Gives records) e = cc e
   stops_so GivesNone e = cc e
 
-  all_missed : {s : Standing} {start : Vector} {owners : List PubKey} {brought : List Brought} {notes : List Note} {chains : List Chain} {end : RefreshEnd} → FetchesAll s start owners brought notes chains end → end ≡ FailsBy miss → EndsMissed miss brought
+  all_missed : {s : Standing} {start : Vector} {owners : List PubKey} {brought : List Brought} {notes : List Note} {chains : List Chain} {end : RefreshEnd} → FetchesAll (record { standing = s; start = start }) owners brought notes chains end → end ≡ FailsBy miss → EndsMissed miss brought
   all_missed all is = absurd (cc is)
   all_missed (stays {log = log} fetch ends) is = fetch_missed fetch (stops_so log (ends ∙ ap Some is))
   all_missed (all_go_on {brought = brought} {more = more} fetch goes rest) is = behind brought more (all_missed rest is)

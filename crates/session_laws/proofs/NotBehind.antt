@@ -23,7 +23,7 @@ use Rattle.agent_model.specs.Turning.{is_there, lacks, is_behind}
 use Rattle.session_model.specs.Brought.{Brought}
 use Rattle.session_model.specs.Refreshing.{Note, FetchesAll, Done}
 use Rattle.session_laws.specs.Bringing.{AreMet, StartsFrom}
-use Rattle.session_laws.proofs.SortedEntries.{each_found}
+use Rattle.snapshot_model.proofs.SortedEntries.{each_found}
 use Rattle.session_laws.proofs.OwnParts.{given_chain, to_flat_map}
 use Rattle.session_laws.proofs.AllLogs.{HasFloorChain, floor_chain}
 
@@ -114,7 +114,7 @@ module _ (s : Standing) (start : Vector) (chains : List Chain) (h : Holding) (sa
 
 -- of a fetch that is done
 pub fetch_not_behind : (met : List (List ℕ)) (s : Standing) (start : Vector) (knew : List Record) (brought : List Brought) (notes : List Note) (chains : List Chain) (basis : Option Basis) (h : Holding)
-    → NamesTellApart met → IsView s.view → IsKnown s.view s.floor knew → Stand met knew → StartsFrom s start knew → AreMet met brought → FetchesAll s start s.view.members brought notes chains Done
+    → NamesTellApart met → IsView s.view → IsKnown s.view s.floor knew → Stand met knew → StartsFrom s start knew → AreMet met brought → FetchesAll (record { standing = s; start = start }) s.view.members brought notes chains Done
     → joined h ≡ start → IsTrue (is_sorted key_cmp start) → is_behind s.view s.own s.floor h (record { started = start; chains = chains; basis = basis }) ≡ false
 fetch_not_behind met s start knew brought notes chains basis h apart well known stand from are fetches same sorted =
     not_behind s start chains h same basis sorted (floor_chain met s start knew brought notes chains apart well known stand from are fetches)

@@ -134,7 +134,7 @@ module _ (view : View) (start floor : Vector) (t : Stamp) (edge : Option Edge) w
   fault_one xs ys Memory g same some also fails other = absurd (some refl)
 
 module _ (view : View) (owner : PubKey) (start floor : Vector) (edge : Option Edge) where
-  tries_one : {ts : List Stamp} {b c : List Brought} {fs gs : List ChainFault} {e f : LogEnd} (m l : List Brought) → Tries view owner start floor edge ts b fs e → Tries view owner start floor edge ts c gs f
+  tries_one : {ts : List Stamp} {b c : List Brought} {fs gs : List ChainFault} {e f : LogEnd} (m l : List Brought) → Tries (record { view = view; owner = owner; start = start; floor = floor; edge = edge }) ts b fs e → Tries (record { view = view; owner = owner; start = start; floor = floor; edge = edge }) ts c gs f
       → TriesHere e m → TriesHere f l → b ++ m ≡ c ++ l → (fs ≡ gs) × (e ≡ f) × (m ≡ l)
   tries_one m l none_tried none_tried h g same = (refl, refl, same)
   tries_one m l (trial_wants {key = key} walk) (trial_wants {key = log} way) h g same = (refl, ap (λ (k : Key). Lacks (Content k)) (same_wanted key log (walk_one owner m l walk way h g same).1), h ∙ sym g)
@@ -210,7 +210,7 @@ tried_one floor heads others xs ys same f g = order_one xs ys f.order g.order
 -- ---- one log
 
 module _ (s : Standing) (start : Vector) (owner : PubKey) where
-  pub fetch_one : {b c : List Brought} {ns os : List Note} {e f : LogEnd} (m l : List Brought) → Fetches s start owner b ns e → Fetches s start owner c os f
+  pub fetch_one : {b c : List Brought} {ns os : List Note} {e f : LogEnd} (m l : List Brought) → Fetches (record { standing = s; start = start }) owner b ns e → Fetches (record { standing = s; start = start }) owner c os f
       → TriesHere e m → TriesHere f l → b ++ m ≡ c ++ l → (ns ≡ os) × (e ≡ f) × (m ≡ l)
   fetch_one m l (wants_heads other) (wants_heads again) h g same = (refl, refl, h ∙ sym g)
   fetch_one m l (wants_heads other) (no_heads miss again) h g same = absurd (nothing_more m (HeadsOf owner (Err miss)) l h same)
@@ -226,7 +226,7 @@ module _ (s : Standing) (start : Vector) (owner : PubKey) where
       let one : heads ≡ others = same_heads owner heads others (same_first _ _ (brought ++ m) (behind ++ l) same) in
       let order : tried ≡ ordered = tried_one (seq_of s.floor (head_key_of owner)) (map stamp_of heads) (map stamp_of others) tried ordered (ap (λ (js : List Judged). map stamp_of js) one) are these in
       let rest = tries_one s.view owner start s.floor (edge_at s (head_key_of owner)) m l trial
-      (subst (λ (ts : List Stamp). Tries s.view owner start s.floor (edge_at s (head_key_of owner)) (ts ++ floors_own (stamp_at s.floor (head_key_of owner)) (seq_of start (head_key_of owner))) behind passed stand) (sym order) its)
+      (subst (λ (ts : List Stamp). Tries (record { view = s.view; owner = owner; start = start; floor = s.floor; edge = edge_at s (head_key_of owner) }) (ts ++ floors_own (stamp_at s.floor (head_key_of owner)) (seq_of start (head_key_of owner))) behind passed stand) (sym order) its)
       h g (same_rest _ _ (brought ++ m) (behind ++ l) same) in
       (ap (note_of (head_key_of owner)) rest.0, rest.1, rest.2)
   fetch_one m l (of_heads heads tried brought faults end other are trial) (of_own behind passed stand own its) h g same = absurd (other own)

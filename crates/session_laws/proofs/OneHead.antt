@@ -35,8 +35,9 @@ use Rattle.agent_model.specs.Candidates.{AreTaken}
 use Rattle.session_model.specs.Brought.{Brought}
 use Rattle.session_model.specs.Walks.{Walks, Came, Garbled}
 use Rattle.session_laws.specs.Bringing.{AreMet}
-use Rattle.session_laws.proofs.ReadBack.{last_seq, linked_left, linked_owner, long, nothing_ends, read_is, is_read, read_owned, read_stands}
-use Rattle.session_laws.proofs.Cuts.{divided, linked_chain, StartsIn, IsLogKnown, IsAbove, above_held}
+use Rattle.turn_laws.proofs.LinkedLogs.{divided, last_seq, linked_left}
+use Rattle.session_laws.proofs.ReadBack.{linked_owner, long, nothing_ends, read_is, is_read, read_owned, read_stands}
+use Rattle.session_laws.proofs.Cuts.{linked_chain, StartsIn, IsLogKnown, IsAbove, above_held}
 
 -- ---- plain facts
 

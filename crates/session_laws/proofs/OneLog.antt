@@ -120,7 +120,7 @@ module _ (met : List (List ℕ)) (apart : NamesTellApart met) (s : Standing) (st
   one_more t ts (Gives records) refused h = (t ∷ h.0, h.1, h.2, ap (λ (l : List Stamp). t ∷ l) h.3, (refused, h.4), h.5)
   one_more t ts GivesNone refused h = (refused, h)
 
-  results : {ts : List Stamp} {brought : List Brought} {faults : List ChainFault} {end : LogEnd} → Tries s.view owner start s.floor edge ts brought faults end → AreMet met brought → Results ts end
+  results : {ts : List Stamp} {brought : List Brought} {faults : List ChainFault} {end : LogEnd} → Tries (record { view = s.view; owner = owner; start = start; floor = s.floor; edge = edge }) ts brought faults end → AreMet met brought → Results ts end
   results none_left are = tt
   results (head_wants walk) are = tt
   results (head_misses walk) are = tt
@@ -196,7 +196,7 @@ module _ (met : List (List ℕ)) (apart : NamesTellApart met) (s : Standing) (st
       subst (λ (o : Option Stamp). Contains (floors_own o start_seq) t) (sym is)
       (subst (λ (b : Bool). Contains (cond b (t ∷ []) []) t) (sym (lt-ltb start_seq t.seq far)) (here t []))
 
-  pub floor_brought : {brought : List Brought} {notes : List Note} {end : LogEnd} → Fetches s start owner brought notes end → end_of_log end ≡ None → AreMet met brought → (t : Stamp) → stamp_at s.floor log ≡ Some t → start_seq < t.seq → HasFloor t end
+  pub floor_brought : {brought : List Brought} {notes : List Note} {end : LogEnd} → Fetches (record { standing = s; start = start }) owner brought notes end → end_of_log end ≡ None → AreMet met brought → (t : Stamp) → stamp_at s.floor log ≡ Some t → start_seq < t.seq → HasFloor t end
   floor_brought (wants_heads other) through are t is far = cc through
   floor_brought (no_heads miss other) through are t is far = cc through
   floor_brought (of_heads came tried brought faults end other are_tried tries) through are t is far =
@@ -334,7 +334,7 @@ module _ (met : List (List ℕ)) (apart : NamesTellApart met) (s : Standing) (st
       abbrev pub HasHeads : List Brought → Type 0
       HasHeads brought = (came : List Judged) → Contains brought (HeadsOf owner (Ok came)) → (t : Stamp) → Contains (heads log) t ↔ Contains (map stamp_of came) t
 
-      pub log_brought : {brought : List Brought} {notes : List Note} {end : LogEnd} → Fetches s start owner brought notes end → end_of_log end ≡ None → AreMet met brought → HasHeads brought → HasJust end → IsBroughtSo
+      pub log_brought : {brought : List Brought} {notes : List Note} {end : LogEnd} → Fetches (record { standing = s; start = start }) owner brought notes end → end_of_log end ≡ None → AreMet met brought → HasHeads brought → HasJust end → IsBroughtSo
       log_brought (wants_heads other) through are has just = cc through
       log_brought (no_heads miss other) through are has just = cc through
       log_brought (of_heads came tried brought faults end other are_tried tries) through are has just =

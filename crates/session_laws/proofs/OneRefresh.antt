@@ -40,7 +40,7 @@ ends_or_goes : (a : RefreshEnd) → Some a ≡ None → ⊥
 ends_or_goes a e = cc e
 
 module _ (s : Standing) (start : Vector) where
-  all_one : {owners : List PubKey} {b c : List Brought} {ns os : List Note} {cs ds : List Chain} {e f : RefreshEnd} → FetchesAll s start owners b ns cs e → FetchesAll s start owners c os ds f
+  all_one : {owners : List PubKey} {b c : List Brought} {ns os : List Note} {cs ds : List Chain} {e f : RefreshEnd} → FetchesAll (record { standing = s; start = start }) owners b ns cs e → FetchesAll (record { standing = s; start = start }) owners c os ds f
       → b ≡ c → (ns ≡ os) × (cs ≡ ds) × (e ≡ f)
   all_one all all same = (refl, refl, refl)
   all_one (stays {owner = owner} {brought = b} {log = log} {end = e} fetch is) (stays {brought = c} {log = stand} {end = f} its also) same =
@@ -133,7 +133,7 @@ module _ (s : Standing) where
   course_one (fetching {loaded = b} {brought = d} {chains = cs} basis loads fetches) (fetching {loaded = c} {brought = x} {notes = os} {chains = ds} {end = f} other its others) same =
       let w = root_one d x loads its tt tt same in
       let one : basis ≡ other = same_basis basis other w.0 in
-      let rest = all_one s (start_of s (counting s.floor basis)) fetches (subst (λ (o : Option Basis). FetchesAll s (start_of s (counting s.floor o)) s.view.members x os ds f) (sym one) others) w.1 in
+      let rest = all_one s (start_of s (counting s.floor basis)) fetches (subst (λ (o : Option Basis). FetchesAll (record { standing = s; start = start_of s (counting s.floor o) }) s.view.members x os ds f) (sym one) others) w.1 in
       (rest.0, given_one (counting s.floor basis) (counting s.floor other) cs ds (ap (counting s.floor) one) rest.1, rest.2)
     where
       given_one : (o p : Option Basis) (chains others : List Chain) → o ≡ p → chains ≡ others

@@ -92,7 +92,7 @@ walk_has_none (one_misses {key = key} miss) = block_first key (Err miss) [] none
 walk_has_none (one_garbled {key = key} bytes none) = block_first key (Ok bytes) [] none_yet
 walk_has_none (one_back {key = key} {more = brought} bytes r is walk) = block_first key (Ok bytes) brought (walk_has_none walk)
 
-tries_have_none : {view : View} {owner : PubKey} {start floor : Vector} {edge : Option Edge} {ts : List Stamp} {brought : List Brought} {faults : List ChainFault} {end : LogEnd} → Tries view owner start floor edge ts brought faults end → HasNoHeads brought
+tries_have_none : {view : View} {owner : PubKey} {start floor : Vector} {edge : Option Edge} {ts : List Stamp} {brought : List Brought} {faults : List ChainFault} {end : LogEnd} → Tries (record { view = view; owner = owner; start = start; floor = floor; edge = edge }) ts brought faults end → HasNoHeads brought
 tries_have_none none_left = none_yet
 tries_have_none (head_wants walk) = walk_has_none walk
 tries_have_none (head_misses walk) = walk_has_none walk
@@ -118,7 +118,7 @@ module _ (s : Standing) (start : Vector) where
         once = λ o p one other c d. sym (is o one c) ∙ is p other d;
       }
 
-  fetched_heads : {owner : PubKey} {brought : List Brought} {notes : List Note} {end : LogEnd} → Fetches s start owner brought notes end → HasOwnHeads owner brought
+  fetched_heads : {owner : PubKey} {brought : List Brought} {notes : List Note} {end : LogEnd} → Fetches (record { standing = s; start = start }) owner brought notes end → HasOwnHeads owner brought
   fetched_heads {owner = owner} (wants_heads other) = no_own owner [] none_yet
   fetched_heads {owner = owner} (no_heads miss other) = own_first owner (Err miss) [] none_yet
   fetched_heads {owner = owner} (of_heads came tried brought faults end other are_tried tries) = own_first owner (Ok came) brought (tries_have_none tries)
@@ -130,7 +130,7 @@ module _ (s : Standing) (start : Vector) where
     pub part : List Brought
     pub notes : List Note
     pub end : LogEnd
-    pub fetches : Fetches s start owner part notes end
+    pub fetches : Fetches (record { standing = s; start = start }) owner part notes end
     pub through : end_of_log end ≡ None
     pub among : (b : Brought) → Contains part b → Contains brought b
     pub heads : (o : PubKey) (came : Result (List Judged) Miss) → Contains brought (HeadsOf o came) → head_key_of o ≡ head_key_of owner → Contains part (HeadsOf o came)
@@ -162,7 +162,7 @@ module _ (s : Standing) (start : Vector) where
   one_at_most owner GivesNone c d w v = absurd (in_nothing c w)
 
   -- all that was brought is of these owners
-  heads_owned : {owners : List PubKey} {brought : List Brought} {notes : List Note} {chains : List Chain} {end : RefreshEnd} → FetchesAll s start owners brought notes chains end
+  heads_owned : {owners : List PubKey} {brought : List Brought} {notes : List Note} {chains : List Chain} {end : RefreshEnd} → FetchesAll (record { standing = s; start = start }) owners brought notes chains end
       → (o : PubKey) (came : Result (List Judged) Miss) → Contains brought (HeadsOf o came) → Contains owners o
   heads_owned all o came c = absurd (in_nothing (HeadsOf o came) c)
   heads_owned (stays {owner = owner} {owners = owners} fetches e) o came c = subst (λ (x : PubKey). Contains (owner ∷ owners) x) (sym ((fetched_heads fetches).owned o came c)) (here owner owners)
@@ -171,7 +171,7 @@ module _ (s : Standing) (start : Vector) where
     | inr later ↦ there owner owners o (heads_owned rest o came later)
   ]
 
-  pub chains_owned : {owners : List PubKey} {brought : List Brought} {notes : List Note} {chains : List Chain} {end : RefreshEnd} → FetchesAll s start owners brought notes chains end → (c : Chain) → Contains chains c → Contains owners c.owner
+  pub chains_owned : {owners : List PubKey} {brought : List Brought} {notes : List Note} {chains : List Chain} {end : RefreshEnd} → FetchesAll (record { standing = s; start = start }) owners brought notes chains end → (c : Chain) → Contains chains c → Contains owners c.owner
   chains_owned all c w = absurd (in_nothing c w)
   chains_owned (stays fetches e) c w = absurd (in_nothing c w)
   chains_owned (goes_on {owner = owner} {owners = owners} {chains = chains} {log = log} fetches e rest) c w = elim (Contains-append_cases (chains_of owner log) chains c w) [
@@ -201,7 +201,7 @@ module _ (s : Standing) (start : Vector) where
   }
 
   first_part : (owner : PubKey) (owners : List PubKey) (first brought : List Brought) (own others : List Note) (log : LogEnd) (chains : List Chain) (end : RefreshEnd) → AllByRecursion (λ l. head_key_of owner ≡ head_key_of l → ⊥) owners
-      → Fetches s start owner first own log → end_of_log log ≡ None → FetchesAll s start owners brought others chains end → HasPart (first ++ brought) (chains_of owner log ++ chains) owner
+      → Fetches (record { standing = s; start = start }) owner first own log → end_of_log log ≡ None → FetchesAll (record { standing = s; start = start }) owners brought others chains end → HasPart (first ++ brought) (chains_of owner log ++ chains) owner
   first_part owner owners first brought own others log chains end apart fetches through rest = record {
     part = first;
     notes = own;
@@ -227,7 +227,7 @@ module _ (s : Standing) (start : Vector) where
   not_done GivesNone end e done = cc e
 
   -- each has its own part
-  pub parts : {owners : List PubKey} {brought : List Brought} {notes : List Note} {chains : List Chain} {end : RefreshEnd} → FetchesAll s start owners brought notes chains end → end ≡ Done → AreApart owners
+  pub parts : {owners : List PubKey} {brought : List Brought} {notes : List Note} {chains : List Chain} {end : RefreshEnd} → FetchesAll (record { standing = s; start = start }) owners brought notes chains end → end ≡ Done → AreApart owners
       → AllByRecursion (HasPart brought chains) owners
   parts all done apart = tt
   parts (stays {log = log} {end = end} fetches e) done apart = absurd (not_done log end e done)

@@ -17,6 +17,7 @@ use Rattle.log_records.proofs.OneRecord.{one_record, block_among}
 use Rattle.session_model.specs.Brought.{Brought, BlockOf}
 use Rattle.session_model.specs.Walks.{Walks, WalkEnd, Came, Garbled}
 use Rattle.session_model.specs.Walks.Walks.{came as all_came, wants as next_wanted, misses as one_misses, garbled as one_garbled, back as one_back}
+use Rattle.turn_laws.proofs.LinkedLogs.{last_seq}
 use Rattle.session_laws.specs.Bringing.{AreMet}
 
 pub each_reverse : {X : Type 0} (P : X → Type 0) (xs : List X) → AllByRecursion P xs → AllByRecursion P (reverse xs)
@@ -39,22 +40,14 @@ newest_is prev [] last = refl
 newest_is prev (b ∷ before) last = newest_is b.name before last
 
 module _ (owner : PubKey) where
-  pub linked_left : (n : ℕ) (prev : Key) (xs ys : List Record) → LinkedFrom owner n prev (xs ++ ys) → LinkedFrom owner n prev xs
-  linked_left n prev [] ys h = tt
-  linked_left n prev (x ∷ xs) ys h = (h.0, h.1, h.2, h.3, linked_left (n + 1) x.name xs ys h.4)
-
   pub linked_right : (n : ℕ) (prev : Key) (xs ys : List Record) → LinkedFrom owner n prev (xs ++ ys) → LinkedFrom owner (n + length xs) (newest_of prev xs) ys
   linked_right n prev [] ys h = subst (λ (k : ℕ). LinkedFrom owner k prev ys) (omega arith) h
   linked_right n prev (x ∷ xs) ys h = subst (λ (k : ℕ). LinkedFrom owner k (newest_of x.name xs) ys) (omega arith) (linked_right (n + 1) x.name xs ys h.4)
 
-  pub last_seq : (n : ℕ) (prev : Key) (before : List Record) (last : Record) → LinkedFrom owner n prev (before ++ last ∷ []) → last.seq ≡ n + length before
-  last_seq n prev [] last h = omega (arith, h.2)
-  last_seq n prev (b ∷ before) last h = let more = last_seq (n + 1) b.name before last h.4 in omega (arith, more)
-
   -- how many they are, up to the stamp
   pub long : (n : ℕ) (prev : Key) (xs : List Record) (t : Stamp) → LinkedFrom owner n prev xs → EndsAt t xs → n + length xs ≡ t.seq + 1
   long n prev xs t h ends =
-      let last = last_seq n prev ends.0 ends.1 (subst (LinkedFrom owner n prev) ends.2 h) in
+      let last = last_seq owner n prev ends.0 ends.1 (subst (LinkedFrom owner n prev) ends.2 h) in
       let same : ends.1.seq ≡ t.seq = ap (λ (s : Stamp). s.seq) ends.3 in
       let size : length xs ≡ length (ends.0 ++ ends.1 ∷ []) = ap length ends.2 in
       let one_more = length-append ends.0 (ends.1 ∷ []) in

@@ -34,14 +34,14 @@ StartsFrom s start knew = (owner : PubKey) → Contains s.view.members owner →
 abbrev pub FetchedIsBrought : Type 0
 FetchedIsBrought = (met : List (List ℕ)) (s : Standing) (start : Vector) (knew : List Record) (brought : List Brought) (notes : List Note) (chains : List Chain) (basis : Option Basis)
     → NamesTellApart met → IsView s.view → IsKnown s.view s.floor knew → Stand met knew → StartsFrom s start knew → AreMet met brought
-    → FetchesAll s start s.view.members brought notes chains Done
+    → FetchesAll (record { standing = s; start = start }) s.view.members brought notes chains Done
     → Brings (heads_at brought) met s.view s knew (record { started = start; chains = chains; basis = basis })
 
 -- Where the floor goes further than what the refresh started from, the floor's record was brought.
 abbrev pub FloorIsBrought : Type 0
 FloorIsBrought = (met : List (List ℕ)) (s : Standing) (start : Vector) (knew : List Record) (brought : List Brought) (notes : List Note) (chains : List Chain)
     → NamesTellApart met → IsView s.view → IsKnown s.view s.floor knew → Stand met knew → StartsFrom s start knew → AreMet met brought
-    → FetchesAll s start s.view.members brought notes chains Done
+    → FetchesAll (record { standing = s; start = start }) s.view.members brought notes chains Done
     → (owner : PubKey) (t : Stamp) → Contains s.view.members owner → stamp_at s.floor (head_key_of owner) ≡ Some t → seq_of start (head_key_of owner) < t.seq
     → (c : Chain) × Contains chains c × (c.owner ≡ owner) × HasRecord t c.records
 

@@ -14,4 +14,4 @@ RefreshIsOne = (s : Standing) (brought : List Brought) (notes others : List Note
 -- So has the fetch that is its part: what was brought of these logs tells what is noted, which chains there are and how the fetch stands.
 abbrev pub FetchIsOne : Type 0
 FetchIsOne = (s : Standing) (start : Vector) (owners : List PubKey) (brought : List Brought) (notes others : List Note) (chains also : List Chain) (end stand : RefreshEnd)
-    → FetchesAll s start owners brought notes chains end → FetchesAll s start owners brought others also stand → (notes ≡ others) × (chains ≡ also) × (end ≡ stand)
+    → FetchesAll (record { standing = s; start = start }) owners brought notes chains end → FetchesAll (record { standing = s; start = start }) owners brought others also stand → (notes ≡ others) × (chains ≡ also) × (end ≡ stand)

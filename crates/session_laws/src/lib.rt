@@ -22,7 +22,7 @@
 //! `proofs/OneLog.antt`, `proofs/OwnParts.antt`, `proofs/AllLogs.antt`: one head, one log, each log's part of what was brought,
 //! all logs; `proofs/NotBehind.antt`, `proofs/Refreshed.antt`. By themselves: `proofs/Starting.antt`; `proofs/Loading.antt`
 //! over `proofs/WholeTrees.antt` (trees that operations make have the facts of a snapshot's tree) and `proofs/MadeBlocks.antt`;
-//! `proofs/SortedEntries.antt`; `proofs/OneRefresh.antt` (also `load_is_one`, of what loading came to) over
+//! `proofs/OneRefresh.antt` (also `load_is_one`, of what loading came to) over
 //! `proofs/OneCourse.antt` (walks, and the heads of one log);
 //! `proofs/Going.antt` over `proofs/GoingCourse.antt`, `proofs/GoingChains.antt` (whether records are sound and onward is known)
 //! and `proofs/GoingHeads.antt` (heads can be put in order); `proofs/DecidedSnapshots.antt`.

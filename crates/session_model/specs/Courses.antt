@@ -1,7 +1,5 @@
 -- How a session begins, and how it goes on between its asks: its refresh fails, its turn is answered or refused, its posts are settled.
-use Rattle.std.specs.Prelude.{◌≡◌, ℕ, ◌+◌, ◌<◌, ◌≤◌, Bool, List, [], ◌++◌, Option, Some, None}
-use Rattle.ivy_base.specs.declared.operation.Moment.{Moment}
-use Rattle.log_model.specs.View.{View}
+use Rattle.std.specs.Prelude.{◌≡◌, ℕ, ◌+◌, ◌<◌, ◌≤◌, List, [], ◌++◌, Option, Some, None}
 use Rattle.log_model.specs.Record.{Record}
 use Rattle.nfs_model.specs.declared.replies.Reply.{Reply}
 use Rattle.turn_model.specs.Turn.{Asked, Turned}
@@ -9,9 +7,10 @@ use Rattle.dht_ids.specs.declared.peer.Peer.{Peer}
 use Rattle.dht_ids.specs.declared.post.Ack.{Ack}
 use Rattle.dht_ids.specs.declared.post.Post.{Post}
 use Rattle.dhash_client.specs.declared.miss.Miss.{Miss}
-use Rattle.agent_model.specs.Agent.{Agent, Kept, Signing}
+use Rattle.log_model.specs.Signing.{Signing}
+use Rattle.agent_model.specs.Agent.{Agent, Kept}
 use Rattle.agent_model.specs.Standing.{Standing, Refresh, anew_in}
-use Rattle.agent_model.specs.Turning.{Turns, TurnEnd, Behind, BelowTide, Answered, IsTurnBy}
+use Rattle.agent_model.specs.Turning.{Turning, Turns, TurnEnd, Behind, BelowTide, Answered, IsTurnBy}
 use Rattle.agent_model.specs.Others.{settled}
 use Rattle.session_model.specs.Brought.{brought_in, heads_at}
 use Rattle.session_model.specs.Refreshing.{Note, Refreshes, RefreshEnd, FailsBy, Done}
@@ -73,18 +72,26 @@ IsRefusal Behind = Unit {0}
 IsRefusal BelowTide = Unit {0}
 IsRefusal (Answered reply applied) = ⊥
 
--- What a session makes of a turn of its agent, whose save would fail or not, and what is to be saved: it publishes, or begins anew, at most twice.
-pub data TakesTurn {S : Type 0} (signs : Signing S) (now : Moment) (a : Agent S) (view : View) (fails : Bool) (s : Session) : TurnEnd → Agent S → Option (Kept S) → Session → Type 0 where
-  answers : (notes : List Note) (given : Refresh) (xid : ℕ) (asked : Asked) (reply : Reply) (applied : ℕ) (after : Agent S) (saving : Option (Kept S)) → HasRefreshed s notes given → Asks s.standing.view s.message xid asked
-      → Turns signs given a view fails asked now (Answered reply applied) after saving
-      → TakesTurn signs now a view fails s (Answered reply applied) after saving (answered s (said_of xid reply) notes after.pending)
-  begins_anew : (notes : List Note) (given : Refresh) (xid : ℕ) (asked : Asked) (end : TurnEnd) (after : Agent S) (saving : Option (Kept S)) → HasRefreshed s notes given → Asks s.standing.view s.message xid asked
-      → Turns signs given a view fails asked now end after saving → IsRefusal end → s.starts < 2 → TakesTurn signs now a view fails s end after saving (anew s (anew_in signs after view))
-  gives_up : (notes : List Note) (given : Refresh) (xid : ℕ) (asked : Asked) (end : TurnEnd) (after : Agent S) (saving : Option (Kept S)) → HasRefreshed s notes given → Asks s.standing.view s.message xid asked
-      → Turns signs given a view fails asked now end after saving → IsRefusal end → 2 ≤ s.starts → TakesTurn signs now a view fails s end after saving (ended s (said_no_memory xid) notes None)
+-- What a session makes of a turn of its agent, and what is to be saved: it publishes, or begins anew, at most twice.
+pub data TakesTurn {S : Type 0} (signs : Signing S) (turning : Turning S) (s : Session)
+    : TurnEnd → Agent S → Option (Kept S) → Session → Type 0 where
+  answers : (notes : List Note) (given : Refresh) (xid : ℕ) (asked : Asked) (reply : Reply) (applied : ℕ) (after : Agent S)
+      (saving : Option (Kept S)) → HasRefreshed s notes given → Asks s.standing.view s.message xid asked
+      → Turns signs given turning asked (Answered reply applied) after saving
+      → TakesTurn signs turning s (Answered reply applied) after saving (answered s (said_of xid reply) notes after.pending)
+  begins_anew : (notes : List Note) (given : Refresh) (xid : ℕ) (asked : Asked) (end : TurnEnd) (after : Agent S)
+      (saving : Option (Kept S)) → HasRefreshed s notes given → Asks s.standing.view s.message xid asked
+      → Turns signs given turning asked end after saving → IsRefusal end → s.starts < 2
+      → TakesTurn signs turning s end after saving (anew s (anew_in signs after turning.view))
+  gives_up : (notes : List Note) (given : Refresh) (xid : ℕ) (asked : Asked) (end : TurnEnd) (after : Agent S)
+      (saving : Option (Kept S)) → HasRefreshed s notes given → Asks s.standing.view s.message xid asked
+      → Turns signs given turning asked end after saving → IsRefusal end → 2 ≤ s.starts
+      → TakesTurn signs turning s end after saving (ended s (said_no_memory xid) notes None)
 
--- The turn of the session by the definition, among the blocks met, of an agent that knows these records now and knew those when the session (last) began.
-pub record IsTurnIn {S : Type 0} (signs : Signing S) (met : List (List ℕ)) (now : Moment) (a : Agent S) (view : View) (fails : Bool) (s : Session) (knew known : List Record) (turned : Turned) : Type 0 where
+-- The turn of the session by the definition, among the blocks met, of an agent that knows these records now and knew those when the
+-- session (last) began.
+pub record IsTurnIn {S : Type 0} (signs : Signing S) (met : List (List ℕ)) (turning : Turning S) (s : Session) (knew known : List Record)
+    (turned : Turned) : Type 0 where
   pub xid : ℕ
   pub asked : Asked
   pub asks : Asks s.standing.view s.message xid asked
@@ -92,7 +99,9 @@ pub record IsTurnIn {S : Type 0} (signs : Signing S) (met : List (List ℕ)) (no
   pub given : Refresh
   pub refreshed : HasRefreshed s notes given
   pub taken : List Record
-  pub is_turn : IsTurnBy signs (heads_at (brought_in s.parts)) met s.standing knew known given.started a view fails asked now taken turned
+  pub is_turn : IsTurnBy signs
+      (record { heads = heads_at (brought_in s.parts); met = met; standing = s.standing; knew = knew; started = given.started })
+      turning known asked taken turned
 
 -- Where memory is wanting while a session refreshes, it is over: it has no turn and puts nothing, and may leave out notes.
 pub data LacksMemory (s : Session) : Session → Type 0 where

@@ -53,19 +53,35 @@ pub data LogEnd : Type 0 where
   Gives : (records : List Record) → LogEnd
   GivesNone : LogEnd
 
--- The heads tried in order, over what the refresh started from, where something may be known of the newest held record: what was brought, why the heads before were
--- passed over, and how the fetch stands. Records are taken where they are sound and onward, by `log_records`.
-pub data Tries (view : View) (owner : PubKey) (start floor : Vector) (edge : Option Edge) : List Stamp → List Brought → List ChainFault → LogEnd → Type 0 where
-  none : Tries view owner start floor edge [] [] [] GivesNone
-  wants : {t : Stamp} {ts : List Stamp} {brought : List Brought} {records : List Record} {key : Key} → Walks owner (t.seq - seq_of start (head_key_of owner)) t.name brought records (Wants key)
-      → Tries view owner start floor edge (t ∷ ts) brought [] (Lacks (Content key))
-  misses : {t : Stamp} {ts : List Stamp} {brought : List Brought} {records : List Record} {miss : Miss} → Walks owner (t.seq - seq_of start (head_key_of owner)) t.name brought records (Misses miss)
-      → Tries view owner start floor edge (t ∷ ts) brought [] (Stops miss)
-  gives : {t : Stamp} {ts : List Stamp} {brought : List Brought} {records : List Record} → Walks owner (t.seq - seq_of start (head_key_of owner)) t.name brought records Came
-      → IsSound view start edge t (reverse records) → IsOnward start floor (reverse records) → Tries view owner start floor edge (t ∷ ts) brought [] (Gives (reverse records))
-  passes : {t : Stamp} {ts : List Stamp} {brought more : List Brought} {records : List Record} {fault : ChainFault} {others : List ChainFault} {end : LogEnd}
-      → Walks owner (t.seq - seq_of start (head_key_of owner)) t.name brought records Came → fault ≢ Memory → ChainFails view start floor t edge (reverse records) fault
-      → Tries view owner start floor edge ts more others end → Tries view owner start floor edge (t ∷ ts) (brought ++ more) (fault ∷ others) end
+-- By what a log's heads are tried: the log's owner in the view, what the refresh started from, the agent's floor, and what is known of
+-- the newest held record, where anything is.
+pub record Trial : Type 0 where
+  pub view : View
+  pub owner : PubKey
+  pub start : Vector
+  pub floor : Vector
+  pub edge : Option Edge
+
+-- the walk from a head back to what the refresh started from
+abbrev pub WalksFrom : Trial → Stamp → List Brought → List Record → WalkEnd → Type 0
+WalksFrom trial t brought records end =
+    Walks trial.owner (t.seq - seq_of trial.start (head_key_of trial.owner)) t.name brought records end
+
+-- The heads tried in order: what was brought, why the heads before were passed over, and how the fetch stands. Records are taken where
+-- they are sound and onward, by `log_records`.
+pub data Tries (trial : Trial) : List Stamp → List Brought → List ChainFault → LogEnd → Type 0 where
+  none : Tries trial [] [] [] GivesNone
+  wants : {t : Stamp} {ts : List Stamp} {brought : List Brought} {records : List Record} {key : Key}
+      → WalksFrom trial t brought records (Wants key) → Tries trial (t ∷ ts) brought [] (Lacks (Content key))
+  misses : {t : Stamp} {ts : List Stamp} {brought : List Brought} {records : List Record} {miss : Miss}
+      → WalksFrom trial t brought records (Misses miss) → Tries trial (t ∷ ts) brought [] (Stops miss)
+  gives : {t : Stamp} {ts : List Stamp} {brought : List Brought} {records : List Record} → WalksFrom trial t brought records Came
+      → IsSound trial.view trial.start trial.edge t (reverse records) → IsOnward trial.start trial.floor (reverse records)
+      → Tries trial (t ∷ ts) brought [] (Gives (reverse records))
+  passes : {t : Stamp} {ts : List Stamp} {brought more : List Brought} {records : List Record} {fault : ChainFault}
+      {others : List ChainFault} {end : LogEnd} → WalksFrom trial t brought records Came → fault ≢ Memory
+      → ChainFails trial.view trial.start trial.floor t trial.edge (reverse records) fault
+      → Tries trial ts more others end → Tries trial (t ∷ ts) (brought ++ more) (fault ∷ others) end
   garbled : {t : Stamp} {ts : List Stamp} {brought more : List Brought} {records : List Record} {others : List ChainFault} {end : LogEnd}
-      → Walks owner (t.seq - seq_of start (head_key_of owner)) t.name brought records Garbled
-      → Tries view owner start floor edge ts more others end → Tries view owner start floor edge (t ∷ ts) (brought ++ more) (Bad ∷ others) end
+      → WalksFrom trial t brought records Garbled
+      → Tries trial ts more others end → Tries trial (t ∷ ts) (brought ++ more) (Bad ∷ others) end

@@ -1,8 +1,15 @@
-//! What a session is: which blocks its refresh wants and which nodes it asks, what it makes of its turn, what it
-//! publishes, and what it says.
+//! What a session is: which blocks its refresh wants and which nodes it asks, what it makes of its turn, what
+//! it publishes, and what it replies.
 //!
-//! Layer: definitions and no code, over `agent_model` and the gets and puts of `dhash_client`; below the world.
-//! Definitions, in reading order: `specs/Brought.antt` (what a refresh was brought), `specs/Walks.antt` (the records of
-//! one log), `specs/Refreshing.antt` (what is wanted next), `specs/Asking.antt` (gets and puts on their way), `specs/Sessions.antt` (a session and its asks),
-//! `specs/Replies.antt` (what is said), `specs/Courses.antt` (beginning, turn and end).
+//! Layer: definitions and no code, over `agent_model` and the gets and puts of `dhash_client`; below the
+//! world.
+//!
+//! Definitions, in reading order:
+//! - `specs/Brought.antt`: what a refresh was brought;
+//! - `specs/Walks.antt`: the records of one log;
+//! - `specs/Refreshing.antt`: what is wanted next;
+//! - `specs/Asking.antt`: gets and puts in progress;
+//! - `specs/Sessions.antt`: a session and its asks;
+//! - `specs/Replies.antt`: what is replied;
+//! - `specs/Courses.antt`: beginning, turn and end.
 #![tactic(auto)]

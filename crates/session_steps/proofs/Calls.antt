@@ -62,7 +62,7 @@ failed_same {s = s} (refresh_goes not) = itself s
 lacking_same : {s t : Session} → LacksMemory s t → IsOneCall s t
 lacking_same (lacks notes shown given end xid asked at refreshed asks rest front) = record { by = refl; message = refl; entries = refl }
 
-turned_same : {now : Moment} {a : Agent} {view : View} {fails : Bool} {s t : Session} {end : TurnEnd} {after : Agent} {saving : Option Kept} → TakesTurn now a view fails s end after saving t → IsOneCall s t
+turned_same : {now : Moment} {a : Agent} {view : View} {fails : Bool} {s t : Session} {end : TurnEnd} {after : Agent} {saving : Option Kept} → TakesTurn (record { agent = a; view = view; now = now; fails = fails }) s end after saving t → IsOneCall s t
 turned_same (answers notes given xid asked reply applied after saving done asks turns) = record { by = refl; message = refl; entries = refl }
 turned_same (begins_anew notes given xid asked end after saving done asks turns refused few) = record { by = refl; message = refl; entries = refl }
 turned_same (gives_up notes given xid asked end after saving done asks turns refused many) = record { by = refl; message = refl; entries = refl }

@@ -1,6 +1,7 @@
 -- The reply of a turn is the one that is read from its bytes: what a call is answered is a reply of its procedure, and of these one alone has those bytes.
 use Rattle.std.proofs.Common.{◌≡◌, ◌≢◌, ℕ, ◌≤◌, Bool, true, false, cond, ◌||◌, List, [], ◌∷◌, ◌++◌, length, Option, Some, None, refl, sym, ap, ◌∙◌, subst, arith, Contains}
 use Rattle.std.specs.Prelude.{nat_lt, ◌==◌, ◌+◌}
+use Rattle.ivy_base.specs.declared.format.Format.TheVariants.{One}
 use Rattle.ivy_base.specs.declared.operation.Moment.{Moment}
 use Rattle.ivy_base.specs.declared.operation.Op.{Op}
 use Rattle.ivy_base.specs.Naming.{head_key_of}
@@ -27,9 +28,10 @@ use Rattle.nfs_model.proofs.OneReplies.{one_reply}
 use Rattle.nfs_laws.specs.Replies.{AnswersAreReplies, FinishesAreReplies, HasReplyTo, PlansAreReplies, SetsMakeTrees, TreeFits}
 use Rattle.turn_model.specs.Basis.{Holding}
 use Rattle.turn_model.specs.Known.{EndsAt}
-use Rattle.turn_model.specs.Turn.{Agent as Inputs, Asked, Turned, appended, bare_tail, by_plan, own_seq, turn_on}
+use Rattle.turn_model.specs.Turn.{Inputs, Asked, Turned, appended, bare_tail, by_plan, own_seq, turn_on}
 use Rattle.turn_laws.proofs.Turns.{turn_set_is_closed}
-use Rattle.agent_model.specs.Agent.{Agent, Kept, Signing, kept_of, own}
+use Rattle.log_model.specs.Signing.{Signing}
+use Rattle.agent_model.specs.Agent.{Agent, Kept, kept_of, own}
 use Rattle.agent_model.specs.SavedBytes.{IsKept}
 use Rattle.agent_model.specs.Standing.{Refresh}
 use Rattle.agent_model.specs.Turning.{Answered, Behind, BelowTide, IsByDefinition, TurnEnd, Turns, inputs}
@@ -80,7 +82,7 @@ module _ (answers_are : AnswersAreReplies) (plans_are : PlansAreReplies) (finish
   left fault = record { reply = Refused fault (bare_tail asked.args); set = s }
 
   abbrev written_by : List Op → Turned
-  written_by ops = record { reply = finish (replay s) (replay (appended a.own now s ops)) a.view asked.caller asked.args ops; set = appended a.own now s ops }
+  written_by ops = record { reply = finish (replay s) (replay (appended a.own One now s ops)) a.view asked.caller asked.args ops; set = appended a.own One now s ops }
 
   abbrev turned_by : Bool → Turned
   turned_by b = cond b (by_plan a s asked now (plan (replay s) a.view asked.caller asked.args now a.own (own_seq a.own s + 1))) (record { reply = answer (replay s) a.view asked.caller asked.args; set = s })
@@ -94,7 +96,7 @@ module _ (answers_are : AnswersAreReplies) (plans_are : PlansAreReplies) (finish
       by : (full failed : Bool) → TreeFits (replay (cond full (left RoFs) (cond failed (left ServerFault) (written_by ops))).set) → IsFittingReply asked.args (cond full (left RoFs) (cond failed (left ServerFault) (written_by ops))).reply
       by true failed t = bare_fits asked.args RoFs changes
       by false true t = bare_fits asked.args ServerFault changes
-      by false false t = finishes_are (replay s) (replay (appended a.own now s ops)) a.view asked.caller asked.args now a.own (own_seq a.own s + 1) ops tree t is
+      by false false t = finishes_are (replay s) (replay (appended a.own One now s ops)) a.view asked.caller asked.args now a.own (own_seq a.own s + 1) ops tree t is
 
   turn_fits : TreeFits (replay (turn_on a s asked now).set) → IsFittingReply asked.args (turn_on a s asked now).reply
   turn_fits after = by (is_changing asked.args) refl after
@@ -129,7 +131,7 @@ module _ (answers_are : AnswersAreReplies) (plans_are : PlansAreReplies) (finish
     (alone : alone_answer view asked.args ≡ None) where
   -- the reply by the definition is one of the procedure's
   module _ (reply read : Reply) (fits : IsFittingReply asked.args read) (same : bytes_of read ≡ bytes_of reply) where
-    as_read : {h : Holding} {written : List Record} → IsByDefinition signs given a view fails asked now h written reply → IsByDefinition signs given a view fails asked now h written read
+    as_read : {h : Holding} {written : List Record} → IsByDefinition signs given (record { agent = a; view = view; now = now; fails = fails }) asked h written reply → IsByDefinition signs given (record { agent = a; view = view; now = now; fails = fails }) asked h written read
     as_read by heads met s knew known apart knows may =
         let t = by heads met s knew known apart knows may in
         let begun = some_records (stamp_at a.floor (head_key_of (own signs a))) (log_of (own signs a) known) kept.some (knows.by_floor.ends (own signs a) in_view.1) in
@@ -147,11 +149,11 @@ module _ (answers_are : AnswersAreReplies) (plans_are : PlansAreReplies) (finish
           holds = t.holds;
         }
 
-    pub reply_of : {end : TurnEnd} {after : Agent S} {saving : Option (Kept S)} (applied : ℕ) → end ≡ Answered reply applied → Turns signs given a view fails asked now end after saving
-        → Turns signs given a view fails asked now (Answered read applied) after saving
+    pub reply_of : {end : TurnEnd} {after : Agent S} {saving : Option (Kept S)} (applied : ℕ) → end ≡ Answered reply applied → Turns signs given (record { agent = a; view = view; now = now; fails = fails }) asked end after saving
+        → Turns signs given (record { agent = a; view = view; now = now; fails = fails }) asked (Answered read applied) after saving
     reply_of applied e (behind is) = absurd (behind_or_answered reply applied e)
     reply_of applied e (below near is) = absurd (below_or_answered reply applied e)
     reply_of applied e (answers h written other after saving near over basis takes becomes by) =
         let both = same_answer other reply _ applied e in
-        subst (λ (n : ℕ). Turns signs given a view fails asked now (Answered read n) after saving) both.1
-        (answers h written read after saving near over basis takes becomes (as_read (subst (IsByDefinition signs given a view fails asked now h written) both.0 by)))
+        subst (λ (n : ℕ). Turns signs given (record { agent = a; view = view; now = now; fails = fails }) asked (Answered read n) after saving) both.1
+        (answers h written read after saving near over basis takes becomes (as_read (subst (IsByDefinition signs given (record { agent = a; view = view; now = now; fails = fails }) asked h written) both.0 by)))

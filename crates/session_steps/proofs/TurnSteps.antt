@@ -60,7 +60,7 @@ use Rattle.world_model.specs.Agents.{Agent, Kept, IsKept, IsTurnIn, TakesTurn, h
 use Rattle.world_model.specs.Keepers.{Keeper, asked_to_save, fails_next}
 use Rattle.world_model.specs.Story.{known_of}
 use Rattle.world_model.specs.World.{World, Participant, named_bytes, participant, with_participant}
-use Rattle.world_model.specs.Steps.{Scene, after_turn, having_made, met_by, turn_told, with_cache, world_after}
+use Rattle.world_model.specs.Steps.{Scene, after_turn, having_made, met_by, turn_told, turning_of, with_cache, world_after}
 use Rattle.world_model.specs.Steps.Acts.{turns as acts_turns, is_refused}
 use Rattle.world_model.specs.Steps.Steps.{acts, lacks_memory}
 use Rattle.world_laws.specs.Keeps.{IsInHand, IsKeptSo, IsSavedWell, Keeps}
@@ -83,10 +83,10 @@ asks_one_number view message xid number asked other a b = sym a.xid_is ∙ ap (�
 
 -- by the keeper's next save, and the keeper as it was asked then
 module _ (brought : ModelRefresh) (a : Agent) (view : View) (asked : ModelAsked) (now : Moment) (k new : Keeper) (end : TurnEnd) (after : Agent) where
-  by_keeper : (saving : Option Kept) (fails : Bool) → Turns hss brought a view fails asked now end after saving → (saving ≡ None → (other : Bool) → Turns hss brought a view other asked now end after saving)
-      → Saves memory_saves k (option_map kept_bytes saving) fails new → Turns hss brought a view (fails_next k) asked now end after saving × (new ≡ asked_to_save k saving)
+  by_keeper : (saving : Option Kept) (fails : Bool) → Turns hss brought (record { agent = a; view = view; now = now; fails = fails }) asked end after saving → (saving ≡ None → (other : Bool) → Turns hss brought (record { agent = a; view = view; now = now; fails = other }) asked end after saving)
+      → Saves memory_saves k (option_map kept_bytes saving) fails new → Turns hss brought (record { agent = a; view = view; now = now; fails = fails_next k }) asked end after saving × (new ≡ asked_to_save k saving)
   by_keeper None fails turns either saved = (either refl (fails_next k), saved)
-  by_keeper (Some kept) fails turns either saved = (subst (λ (b : Bool). Turns hss brought a view b asked now end after (Some kept)) saved.0 turns, saved.1)
+  by_keeper (Some kept) fails turns either saved = (subst (λ (b : Bool). Turns hss brought (record { agent = a; view = view; now = now; fails = b }) asked end after (Some kept)) saved.0 turns, saved.1)
 
 had_so : (p : Participant) (view : View) (refresh : Refresh) (asked : Asked) (now : Moment) (fails : Bool) (end : TurnEnd) (after : Holder Keeper Signer)
     → TurnsAs hss IsSigner memory_saves view (refresh_of refresh) (asked_of asked) now (holder_of p) fails end after → HadTurn p view refresh asked now end after
@@ -111,12 +111,12 @@ same_reply : (reply other : Reply) (applied count : ℕ) → Answered reply appl
 same_reply reply other applied count e = cc e
 
 by_definition : {given : ModelRefresh} {a : Agent} {view : View} {fails : Bool} {asked : ModelAsked} {now : Moment} {end : TurnEnd} {after : Agent} {saving : Option Kept} (reply : Reply) (applied : ℕ)
-    → Turns hss given a view fails asked now end after saving → end ≡ Answered reply applied
-    → (h : Holding) × (written : List Record) × IsByDefinition hss given a view fails asked now h written reply
+    → Turns hss given (record { agent = a; view = view; now = now; fails = fails }) asked end after saving → end ≡ Answered reply applied
+    → (h : Holding) × (written : List Record) × IsByDefinition hss given (record { agent = a; view = view; now = now; fails = fails }) asked h written reply
 by_definition reply applied (behind is) e = absurd (other_end reply applied e)
 by_definition reply applied (below near is) e = absurd (below_end reply applied e)
 by_definition {given = given} {a = a} {view = view} {fails = fails} {asked = asked} {now = now} reply applied (answers_it h written other after saving near over basis takes becomes by) e =
-    (h, written, subst (IsByDefinition hss given a view fails asked now h written) (same_reply other reply _ applied e) by)
+    (h, written, subst (IsByDefinition hss given (record { agent = a; view = view; now = now; fails = fails }) asked h written) (same_reply other reply _ applied e) by)
 
 -- ---- the world then
 
@@ -233,14 +233,14 @@ module _ {J : Type 0} (judges : Judges J) (c : Scene) (r : ℕ) (p : Participant
 
     -- the turn, and what it leaves
     abbrev IsTurn : TurnEnd → Option Kept → Type 0
-    IsTurn end saving = Turns hss (refresh_of refresh) p.agent view (fails_next p.keeper) (asked_of asked) c.world.now end after.agent saving × (after.keeper ≡ asked_to_save p.keeper saving)
+    IsTurn end saving = Turns hss (refresh_of refresh) (turning_of c.world p view) (asked_of asked) end after.agent saving × (after.keeper ≡ asked_to_save p.keeper saving)
 
     -- ---- it was answered
 
     record IsTurnTold (notes : List Note) (xid : ℕ) (reply : Reply) : Type 0 where
       told : ModelTurned
       replies : told.reply ≡ reply
-      is_turn : NamesTellApart (named_bytes here.world) → IsTurnIn (named_bytes here.world) here.world.now mine.agent view (fails_next mine.keeper) h.taken c.began.knew (known_of c.story p.name) told
+      is_turn : NamesTellApart (named_bytes here.world) → IsTurnIn (named_bytes here.world) (turning_of here.world mine view) h.taken c.began.knew (known_of c.story p.name) told
 
     turn_told_so : (notes : List Note) (xid : ℕ) (reply : Reply) (applied : ℕ) (saving : Option Kept) → HasRefreshed h.taken notes (refresh_of refresh) → Asks view h.taken.message xid (asked_of asked) → IsTurn (Answered reply applied) saving
         → IsTurnTold notes xid reply
@@ -324,7 +324,7 @@ module _ {J : Type 0} (judges : Judges J) (c : Scene) (r : ℕ) (p : Participant
     -- ---- it was refused
 
     module _ (end : TurnEnd) (refusal : IsRefusal end) (saving : Option Kept) (turn : IsTurn end saving) where
-      refused_step : (t : Session) → TakesTurn c.world.now p.agent view (fails_next p.keeper) h.taken end after.agent saving t → IsLeft judges (c.session.starts < 2) t new → given_at t.stage ≡ given_of None → IsStep judges c r new (c.session.starts < 2) (world_after c.world (turned_participant mine after)) (given_of None)
+      refused_step : (t : Session) → TakesTurn (turning_of c.world p view) h.taken end after.agent saving t → IsLeft judges (c.session.starts < 2) t new → given_at t.stage ≡ given_of None → IsStep judges c r new (c.session.starts < 2) (world_after c.world (turned_participant mine after)) (given_of None)
       refused_step t takes left gives = record {
         next = record here { world = world_after here.world (after_turn mine after.agent saving); session = t; began = record c.began { knew = known_of c.story p.name } };
         steps = acts p h.taken cache _ is.is_by h.takes (is_refused view end after.agent saving t in_view refusal takes);

@@ -92,7 +92,7 @@ module _ (p : Participant) (view : View) (refresh : Refresh) (asked : Asked) (no
   -- The participant's agent had its turn, whose save fails exactly where the keeper plans it; and the keeper was asked to save, where it was.
   pub record HadTurn (end : TurnEnd) (after : Holder Keeper Signer) : Type 0 where
     pub saving : Option Kept
-    pub turns : Turns hss (refresh_of refresh) p.agent view (fails_next p.keeper) (asked_of asked) now end after.agent saving
+    pub turns : Turns hss (refresh_of refresh) (record { agent = p.agent; view = view; now = now; fails = fails_next p.keeper }) (asked_of asked) end after.agent saving
     pub keeper : after.keeper ≡ asked_to_save p.keeper saving
 
   -- how it ended, and what was given; where memory is wanting nothing changes

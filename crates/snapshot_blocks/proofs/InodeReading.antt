@@ -10,7 +10,7 @@ use Rattle.wire_model.proofs.Fronts.{both, no_first, no_second, front_of_parts}
 use Rattle.wire_model.proofs.Dependent.{PartsOf, none_of_some}
 use Rattle.log_model.specs.Spelling.{IsKey}
 use Rattle.snapshot_model.specs.Blocks.{Listed, InodeBlock, inode_block, attributes_bytes, listed_bytes, AreAttributes, IsListed}
-use Rattle.block_parts.specs.Parts.{constant_bytes, key_bytes, kind_word, IsAtMost}
+use Rattle.block_parts.specs.Parts.{constant_bytes, key_bytes, kind_word, longest_file, IsAtMost}
 use Rattle.snapshot_model.specs.Parts.{HasInodeParts}
 use Rattle.block_parts.proofs.OneParts.{one_key, one_kind, one_size}
 use Rattle.snapshot_model.proofs.OneBlock.{InodeParts, inode_parts, of_inode_parts, one_attributes}
@@ -34,7 +34,7 @@ one_three : ReadsOne IsThree three
 one_three = one_constant magic ▷ one_key ▷ one_kind
 
 abbrev HasParts : InodeParts → Type 0
-HasParts p = (((IsThree p.0.0.0.0 × AreAttributes p.0.0.0.1) × IsAtMost 16777216 p.0.0.1) × IsUpTo 1024 p.0.1) × IsListed 3 p.1
+HasParts p = (((IsThree p.0.0.0.0 × AreAttributes p.0.0.0.1) × IsAtMost longest_file p.0.0.1) × IsUpTo 1024 p.0.1) × IsListed 3 p.1
 
 abbrev parts_bytes : InodeParts → List ℕ
 parts_bytes p = three p.0.0.0.0 ++ attributes_bytes p.0.0.0.1 ++ double_word p.0.0.1 ++ opaque p.0.1 ++ listed_bytes p.1
@@ -43,7 +43,7 @@ parts_of : (b : InodeBlock) → HasInodeParts b → PartsOf HasParts parts_bytes
 parts_of b f = record { part = inode_parts b; fits = f; spelled = refl }
 
 without_three : {bytes : List ℕ} → HasNoFront IsThree three bytes → HasNoFront HasInodeParts inode_block bytes
-without_three absent = none_of_some parts_of (no_first (IsListed 3) listed_bytes (no_first (IsUpTo 1024) opaque (no_first (IsAtMost 16777216) double_word (no_first AreAttributes attributes_bytes absent))))
+without_three absent = none_of_some parts_of (no_first (IsListed 3) listed_bytes (no_first (IsUpTo 1024) opaque (no_first (IsAtMost longest_file) double_word (no_first AreAttributes attributes_bytes absent))))
 
 one_target : ReadsOne (IsUpTo 1024) opaque
 one_target = one_short_opaque 1024 (omega arith)
@@ -64,13 +64,13 @@ module _ {b0 b1 : List ℕ} {u : Unit {0}} (f : IsFront IsAny (constant_bytes ma
       front_three = both (both f g) h
 
       pub no_attributes : HasNoFront AreAttributes attributes_bytes b3 → HasNoFront HasInodeParts inode_block b0
-      no_attributes absent = none_of_some parts_of (no_first (IsListed 3) listed_bytes (no_first (IsUpTo 1024) opaque (no_first (IsAtMost 16777216) double_word (no_second one_three front_three absent))))
+      no_attributes absent = none_of_some parts_of (no_first (IsListed 3) listed_bytes (no_first (IsUpTo 1024) opaque (no_first (IsAtMost longest_file) double_word (no_second one_three front_three absent))))
 
       module _ {b4 : List ℕ} {attributes : Attributes} (i : IsFront AreAttributes attributes_bytes b3 attributes b4) where
-        pub no_size : HasNoFront (IsAtMost 16777216) double_word b4 → HasNoFront HasInodeParts inode_block b0
+        pub no_size : HasNoFront (IsAtMost longest_file) double_word b4 → HasNoFront HasInodeParts inode_block b0
         no_size absent = none_of_some parts_of (no_first (IsListed 3) listed_bytes (no_first (IsUpTo 1024) opaque (no_second (one_three ▷ one_attributes) (both front_three i) absent)))
 
-        module _ {b5 : List ℕ} {size : ℕ} (j : IsFront (IsAtMost 16777216) double_word b4 size b5) where
+        module _ {b5 : List ℕ} {size : ℕ} (j : IsFront (IsAtMost longest_file) double_word b4 size b5) where
           pub no_target : HasNoFront (IsUpTo 1024) opaque b5 → HasNoFront HasInodeParts inode_block b0
           no_target absent = none_of_some parts_of (no_first (IsListed 3) listed_bytes (no_second (one_three ▷ one_attributes ▷ one_size) (both (both front_three i) j) absent))
 

@@ -10,14 +10,14 @@ use Rattle.log_model.specs.Rank.{Rank}
 use Rattle.log_model.specs.Vector.{Vector}
 use Rattle.log_model.specs.Spelling.{IsBlock, IsKey, vector_entry}
 use Rattle.version_vectors.specs.Vectors.{VectorFits}
-use Rattle.version_vectors.specs.declared.fault.VectorFault.{VectorFault}
-use Rattle.version_vectors.specs.declared.fault.VectorFault.TheVariants as vector
+use Rattle.block_parts.specs.declared.fault.BlockFault.{BlockFault}
+use Rattle.block_parts.specs.declared.fault.BlockFault.TheVariants as block
 use Rattle.version_vectors.specs.Reading.{ReadFault}
 use Rattle.snapshot_model.specs.Blocks.{Listed, RootBlock, root_block, rank_bytes, listed_bytes, IsRankSpelled, IsVectorSpelled, IsListed, IsRootBlock}
 use Rattle.block_parts.specs.Parts.{constant_bytes, as_it_stands, key_bytes, IsOptional}
 use Rattle.block_parts.proofs.OneParts.{one_block, one_key}
 use Rattle.snapshot_model.proofs.OneBlock.{RootParts, root_parts, of_root_parts, one_front, one_tide}
-use Rattle.snapshot_blocks.specs.Refusals.{RefusesFront, fault_of_vector}
+use Rattle.snapshot_blocks.specs.Refusals.{RefusesFront}
 use Rattle.block_parts.proofs.Constants.{one_constant}
 
 -- ---- ranks
@@ -80,9 +80,9 @@ module _ {b0 b1 : List ℕ} {u : Unit {0}} (f : IsFront IsAny (constant_bytes ma
     no_vector : HasNoFront IsVectorSpelled (array vector_entry) b2 → HasNoFront IsRootBlock root_block b0
     no_vector absent = none_of_some parts_of (no_first (IsListed 3) listed_bytes (no_first (IsOptional IsRankSpelled) (optional rank_bytes) (no_second (one_constant magic ▷ one_key) (both f g) absent)))
 
-    pub no_front : (fault : VectorFault) → ReadFault 4294967295 b2 fault → RefusesFront IsRootBlock root_block b0 (fault_of_vector fault)
-    no_front vector.Malformed absent = no_vector (none_of_fewer short_vector absent)
-    no_front vector.Memory absent = tt
+    pub no_front : (fault : BlockFault) → ReadFault 4294967295 b2 fault → RefusesFront IsRootBlock root_block b0 fault
+    no_front block.Malformed absent = no_vector (none_of_fewer short_vector absent)
+    no_front block.Memory absent = tt
 
     module _ {b3 : List ℕ} {front : Vector} (h : IsFront IsVectorSpelled (array vector_entry) b2 front b3) where
       pub no_tide_behind : HasNoFront (IsOptional IsRankSpelled) (optional rank_bytes) b3 → HasNoFront IsRootBlock root_block b0

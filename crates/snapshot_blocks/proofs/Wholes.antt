@@ -4,8 +4,8 @@ use Rattle.std.specs.Prelude.{◌≢◌}
 use Rattle.std.proofs.lemmas.List.{append-nil}
 use Rattle.wire_model.specs.OneReading.{ReadsOne, IsFront, HasNoFront}
 use Rattle.snapshot_model.specs.Blocks.{Says}
-use Rattle.snapshot_blocks.specs.declared.fault.BlockFault.{BlockFault}
-use Rattle.snapshot_blocks.specs.declared.fault.BlockFault.TheVariants.{Malformed, Memory}
+use Rattle.block_parts.specs.declared.fault.BlockFault.{BlockFault}
+use Rattle.block_parts.specs.declared.fault.BlockFault.TheVariants.{Malformed, Memory}
 use Rattle.snapshot_blocks.specs.Refusals.{SaysNothing, Refuses, RefusesFront}
 
 -- what is at the front is the whole where nothing follows

@@ -1,11 +1,9 @@
 -- When a reader of a block refuses.
 use Rattle.std.specs.Prelude.{List, ℕ}
 use Rattle.wire_model.specs.OneReading.{HasNoFront}
-use Rattle.version_vectors.specs.declared.fault.VectorFault.{VectorFault}
-use Rattle.version_vectors.specs.declared.fault.VectorFault.TheVariants as vector
 use Rattle.snapshot_model.specs.Blocks.{Says}
-use Rattle.snapshot_blocks.specs.declared.fault.BlockFault.{BlockFault}
-use Rattle.snapshot_blocks.specs.declared.fault.BlockFault.TheVariants as fault
+use Rattle.block_parts.specs.declared.fault.BlockFault.{BlockFault}
+use Rattle.block_parts.specs.declared.fault.BlockFault.TheVariants as fault
 
 -- it is no block of that form
 abbrev pub SaysNothing : {A : Type 0} → (A → Type 0) → (A → List ℕ) → List ℕ → Type 0
@@ -20,7 +18,3 @@ Refuses Fits spell block fault.Memory = Unit {0}
 abbrev pub RefusesFront : {A : Type 0} → (A → Type 0) → (A → List ℕ) → List ℕ → BlockFault → Type 0
 RefusesFront Fits spell bytes fault.Malformed = HasNoFront Fits spell bytes
 RefusesFront Fits spell bytes fault.Memory = Unit {0}
-
-abbrev pub fault_of_vector : VectorFault → BlockFault
-fault_of_vector vector.Malformed = fault.Malformed
-fault_of_vector vector.Memory = fault.Memory

@@ -9,9 +9,8 @@ ghost use Rattle.snapshot_blocks.specs.Parsed.{entries_of, entry_of};
 ghost use Rattle.snapshot_blocks.specs.Parts.{AreSomeEntries};
 ghost use Rattle.snapshot_blocks.specs.Refusals.{Refuses, RefusesFront};
 
-use crate::fault::BlockFault;
 use block_parts::{
-    Malformed, opaque_len, put_constant, put_key, read_constant, read_key, read_name,
+    BlockFault, Malformed, opaque_len, put_constant, put_key, read_constant, read_key, read_name,
 };
 use ivy_base::{Bytes, Key, Memory};
 use std::alloc::Global;

@@ -4,14 +4,15 @@ ghost use Rattle.std.specs.Prelude.{◌≡◌, ◌≤◌, ◌↔◌, IsTrue, len
 ghost use Rattle.wire_model.specs.OneReading.{IsFront, HasNoFront};
 ghost use Rattle.snapshot_model.specs.Blocks.{IsInodeBlock, Says, inode_block};
 ghost use Rattle.snapshot_model.specs.Parts.{FitsKind, HasInodeParts};
+ghost use Rattle.block_parts.specs.Parts.{longest_file};
 ghost use Rattle.snapshot_blocks.specs.Parsed.{inode_of};
 ghost use Rattle.snapshot_blocks.specs.Refusals.{SaysNothing};
 
 use crate::attributes::{put_attributes, read_attributes};
 use crate::listed::{Listed, put_listed, read_listed};
 use block_parts::{
-    Malformed, kind_number, opaque_len, put_constant, put_key, read_constant, read_key, read_kind,
-    read_size,
+    LONGEST_TARGET, Malformed, kind_number, opaque_len, put_constant, put_key, read_constant,
+    read_key, read_kind, read_size,
 };
 use inode_replay::Attr;
 use ivy_base::{Bytes, Key, Kind, Memory};
@@ -20,9 +21,6 @@ use xdr_codec::{XdrRead, XdrWrite};
 
 /// What the block of an inode begins with.
 const MAGIC: [u8; 4] = *b"IVI1";
-
-/// The most bytes of a symbolic link's text.
-const LONGEST_TARGET: u32 = 1024;
 
 /// An inode, but for what the blocks of its list have.
 #[derive(Clone, Copy)]
@@ -33,7 +31,7 @@ pub struct InodeBlock<'a> {
     pub kind: Kind,
     /// The mode, the user, the group and the moments.
     pub attributes: Attr,
-    /// The size of a file, at most 16,777,216; of others 0.
+    /// The size of a file, at most `LONGEST_FILE` of `block_parts`; of others 0.
     pub size: u64,
     /// The text of a symbolic link, 1 to 1,024 bytes; of others nothing.
     pub target: &'a [u8],
@@ -108,7 +106,7 @@ fn read_parts<'a>(reader: &mut XdrRead<'a>) -> Result<InodeBlock<'a>, Malformed>
 
 /// Whether the size, the text and the list are those of an inode of that kind.
 fn fits_kind(inode: &InodeBlock<'_>) -> bool
-    requires size { inode.now.size ≤ 16777216 }
+    requires size { inode.now.size ≤ longest_file }
     requires target { length inode.now.target.now ≤ 1024 }
     requires level { inode.now.items.level ≤ 3 }
     ensures { IsTrue result ↔ FitsKind inode.now.kind inode.now.size inode.now.target.now inode.now.items.level }

@@ -15,7 +15,6 @@
 
 mod attributes;
 pub mod entries;
-pub mod fault;
 pub mod inode;
 pub mod list;
 pub mod listed;
@@ -23,7 +22,6 @@ mod piece;
 pub mod root;
 
 pub use entries::{Entry, read_entries, write_entries};
-pub use fault::BlockFault;
 pub use inode::InodeBlock;
 pub use list::{read_list, write_list};
 pub use listed::Listed;

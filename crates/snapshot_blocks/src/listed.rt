@@ -6,12 +6,9 @@ ghost use Rattle.wire_model.specs.OneReading.{IsFront, HasNoFront};
 ghost use Rattle.snapshot_model.specs.Blocks.{IsListed, listed_bytes};
 ghost use Rattle.snapshot_blocks.specs.Parsed.{listed_of};
 
-use block_parts::{Malformed, put_key, read_at_most, read_key};
+use block_parts::{Malformed, NO_NAME, put_key, read_at_most, read_key};
 use ivy_base::Key;
 use xdr_codec::{XdrRead, XdrWrite};
-
-/// In place of a name, where there is none.
-const NO_NAME: Key = Key([0; 20]);
 
 /// A list of blocks, by the topmost of its list blocks.
 #[derive(Clone, Copy)]

@@ -9,10 +9,9 @@ ghost use Rattle.snapshot_blocks.specs.Parsed.{root_of, tide_of};
 ghost use Rattle.block_parts.specs.Parts.{IsOptional, optional_size};
 ghost use Rattle.snapshot_blocks.specs.Refusals.{Refuses, RefusesFront};
 
-use crate::fault::BlockFault;
 use crate::listed::{Listed, put_listed, read_listed};
 use block_parts::{
-    Malformed, put_constant, put_key, put_owner, read_block, read_constant, read_key,
+    BlockFault, Malformed, put_constant, put_key, put_owner, read_block, read_constant, read_key,
 };
 use ivy_base::{Bytes, Key, Memory, PubKey};
 use std::alloc::Global;

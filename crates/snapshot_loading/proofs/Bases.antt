@@ -14,7 +14,7 @@ use Rattle.snapshot_model.proofs.OneNames.{one_said}
 use Rattle.snapshot_loading.specs.Forests.{Forest, nothing, block, flat, named_in, mades, Fits, below_by}
 use Rattle.snapshot_loading.specs.Wholes.{ShowInodes, ShowsBasis}
 use Rattle.snapshot_loading.proofs.Forests.{AllAre}
-use Rattle.snapshot_loading.proofs.Inodes.{items_are, spelled_list, shown_inodes_are_made}
+use Rattle.snapshot_loading.proofs.ShownInodes.{items_are, spelled_list, shown_inodes_are_made}
 use Rattle.snapshot_loading.proofs.OneForest.{reads_flat}
 
 first_made : (m : Made) (ms : List Made) (k : Made) → m ∷ [] ≡ k ∷ [] → m ∷ ms ≡ k ∷ ms

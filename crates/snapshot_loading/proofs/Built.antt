@@ -17,7 +17,7 @@ use Rattle.dir_replay.specs.View.{names_in}
 use Rattle.snapshot_model.specs.Blocks.{InodeBlock, most_bytes}
 use Rattle.snapshot_model.specs.Reading.{IsWholeTree}
 use Rattle.snapshot_model.proofs.SameNames.{names_there, shown, sorted_same}
-use Rattle.snapshot_loading.proofs.Order.{listed_ascend}
+use Rattle.snapshot_loading.proofs.PiecesInOrder.{listed_ascend}
 use Rattle.snapshot_loading.specs.declared.parts.InodeParts.{InodeParts}
 use Rattle.snapshot_loading.specs.Parts.{HasBody, IsBody, names_of, numbered, tree_of}
 use Rattle.snapshot_loading.specs.Steps.{NamesAscend}

@@ -15,7 +15,7 @@ use Rattle.snapshot_model.proofs.Pieces.{few_pieces, short_pieces, each_joined, 
 use Rattle.snapshot_model.proofs.MadeLists.{is_listed}
 use Rattle.snapshot_model.proofs.SameNames.{listed_fit}
 use Rattle.snapshot_loading.proofs.Fits.{AreListed, block_of, root_of, items_listed, size_fits, some_each, target_fits}
-use Rattle.snapshot_loading.proofs.Order.{pieces_ascend, listed_ascend}
+use Rattle.snapshot_loading.proofs.PiecesInOrder.{pieces_ascend, listed_ascend}
 use Rattle.snapshot_loading.specs.Forests.{Forest, nothing, block, flat, named_in, mades, Fits, children, below_by, AreFull}
 use Rattle.snapshot_loading.specs.ShownInodes.{AreContents, IsEvenList, ShowsInode, bytes_in, run_of}
 use Rattle.snapshot_loading.specs.Wholes.{ShowInodes, ShowsBasis}
@@ -25,7 +25,7 @@ use Rattle.snapshot_loading.proofs.Full.{pieces_full}
 use Rattle.snapshot_loading.proofs.Even.{up, enough, not_enough}
 use Rattle.snapshot_loading.proofs.Lists.{AreUp, are_up, ups, list_over, names_list, child, some_up, fits_one, few_by, many_by, even_lists_are_lists}
 use Rattle.snapshot_loading.proofs.OneForest.{forest_is_one}
-use Rattle.snapshot_loading.proofs.Inodes.{entries_as_pieces}
+use Rattle.snapshot_loading.proofs.ShownInodes.{entries_as_pieces}
 use Rattle.snapshot_loading.proofs.Bases.{inodes_made, shown_are_loaded, shown_reading}
 
 -- ---- lists

@@ -15,11 +15,11 @@ use Rattle.snapshot_model.proofs.SameNames.{listed_fit}
 use Rattle.snapshot_loading.specs.declared.load.Read.{Read}
 use Rattle.snapshot_loading.specs.Roles.{part_of}
 use Rattle.snapshot_loading.specs.Loading.{bytes_of}
-use Rattle.snapshot_loading.proofs.Order.{listed_ascend}
+use Rattle.snapshot_loading.proofs.PiecesInOrder.{listed_ascend}
 use Rattle.snapshot_loading.specs.Forests.{Forest, nothing, block, flat, named_in, Fits, below_by}
 use Rattle.snapshot_loading.specs.Wholes.{ShowsBasis}
 use Rattle.snapshot_loading.specs.WholeLaws.{blocks_read}
-use Rattle.snapshot_loading.proofs.Inodes.{items_are}
+use Rattle.snapshot_loading.proofs.ShownInodes.{items_are}
 use Rattle.snapshot_loading.proofs.OneForest.{read_is_forest}
 use Rattle.snapshot_loading.proofs.Canon.{loaded_is_shown}
 use Rattle.snapshot_loading.proofs.OneBasis.{snapshot_is_one}

@@ -16,7 +16,7 @@ use Rattle.snapshot_model.specs.Reading.{Part, Root, Listing, AnInode, Piece, En
 use Rattle.snapshot_model.proofs.Pieces.{few_pieces, short_pieces, each_joined}
 use Rattle.snapshot_model.proofs.MadeLists.{is_key, is_listed, most_under, few_below}
 use Rattle.snapshot_model.proofs.SameNames.{listed_fit}
-use Rattle.snapshot_loading.proofs.Order.{pieces_ascend, listed_ascend}
+use Rattle.snapshot_loading.proofs.PiecesInOrder.{pieces_ascend, listed_ascend}
 
 -- ---- blocks with those below them
 

@@ -1,7 +1,7 @@
 pub mod Left
 pub mod Loads
-pub mod Parts
-pub mod Order
+pub mod NamesInLists
+pub mod PiecesInOrder
 pub mod Fits
 pub mod Followed
 pub mod Forests
@@ -10,7 +10,7 @@ pub mod Even
 pub mod Same
 pub mod Lists
 pub mod OneForest
-pub mod Inodes
+pub mod ShownInodes
 pub mod Bases
 pub mod Canon
 pub mod SoundTrees

@@ -12,7 +12,7 @@ use Rattle.snapshot_model.proofs.OneBlock.{one_inode}
 use Rattle.snapshot_model.proofs.OneNames.{one_said}
 use Rattle.snapshot_model.proofs.Pieces.{each_joined, short_pieces}
 use Rattle.snapshot_loading.proofs.Fits.{some_each}
-use Rattle.snapshot_loading.proofs.Order.{pieces_ascend}
+use Rattle.snapshot_loading.proofs.PiecesInOrder.{pieces_ascend}
 use Rattle.snapshot_loading.specs.Forests.{Forest, nothing, block, flat, named_in, Fits, below_by}
 use Rattle.snapshot_loading.specs.ShownInodes.{AreContents, ShowsInode, bytes_in}
 use Rattle.snapshot_loading.specs.Wholes.{ShowInodes}

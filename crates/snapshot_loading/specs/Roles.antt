@@ -2,8 +2,8 @@
 use Rattle.std.specs.Prelude.{◌≡◌, ℕ, List, [], ◌∷◌, ◌++◌, map}
 use Rattle.ivy_base.specs.declared.key.Key.{Key}
 use Rattle.snapshot_model.specs.Reading.{Part, Root, Listing, AnInode, Piece, Entries, Names}
-use Rattle.snapshot_blocks.specs.declared.fault.BlockFault.{BlockFault}
-use Rattle.snapshot_blocks.specs.declared.fault.BlockFault.TheVariants as fault
+use Rattle.block_parts.specs.declared.fault.BlockFault.{BlockFault}
+use Rattle.block_parts.specs.declared.fault.BlockFault.TheVariants as fault
 use Rattle.snapshot_loading.specs.declared.role.Item.{Item}
 use Rattle.snapshot_loading.specs.declared.role.Item.TheVariants as item
 use Rattle.snapshot_loading.specs.declared.role.Role.{Role}

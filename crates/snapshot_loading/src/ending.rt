@@ -12,9 +12,10 @@ use crate::building::build;
 use crate::evenness::is_even;
 use crate::inodes::all_inodes;
 use crate::{Load, Read};
+use block_parts::BlockFault;
 use fs_tree::Basis;
 use ivy_base::Memory;
-use snapshot_blocks::{BlockFault, RootBlock};
+use snapshot_blocks::RootBlock;
 use std::alloc::Global;
 
 /// The basis that loading has come to; none where it has come to none. The error is want of memory.

@@ -4,8 +4,9 @@ ghost use Rattle.std.specs.Prelude.{◌≡◌, ◌++◌, map, option_map, IfOk, 
 ghost use Rattle.snapshot_blocks.specs.Parsed.{entries_of};
 ghost use Rattle.snapshot_loading.specs.Answers.{AreAllEntries};
 
+use block_parts::BlockFault;
 use ivy_base::{Bytes, Key, Memory};
-use snapshot_blocks::{BlockFault, Entry, read_entries};
+use snapshot_blocks::{Entry, read_entries};
 use std::alloc::Global;
 
 /// How many entries a block has, but for the last one of a directory.

@@ -8,9 +8,9 @@ ghost use Rattle.snapshot_loading.specs.Loading.{begun, wanted_of, ComesTo, Fail
 use crate::names::{Named, names};
 use crate::role::{Role, Wanted};
 use crate::todo::replace_next;
+use block_parts::BlockFault;
 use dhash_client::Miss;
 use ivy_base::{Bytes, Key, Memory};
-use snapshot_blocks::BlockFault;
 use std::alloc::Global;
 use std::collections::VecDeque;
 use std::marker::Model;

@@ -5,10 +5,9 @@ ghost use Rattle.snapshot_model.specs.Reading.{Names, item_of, part_below, top_o
 ghost use Rattle.snapshot_loading.specs.Roles.{blocks_in, item_part, part_of, parts_of, RefusesPart};
 
 use crate::role::{Item, Role};
+use block_parts::BlockFault;
 use ivy_base::{Key, Kind};
-use snapshot_blocks::{
-    BlockFault, InodeBlock, Listed, RootBlock, is_piece, read_entries, read_list,
-};
+use snapshot_blocks::{InodeBlock, Listed, RootBlock, is_piece, read_entries, read_list};
 use std::alloc::Global;
 
 /// What a block names.

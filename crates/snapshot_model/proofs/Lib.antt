@@ -9,3 +9,4 @@ pub mod Decided
 pub mod DecidedForms
 pub mod DecidedParts
 pub mod DecidedWhole
+pub mod SortedEntries

@@ -5,3 +5,4 @@ pub mod Waiting
 pub mod Tops
 pub mod Listings
 pub mod InOrder
+pub mod Rests

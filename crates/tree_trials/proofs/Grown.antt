@@ -18,7 +18,7 @@ use Rattle.log_model.proofs.Lists.{each_from}
 use Rattle.ring_model.proofs.Lists.{all_weaker}
 use Rattle.nfs_laws.specs.Replies.{TreeFits}
 use Rattle.nfs_laws.proofs.Replays.{count_apply_all, records_make_trees}
-use Rattle.session_laws.proofs.SortedEntries.{each_found}
+use Rattle.snapshot_model.proofs.SortedEntries.{each_found}
 use Rattle.turn_model.specs.Basis.{Basis}
 use Rattle.session_model.specs.Brought.{Brought}
 use Rattle.session_model.specs.Refreshing.{Loads, LoadsFor, Loaded}

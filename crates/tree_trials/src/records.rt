@@ -5,7 +5,7 @@ ghost use Rattle.log_model.specs.Spelling.{HasSpelling};
 ghost use Rattle.log_records.specs.Records.{record_of};
 
 use crate::inodes::OWNER;
-use ivy_base::{Bytes, Key, Memory, Moment, Op};
+use ivy_base::{Bytes, Format, Key, Memory, Moment, Op};
 use log_records::Record;
 use std::alloc::Global;
 use version_vectors::Vector;
@@ -19,6 +19,7 @@ fn block(alloc: Global, seq: u32, moment: Moment, op: Op) -> Result<Bytes, Memor
         vector: Vector::empty(alloc),
         moment,
         op,
+        format: Format::One,
     };
     let block = record.write(alloc);
     drop(record);

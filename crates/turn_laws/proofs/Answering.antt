@@ -4,6 +4,7 @@ use Rattle.std.specs.List.{AllByRecursion}
 use Rattle.std.specs.Option.{option_map_or}
 use Rattle.std.proofs.lemmas.List.{append-nil, map-append}
 use Rattle.std.proofs.lemmas.List.Elements.{Contains-append_right}
+use Rattle.ivy_base.specs.declared.format.Format.TheVariants.{One}
 use Rattle.ivy_base.specs.declared.key.Key.{Key}
 use Rattle.ivy_base.specs.declared.key.PubKey.{PubKey}
 use Rattle.ivy_base.specs.declared.operation.Moment.{Moment}
@@ -16,10 +17,10 @@ use Rattle.log_model.specs.Chain.{AllMayBeWritten, IsGood}
 use Rattle.log_model.specs.Closed.{IsClosed, log_of}
 use Rattle.log_model.specs.Laws.{NumbersAreKeys}
 use Rattle.log_model.specs.Rank.{front}
-use Rattle.log_model.specs.Record.{Record}
+use Rattle.log_model.specs.Record.{Heading, Record}
 use Rattle.log_model.specs.Replay.{effect, replay}
 use Rattle.log_model.specs.Spelling.{IsMoment, new_record, no_name}
-use Rattle.log_model.specs.Vector.{Stamp, Vector, reach, seq_of, stamp_at, without_log}
+use Rattle.log_model.specs.Vector.{Stamp, Vector, reach, seq_of, stamp_at}
 use Rattle.log_model.specs.View.{View, IsView}
 use Rattle.log_model.proofs.Later.{EndsWith, apply_more, good_of, replay_more}
 use Rattle.log_model.proofs.Lists.{each_from, each}
@@ -29,12 +30,13 @@ use Rattle.nfs_model.specs.declared.replies.NfsStatus.TheVariants.{ServerFault}
 use Rattle.nfs_model.specs.declared.replies.Reply.{Reply}
 use Rattle.nfs_model.specs.declared.replies.Reply.TheVariants.{Refused}
 use Rattle.turn_model.specs.Basis.{Holding, Knows, kept_tree}
-use Rattle.turn_model.specs.Turn.{Agent as Inputs, Asked, Turned, appended, bare_tail, linked, turn_on}
+use Rattle.turn_model.specs.Turn.{Inputs, Asked, Turned, appended, bare_tail, heading_over, linked, turn_on}
 use Rattle.turn_model.proofs.Kept.{kept_tree_is_replay}
 use Rattle.turn_model.proofs.Plans.{plan_may_be_written}
 use Rattle.turn_laws.proofs.Starts.{ends_with, own_stamp}
 use Rattle.turn_laws.proofs.Turns.{appended_closed, closed_makes_keys}
-use Rattle.agent_model.specs.Agent.{Agent, Signing, joined, own, own_reach}
+use Rattle.log_model.specs.Signing.{Signing}
+use Rattle.agent_model.specs.Agent.{Agent, joined, own, own_reach}
 use Rattle.agent_model.specs.Candidates.{MayTurn}
 use Rattle.agent_model.specs.Standing.{Refresh, Standing, going_on}
 use Rattle.agent_model.specs.Taking.{TakesNew, with_new}
@@ -55,22 +57,22 @@ held_more h records = ap (λ (l : List (Moment × Op)). apply_all h.basis.tree l
 
 -- ---- the records of some operations
 
-module _ (own : PubKey) (v : Vector) (now : Moment) where
-  all_next : (n : ℕ) (prev : Key) (ops : List Op) → AreNext n (linked own v now (n + 1) prev ops)
+module _ (heading : Heading) where
+  all_next : (n : ℕ) (prev : Key) (ops : List Op) → AreNext n (linked heading (n + 1) prev ops)
   all_next n prev [] = tt
-  all_next n prev (op ∷ ops) = (refl, all_next (n + 1) (new_record own (n + 1) prev v now op).name ops)
+  all_next n prev (op ∷ ops) = (refl, all_next (n + 1) (new_record heading (n + 1) prev op).name ops)
 
-  as_many : (n : ℕ) (prev : Key) (ops : List Op) → length (linked own v now n prev ops) ≡ length ops
+  as_many : (n : ℕ) (prev : Key) (ops : List Op) → length (linked heading n prev ops) ≡ length ops
   as_many n prev [] = refl
-  as_many n prev (op ∷ ops) = ap (λ (k : ℕ). suc k) (as_many (n + 1) (new_record own n prev v now op).name ops)
+  as_many n prev (op ∷ ops) = ap (λ (k : ℕ). suc k) (as_many (n + 1) (new_record heading n prev op).name ops)
 
-  all_owned : (n : ℕ) (prev : Key) (ops : List Op) → AllByRecursion (λ r. r.owner ≡ own) (linked own v now n prev ops)
+  all_owned : (n : ℕ) (prev : Key) (ops : List Op) → AllByRecursion (λ r. r.owner ≡ heading.owner) (linked heading n prev ops)
   all_owned n prev [] = tt
-  all_owned n prev (op ∷ ops) = (refl, all_owned (n + 1) (new_record own n prev v now op).name ops)
+  all_owned n prev (op ∷ ops) = (refl, all_owned (n + 1) (new_record heading n prev op).name ops)
 
-  all_octets : (n : ℕ) (prev : Key) (ops : List Op) → AllByRecursion HasOctets ops → AllByRecursion (λ r. HasOctets r.op) (linked own v now n prev ops)
+  all_octets : (n : ℕ) (prev : Key) (ops : List Op) → AllByRecursion HasOctets ops → AllByRecursion (λ r. HasOctets r.op) (linked heading n prev ops)
   all_octets n prev [] h = tt
-  all_octets n prev (op ∷ ops) h = (h.0, all_octets (n + 1) (new_record own n prev v now op).name ops h.1)
+  all_octets n prev (op ∷ ops) h = (h.0, all_octets (n + 1) (new_record heading n prev op).name ops h.1)
 
 module _ {S : Type 0} (signs : Signing S) (a : Agent S) (view : View) (brought : Refresh) (new : List Record) (asked : Asked) (now : Moment) (well : IsView view) (member : Contains view.members (own signs a))
     (takes : TakesNew view (own signs a) a.floor (going_on a brought.basis) brought new) where
@@ -101,22 +103,22 @@ module _ {S : Type 0} (signs : Signing S) (a : Agent S) (view : View) (brought :
 
   -- one record for each operation, over what is held
   abbrev over : Vector → List Op → List Record
-  over f ops = linked mine (without_log (head_key_of mine) f) now (seq_of f (head_key_of mine) + 1) (option_map_or (λ t. t.name) (stamp_at f (head_key_of mine)) no_name) ops
+  over f ops = linked (heading_over mine One now f) (seq_of f (head_key_of mine) + 1) (option_map_or (λ t. t.name) (stamp_at f (head_key_of mine)) no_name) ops
 
   abbrev pub written : List Op → List Record
   written ops = over (joined held) ops
 
   pub next_written : (ops : List Op) → AreNext far (written ops)
-  next_written ops = all_next mine (without_log (head_key_of mine) (joined held)) now far (option_map_or (λ t. t.name) (stamp_at (joined held) (head_key_of mine)) no_name) ops
+  next_written ops = all_next (heading_over mine One now (joined held)) far (option_map_or (λ t. t.name) (stamp_at (joined held) (head_key_of mine)) no_name) ops
 
   pub count_written : (ops : List Op) → length (written ops) ≡ length ops
-  count_written ops = as_many mine (without_log (head_key_of mine) (joined held)) now (far + 1) (option_map_or (λ t. t.name) (stamp_at (joined held) (head_key_of mine)) no_name) ops
+  count_written ops = as_many (heading_over mine One now (joined held)) (far + 1) (option_map_or (λ t. t.name) (stamp_at (joined held) (head_key_of mine)) no_name) ops
 
   pub octets_written : (ops : List Op) → AllByRecursion HasOctets ops → AllByRecursion (λ r. HasOctets r.op) (written ops)
-  octets_written ops h = all_octets mine (without_log (head_key_of mine) (joined held)) now (far + 1) (option_map_or (λ t. t.name) (stamp_at (joined held) (head_key_of mine)) no_name) ops h
+  octets_written ops h = all_octets (heading_over mine One now (joined held)) (far + 1) (option_map_or (λ t. t.name) (stamp_at (joined held) (head_key_of mine)) no_name) ops h
 
   owned_written : (ops : List Op) → AllByRecursion (λ r. r.owner ≡ mine) (written ops)
-  owned_written ops = all_owned mine (without_log (head_key_of mine) (joined held)) now (far + 1) (option_map_or (λ t. t.name) (stamp_at (joined held) (head_key_of mine)) no_name) ops
+  owned_written ops = all_owned (heading_over mine One now (joined held)) (far + 1) (option_map_or (λ t. t.name) (stamp_at (joined held) (head_key_of mine)) no_name) ops
 
   abbrev pub written_reply : List Op → Reply
   written_reply ops = finish (kept_tree held) (kept_tree (with_held held (written ops))) view asked.caller asked.args ops
@@ -148,11 +150,11 @@ module _ {S : Type 0} (signs : Signing S) (a : Agent S) (view : View) (brought :
     pub far_is : far ≡ own_reach signs a
     far_is = ap reach (own_ends heads met view mine a.floor a.holding (going_on a brought.basis) s knew known brought apart well knows (going_is_gone_on a brought.basis) may takes.caught_up takes.above new takes.part member)
 
-    turn_by : (fails : Bool) (turned : Turned) → turned ≡ turn_on (inputs signs a view fails) taken asked now → IsTurnBy signs heads met s knew known brought.started a view fails asked now taken turned
+    turn_by : (fails : Bool) (turned : Turned) → turned ≡ turn_on (inputs signs a view fails) taken asked now → IsTurnBy signs (record { heads = heads; met = met; standing = s; knew = knew; started = brought.started }) (record { agent = a; view = view; now = now; fails = fails }) known asked taken turned
     turn_by fails turned is = record { candidates = its.1.candidates; of_heads = its.1.of_heads; largest = its.1.largest; by_set = is }
 
     of_replies : (reply : Reply) → ((failing : Bool) → (a.has_failed ≡ true → failing ≡ true) → (t : List Record) → On t → turn_on (failing_by failing) t asked now ≡ still reply t)
-        → (fails : Bool) → IsTurnOf signs heads met s knew known brought.started a view fails asked now held [] reply
+        → (fails : Bool) → IsTurnOf signs (record { heads = heads; met = met; standing = s; knew = knew; started = brought.started }) (record { agent = a; view = view; now = now; fails = fails }) known asked held [] reply
     of_replies reply law fails = record {
       taken = taken;
       turned = still reply taken;
@@ -184,12 +186,12 @@ module _ {S : Type 0} (signs : Signing S) (a : Agent S) (view : View) (brought :
       may_stand : AllMayBeWritten mine (far + 1) ops
       may_stand = plan_may_be_written (kept_tree held) view asked.caller asked.args now mine (far + 1) ops keys caller fits moment appends.planned (let few = appends.few in omega (arith, few))
 
-      appended_is : appended mine now taken ops ≡ taken ++ written ops
+      appended_is : appended mine One now taken ops ≡ taken ++ written ops
       appended_is = ap (λ (f : Vector). taken ++ over f ops) front_is
 
       all_closed : IsClosed view (taken ++ written ops)
       all_closed = subst (IsClosed view) appended_is
-          (appended_closed (failing_by false) taken asked now last.0 well member closed last.1 caller fits moment ops (subst (λ (n : ℕ). AllMayBeWritten mine (n + 1) ops) (sym last_is) may_stand))
+          (appended_closed (failing_by false) taken asked now last.0 well member closed last.1 caller fits moment One ops (subst (λ (n : ℕ). AllMayBeWritten mine (n + 1) ops) (sym last_is) may_stand))
 
       pub good_written : AllByRecursion (IsGood view mine) (written ops)
       good_written = each_from (IsGood view mine) (written ops) (λ r c.
@@ -198,7 +200,7 @@ module _ {S : Type 0} (signs : Signing S) (a : Agent S) (view : View) (brought :
           each_of : (r : Record) → Contains (written ops) r → r.owner ≡ mine
           each_of r c = each (λ (x : Record). x.owner ≡ mine) (written ops) r (owned_written ops) c
 
-      tree_then : kept_tree (with_held held (written ops)) ≡ replay (appended mine now taken ops)
+      tree_then : kept_tree (with_held held (written ops)) ≡ replay (appended mine One now taken ops)
       tree_then =
           held_more held (written ops)
           ∙ ap (λ (t : Tree). apply_all t (map effect (written ops))) tree_is
@@ -212,7 +214,7 @@ module _ {S : Type 0} (signs : Signing S) (a : Agent S) (view : View) (brought :
         writes_so : taken ++ written ops ≡ (turn_on (inputs_before signs a view) taken asked now).set
         writes_so = sym appended_is ∙ ap (λ (t : Turned). t.set) (sym before_is)
 
-        of_saved : IsTurnOf signs heads met s knew known brought.started a view false asked now held (written ops) (written_reply ops)
+        of_saved : IsTurnOf signs (record { heads = heads; met = met; standing = s; knew = knew; started = brought.started }) (record { agent = a; view = view; now = now; fails = false }) known asked held (written ops) (written_reply ops)
         of_saved = record {
           taken = taken;
           turned = with_more ops taken;
@@ -222,7 +224,7 @@ module _ {S : Type 0} (signs : Signing S) (a : Agent S) (view : View) (brought :
           holds = its.1.holds;
         }
 
-        of_lost : IsTurnOf signs heads met s knew known brought.started a view true asked now held (written ops) lost_reply
+        of_lost : IsTurnOf signs (record { heads = heads; met = met; standing = s; knew = knew; started = brought.started }) (record { agent = a; view = view; now = now; fails = true }) known asked held (written ops) lost_reply
         of_lost = record {
           taken = taken;
           turned = still lost_reply taken;
@@ -235,13 +237,13 @@ module _ {S : Type 0} (signs : Signing S) (a : Agent S) (view : View) (brought :
   -- ---- by the definition
 
   pub replies_so : (reply : Reply) → ((failing : Bool) → (a.has_failed ≡ true → failing ≡ true) → (t : List Record) → On t → turn_on (failing_by failing) t asked now ≡ still reply t)
-      → (fails : Bool) → IsByDefinition signs brought a view fails asked now held [] reply
+      → (fails : Bool) → IsByDefinition signs brought (record { agent = a; view = view; now = now; fails = fails }) asked held [] reply
   replies_so reply law fails heads met s knew known apart knows may = of_replies heads met s knew known apart knows may reply law fails
 
   module _ (begun : 1 ≤ own_reach signs a) (caller : IsIdentity asked.caller) (fits : ArgumentsFit asked.args) (moment : IsMoment now) (ops : List Op) (appends : Appends ops)
       (saved : (t : List Record) → On t → turn_on (failing_by false) t asked now ≡ with_more ops t) (lost : (t : List Record) → On t → turn_on (failing_by true) t asked now ≡ still lost_reply t) where
-    pub saved_so : IsByDefinition signs brought a view false asked now held (written ops) (written_reply ops)
+    pub saved_so : IsByDefinition signs brought (record { agent = a; view = view; now = now; fails = false }) asked held (written ops) (written_reply ops)
     saved_so heads met s knew known apart knows may = of_saved heads met s knew known apart knows may begun caller fits moment ops appends saved lost
 
-    pub lost_so : IsByDefinition signs brought a view true asked now held (written ops) lost_reply
+    pub lost_so : IsByDefinition signs brought (record { agent = a; view = view; now = now; fails = true }) asked held (written ops) lost_reply
     lost_so heads met s knew known apart knows may = of_lost heads met s knew known apart knows may begun caller fits moment ops appends saved lost

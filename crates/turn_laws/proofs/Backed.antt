@@ -2,14 +2,16 @@
 use Rattle.std.proofs.Common.{◌≡◌, ◌⊎◌, inl, inr, ℕ, ◌+◌, ◌≤◌, Bool, true, false, cond, ◌||◌, List, [], ◌∷◌, length, map, Option, Some, refl, sym, ap, ◌∙◌, subst, arith, Contains}
 use Rattle.std.specs.Prelude.{nat_lt, ◌==◌}
 use Rattle.std.specs.List.{AllByRecursion}
+use Rattle.ivy_base.specs.declared.format.Format.{Format}
+use Rattle.ivy_base.specs.declared.format.Format.TheVariants.{One}
 use Rattle.ivy_base.specs.declared.key.Key.{Key}
 use Rattle.ivy_base.specs.declared.key.PubKey.{PubKey}
 use Rattle.ivy_base.specs.declared.operation.Moment.{Moment}
 use Rattle.ivy_base.specs.declared.operation.Op.{Op}
 use Rattle.ivy_base.specs.Naming.{head_key_of}
 use Rattle.tree_model.proofs.Keys.{same_key_itself}
-use Rattle.log_model.specs.Vector.{Entry, Vector, Stamp, stamp_at, reach, seq_of, Dominates, later_or, without_log}
-use Rattle.log_model.specs.Record.{Record}
+use Rattle.log_model.specs.Vector.{Entry, Vector, Stamp, stamp_at, reach, seq_of, Dominates, later_or}
+use Rattle.log_model.specs.Record.{Heading, Record}
 use Rattle.log_model.proofs.Standing.{stands_among_more}
 use Rattle.log_model.specs.Rank.{own_entry, full_vector, front}
 use Rattle.log_model.specs.Replay.{replay}
@@ -20,7 +22,7 @@ use Rattle.log_model.specs.Standing.{Stand}
 use Rattle.log_model.specs.Spelling.{new_record, most_records}
 use Rattle.nfs_model.specs.Changing.{is_changing, Plan, Refuse, Nothing, Operations, plan}
 use Rattle.turn_model.specs.Known.{IsUnderHead, IsBacked}
-use Rattle.turn_model.specs.Turn.{Agent, Asked, Turned, own_seq, own_name, linked, appended, by_plan, turn_on}
+use Rattle.turn_model.specs.Turn.{Inputs, Asked, Turned, own_seq, own_name, heading_over, linked, appended, by_plan, turn_on}
 use Rattle.turn_laws.specs.Verified.{AreAmong, KnownStaysBacked}
 
 -- ---- a front goes at least as far as each record of the set
@@ -70,10 +72,10 @@ module _ (own : PubKey) (blocks : List (List ℕ)) (heads : List Entry) where
   abbrev IsSound : Record → Type 0
   IsSound r = (r.owner ≡ own) ⊎ ((r.owner ≡ own → ⊥) × IsUnderHead blocks heads r)
 
-  linked_sound : (vector : Vector) (now : Moment) (seq : ℕ) (prev : Key) (ops : List Op) → AllByRecursion IsSound (linked own vector now seq prev ops)
-  linked_sound vector now seq prev [] = tt
-  linked_sound vector now seq prev (op ∷ ops) =
-      (inl refl, linked_sound vector now (seq + 1) ((new_record own seq prev vector now op).name) ops)
+  linked_sound : (h : Heading) → h.owner ≡ own → (seq : ℕ) (prev : Key) (ops : List Op) → AllByRecursion IsSound (linked h seq prev ops)
+  linked_sound h mine seq prev [] = tt
+  linked_sound h mine seq prev (op ∷ ops) =
+      (inl mine, linked_sound h mine (seq + 1) ((new_record h seq prev op).name) ops)
 
   -- the set is backed by its own front
   abbrev IsBackedByFront : List Record → Type 0
@@ -88,17 +90,17 @@ module _ (own : PubKey) (blocks : List (List ℕ)) (heads : List Entry) where
 
 -- ---- along a turn
 
-module _ (a : Agent) (blocks : List (List ℕ)) (heads : List Entry) (s : List Record) (sound : AllByRecursion (IsSound a.own blocks heads) s) (asked : Asked) (now : Moment) where
+module _ (a : Inputs) (blocks : List (List ℕ)) (heads : List Entry) (s : List Record) (sound : AllByRecursion (IsSound a.own blocks heads) s) (asked : Asked) (now : Moment) where
   abbrev Keeps : Turned → Type 0
   Keeps x = IsBackedByFront a.own blocks heads x.set
 
   same_set : IsBackedByFront a.own blocks heads s
   same_set = all_backed a.own blocks heads s sound
 
-  longer_set : (ops : List Op) → IsBackedByFront a.own blocks heads (appended a.own now s ops)
-  longer_set ops =
-      let new = linked_sound a.own blocks heads (without_log (head_key_of a.own) (front s)) now (own_seq a.own s + 1) (own_name a.own s) ops in
-      all_backed a.own blocks heads (appended a.own now s ops) (each_append (IsSound a.own blocks heads) s _ sound new)
+  longer_set : (format : Format) (ops : List Op) → IsBackedByFront a.own blocks heads (appended a.own format now s ops)
+  longer_set format ops =
+      let new = linked_sound a.own blocks heads (heading_over a.own format now (front s)) refl (own_seq a.own s + 1) (own_name a.own s) ops in
+      all_backed a.own blocks heads (appended a.own format now s ops) (each_append (IsSound a.own blocks heads) s _ sound new)
 
   chosen : (b c : Bool) (x y z : Turned) → Keeps x → Keeps y → Keeps z → Keeps (cond b x (cond c y z))
   chosen true c x y z p q o = p
@@ -108,7 +110,7 @@ module _ (a : Agent) (blocks : List (List ℕ)) (heads : List Entry) (s : List R
   in_plan : (p : Plan) → Keeps (by_plan a s asked now p)
   in_plan (Refuse reply) = same_set
   in_plan (Nothing reply) = same_set
-  in_plan (Operations ops) = chosen (a.leaves == 0 || nat_lt most_records (own_seq a.own s + length ops)) a.has_failed _ _ _ same_set same_set (longer_set ops)
+  in_plan (Operations ops) = chosen (a.leaves == 0 || nat_lt most_records (own_seq a.own s + length ops)) a.has_failed _ _ _ same_set same_set (longer_set One ops)
 
   either : (b : Bool) (x y : Turned) → Keeps x → Keeps y → Keeps (cond b x y)
   either true x y p q = p

@@ -22,7 +22,8 @@ use Rattle.turn_model.specs.Basis.{Holding, Knows, kept_tree}
 use Rattle.turn_model.specs.Turn.{Asked}
 use Rattle.turn_model.specs.Work.{applied_between}
 use Rattle.snapshot_model.specs.Blocks.{IsVectorSpelled}
-use Rattle.agent_model.specs.Agent.{Agent, Kept, Signing, failed, joined, kept_of, own, own_reach, sealed}
+use Rattle.log_model.specs.Signing.{Signing}
+use Rattle.agent_model.specs.Agent.{Agent, Kept, failed, joined, kept_of, own, own_reach, sealed}
 use Rattle.agent_model.specs.Candidates.{MayTurn}
 use Rattle.agent_model.specs.SavedBytes.{AreOpaque, ArePostsSpelled}
 use Rattle.agent_model.specs.Standing.{Refresh, Standing, going_on}
@@ -62,7 +63,7 @@ module _ {S : Type 0} (signs : Signing S) (a : Agent S) (view : View) (brought :
     (heads : Key → List Stamp) (met : List (List ℕ)) (s : Standing) (knew known : List Record) (apart : NamesTellApart met) (knows : Knows view a.floor a.holding known) (may : MayTurn heads met view (own signs a) s knew known brought) where
   -- how it ends, the agent then, and what is to be saved
   abbrev pub HasTurn : Type 0
-  HasTurn = (end : TurnEnd) × (after : Agent S) × (saving : Option (Kept S)) × Turns signs brought a view fails asked now end after saving
+  HasTurn = (end : TurnEnd) × (after : Agent S) × (saving : Option (Kept S)) × Turns signs brought (record { agent = a; view = view; now = now; fails = fails }) asked end after saving
 
   module _ (near : is_behind view (own signs a) a.floor (going_on a brought.basis) brought ≡ false) (over : is_below_tide (own signs a) a.floor (going_on a brought.basis) brought ≡ false)
       (new : List Record) (takes : TakesNew view (own signs a) a.floor (going_on a brought.basis) brought new) where
@@ -86,7 +87,7 @@ module _ {S : Type 0} (signs : Signing S) (a : Agent S) (view : View) (brought :
           own_log = omega (arith, reaches);
         }
 
-    answered : (records : List Record) (reply : Reply) (after : Agent S) (saving : Option (Kept S)) → Becomes signs view a h fails records after saving → IsByDefinition signs brought a view fails asked now h records reply → HasTurn
+    answered : (records : List Record) (reply : Reply) (after : Agent S) (saving : Option (Kept S)) → Becomes signs view a h fails records after saving → IsByDefinition signs brought (record { agent = a; view = view; now = now; fails = fails }) asked h records reply → HasTurn
     answered records reply after saving becomes defined = (
       Answered reply (applied_between (going_on a brought.basis).held h.held + length records),
       after,
@@ -131,22 +132,22 @@ module _ {S : Type 0} (signs : Signing S) (a : Agent S) (view : View) (brought :
           posts = posts;
         }
 
-        saved : fails ≡ false → IsByDefinition signs brought a view false asked now h (records ops) (written_reply signs a view brought new asked now m.well m.member takes ops) → HasTurn
+        saved : fails ≡ false → IsByDefinition signs brought (record { agent = a; view = view; now = now; fails = false }) asked h (records ops) (written_reply signs a view brought new asked now m.well m.member takes ops) → HasTurn
         saved is defined = answered (before ++ last ∷ []) (written_reply signs a view brought new asked now m.well m.member takes ops) (written_by signs a h before last) (Some (kept_of (written_by signs a h before last)))
             (saves before last may_write is)
-            (subst (λ (p : Bool × List Record). IsByDefinition signs brought a view p.0 asked now h p.1 (written_reply signs a view brought new asked now m.well m.member takes ops)) (λ i. (sym is i, are i)) defined)
+            (subst (λ (p : Bool × List Record). IsByDefinition signs brought (record { agent = a; view = view; now = now; fails = p.0 }) asked h p.1 (written_reply signs a view brought new asked now m.well m.member takes ops)) (λ i. (sym is i, are i)) defined)
 
-        lost : fails ≡ true → IsByDefinition signs brought a view true asked now h (records ops) (lost_reply signs a view brought new asked now m.well m.member takes) → HasTurn
+        lost : fails ≡ true → IsByDefinition signs brought (record { agent = a; view = view; now = now; fails = true }) asked h (records ops) (lost_reply signs a view brought new asked now m.well m.member takes) → HasTurn
         lost is defined = answered (before ++ last ∷ []) (lost_reply signs a view brought new asked now m.well m.member takes) (failed (taking signs a h)) (Some (kept_of (written_by signs a h before last)))
             (loses before last may_write is)
-            (subst (λ (p : Bool × List Record). IsByDefinition signs brought a view p.0 asked now h p.1 (lost_reply signs a view brought new asked now m.well m.member takes)) (λ i. (sym is i, are i)) defined)
+            (subst (λ (p : Bool × List Record). IsByDefinition signs brought (record { agent = a; view = view; now = now; fails = p.0 }) asked h p.1 (lost_reply signs a view brought new asked now m.well m.member takes)) (λ i. (sym is i, are i)) defined)
 
       -- where there are no operations the agent only takes
-      no_records : (reply : Reply) (b : Bool) → fails ≡ b → records ops ≡ [] → IsByDefinition signs brought a view b asked now h (records ops) reply → HasTurn
-      no_records reply b is none defined = answered [] reply (taking signs a h) None reads (subst (λ (p : Bool × List Record). IsByDefinition signs brought a view p.0 asked now h p.1 reply) (λ i. (sym is i, none i)) defined)
+      no_records : (reply : Reply) (b : Bool) → fails ≡ b → records ops ≡ [] → IsByDefinition signs brought (record { agent = a; view = view; now = now; fails = b }) asked h (records ops) reply → HasTurn
+      no_records reply b is none defined = answered [] reply (taking signs a h) None reads (subst (λ (p : Bool × List Record). IsByDefinition signs brought (record { agent = a; view = view; now = now; fails = p.0 }) asked h p.1 reply) (λ i. (sym is i, none i)) defined)
 
-      has_turn : (b : Bool) → fails ≡ b → IsByDefinition signs brought a view false asked now h (records ops) (written_reply signs a view brought new asked now m.well m.member takes ops)
-          → IsByDefinition signs brought a view true asked now h (records ops) (lost_reply signs a view brought new asked now m.well m.member takes) → HasTurn
+      has_turn : (b : Bool) → fails ≡ b → IsByDefinition signs brought (record { agent = a; view = view; now = now; fails = false }) asked h (records ops) (written_reply signs a view brought new asked now m.well m.member takes ops)
+          → IsByDefinition signs brought (record { agent = a; view = view; now = now; fails = true }) asked h (records ops) (lost_reply signs a view brought new asked now m.well m.member takes) → HasTurn
       has_turn false is kept gone = elim (ends_so (records ops)) [
         | inl none ↦ no_records _ false is none kept
         | inr w ↦ saved w.0 w.1 w.2 is kept

@@ -1,4 +1,4 @@
--- The head keys of a view's logs: each key has its own, and a vector of them has 32 entries at most.
+-- The head keys of a view's logs: each key has its own, and a vector of them has no more entries than a record may cite.
 use Rattle.std.proofs.Common.{◌≡◌, ⊎_elim, ◌≤◌, Bool, true, false, not, List, [], ◌∷◌, ◌++◌, length, length-append, map, refl, sym, ap, ◌∙◌, subst, arith, Contains}
 use Rattle.std.specs.Prelude.{IsTrue}
 use Rattle.std.specs.List.{AllByRecursion, IsDistinct, list_any, list_all}
@@ -17,7 +17,7 @@ use Rattle.ivy_base.specs.Naming.{key_cmp, head_key_of}
 use Rattle.tree_model.specs.Tree.{same_key}
 use Rattle.tree_model.proofs.Keys.{keys_total, same_key_is, same_key_itself}
 use Rattle.tree_model.proofs.Sound.{both_true}
-use Rattle.log_model.specs.View.{View, IsView, is_log_of, is_member, is_former, is_named, have_own_head_keys}
+use Rattle.log_model.specs.View.{View, IsView, most_cited, is_log_of, is_member, is_former, is_named, have_own_head_keys}
 use Rattle.log_model.specs.Vector.{Entry, Vector}
 use Rattle.log_model.proofs.Lists.{in_cons, in_nothing, or_left, or_right, or_cases, some_passes, who_passes, passes}
 use Rattle.log_model.proofs.Weights.{Sorted}
@@ -111,7 +111,7 @@ logs_distinct (e ∷ v) h =
     let parts = both_true (below_all key_cmp e.0 v) (is_sorted key_cmp v) h in
     IsDistinct-cons same_key e.0 (logs v) (below_apart e.0 v parts.0) (logs_distinct v parts.1)
 
-pub short_named : (view : View) (v : Vector) → IsView view → Sorted v → AllByRecursion (λ e. IsTrue (is_named view e.0)) v → length v ≤ 32
+pub short_named : (view : View) (v : Vector) → IsView view → Sorted v → AllByRecursion (λ e. IsTrue (is_named view e.0)) v → length v ≤ most_cited
 short_named view v well sorted named =
     let fewer : length (logs v) ≤ length (heads (view.members ++ view.former)) =
     length-le_from_is_member (eq_by_cmp_equiv keys_total) (logs v) (heads (view.members ++ view.former)) (logs_distinct v sorted) (λ q g. logs_named view v q named g) in

@@ -4,7 +4,9 @@ use Rattle.std.specs.Prelude.{◌-◌, ◌^◌, flat_map, replicate, nat_lt, ◌
 use Rattle.std.specs.List.{AllByRecursion, list_all}
 use Rattle.std.proofs.lemmas.Bool.{lt-ltb}
 use Rattle.std.proofs.lemmas.List.Folds.{list_all-append}
-use Rattle.ivy_base.proofs.NameLemmas.{bytes-name}
+use Rattle.ivy_base.proofs.NameLemmas.{bytes-digest}
+use Rattle.ivy_base.specs.declared.format.Format.{Format}
+use Rattle.ivy_base.specs.declared.format.Format.TheVariants.{One, Two}
 use Rattle.ivy_base.specs.declared.key.Key.{Key}
 use Rattle.ivy_base.specs.declared.key.PubKey.{PubKey}
 use Rattle.ivy_base.specs.declared.operation.Change.{Change}
@@ -124,10 +126,14 @@ entries_octets : (v : Vector) → AllByRecursion (λ e. IsKey e.0 × (1 ≤ e.1.
 entries_octets [] h = no_octets
 entries_octets (e ∷ v) h = joined {a = vector_entry e} {b = flat_map vector_entry v} (joined (joined (a_key e.0 h.0.0) (a_word e.1.seq)) (a_key e.1.name h.0.3)) (entries_octets v h.1)
 
+tag_octets : (format : Format) → AreOctets (record_tag format)
+tag_octets One = record { each = refl }
+tag_octets Two = record { each = refl }
+
 pub block_octets : (r : Record) → HasSpelling r → HasOctets r.op → AreOctets (record_block r)
 block_octets r spelled h =
     joined
-    (joined (joined (joined (joined (joined (joined {a = record_tag} (record { each = refl }) (a_word (record_kind r.op))) (record { each = bytes-name r.owner.0 })) (a_key r.prev spelled.prev)) (a_word r.seq)) (a_moment r.moment))
+    (joined (joined (joined (joined (joined (joined {a = record_tag r.format} (tag_octets r.format) (a_word (record_kind r.op))) (record { each = bytes-digest r.owner.0 })) (a_key r.prev spelled.prev)) (a_word r.seq)) (a_moment r.moment))
     (joined {a = word (length r.vector)} (a_word (length r.vector)) (entries_octets r.vector spelled.entries)))
     (body_octets r.op spelled.operation h)
 

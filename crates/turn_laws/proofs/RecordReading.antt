@@ -3,6 +3,8 @@ use Rattle.std.proofs.Common.{◌≡◌, ◌⊎◌, inl, inr, ℕ, zero, suc, �
 use Rattle.std.specs.Prelude.{⊤, IsTrue}
 use Rattle.std.specs.FinMap.Entries.{is_sorted}
 use Rattle.std.proofs.lemmas.Bool.{cases_lt, cases_eq}
+use Rattle.ivy_base.specs.declared.format.Format.{Format}
+use Rattle.ivy_base.specs.declared.format.Format.TheVariants.{One, Two}
 use Rattle.ivy_base.specs.declared.key.Key.{Key}
 use Rattle.ivy_base.specs.declared.key.PubKey.{PubKey}
 use Rattle.ivy_base.specs.declared.operation.Change.{Change}
@@ -18,17 +20,19 @@ use Rattle.wire_model.specs.Xdr.{word, double_word, opaque, array, moment, IsAny
 use Rattle.wire_model.proofs.OneReading.{of_fewer, of_parts, one_word}
 use Rattle.log_model.specs.Vector.{Entry, Vector, Stamp, stamp_at}
 use Rattle.log_model.specs.Record.{Record}
-use Rattle.log_model.specs.Spelling.{HasSpelling, IsKey, IsBlock, IsMoment, IsTarget, IsChange, IsEndOp, IsRecordOf, body, record_kind, record_tag, vector_entry, no_name}
+use Rattle.log_model.specs.Spelling.{HasSpelling, IsKey, IsBlock, IsMoment, IsTarget, IsChange, IsEndOp, IsRecordOf, body, record_kind, record_tag, vector_entry, most_records, no_name}
+use Rattle.log_model.specs.View.{most_cited}
 use Rattle.log_model.proofs.Lists.{here, there, in_cons, in_nothing}
 use Rattle.version_vectors.specs.Vectors.{EntryFits}
 use Rattle.log_records.specs.declared.frame.Frame.{Frame}
 use Rattle.log_records.specs.Frames.{IsCited, IsFrame, frame_block, AreParts, parts_block, IsWellPlaced}
 use Rattle.log_records.specs.Heads.{IsNumber}
-use Rattle.block_parts.specs.Parts.{key_bytes, kind_word, IsAtMost}
+use Rattle.block_parts.specs.Parts.{key_bytes, kind_word, longest_file, IsAtMost}
 use Rattle.log_records.specs.Parts.{change_block, IsOfKind}
 use Rattle.log_records.proofs.Frames.{one_frame}
 use Rattle.block_parts.proofs.OneParts.{one_block, one_key, one_at_most, one_time, one_kind, one_name, one_size}
 use Rattle.log_records.proofs.OneBody.{change_of_parts, change_parts, one_change, target_fits}
+use Rattle.log_records.proofs.ReadParts.{one_tag}
 use Rattle.log_records.proofs.OneRecord.{one_of_parts, parts_in, record_with, is_record, misplaced}
 use Rattle.turn_laws.proofs.Deciding.{Reads, IsReadable, HasParts, ◌then◌, a_word, a_double_word, a_moment, a_front, a_data, a_raw, an_array, an_optional, reads_then, reads_then_by, reads_fewer, reads_parts, reads_either, fronts, whole_or_not, same_or_not}
 
@@ -70,6 +74,10 @@ key_known k l = elim (truth_known (same_key k l)) [
 pub number_known : (n m : ℕ) → Known (n ≡ m)
 number_known n m = cases_eq n m
 
+one_known : (f : Format) → Known (f ≡ One)
+one_known One = inl refl
+one_known Two = inr (λ e. cc e)
+
 nothing_known : {A : Type 0} (xs : List A) → Known (xs ≡ [])
 nothing_known [] = inl refl
 nothing_known (x ∷ xs) = inr (λ e. cc e)
@@ -108,8 +116,8 @@ a_key = (one_key, reads_parts {written = key_bytes} (λ (b : List ℕ). record {
 a_bounded : (most : ℕ) → most < 2 ^ 32 → IsReadable (IsAtMost most) word
 a_bounded most small = (one_at_most most small, reads_fewer a_word (λ n f. omega (arith, f, small)) (λ n f. at_most_known n most))
 
-a_size : IsReadable (IsAtMost 16777216) double_word
-a_size = (one_size, reads_fewer a_double_word (λ n f. omega (arith, f)) (λ n f. at_most_known n 16777216))
+a_size : IsReadable (IsAtMost longest_file) double_word
+a_size = (one_size, reads_fewer a_double_word (λ n f. omega (arith, f)) (λ n f. at_most_known n longest_file))
 
 a_record_moment : IsReadable IsMoment moment
 a_record_moment = (
@@ -141,6 +149,17 @@ no_files = reads_either {written = kind_word} (λ (u : Unit {0}). Dir) (λ (u : 
 
 a_kind : IsReadable IsAny kind_word
 a_kind = (one_kind, reads_either {written = kind_word} (λ (u : Unit {0}). Reg) (λ (k : Kind). k) (λ u f. (tt, refl)) (λ k f. (tt, refl)) file_parts (fronts (word 1)) no_files)
+
+-- tags
+tag_parts : (f : Format) → IsAny f → HasParts (λ (u : Unit {0}). ⊤) (λ u. record_tag One) (record_tag f) ⊎ HasParts (λ (u : Unit {0}). ⊤) (λ u. record_tag Two) (record_tag f)
+tag_parts One f = inl (record { part = tt; fits = tt; spelled = refl })
+tag_parts Two f = inr (record { part = tt; fits = tt; spelled = refl })
+
+a_tag : IsReadable IsAny record_tag
+a_tag = (
+  one_tag,
+  reads_either {written = record_tag} (λ (u : Unit {0}). One) (λ (u : Unit {0}). Two) (λ u f. (tt, refl)) (λ u f. (tt, refl)) tag_parts (fronts (record_tag One)) (fronts (record_tag Two)),
+)
 
 -- names of files
 file_name_known : (b : List ℕ) → length b ≤ 255 → Known (IsFileName b)
@@ -190,11 +209,11 @@ abbrev write_bytes : WriteParts → List ℕ
 write_bytes p = key_bytes p.0.0 ++ double_word p.0.1 ++ opaque p.1
 
 abbrev AreWrite : WriteParts → Type 0
-AreWrite p = IsKey p.0.0 × ((1 ≤ length p.1) × ((length p.1 ≤ 8192) × (p.0.1 + length p.1 ≤ 16777216)))
+AreWrite p = IsKey p.0.0 × ((1 ≤ length p.1) × ((length p.1 ≤ 8192) × (p.0.1 + length p.1 ≤ longest_file)))
 
 writes : Reads AreWrite write_bytes
 writes = reads_fewer {spell = write_bytes} (a_key then a_double_word then a_data 8192 (omega arith)) (λ p f. ((f.0, omega (arith, f.1.1.1)), f.1.1.0))
-    (λ p f. both_known (inl f.0.0) (both_known (at_most_known 1 (length p.1)) (both_known (inl f.1) (at_most_known (p.0.1 + length p.1) 16777216))))
+    (λ p f. both_known (inl f.0.0) (both_known (at_most_known 1 (length p.1)) (both_known (inl f.1) (at_most_known (p.0.1 + length p.1) longest_file))))
 
 write_parts : (o : Op) → IsOfKind 2 o → HasParts AreWrite write_bytes (body o)
 write_parts (op.Write number offset bytes) f = record { part = ((number, offset), bytes); fits = (f.1.0, (f.1.1, (f.1.2, f.1.3))); spelled = refl }
@@ -277,28 +296,28 @@ an_entry = (
 )
 
 cited : (log : Key) → Reads (IsCited log) (array vector_entry)
-cited log = reads_fewer (an_array an_entry 32 (omega arith)) (λ v f. (f.0.short, f.0.whole.entries)) (λ v f. elim (both_known (truth_known (is_sorted key_cmp v)) (no_stamp_known (stamp_at v log))) [
+cited log = reads_fewer (an_array an_entry most_cited (omega arith)) (λ v f. (f.0.short, f.0.whole.entries)) (λ v f. elim (both_known (truth_known (is_sorted key_cmp v)) (no_stamp_known (stamp_at v log))) [
   | inl g ↦ inl (record { whole = record { entries = f.1; in_order = g.0 }; short = f.0 }, g.1)
   | inr none ↦ inr (λ g. none (g.0.whole.in_order, g.1))
 ])
 
 a_number : IsReadable IsNumber word
-a_number = (of_fewer (λ (n : ℕ) f. omega (arith, f.1)) one_word, reads_fewer a_word (λ (n : ℕ) f. omega (arith, f.1)) (λ n f. both_known (at_most_known 1 n) (at_most_known n 1048576)))
+a_number = (of_fewer (λ (n : ℕ) f. omega (arith, f.1)) one_word, reads_fewer a_word (λ (n : ℕ) f. omega (arith, f.1)) (λ n f. both_known (at_most_known 1 n) (at_most_known n most_records)))
 
 abbrev FrameParts : Type 0
-FrameParts = ((((((Unit {0} × ℕ) × Unit {0}) × Key) × ℕ) × Moment) × Vector)
+FrameParts = ((((((Format × ℕ) × Unit {0}) × Key) × ℕ) × Moment) × Vector)
 
 abbrev frame_of : FrameParts → Frame
-frame_of p = record { kind = p.0.0.0.0.0.1; prev = p.0.0.0.1; seq = p.0.0.1; moment = p.0.1; vector = p.1 }
+frame_of p = record { format = p.0.0.0.0.0.0; kind = p.0.0.0.0.0.1; prev = p.0.0.0.1; seq = p.0.0.1; moment = p.0.1; vector = p.1 }
 
 frames : (log : Key) → Reads (IsFrame log) (frame_block log)
 frames log = reads_parts {written = frame_block log} frame_of (λ p f. (record { kind_is = f.0.0.0.0.0.1; prev_is = f.0.0.0.1; seq_is = f.0.0.1; moment_is = f.0.1; cited = f.1 }, refl))
     (λ (f : Frame) fits. record {
-      part = ((((((tt, f.kind), tt), f.prev), f.seq), f.moment), f.vector);
+      part = ((((((f.format, f.kind), tt), f.prev), f.seq), f.moment), f.vector);
       fits = ((((((tt, fits.kind_is), tt), fits.prev_is), fits.seq_is), fits.moment_is), fits.cited);
       spelled = refl;
     })
-    (reads_then (a_front record_tag then a_word then a_front log.0 then a_key then a_number then a_record_moment) (cited log))
+    (reads_then (a_tag then a_word then a_front log.0 then a_key then a_number then a_record_moment) (cited log))
 
 -- ---- whole records
 
@@ -314,10 +333,14 @@ end_known (op.SetAttrs number change) = inr (λ e. e)
 end_known op.End = inl tt
 
 placed_known : (f : Frame) (o : Op) → Known (IsWellPlaced f o)
-placed_known f o = elim (both_known (both_known (if_known (number_known f.seq 1) (end_known o)) (if_known (end_known o) (number_known f.seq 1))) (if_known (number_known f.seq 1) (both_known (key_known f.prev no_name) (nothing_known f.vector)))) [
-  | inl g ↦ inl (record { ends_first = (g.0.0, g.0.1); first_alone = g.1 })
-  | inr none ↦ inr (λ g. none ((g.ends_first.0, g.ends_first.1), g.first_alone))
-]
+placed_known f o =
+    let first = number_known f.seq 1 in
+    let ends_first = both_known (if_known first (end_known o)) (if_known (end_known o) first) in
+    let first_alone = if_known first (both_known (key_known f.prev no_name) (nothing_known f.vector)) in
+    elim (both_known ends_first (both_known first_alone (if_known first (one_known f.format)))) [
+      | inl g ↦ inl (record { ends_first = (g.0.0, g.0.1); first_alone = g.1.0; first_plain = g.1.1 })
+      | inr none ↦ inr (λ g. none ((g.ends_first.0, g.ends_first.1), (g.first_alone, g.first_plain)))
+    ]
 
 -- a record's parts
 parts_of : (owner : PubKey) (r : Record) → r.owner ≡ owner → HasSpelling r → AreParts (head_key_of owner) (parts_in r)

@@ -3,7 +3,7 @@ use Rattle.std.proofs.Common.{inl, inr, ◌+◌, ◌≤◌, ◌<◌, ◌^◌, Bo
 use Rattle.std.specs.Prelude.{IsTrue}
 use Rattle.std.specs.List.{AllByRecursion}
 use Rattle.std.proofs.lemmas.List.{length-map}
-use Rattle.ivy_base.proofs.NameLemmas.{bytes-name, length-name}
+use Rattle.ivy_base.proofs.NameLemmas.{bytes-digest, length-digest}
 use Rattle.ivy_base.specs.declared.key.PubKey.{PubKey}
 use Rattle.ivy_base.specs.Naming.{head_key_of}
 use Rattle.log_model.specs.Closed.{IsClosed}
@@ -20,12 +20,13 @@ use Rattle.turn_laws.proofs.Entries.{each_front, each_with_entry}
 use Rattle.turn_laws.proofs.Heads.{member_named, short_named}
 use Rattle.snapshot_model.specs.Blocks.{IsStamped, IsVectorSpelled}
 use Rattle.dht_ids.specs.declared.post.Post.{Post}
-use Rattle.agent_model.specs.Agent.{Signing, head_post, is_head, own_key, record_post, with_posts}
+use Rattle.log_model.specs.Signing.{Signing}
+use Rattle.agent_model.specs.Agent.{head_post, is_head, own_key, record_post, with_posts}
 use Rattle.agent_model.specs.SavedBytes.{AreOpaque, ArePostsSpelled, HasItsName}
 use Rattle.turn_laws.proofs.Octets.{HasOctets, block_octets}
 
 head_is_key : (owner : PubKey) → IsKey (head_key_of owner)
-head_is_key owner = record { size = length-name owner.0; each = bytes-name owner.0 }
+head_is_key owner = record { size = length-digest owner.0; each = bytes-digest owner.0 }
 
 -- ---- the front of a closed set
 

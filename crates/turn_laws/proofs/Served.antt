@@ -2,6 +2,7 @@
 use Rattle.std.proofs.Common.{◌≡◌, ℕ, ◌+◌, ◌<◌, ◌≤◌, Bool, true, false, cond, ◌||◌, List, length, refl, ap, ◌∙◌, arith}
 use Rattle.std.specs.Prelude.{nat_lt, ◌==◌}
 use Rattle.std.proofs.lemmas.Bool.{eqb-false, ltb-false}
+use Rattle.ivy_base.specs.declared.format.Format.TheVariants.{One}
 use Rattle.ivy_base.specs.declared.key.PubKey.{PubKey}
 use Rattle.ivy_base.specs.declared.operation.Moment.{Moment}
 use Rattle.ivy_base.specs.declared.operation.Op.{Op}
@@ -16,7 +17,7 @@ use Rattle.nfs_model.specs.declared.replies.Reply.{Reply}
 use Rattle.nfs_model.specs.declared.replies.Reply.TheVariants.{Refused}
 use Rattle.nfs_model.specs.Changing.{Nothing, Operations, Plan, Refuse, finish, is_changing, plan}
 use Rattle.nfs_model.specs.Reading.{answer}
-use Rattle.turn_model.specs.Turn.{Agent as Inputs, Asked, Turned, appended, bare_tail, by_plan, own_seq, turn_on}
+use Rattle.turn_model.specs.Turn.{Inputs, Asked, Turned, appended, bare_tail, by_plan, own_seq, turn_on}
 
 some_left : (n : ℕ) → (n ≡ 0 → ⊥) → 0 < n
 some_left n h = not_zero n h
@@ -44,7 +45,7 @@ module _ (view : View) (own : PubKey) (leaves : ℕ) (has_failed : Bool) (t : Tr
   kept reply s = record { reply = reply; set = s }
 
   abbrev pub more : List Op → List Record → Turned
-  more ops s = record { reply = finish (replay s) (replay (appended own now s ops)) view asked.caller asked.args ops; set = appended own now s ops }
+  more ops s = record { reply = finish (replay s) (replay (appended own One now s ops)) view asked.caller asked.args ops; set = appended own One now s ops }
 
   -- A reply, whatever would become of a save; or operations are appended, unless their save fails.
   pub data Comes : Type 0 where

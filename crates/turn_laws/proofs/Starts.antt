@@ -8,7 +8,7 @@ use Rattle.std.specs.FinMap.Entries.{is_sorted-where_key, find-where_key}
 use Rattle.ivy_base.specs.declared.key.Key.{Key}
 use Rattle.ivy_base.specs.declared.key.PubKey.{PubKey}
 use Rattle.ivy_base.specs.Naming.{key_cmp, owner_cmp, head_key_of}
-use Rattle.ivy_base.proofs.NameLemmas.{length-name, bytes-name}
+use Rattle.ivy_base.proofs.NameLemmas.{length-digest, bytes-digest}
 use Rattle.tree_model.proofs.Keys.{keys_total, exact_keys, same_key_is, same_key_itself}
 use Rattle.tree_model.proofs.Sound.{from_test, to_test}
 use Rattle.log_model.specs.View.{View, IsView, is_member, is_named}
@@ -67,7 +67,7 @@ pub sorted_without_log : (log : Key) (v : Vector) → Sorted v → Sorted (witho
 sorted_without_log log v h = to_test _ (is_sorted-where_key key_cmp (λ x. not (eq_by_cmp key_cmp log x)) v (from_test _ h))
 
 key_is_key : (owner : PubKey) → IsKey (head_key_of owner)
-key_is_key owner = record { size = length-name owner.0; each = bytes-name owner.0 }
+key_is_key owner = record { size = length-digest owner.0; each = bytes-digest owner.0 }
 
 -- ---- what the front of a closed set names
 

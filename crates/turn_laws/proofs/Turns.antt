@@ -5,16 +5,18 @@ use Rattle.std.specs.List.{AllByRecursion}
 use Rattle.std.specs.Option.{option_map_or}
 use Rattle.std.specs.Ordering.{eq_by_cmp}
 use Rattle.std.proofs.lemmas.Bool.{ltb-false}
+use Rattle.ivy_base.specs.declared.format.Format.{Format}
+use Rattle.ivy_base.specs.declared.format.Format.TheVariants.{One}
 use Rattle.ivy_base.specs.declared.key.Key.{Key}
 use Rattle.ivy_base.specs.declared.key.PubKey.{PubKey}
 use Rattle.ivy_base.specs.declared.operation.Moment.{Moment}
 use Rattle.ivy_base.specs.declared.operation.Op.{Op}
-use Rattle.ivy_base.specs.Naming.{head_key_of, owner_cmp}
+use Rattle.ivy_base.specs.Naming.{owner_cmp}
 use Rattle.tree_model.specs.Apply.{empty_tree, apply_all}
 use Rattle.tree_model.proofs.Sound.{both_false}
 use Rattle.log_model.specs.View.{View, IsView}
-use Rattle.log_model.specs.Vector.{Stamp, Vector, reach, without_log}
-use Rattle.log_model.specs.Record.{Record}
+use Rattle.log_model.specs.Vector.{Stamp, reach}
+use Rattle.log_model.specs.Record.{Heading, Record}
 use Rattle.log_model.specs.Spelling.{IsMoment, OperationFits, no_name, most_records}
 use Rattle.log_model.specs.Rank.{front}
 use Rattle.log_model.specs.Chain.{AllMayBeWritten}
@@ -28,16 +30,16 @@ use Rattle.log_model.proofs.Sets.{ascending_in_order}
 use Rattle.wire_model.specs.Rpc.{IsIdentity}
 use Rattle.nfs_model.specs.Arguments.{ArgumentsFit}
 use Rattle.nfs_model.specs.Changing.{is_changing, Plan, Refuse, Nothing, Operations, plan}
-use Rattle.turn_model.specs.Turn.{Agent, Asked, Turned, own_seq, own_name, linked, appended, by_plan, turn_on}
+use Rattle.turn_model.specs.Turn.{Inputs, Asked, Turned, own_seq, own_name, linked, heading_over, appended, by_plan, turn_on}
 use Rattle.turn_model.proofs.Plans.{plan_may_be_written}
 use Rattle.turn_laws.specs.Closed.{TurnSetIsClosed}
 use Rattle.turn_laws.proofs.Starts.{ends_with, own_stamp, over_front}
 
 -- ---- what is appended is what is written after the own log's last record
 
-linked_is_written : (own : PubKey) (v : Vector) (now : Moment) (p : Record) (ops : List Op) → linked own v now (p.seq + 1) p.name ops ≡ written own v now p ops
-linked_is_written own v now p [] = refl
-linked_is_written own v now p (op ∷ ops) = ap (λ (l : List Record). next_record own v now p op ∷ l) (linked_is_written own v now (next_record own v now p op) ops)
+linked_is_written : (h : Heading) (p : Record) (ops : List Op) → linked h (p.seq + 1) p.name ops ≡ written h p ops
+linked_is_written h p [] = refl
+linked_is_written h p (op ∷ ops) = ap (λ (l : List Record). next_record h p op ∷ l) (linked_is_written h (next_record h p op) ops)
 
 -- ---- the tree of a closed set
 
@@ -53,7 +55,7 @@ closed_makes_keys view s closed =
 
 -- ---- one turn
 
-module _ (a : Agent) (s : List Record) (asked : Asked) (now : Moment) (p : Record)
+module _ (a : Inputs) (s : List Record) (asked : Asked) (now : Moment) (p : Record)
     (well : IsView a.view) (member : Contains a.view.members a.own) (closed : IsClosed a.view s) (ends : EndsWith s a.own p)
     (caller : IsIdentity asked.caller) (fits : ArgumentsFit asked.args) (moment : IsMoment now) where
   own_seq_is : own_seq a.own s ≡ p.seq
@@ -62,17 +64,18 @@ module _ (a : Agent) (s : List Record) (asked : Asked) (now : Moment) (p : Recor
   own_name_is : own_name a.own s ≡ p.name
   own_name_is = ap (λ (o : Option Stamp). option_map_or (λ t. t.name) o no_name) (own_stamp a.view s a.own p well closed member ends)
 
-  appended_is : (ops : List Op) → appended a.own now s ops ≡ s ++ written a.own (without_log (head_key_of a.own) (front s)) now p ops
-  appended_is ops =
-      let v : Vector = without_log (head_key_of a.own) (front s) in
-      ap (λ (n : ℕ). s ++ linked a.own v now (n + 1) (own_name a.own s) ops) own_seq_is
-      ∙ ap (λ (k : Key). s ++ linked a.own v now (p.seq + 1) k ops) own_name_is
-      ∙ ap (λ (l : List Record). s ++ l) (linked_is_written a.own v now p ops)
+  appended_is : (format : Format) (ops : List Op) → appended a.own format now s ops ≡ s ++ written (heading_over a.own format now (front s)) p ops
+  appended_is format ops =
+      let h : Heading = heading_over a.own format now (front s) in
+      ap (λ (n : ℕ). s ++ linked h (n + 1) (own_name a.own s) ops) own_seq_is
+      ∙ ap (λ (k : Key). s ++ linked h (p.seq + 1) k ops) own_name_is
+      ∙ ap (λ (l : List Record). s ++ l) (linked_is_written h p ops)
 
-  pub appended_closed : (ops : List Op) → AllMayBeWritten a.own (p.seq + 1) ops → IsClosed a.view (appended a.own now s ops)
-  appended_closed ops may =
-      subst (λ (l : List Record). IsClosed a.view l) (sym (appended_is ops))
-      (all_go a.view s a.own (without_log (head_key_of a.own) (front s)) p now ops closed member moment ends (over_front a.view s a.own p well closed member ends) may)
+  -- in each format
+  pub appended_closed : (format : Format) (ops : List Op) → AllMayBeWritten a.own (p.seq + 1) ops → IsClosed a.view (appended a.own format now s ops)
+  appended_closed format ops may =
+      subst (λ (l : List Record). IsClosed a.view l) (sym (appended_is format ops))
+      (all_go a.view s (heading_over a.own format now (front s)) p ops closed member moment ends (over_front a.view s a.own p well closed member ends) may)
 
   chosen : (b c : Bool) (x y z : Turned) → IsClosed a.view x.set → IsClosed a.view y.set → (b ≡ false → IsClosed a.view z.set) → IsClosed a.view (cond b x (cond c y z)).set
   chosen true c x y z p q o = p
@@ -91,7 +94,7 @@ module _ (a : Agent) (s : List Record) (asked : Asked) (now : Moment) (p : Recor
       let few = ltb-false most_records (own_seq a.own s + length ops) (both_false (a.leaves == 0) _ room).1 in
       let may : AllMayBeWritten a.own (own_seq a.own s + 1) ops =
       plan_may_be_written (replay s) a.view asked.caller asked.args now a.own (own_seq a.own s + 1) ops (closed_makes_keys a.view s closed) caller fits moment planned (omega (arith, few)) in
-      appended_closed ops (subst (λ (n : ℕ). AllMayBeWritten a.own (n + 1) ops) own_seq_is may))
+      appended_closed One ops (subst (λ (n : ℕ). AllMayBeWritten a.own (n + 1) ops) own_seq_is may))
 
   pub turn_closed : IsClosed a.view (turn_on a s asked now).set
   turn_closed = either (is_changing asked.args) _ _ (in_plan _ refl) closed

@@ -11,7 +11,7 @@ use Rattle.log_model.specs.Vector.{Stamp, Entry, Vector}
 use Rattle.log_model.specs.View.{View}
 use Rattle.turn_model.specs.Candidates.{AreCandidates}
 use Rattle.turn_model.specs.Known.{IsBacked, IsVerified}
-use Rattle.turn_model.specs.Turn.{Agent, Asked, Candidate, IsAtHand, turn_on}
+use Rattle.turn_model.specs.Turn.{Inputs, Asked, Candidate, IsAtHand, turn_on}
 
 -- all these are among those
 abbrev pub AreAmong : {A : Type 0} → List A → List A → Type 0
@@ -36,7 +36,7 @@ OwnLogIsKnown = (heads : Key → List Stamp) (blocks : List (List ℕ)) (view : 
 
 -- What is known after the turn, its own new records included, is backed by the floor of that, the same heads and blocks and whatever came to these.
 abbrev pub KnownStaysBacked : Type 0
-KnownStaysBacked = (a : Agent) (blocks more : List (List ℕ)) (floor : Vector) (received later : List Entry) (taken : List Record) (asked : Asked) (now : Moment)
+KnownStaysBacked = (a : Inputs) (blocks more : List (List ℕ)) (floor : Vector) (received later : List Entry) (taken : List Record) (asked : Asked) (now : Moment)
     → AreAmong blocks more → AreAmong received later
     → AllByRecursion (IsBacked blocks a.own floor received) taken
     → AllByRecursion (IsBacked more a.own (front (turn_on a taken asked now).set) later) (turn_on a taken asked now).set

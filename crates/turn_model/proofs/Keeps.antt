@@ -7,9 +7,9 @@ use Rattle.log_model.specs.Record.{Record}
 use Rattle.log_model.specs.Replay.{replay}
 use Rattle.log_model.specs.Spelling.{most_records}
 use Rattle.nfs_model.specs.Changing.{is_changing, Plan, Refuse, Nothing, Operations, plan}
-use Rattle.turn_model.specs.Turn.{TurnKeepsKnown, Agent, Asked, Turned, by_plan, turn_on, own_seq}
+use Rattle.turn_model.specs.Turn.{TurnKeepsKnown, Inputs, Asked, Turned, by_plan, turn_on, own_seq}
 
-module _ (a : Agent) (s : List Record) (asked : Asked) (now : Moment) (r : Record) (within : Contains s r) where
+module _ (a : Inputs) (s : List Record) (asked : Asked) (now : Moment) (r : Record) (within : Contains s r) where
   chosen : (b c : Bool) (x y z : Turned) → Contains x.set r → Contains y.set r → Contains z.set r → Contains (cond b x (cond c y z)).set r
   chosen true c x y z p q o = p
   chosen false true x y z p q o = q

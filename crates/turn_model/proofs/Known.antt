@@ -13,7 +13,7 @@ use Rattle.log_model.specs.Vector.{Stamp, Vector}
 use Rattle.turn_model.specs.Candidates.{IsCandidate, own_log, newest, as_known, OnlyMemberHasNothingNew}
 use Rattle.log_model.proofs.Lists.{here, there, in_cons, in_nothing, each, from_filter}
 use Rattle.log_model.proofs.Sets.{same_list}
-use Rattle.turn_model.specs.Turn.{Agent, Asked, Candidate, Turned, IsAtHand, IsTurn, BringNothing, TurnIsOne, TurnIsOnKnown, turn_on}
+use Rattle.turn_model.specs.Turn.{Inputs, Asked, Candidate, Turned, IsAtHand, IsTurn, BringNothing, TurnIsOne, TurnIsOnKnown, turn_on}
 
 at_hand_known : (known : List Record) (candidates : List Candidate) → BringNothing known candidates → (r : Record) → IsAtHand known candidates r → Contains known r
 at_hand_known known candidates nothing r h = ⊎_elim (λ k. k) (λ c. nothing c.0 c.1 r c.3) h
@@ -32,11 +32,11 @@ turn_is_one a known candidates asked now one other t u =
     (t.largest.largest u.taken u.largest.part u.largest.closed) in
     t.by_set ∙ ap (λ (s : List Record). turn_on a s asked now) same ∙ sym u.by_set
 
-pub turn_of_known : (a : Agent) (known : List Record) (candidates : List Candidate) (asked : Asked) (now : Moment) → IsClosed a.view known → BringNothing known candidates
+pub turn_of_known : (a : Inputs) (known : List Record) (candidates : List Candidate) (asked : Asked) (now : Moment) → IsClosed a.view known → BringNothing known candidates
     → IsTurn a known candidates asked now (turn_on a known asked now)
 turn_of_known a known candidates asked now closed nothing = record { taken = known; largest = part_is_known a.view known candidates closed nothing; by_set = refl }
 
-pub turn_is_of_known : (a : Agent) (known : List Record) (candidates : List Candidate) (asked : Asked) (now : Moment) (turned : Turned) → IsClosed a.view known → BringNothing known candidates
+pub turn_is_of_known : (a : Inputs) (known : List Record) (candidates : List Candidate) (asked : Asked) (now : Moment) (turned : Turned) → IsClosed a.view known → BringNothing known candidates
     → IsTurn a known candidates asked now turned → turned ≡ turn_on a known asked now
 turn_is_of_known a known candidates asked now turned closed nothing turn =
     let same : turn.taken ≡ known = same_list turn.taken known turn.largest.closed.ascending closed.ascending

@@ -1,9 +1,6 @@
 pub mod FirstRun
-pub mod Turns
 pub mod Plans
 pub mod Rows
 pub mod Kept
 pub mod Keeps
-pub mod OneLog
 pub mod Known
-pub mod OneTurn

@@ -13,7 +13,7 @@ use Rattle.ivy_base.specs.declared.operation.Moment.{Moment}
 use Rattle.ivy_base.specs.declared.operation.Op.{Op}
 use Rattle.ivy_base.specs.declared.operation.Op.TheVariants as op
 use Rattle.ivy_base.specs.Naming.{inode_number, IsFileName}
-use Rattle.ivy_base.proofs.NameLemmas.{length-name, bytes-name}
+use Rattle.ivy_base.proofs.NameLemmas.{length-digest, bytes-digest}
 use Rattle.tree_model.specs.Tree.{Tree, Inode, inode_at, entry, is_directory, is_file, is_live, directory_kind, file_kind, name_count}
 use Rattle.tree_model.proofs.Sound.{both_false, not_false}
 use Rattle.log_model.specs.View.{View, view_name}
@@ -112,7 +112,7 @@ free_name name there short valid free =
     file_name name short valid dots.0 dots.1
 
 inode_number_is_key : (own : PubKey) (seq : ℕ) → IsKey (inode_number own seq)
-inode_number_is_key own seq = record { size = length-name _; each = bytes-name _ }
+inode_number_is_key own seq = record { size = length-digest _; each = bytes-digest _ }
 
 mode_fits : (kind : Kind) (mode : Option ℕ) → IsMode (given_mode kind mode)
 mode_fits Reg None = omega arith

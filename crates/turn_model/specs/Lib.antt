@@ -2,5 +2,4 @@ pub mod Turn
 pub mod Known
 pub mod Basis
 pub mod Candidates
-pub mod OneLog
 pub mod Work

@@ -3,12 +3,14 @@ use Rattle.std.specs.Prelude.{◌≡◌, ◌≤◌, ◌↔◌, ℕ, ◌+◌, nat
 use Rattle.std.specs.Option.{option_map_or}
 use Rattle.ivy_base.specs.declared.key.Key.{Key}
 use Rattle.ivy_base.specs.declared.key.PubKey.{PubKey}
+use Rattle.ivy_base.specs.declared.format.Format.{Format}
+use Rattle.ivy_base.specs.declared.format.Format.TheVariants.{One}
 use Rattle.ivy_base.specs.declared.operation.Moment.{Moment}
 use Rattle.ivy_base.specs.declared.operation.Op.{Op}
 use Rattle.ivy_base.specs.Naming.{head_key_of}
 use Rattle.log_model.specs.View.{View}
 use Rattle.log_model.specs.Vector.{Vector, stamp_at, seq_of, without_log}
-use Rattle.log_model.specs.Record.{Record}
+use Rattle.log_model.specs.Record.{Record, Heading}
 use Rattle.log_model.specs.Spelling.{new_record, no_name, IsMoment, most_records}
 use Rattle.log_model.specs.Chain.{AllMayBeWritten}
 use Rattle.log_model.specs.Laws.{NumbersAreKeys}
@@ -69,21 +71,25 @@ own_seq own s = seq_of (front s) (head_key_of own)
 abbrev pub own_name : PubKey → List Record → Key
 own_name own s = option_map_or (λ t. t.name) (stamp_at (front s) (head_key_of own)) no_name
 
--- one record for each operation, each linked to the one before
-abbrev pub linked : PubKey → Vector → Moment → ℕ → Key → List Op → List Record
-linked own vector now seq prev [] = []
-linked own vector now seq prev (op ∷ ops) =
-    let r : Record = new_record own seq prev vector now op in
-    r ∷ linked own vector now (seq + 1) r.name ops
+-- one record for each operation under the heading, each linked to the one before
+abbrev pub linked : Heading → ℕ → Key → List Op → List Record
+linked h seq prev [] = []
+linked h seq prev (op ∷ ops) =
+    let r : Record = new_record h seq prev op in
+    r ∷ linked h (seq + 1) r.name ops
 
--- the set with the operations' records, which cite all of its front but the own log
-abbrev pub appended : PubKey → Moment → List Record → List Op → List Record
-appended own now s ops = s ++ linked own (without_log (head_key_of own) (front s)) now (own_seq own s + 1) (own_name own s) ops
+-- what is written over that front cites all of it but the own log
+abbrev pub heading_over : PubKey → Format → Moment → Vector → Heading
+heading_over own format now f = record { owner = own; format = format; vector = without_log (head_key_of own) f; moment = now }
+
+-- the set with the operations' records, which are written in that format over its front
+abbrev pub appended : PubKey → Format → Moment → List Record → List Op → List Record
+appended own format now s ops = s ++ linked (heading_over own format now (front s)) (own_seq own s + 1) (own_name own s) ops
 
 -- ---- the turn
 
--- what of the agent a turn goes by, beside what it knows: the signatures that its key has left, and whether its keeper has failed since its start, this turn included
-pub record Agent : Type 0 where
+-- What a turn goes by beside what is known: the view, the own key, the signatures that its key has left, and whether its keeper has failed since its start, this turn included
+pub record Inputs : Type 0 where
   pub view : View
   pub own : PubKey
   pub leaves : ℕ
@@ -96,7 +102,7 @@ pub record Turned : Type 0 where
 
 -- A plan of operations is refused where no signature or no number is left for it, or the keeper has failed; else its records are appended, and the
 -- reply is of the trees before and after them
-abbrev pub by_plan : Agent → List Record → Asked → Moment → Plan → Turned
+abbrev pub by_plan : Inputs → List Record → Asked → Moment → Plan → Turned
 by_plan a s asked now (Refuse reply) = record { reply = reply; set = s }
 by_plan a s asked now (Nothing reply) = record { reply = reply; set = s }
 by_plan a s asked now (Operations ops) =
@@ -104,30 +110,30 @@ by_plan a s asked now (Operations ops) =
     then record { reply = Refused RoFs (bare_tail asked.args); set = s }
     else if a.has_failed
     then record { reply = Refused ServerFault (bare_tail asked.args); set = s }
-    else (let more = appended a.own now s ops in record {
+    else (let more = appended a.own One now s ops in record {
       reply = finish (replay s) (replay more) a.view asked.caller asked.args ops;
       set = more;
     })
 
 -- the reply to the call on the set, and the set then: a reading call is answered, and a changing one goes by its plan
-abbrev pub turn_on : Agent → List Record → Asked → Moment → Turned
+abbrev pub turn_on : Inputs → List Record → Asked → Moment → Turned
 turn_on a s asked now =
     if is_changing asked.args
     then by_plan a s asked now (plan (replay s) a.view asked.caller asked.args now a.own (own_seq a.own s + 1))
     else record { reply = answer (replay s) a.view asked.caller asked.args; set = s }
 
 -- records are planned that a signature and a number are left for, and no fault was counted before
-abbrev pub may_save : Agent → List Record → Plan → Bool
+abbrev pub may_save : Inputs → List Record → Plan → Bool
 may_save a s (Refuse reply) = false
 may_save a s (Nothing reply) = false
 may_save a s (Operations ops) = not (a.leaves == 0 || nat_lt most_records (own_seq a.own s + length ops)) && not a.has_failed
 
 -- whether a turn on the set tries to save
-abbrev pub tries_save : Agent → List Record → Asked → Moment → Bool
+abbrev pub tries_save : Inputs → List Record → Asked → Moment → Bool
 tries_save a s asked now = is_changing asked.args && may_save a s (plan (replay s) a.view asked.caller asked.args now a.own (own_seq a.own s + 1))
 
 -- the turn of an agent that knows these records and has these candidates: it is on the largest closed part of what is at hand
-pub record IsTurn (a : Agent) (known : List Record) (candidates : List Candidate) (asked : Asked) (now : Moment) (turned : Turned) : Type 0 where
+pub record IsTurn (a : Inputs) (known : List Record) (candidates : List Candidate) (asked : Asked) (now : Moment) (turned : Turned) : Type 0 where
   pub taken : List Record
   pub largest : IsClosedPart a.view (IsAtHand known candidates) taken
   pub by_set : turned ≡ turn_on a taken asked now
@@ -142,12 +148,12 @@ PlanMayBeWritten = (t : Tree) (view : View) (who : Identity) (args : Args) (now 
 
 -- From what is known, the candidates, the call and the moment there is one turn at most.
 abbrev pub TurnIsOne : Type 0
-TurnIsOne = (a : Agent) (known : List Record) (candidates : List Candidate) (asked : Asked) (now : Moment) (one other : Turned)
+TurnIsOne = (a : Inputs) (known : List Record) (candidates : List Candidate) (asked : Asked) (now : Moment) (one other : Turned)
     → IsTurn a known candidates asked now one → IsTurn a known candidates asked now other → one ≡ other
 
 -- A turn's set has all that was known, where that is closed.
 abbrev pub TurnKeepsKnown : Type 0
-TurnKeepsKnown = (a : Agent) (known : List Record) (candidates : List Candidate) (asked : Asked) (now : Moment) (turned : Turned)
+TurnKeepsKnown = (a : Inputs) (known : List Record) (candidates : List Candidate) (asked : Asked) (now : Moment) (turned : Turned)
     → IsClosed a.view known → IsTurn a known candidates asked now turned → (r : Record) → Contains known r → Contains turned.set r
 
 -- the candidates have no record that isn't known, as where the agent is its view's only member
@@ -156,5 +162,5 @@ BringNothing known candidates = (c : Candidate) → Contains candidates c → (r
 
 -- Where the candidates bring nothing, there is one turn, and it is on what is known.
 abbrev pub TurnIsOnKnown : Type 0
-TurnIsOnKnown = (a : Agent) (known : List Record) (candidates : List Candidate) (asked : Asked) (now : Moment) (turned : Turned)
+TurnIsOnKnown = (a : Inputs) (known : List Record) (candidates : List Candidate) (asked : Asked) (now : Moment) (turned : Turned)
     → IsClosed a.view known → BringNothing known candidates → IsTurn a known candidates asked now turned ↔ (turned ≡ turn_on a known asked now)

@@ -22,14 +22,12 @@
 #![tactic(auto)]
 
 mod entry;
-mod fault;
 mod place;
 mod rank;
 mod reading;
 mod vector;
 
 pub use entry::Entry;
-pub use fault::VectorFault;
 pub use rank::{Rank, ranks_are_ordered};
 pub use reading::vectors_read_one_way;
 pub use vector::Vector;

@@ -12,7 +12,7 @@ ghost use Rattle.version_vectors.specs.Entries.{vector_of};
 ghost use Rattle.version_vectors.specs.Reading.{entries_bytes, EntriesFault};
 
 use crate::entry::{ENTRY_BYTES, Entry, read_entry};
-use crate::fault::VectorFault;
+use block_parts::BlockFault;
 use ivy_base::Key;
 use std::alloc::Global;
 use xdr_codec::XdrRead;
@@ -22,18 +22,18 @@ pub fn read_entries(
     alloc: Global,
     reader: &mut XdrRead<'_>,
     count: u32,
-) -> Result<Vec<Entry>, VectorFault>
+) -> Result<Vec<Entry>, BlockFault>
     ensures ok { IfOk result (λ es. IsFront (EntriesFit count) entries_bytes reader.old (vector_of es.items) reader.new) }
     ensures err { IfErr result (EntriesFault count reader.old) }
 {
     if reader.rest().len() / ENTRY_BYTES < count as usize {
-        return Err(VectorFault::Malformed);
+        return Err(BlockFault::Malformed);
     }
     let mut entries = Vec::with_capacity(alloc, count as usize)?;
     'entries: for _n in 0..count {
         let entry = read_entry(reader)?;
         if !is_last(entries.as_slice(), &entry.log) {
-            return Err(VectorFault::Malformed);
+            return Err(BlockFault::Malformed);
         }
         entries.push(entry)?;
     }

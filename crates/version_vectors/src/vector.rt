@@ -13,9 +13,9 @@ ghost use Rattle.version_vectors.specs.Entries.{entry_of, stamped, vector_of};
 ghost use Rattle.version_vectors.specs.Reading.{ReadFault};
 
 use crate::entry::{ENTRY_BYTES, Entry, check_types, sum_of, write_entries};
-use crate::fault::VectorFault;
 use crate::place::{around, place_of, take_all_in};
 use crate::reading::read_entries;
+use block_parts::BlockFault;
 use ivy_base::{Key, Memory};
 use std::alloc::Global;
 use std::marker::Model;
@@ -169,15 +169,15 @@ impl Vector {
     ///
     /// The error is `Malformed` exactly where no such vector stands there, and else want of memory. Memory is taken
     /// only where bytes for so many entries are left. After an error the reader may stand anywhere.
-    pub fn read(alloc: Global, reader: &mut XdrRead<'_>, most: u32) -> Result<Vector, VectorFault>
+    pub fn read(alloc: Global, reader: &mut XdrRead<'_>, most: u32) -> Result<Vector, BlockFault>
         ensures ok { IfOk result (λ v. IsFront (VectorFits most) (array vector_entry) reader.old v reader.new) }
         ensures err { IfErr result (ReadFault most reader.old) }
     {
         let Ok(count) = reader.u32() else {
-            return Err(VectorFault::Malformed);
+            return Err(BlockFault::Malformed);
         };
         if count > most {
-            return Err(VectorFault::Malformed);
+            return Err(BlockFault::Malformed);
         }
         let entries = read_entries(alloc, reader, count)?;
         Ok(Vector { entries })

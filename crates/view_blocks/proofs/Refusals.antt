@@ -1,6 +1,6 @@
 -- A view that may be made fails no test, and what fails has one fault.
 use Rattle.std.proofs.Common.{◌≡◌, ◌≢◌, ℕ, ◌<◌, ◌≤◌, ◌⊎◌, inl, inr, true, List, [], ◌++◌, length, refl, sym, ap, ◌∙◌, subst, arith}
-use Rattle.log_model.specs.View.{View, IsView, view_block, have_own_head_keys}
+use Rattle.log_model.specs.View.{View, IsView, view_block, have_own_head_keys, most_members, most_former}
 use Rattle.view_blocks.specs.declared.fault.ViewFault.{ViewFault}
 use Rattle.view_blocks.specs.declared.fault.ViewFault.TheVariants.{Malformed, NoMember, TooMany, Order, Overlap, Memory}
 use Rattle.view_blocks.specs.Faults.{HasKeys, FitsBlock, HasFewKeys, FailsAs, BlockFailsAs}
@@ -10,7 +10,7 @@ use Rattle.view_blocks.proofs.OneView.{fits_block, one_view_of_block}
 some_members : (view : View) → IsView view → view.members ≢ []
 some_members view legal e = let some : 1 ≤ length view.members = legal.some in let none : length view.members ≡ 0 = ap length e in omega arith
 
-too_many : (m f : ℕ) → m ≤ 16 → f ≤ 16 → (16 < m) ⊎ (16 < f) → ⊥
+too_many : (m f : ℕ) → m ≤ most_members → f ≤ most_former → (most_members < m) ⊎ (most_former < f) → ⊥
 too_many m f p q (inl h) = omega arith
 too_many m f p q (inr h) = omega arith
 
@@ -24,7 +24,7 @@ legal_passes view Memory legal h = refl
 
 -- ---- one fault
 
-few_contradicts : (view : View) → HasFewKeys view → (16 < length view.members) ⊎ (16 < length view.former) → ⊥
+few_contradicts : (view : View) → HasFewKeys view → (most_members < length view.members) ⊎ (most_former < length view.former) → ⊥
 few_contradicts view few h = too_many (length view.members) (length view.former) few.few few.few_former h
 
 pub one_fault : (view : View) (f g : ViewFault) → f ≢ Memory → g ≢ Memory → FailsAs view f → FailsAs view g → f ≡ g

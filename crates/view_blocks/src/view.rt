@@ -1,7 +1,7 @@
 //! Views: their tests, and what is asked of them.
 
 ghost use Rattle.std.specs.Prelude.{◌≡◌, ◌≢◌, ◌≤◌, IfOk, IfErr, OnOk};
-ghost use Rattle.log_model.specs.View.{IsView, view_block, view_name, is_member, is_former};
+ghost use Rattle.log_model.specs.View.{IsView, view_block, view_name, is_member, is_former, most_members, most_former};
 ghost use Rattle.view_blocks.specs.Faults.{HasKeys, HasFewKeys, CountsFailAs, FailsAs, BlockFailsAs};
 
 use crate::fault::ViewFault;
@@ -11,8 +11,11 @@ use ivy_base::{Bytes, Key, Memory, PubKey, name_of};
 use std::alloc::Global;
 use std::marker::Model;
 
-/// The most members that a view has, and the most former ones.
-const MOST: usize = 16;
+/// The most members that a view has.
+const MOST_MEMBERS: usize = 16;
+
+/// The most former members that a view has.
+const MOST_FORMER: usize = 16;
 
 /// The participants whose logs make up the file system, and those whose logs did once (Ivy, section 4): 1 to 16
 /// members and up to 16 former ones, in the order of their keys' bytes, no two of which name one log.
@@ -153,13 +156,13 @@ impl View {
 /// Tests how many members and former members there are. The fault is `NoMember` or `TooMany`.
 fn test_counts(members: usize, former: usize) -> Result<(), ViewFault>
     ensures some { OnOk result (members ≢ 0) }
-    ensures few { OnOk result (members ≤ 16) }
-    ensures few_former { OnOk result (former ≤ 16) }
+    ensures few { OnOk result (members ≤ most_members) }
+    ensures few_former { OnOk result (former ≤ most_former) }
     ensures err { IfErr result (CountsFailAs members former) }
 {
     if members == 0 {
         Err(ViewFault::NoMember)
-    } else if members > MOST || former > MOST {
+    } else if members > MOST_MEMBERS || former > MOST_FORMER {
         Err(ViewFault::TooMany)
     } else {
         Ok(())

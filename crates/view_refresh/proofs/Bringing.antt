@@ -87,7 +87,7 @@ walk_missed miss (one_garbled bytes none) e = cc e
 walk_missed miss (one_back {key = key} {more = more} bytes r is walk) e = one_more (BlockOf key (Ok bytes)) more (walk_missed miss walk e)
 
 trial_missed : {view : View} {owner : PubKey} {start floor : Vector} {edge : Option Edge} {ts : List Stamp} {brought : List Brought} {faults : List ChainFault} {end : LogEnd} (miss : Miss)
-    → Tries view owner start floor edge ts brought faults end → end ≡ Stops miss → EndsMissed brought
+    → Tries (record { view = view; owner = owner; start = start; floor = floor; edge = edge }) ts brought faults end → end ≡ Stops miss → EndsMissed brought
 trial_missed miss none_tried e = cc e
 trial_missed miss (trial_wants walk) e = cc e
 trial_missed miss (trial_misses {miss = lost} walk) e = walk_missed lost walk refl
@@ -95,7 +95,7 @@ trial_missed miss (trial_gives walk sound onward) e = cc e
 trial_missed miss (trial_passes {brought = brought} {more = more} walk some fails rest) e = more_before brought more (trial_missed miss rest e)
 trial_missed miss (trial_garbled {brought = brought} {more = more} walk rest) e = more_before brought more (trial_missed miss rest e)
 
-log_missed : {s : Standing} {start : Vector} {owner : PubKey} {brought : List Brought} {notes : List Note} {end : LogEnd} (miss : Miss) → Fetches s start owner brought notes end → end ≡ Stops miss → EndsMissed brought
+log_missed : {s : Standing} {start : Vector} {owner : PubKey} {brought : List Brought} {notes : List Note} {end : LogEnd} (miss : Miss) → Fetches (record { standing = s; start = start }) owner brought notes end → end ≡ Stops miss → EndsMissed brought
 log_missed miss (wants_heads other) e = cc e
 log_missed {owner = owner} miss (no_heads lost other) e = alone (HeadsOf owner (Err lost)) tt
 log_missed {owner = owner} miss (of_heads given tried brought faults end other are tries) e = one_more (HeadsOf owner (Ok given)) brought (trial_missed miss tries e)
@@ -107,7 +107,7 @@ stops_by (Stops lost) miss e = cc e
 stops_by (LogEnd.Gives records) miss e = cc e
 stops_by LogEnd.GivesNone miss e = cc e
 
-all_missed : {s : Standing} {start : Vector} {owners : List PubKey} {brought : List Brought} {notes : List Note} {chains : List Chain} {end : RefreshEnd} (miss : Miss) → FetchesAll s start owners brought notes chains end → end ≡ FailsBy miss → EndsMissed brought
+all_missed : {s : Standing} {start : Vector} {owners : List PubKey} {brought : List Brought} {notes : List Note} {chains : List Chain} {end : RefreshEnd} (miss : Miss) → FetchesAll (record { standing = s; start = start }) owners brought notes chains end → end ≡ FailsBy miss → EndsMissed brought
 all_missed miss all e = cc e
 all_missed miss (stays {log = log} fetch is) e = log_missed miss fetch (stops_by log miss (is ∙ ap (λ (x : RefreshEnd). Some x) e))
 all_missed miss (goes_on {brought = brought} {more = more} fetch goes rest) e = more_before brought more (all_missed miss rest e)
@@ -116,7 +116,7 @@ nil_or_more : {X : Type 0} (xs : List X) (x : X) → [] ≡ xs ++ x ∷ [] → �
 nil_or_more [] x e = cc e
 nil_or_more (y ∷ ys) x e = cc e
 
-pub never_missed : {s : Standing} {start : Vector} {owners : List PubKey} {notes : List Note} {chains : List Chain} {end : RefreshEnd} (miss : Miss) → FetchesAll s start owners [] notes chains end → end ≡ FailsBy miss → ⊥
+pub never_missed : {s : Standing} {start : Vector} {owners : List PubKey} {notes : List Note} {chains : List Chain} {end : RefreshEnd} (miss : Miss) → FetchesAll (record { standing = s; start = start }) owners [] notes chains end → end ≡ FailsBy miss → ⊥
 never_missed miss fetches e = let m = all_missed miss fetches e in nil_or_more m.before m.last m.is
 
 pub brought_more : (parts : List Part) (p : Part) → brought_in (parts ++ p ∷ []) ≡ brought_in parts ++ p.brought ∷ []
@@ -154,7 +154,7 @@ walk_right (one_garbled {key = key} bytes none) h = one_right (BlockOf key (Ok b
 walk_right (one_back {key = key} {more = more} bytes r is walk) h = one_right (BlockOf key (Ok bytes)) more (λ x. x) (walk_right walk h)
 
 trial_right : {view : View} {owner : PubKey} {start floor : Vector} {edge : Option Edge} {ts : List Stamp} {brought : List Brought} {faults : List ChainFault} {end : LogEnd}
-    → Tries view owner start floor edge ts brought faults end → ((miss : Miss) → end ≡ Stops miss → ⊥) → AreRight brought
+    → Tries (record { view = view; owner = owner; start = start; floor = floor; edge = edge }) ts brought faults end → ((miss : Miss) → end ≡ Stops miss → ⊥) → AreRight brought
 trial_right none_tried h = no_more
 trial_right (trial_wants walk) h = walk_right walk (λ miss e. cc e)
 trial_right (trial_misses {miss = lost} walk) h = absurd (h lost refl)
@@ -162,7 +162,7 @@ trial_right (trial_gives walk sound onward) h = walk_right walk (λ miss e. cc e
 trial_right (trial_passes {brought = brought} {more = more} walk some fails rest) h = right_append brought more (walk_right walk (λ miss e. cc e)) (trial_right rest h)
 trial_right (trial_garbled {brought = brought} {more = more} walk rest) h = right_append brought more (walk_right walk (λ miss e. cc e)) (trial_right rest h)
 
-log_right : {s : Standing} {start : Vector} {owner : PubKey} {brought : List Brought} {notes : List Note} {end : LogEnd} → Fetches s start owner brought notes end → ((miss : Miss) → end ≡ Stops miss → ⊥) → AreRight brought
+log_right : {s : Standing} {start : Vector} {owner : PubKey} {brought : List Brought} {notes : List Note} {end : LogEnd} → Fetches (record { standing = s; start = start }) owner brought notes end → ((miss : Miss) → end ≡ Stops miss → ⊥) → AreRight brought
 log_right (wants_heads other) h = no_more
 log_right (no_heads lost other) h = absurd (h lost refl)
 log_right {owner = owner} (of_heads given tried brought faults end other are tries) h = one_right (HeadsOf owner (Ok given)) brought (λ x. x) (trial_right tries h)
@@ -171,7 +171,7 @@ log_right (of_own brought faults end own tries) h = trial_right tries h
 same_end : (a b : RefreshEnd) → Some a ≡ Some b → a ≡ b
 same_end a b e = cc e
 
-all_right : {s : Standing} {start : Vector} {owners : List PubKey} {brought : List Brought} {notes : List Note} {chains : List Chain} {end : RefreshEnd} → FetchesAll s start owners brought notes chains end → ((miss : Miss) → end ≡ FailsBy miss → ⊥) → AreRight brought
+all_right : {s : Standing} {start : Vector} {owners : List PubKey} {brought : List Brought} {notes : List Note} {chains : List Chain} {end : RefreshEnd} → FetchesAll (record { standing = s; start = start }) owners brought notes chains end → ((miss : Miss) → end ≡ FailsBy miss → ⊥) → AreRight brought
 all_right all h = no_more
 all_right (stays {log = log} {end = end} fetch is) h = log_right fetch (λ miss e. h miss (same_end end (FailsBy miss) (sym is ∙ ap end_of_log e)))
 all_right (goes_on {brought = brought} {more = more} {log = log} fetch goes rest) h = right_append brought more (log_right fetch (λ miss e. goes_or_stops miss (sym (ap end_of_log e) ∙ goes))) (all_right rest h)
@@ -183,5 +183,5 @@ done_or_fails : (miss : Miss) → Done ≡ FailsBy miss → ⊥
 done_or_fails miss e = cc e
 
 -- what is done didn't miss the last part
-pub not_done : {s : Standing} {start : Vector} {owners : List PubKey} (parts : List Part) (p : Part) {notes : List Note} {chains : List Chain} → IsMissed p.brought → FetchesAll s start owners (brought_in (parts ++ p ∷ [])) notes chains Done → ⊥
+pub not_done : {s : Standing} {start : Vector} {owners : List PubKey} (parts : List Part) (p : Part) {notes : List Note} {chains : List Chain} → IsMissed p.brought → FetchesAll (record { standing = s; start = start }) owners (brought_in (parts ++ p ∷ [])) notes chains Done → ⊥
 not_done parts p missed fetches = right_last (brought_in parts) p.brought (subst AreRight (brought_more parts p) (all_right fetches done_or_fails)) missed

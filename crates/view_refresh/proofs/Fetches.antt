@@ -29,7 +29,7 @@ some_or_none x e = cc e
 
 -- what was brought came to that
 abbrev pub ComesTo : Standing → Vector → List Brought → RefreshEnd → Type 0
-ComesTo s start brought end = (notes : List Note) × (chains : List Chain) × FetchesAll s start s.view.members brought notes chains end
+ComesTo s start brought end = (notes : List Note) × (chains : List Chain) × FetchesAll (record { standing = s; start = start }) s.view.members brought notes chains end
 
 -- whatever end it has, it is one
 pub one_end : (s : Standing) (start : Vector) (brought : List Brought) (end other : RefreshEnd) → ComesTo s start brought end → ComesTo s start brought other → end ≡ other

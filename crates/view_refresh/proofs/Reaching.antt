@@ -35,7 +35,7 @@ log_wants s start owners now t (wants_block owner rest came walked all t2 heads_
 
 module _ (s : agent.Standing) (start : Vector) (brought : List Brought) (g : Gathering) (is : IsSeen s g.known) (h : Gathers start brought g) where
   abbrev StandsAt : RefreshEnd → Type 0
-  StandsAt end = (notes : List session.Note) × (chains : List agent.Chain) × FetchesAll s start s.view.members brought notes chains end
+  StandsAt end = (notes : List session.Note) × (chains : List agent.Chain) × FetchesAll (record { standing = s; start = start }) s.view.members brought notes chains end
 
   abbrev chains_so : List agent.Chain
   chains_so = map chain_of g.passed.batch.chains ++ []
@@ -50,5 +50,5 @@ module _ (s : agent.Standing) (start : Vector) (brought : List Brought) (g : Gat
   of_stage stage.Through e = (h.passed.noted ++ [], chains_so, fetches_as s start g.known is (all_through start brought g h e))
 
   -- what is wanted of them is what the fetch of all needs
-  pub gathers_stand : (notes : List session.Note) × (chains : List agent.Chain) × FetchesAll s start s.view.members brought notes chains (end_for (heads_wanted g.stage) (block_wanted g.stage))
+  pub gathers_stand : (notes : List session.Note) × (chains : List agent.Chain) × FetchesAll (record { standing = s; start = start }) s.view.members brought notes chains (end_for (heads_wanted g.stage) (block_wanted g.stage))
   gathers_stand = of_stage g.stage refl

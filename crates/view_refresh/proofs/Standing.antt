@@ -44,7 +44,7 @@ abbrev pub given_over : Standing → Option Basis → List Chain → Refresh
 given_over s whole chains = record { started = start_of s (counting s.floor whole); chains = chains; basis = counting s.floor whole }
 
 module _ {J : Type 0} (judges : Judges J) (s : Standing) (parts : List Part) (current : List Heard) (basis : Option Kept) (f : Fetching J) (h : IsFetchingOver judges s parts current basis f) where
-  pub refreshes_so : {notes : List Note} {chains : List Chain} {end : RefreshEnd} → FetchesAll s (start_of s (counting s.floor h.whole)) s.view.members (brought_in h.fetched) notes chains end
+  pub refreshes_so : {notes : List Note} {chains : List Chain} {end : RefreshEnd} → FetchesAll (record { standing = s; start = start_of s (counting s.floor h.whole) }) s.view.members (brought_in h.fetched) notes chains end
       → Refreshes s (brought_in parts) notes (given_over s h.whole chains) end
   refreshes_so {notes} {chains} {end} fetches =
       subst (λ (b : List Brought). Refreshes s b notes (given_over s h.whole chains) end) (sym (ap brought_in h.parts_are ∙ brought_both h.loaded h.fetched)) (fetching h.whole h.loads fetches)

@@ -31,7 +31,7 @@ use Rattle.world_model.specs.Agents.{Agent, IsTurnIn, Kept, TakesTurn, hss, kept
 use Rattle.world_model.specs.Keepers.{Keeper, asked_to_save, fails_next}
 use Rattle.world_model.specs.World.{World, Participant, named_bytes, participant}
 use Rattle.world_model.specs.Story.{HadTurn, Story, knowing_of, known_of}
-use Rattle.world_model.specs.Steps.{Scene, after_turn, met_by, turn_told, world_after}
+use Rattle.world_model.specs.Steps.{Scene, after_turn, met_by, turn_told, turning_of, world_after}
 use Rattle.world_laws.specs.Causes.{HasCause}
 use Rattle.world_laws.specs.Causes.HasCause.{turned as by_turn}
 use Rattle.world_laws.specs.Headline.{IsOnReplay, TurnHolds}
@@ -60,7 +60,7 @@ by_planned (Some true) fails old new = new refl
 module _ (c : Scene) (r : ℕ) (p : Participant) (keeps : Keeps (c.world, c.story)) (hand : IsInHand c r) (is_p : participant c.world c.session.by ≡ Some p)
     (notes : List Note) (given : Refresh) (xid : ℕ) (asked : Asked) (reply : Reply) (done : HasRefreshed c.session notes given) (asks : Asks c.session.standing.view c.session.message xid asked)
     (turned : Turned) (replies : turned.reply ≡ reply)
-    (is_turn : NamesTellApart (named_bytes c.world) → IsTurnIn (named_bytes c.world) c.world.now p.agent c.session.standing.view (fails_next p.keeper) c.session c.began.knew (known_of c.story p.name) turned) where
+    (is_turn : NamesTellApart (named_bytes c.world) → IsTurnIn (named_bytes c.world) (turning_of c.world p c.session.standing.view) c.session c.began.knew (known_of c.story p.name) turned) where
   abbrev view : View
   view = c.session.standing.view
 
@@ -198,7 +198,7 @@ module _ (c : Scene) (r : ℕ) (p : Participant) (keeps : Keeps (c.world, c.stor
     }) r
 
     -- nothing new was saved
-    module _ (written : List Record) (by_definition : IsByDefinition hss given p.agent c.session.standing.view (fails_next p.keeper) asked c.world.now h written reply)
+    module _ (written : List Record) (by_definition : IsByDefinition hss given (turning_of c.world p c.session.standing.view) asked h written reply)
         (set_is : (apart : NamesTellApart (named_bytes c.world)) → turned.set ≡ taken c r p keeps hand is_p notes given xid asked reply done asks h written by_definition turned apart (is_turn apart)) where
       still_holds : (failed : Bool) (keeper : Keeper) → TurnHolds (had a.signer.made h a.pending failed keeper applied)
       still_holds failed keeper apart = replayed a.signer.made h a.pending failed keeper applied apart
@@ -212,7 +212,7 @@ module _ (c : Scene) (r : ℕ) (p : Participant) (keeps : Keeps (c.world, c.stor
       still_leaves failed keeper held = leaves a.signer.made h a.pending failed keeper applied
           (still_fits c r p keeps hand is_p notes given xid asked reply done asks applied h basis_is may turned is_turn written by_definition set_is failed keeper held) (still_holds failed keeper)
 
-    read_leaves : IsByDefinition hss given p.agent c.session.standing.view (fails_next p.keeper) asked c.world.now h [] reply
+    read_leaves : IsByDefinition hss given (turning_of c.world p c.session.standing.view) asked h [] reply
         → StepLeaves c (record { world = v a.signer.made h a.pending a.has_failed p.keeper applied; story = su a.signer.made h a.pending a.has_failed p.keeper applied; session = t a.signer.made h a.pending a.has_failed p.keeper applied; began = c.began }) r
     read_leaves by_definition = still_leaves [] by_definition (λ apart.
         let its = is_turn apart in
@@ -221,7 +221,7 @@ module _ (c : Scene) (r : ℕ) (p : Participant) (keeps : Keeps (c.world, c.stor
         a.has_failed p.keeper refl
 
     module _ (before : List Record) (last : Record) (may_write : MayWrite hss c.session.standing.view p.agent before last)
-        (by_definition : IsByDefinition hss given p.agent c.session.standing.view (fails_next p.keeper) asked c.world.now h (before ++ last ∷ []) reply) where
+        (by_definition : IsByDefinition hss given (turning_of c.world p c.session.standing.view) asked h (before ++ last ∷ []) reply) where
       abbrev saved_now : Kept
       saved_now = saving c r p keeps hand is_p notes given xid asked reply done asks applied h basis_is may turned is_turn before last may_write by_definition
 
@@ -287,7 +287,7 @@ module _ (c : Scene) (r : ℕ) (p : Participant) (keeps : Keeps (c.world, c.stor
       lose_leaves fails = by_planned (memory.planned_next p.keeper) fails (lose_with_old fails) (lose_with_new fails)
 
     by_becoming : (written : List Record) (then_it : Agent) (save : Option Kept) → Becomes hss c.session.standing.view p.agent h (fails_next p.keeper) written then_it save
-        → IsByDefinition hss given p.agent c.session.standing.view (fails_next p.keeper) asked c.world.now h written reply → Leaves then_it save
+        → IsByDefinition hss given (turning_of c.world p c.session.standing.view) asked h written reply → Leaves then_it save
     by_becoming _ _ _ reads by_definition = read_leaves by_definition
     by_becoming _ _ _ (saves before last may_write fine) by_definition = save_leaves before last may_write by_definition fine
     by_becoming _ _ _ (loses before last may_write fails) by_definition = lose_leaves before last may_write by_definition fails
@@ -299,15 +299,15 @@ module _ (c : Scene) (r : ℕ) (p : Participant) (keeps : Keeps (c.world, c.stor
   Holds view applied after save t = StepLeaves c (record { world = world_after c.world (record (after_turn p after save) { work = applied }); story = turn_told c p view after turned; session = t; began = c.began }) r
 
   abbrev IsIts : View → Type 0
-  IsIts view = NamesTellApart (named_bytes c.world) → IsTurnIn (named_bytes c.world) c.world.now p.agent view (fails_next p.keeper) c.session c.began.knew (known_of c.story p.name) turned
+  IsIts view = NamesTellApart (named_bytes c.world) → IsTurnIn (named_bytes c.world) (turning_of c.world p view) c.session c.began.knew (known_of c.story p.name) turned
 
   by_turns : (notes : List Note) (given : Refresh) (xid : ℕ) (asked : Asked) (applied : ℕ) (after : Agent) (save : Option Kept) → HasRefreshed c.session notes given → Asks c.session.standing.view c.session.message xid asked
-      → Turns hss given p.agent c.session.standing.view (fails_next p.keeper) asked c.world.now (Answered reply applied) after save → IsIts c.session.standing.view
+      → Turns hss given (turning_of c.world p c.session.standing.view) asked (Answered reply applied) after save → IsIts c.session.standing.view
       → Holds c.session.standing.view applied after save (answered c.session (said_of xid reply) notes after.pending)
   by_turns notes given xid asked _ _ _ done asks (turn_answers h written _ after save near over basis_is may becomes by_definition) is_turn =
       by_becoming c r p keeps hand is_p notes given xid asked reply done asks turned replies is_turn h basis_is may _ written after save becomes by_definition
 
-  takes_so : (applied : ℕ) (after : Agent) (save : Option Kept) (t : Session) → TakesTurn c.world.now p.agent c.session.standing.view (fails_next p.keeper) c.session (Answered reply applied) after save t → IsIts c.session.standing.view
+  takes_so : (applied : ℕ) (after : Agent) (save : Option Kept) (t : Session) → TakesTurn (turning_of c.world p c.session.standing.view) c.session (Answered reply applied) after save t → IsIts c.session.standing.view
       → Holds c.session.standing.view applied after save t
   takes_so _ _ _ _ (answers notes given xid asked _ applied then_it save done asks turns) is_turn = by_turns notes given xid asked applied then_it save done asks turns is_turn
   takes_so _ _ _ _ (begins_anew notes given xid asked _ then_it save done asks turns refusal few) is_turn = absurd refusal
@@ -315,5 +315,5 @@ module _ (c : Scene) (r : ℕ) (p : Participant) (keeps : Keeps (c.world, c.stor
 
 pub answered_turns_keep : AnsweredTurnsKeep
 answered_turns_keep c r p view reply applied after save t turned keeps hand ringed is_p in_view takes replies is_turn =
-    subst (λ (u : View). TakesTurn c.world.now p.agent u (fails_next p.keeper) c.session (Answered reply applied) after save t → IsIts c r p keeps hand is_p reply turned replies u → Holds c r p keeps hand is_p reply turned replies u applied after save t)
+    subst (λ (u : View). TakesTurn (turning_of c.world p u) c.session (Answered reply applied) after save t → IsIts c r p keeps hand is_p reply turned replies u → Holds c r p keeps hand is_p reply turned replies u applied after save t)
     (one_view c.session.standing.view view (sym (its_view c r hand p is_p) ∙ in_view)) (takes_so c r p keeps hand is_p reply turned replies applied after save t) takes is_turn

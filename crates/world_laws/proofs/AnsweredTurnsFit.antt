@@ -14,6 +14,7 @@ use Rattle.log_model.specs.Rank.{full_vector, own_entry}
 use Rattle.log_model.specs.Record.{Record}
 use Rattle.log_model.specs.Spelling.{most_records, record_block}
 use Rattle.log_model.specs.Standing.{StandsAmong}
+use Rattle.log_records.proofs.Standing.{stands_where_met}
 use Rattle.log_model.specs.Vector.{Vector, join, seq_of}
 use Rattle.log_model.specs.View.{View}
 use Rattle.log_model.proofs.Lists.{each, each_from, here}
@@ -29,10 +30,10 @@ use Rattle.session_model.specs.Courses.{HasRefreshed}
 use Rattle.session_model.specs.Refreshing.{Note}
 use Rattle.session_model.specs.Replies.{Asks}
 use Rattle.world_model.specs.Agents.{Agent, IsKept, IsTurnIn, Kept, hss, kept_bytes, own, own_reach}
-use Rattle.world_model.specs.Keepers.{Keeper, fails_next}
+use Rattle.world_model.specs.Keepers.{Keeper}
 use Rattle.world_model.specs.World.{Participant, named_bytes, participant}
 use Rattle.world_model.specs.Story.{Knowing, knowing_of, known_of}
-use Rattle.world_model.specs.Steps.{Scene, met_by}
+use Rattle.world_model.specs.Steps.{Scene, met_by, turning_of}
 use Rattle.world_laws.specs.Keeps.{AreParticipants, IsInHand, IsKeptSo, IsMetPost, IsSoundIn, IsSoundKeptIn, Keeps, SignsOnce}
 use Rattle.world_laws.proofs.Frames.{into_map}
 use Rattle.world_laws.proofs.MoreMet.{more_posts, more_snapshot, some_weaker}
@@ -105,7 +106,7 @@ module _ (c : Scene) (r : ℕ) (p : Participant) (keeps : Keeps (c.world, c.stor
 
   module _ (notes : List Note) (given : Refresh) (xid : ℕ) (asked : Asked) (reply : Reply) (done : HasRefreshed c.session notes given) (asks : Asks c.session.standing.view c.session.message xid asked) (work : ℕ)
       (h : Holding) (basis_is : h.basis ≡ (going_on p.agent given.basis).basis) (may : MayTake hss c.session.standing.view p.agent h) (turned : Turned)
-      (is_turn : NamesTellApart (named_bytes c.world) → IsTurnIn (named_bytes c.world) c.world.now p.agent c.session.standing.view (fails_next p.keeper) c.session c.began.knew (known_of c.story p.name) turned) where
+      (is_turn : NamesTellApart (named_bytes c.world) → IsTurnIn (named_bytes c.world) (turning_of c.world p c.session.standing.view) c.session c.began.knew (known_of c.story p.name) turned) where
     spelled : IsSpelledIn its_view (joined h)
     spelled = record { spelled = may.spelled; named = may.named }
 
@@ -125,7 +126,7 @@ module _ (c : Scene) (r : ℕ) (p : Participant) (keeps : Keeps (c.world, c.stor
     still_pending = more_posts c.world.met (met_by c.world.met a.pending) (met_grows c.world.met a.pending) a.pending (pending_met c r p keeps hand is_p)
 
     -- nothing new is saved
-    module _ (written : List Record) (by_definition : IsByDefinition hss given p.agent c.session.standing.view (fails_next p.keeper) asked c.world.now h written reply)
+    module _ (written : List Record) (by_definition : IsByDefinition hss given (turning_of c.world p c.session.standing.view) asked h written reply)
         (set_is : (apart : NamesTellApart (named_bytes c.world)) → turned.set ≡ taken c r p keeps hand is_p notes given xid asked reply done asks h written by_definition turned apart (is_turn apart)) where
       pub still_knows : NamesTellApart (named_bytes c.world) → Knows a.signer.made h a.pending a.has_failed p.keeper work turned.set
       still_knows apart = subst (λ set. KnowsThen its_view (own a) a.floor its.received its.known (met_by c.world.met a.pending) h set) (sym (set_is apart))
@@ -145,7 +146,7 @@ module _ (c : Scene) (r : ℕ) (p : Participant) (keeps : Keeps (c.world, c.stor
 
     -- records were written
     module _ (before : List Record) (last : Record) (may_write : MayWrite hss c.session.standing.view p.agent before last)
-        (by_definition : IsByDefinition hss given p.agent c.session.standing.view (fails_next p.keeper) asked c.world.now h (before ++ last ∷ []) reply) where
+        (by_definition : IsByDefinition hss given (turning_of c.world p c.session.standing.view) asked h (before ++ last ∷ []) reply) where
       abbrev written : List Record
       written = before ++ last ∷ []
 
@@ -254,7 +255,8 @@ module _ (c : Scene) (r : ℕ) (p : Participant) (keeps : Keeps (c.world, c.stor
             (written_known c r p keeps hand is_p notes given xid asked reply done asks h written by_definition turned apart (is_turn apart) all_owned (met_by c.world.met a.pending ++ map (λ (post : Post). post.bytes) posts)
             (λ b among. Contains-append_left (met_by c.world.met a.pending) _ b (met_grows c.world.met a.pending b among))
             (each_from (StandsAmong (met_by c.world.met a.pending ++ map (λ (post : Post). post.bytes) posts)) written
-            (λ x among. Contains-append_right (met_by c.world.met a.pending) _ (record_block x) (into_map (λ (post : Post). post.bytes) posts (record_post x) (is_post x among)))))
+            (λ x among. stands_where_met (met_by c.world.met a.pending ++ map (λ (post : Post). post.bytes) posts) x
+            (Contains-append_right (met_by c.world.met a.pending) _ (record_block x) (into_map (λ (post : Post). post.bytes) posts (record_post x) (is_post x among))))))
             (lost_kept p kept_so.0 kept_so.3 (join a.floor (joined more)) more before last ahead reached) turned.set written
             (log_with_own (own a) _ written all_owned ∙ ap (λ l. l ++ written) (ap (log_of (own a)) (sym (set_is apart))))))
           where

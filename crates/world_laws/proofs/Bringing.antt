@@ -11,6 +11,7 @@ use Rattle.log_model.specs.View.{View, IsView, is_named as is_of_view}
 use Rattle.log_model.specs.Record.{Record}
 use Rattle.log_model.specs.Spelling.{record_block}
 use Rattle.log_model.specs.Standing.{Stand, StandsAmong}
+use Rattle.log_records.proofs.Standing.{block_is_met}
 use Rattle.log_model.proofs.Lists.{here, there, each, each_from}
 use Rattle.turn_model.specs.Basis.{Basis, nothing_held}
 use Rattle.view_blocks.specs.Faults.{HasKeys}
@@ -90,7 +91,7 @@ module _ (c : Scene) (keeps : Keeps (c.world, c.story)) (apart : NamesTellApart 
 
   pub known_stand : Stand (named_bytes c.world) (known_of c.story p.name)
   known_stand = each_from (StandsAmong (named_bytes c.world)) (known_of c.story p.name)
-      (λ q h. met_named (record_block q) (each (StandsAmong c.world.met) (known_of c.story p.name) q agent_sound.stand h))
+      (λ q h. met_named (record_block q) (block_is_met c.world.met q (each (StandsAmong c.world.met) (known_of c.story p.name) q agent_sound.stand h)))
 
   pub knew_stand : Stand (named_bytes c.world) c.began.knew
   knew_stand = each_from (StandsAmong (named_bytes c.world)) c.began.knew (λ q h. each (StandsAmong (named_bytes c.world)) (known_of c.story p.name) q known_stand (knew_before q h))

@@ -86,7 +86,7 @@ only_said (Some m) h = h.0
 settles_bytes : {a after : Agent} {s t : Session} → Settles a s after t → IsOfBytes s → IsOfBytes t
 settles_bytes (settles_all said acks is) h = record { message = h.message; said = only_said said (subst IsSaidWell is h.said) }
 
-turn_bytes : {now : Moment} {a after : Agent} {view : View} {failing : Bool} {s t : Session} {end : TurnEnd} {saving : Option Kept} → TakesTurn now a view failing s end after saving t
+turn_bytes : {now : Moment} {a after : Agent} {view : View} {failing : Bool} {s t : Session} {end : TurnEnd} {saving : Option Kept} → TakesTurn (record { agent = a; view = view; now = now; fails = failing }) s end after saving t
     → ((reply : Reply) (applied : ℕ) → end ≡ Answered reply applied → ReplyGives reply) → IsOfBytes s → IsOfBytes t
 turn_bytes (answers notes given xid asked reply applied after saving done asks_it turned) gives h =
     record { message = h.message; said = (gives reply applied refl, λ x. said_other (said_of xid reply) (said_of_other xid reply) x) }
@@ -94,7 +94,7 @@ turn_bytes (begins_anew notes given xid asked end after saving done asks_it turn
 turn_bytes (gives_up notes given xid asked end after saving done asks_it turned refused many) gives h = record { message = h.message; said = (tt, tt) }
 
 -- what a turn replied gives bytes, where it is that of the definition
-turned_gives : (met : List (List ℕ)) (now : Moment) (a : Agent) (view : View) (failing : Bool) (s : Session) (knew known : List Record) (turned : Turned) → IsTurnIn met now a view failing s knew known turned → ReplyGives turned.reply
+turned_gives : (met : List (List ℕ)) (now : Moment) (a : Agent) (view : View) (failing : Bool) (s : Session) (knew known : List Record) (turned : Turned) → IsTurnIn met (record { agent = a; view = view; now = now; fails = failing }) s knew known turned → ReplyGives turned.reply
 turned_gives met now a view failing s knew known turned is = subst (λ (t : Turned). ReplyGives t.reply) (sym is.is_turn.by_set)
     (turn_gives (inputs a view failing) is.taken is.asked now (closed_makes_keys view is.taken is.is_turn.largest.closed))
 

@@ -68,13 +68,13 @@ use Rattle.world_laws.proofs.CalmLines.{LineGoes, changes_go, each_filtered, ent
 -- ---- agents
 
 -- what an agent has to publish stays as it enters a view
-abbrev PendingStays : Agent → Entering → Type 0
+abbrev pub PendingStays : Agent → Entering → Type 0
 PendingStays a (Entered after) = after.pending ≡ a.pending
 PendingStays a NotMember = Unit {0}
 PendingStays a (NotNamed log) = Unit {0}
 PendingStays a (KeeperFailed after) = after.pending ≡ a.pending
 
-entering_stays : (a : Agent) (view : View) (failing : Bool) → PendingStays a (entering a view failing).0
+pub entering_stays : (a : Agent) (view : View) (failing : Bool) → PendingStays a (entering a view failing).0
 entering_stays a view failing = by (is_own_member hss a view) (not_named a view)
   where
     saves : (failing_before fails : Bool) → PendingStays a (cond {A = Entering × Option Kept} failing_before (KeeperFailed a, None) (cond fails (KeeperFailed (failed a)) (Entered (entered a view)), Some (kept_of (entered a view)))).0
@@ -88,7 +88,7 @@ entering_stays a view failing = by (is_own_member hss a view) (not_named a view)
     by false o = tt
 
 -- the posts of an agent of which a snapshot was made are those that it had, and blocks
-snap_posts : (a : Agent) (root : Key) (blocks : List (List ℕ)) (failing : Bool) (p : Post) → Contains (snapping a root blocks failing).0.0.pending p → is_head p.kind ≡ true → Contains a.pending p
+pub snap_posts : (a : Agent) (root : Key) (blocks : List (List ℕ)) (failing : Bool) (p : Post) → Contains (snapping a root blocks failing).0.0.pending p → is_head p.kind ≡ true → Contains a.pending p
 snap_posts a root blocks failing p = by a.has_failed failing
   where
     made : List (List ℕ)
@@ -105,7 +105,7 @@ snap_posts a root blocks failing p = by a.has_failed failing
 abbrev snap_out : Agent → Key → List (List ℕ) → Bool → Bool → (Agent × Bool) × Option Kept
 snap_out a root blocks failing_before fails = cond failing_before ((a, false), None) (cond fails (failed a, false) (snapped a root blocks, true), Some (kept_of (snapped a root blocks)))
 
-snap_fails_so : (a : Agent) (root : Key) (blocks : List (List ℕ)) (failing : Bool) → (snapping a root blocks failing).0.1 ≡ false → (snapping a root blocks failing).0.0.pending ≡ a.pending
+pub snap_fails_so : (a : Agent) (root : Key) (blocks : List (List ℕ)) (failing : Bool) → (snapping a root blocks failing).0.1 ≡ false → (snapping a root blocks failing).0.0.pending ≡ a.pending
 snap_fails_so a root blocks failing = by a.has_failed failing
   where
     by : (failing_before fails : Bool) → (snap_out a root blocks failing_before fails).0.1 ≡ false → (snap_out a root blocks failing_before fails).0.0.pending ≡ a.pending
@@ -113,7 +113,7 @@ snap_fails_so a root blocks failing = by a.has_failed failing
     by false true e = refl
     by false false e = absurd cc
 
-session_in : (P : Session → Type 0) (ss : List NamedSession) (n : List ℕ) (s : Session) → option_map (λ (t : NamedSession). t.session) (find (λ (t : NamedSession). bytes_eq t.name n) ss) ≡ Some s → AllByRecursion (λ t. P t.session) ss → P s
+pub session_in : (P : Session → Type 0) (ss : List NamedSession) (n : List ℕ) (s : Session) → option_map (λ (t : NamedSession). t.session) (find (λ (t : NamedSession). bytes_eq t.name n) ss) ≡ Some s → AllByRecursion (λ t. P t.session) ss → P s
 session_in P [] n s is h = cc is
 session_in P (t ∷ ss) n s is h = by (bytes_eq t.name n) is (λ e. session_in P ss n s e h.1)
   where
@@ -121,11 +121,11 @@ session_in P (t ∷ ss) n s is h = by (bytes_eq t.name n) is (λ e. session_in P
     by true e later = let same : t.session ≡ s = cc e in subst P same h.0
     by false e later = later e
 
-either : (b : Bool) (P : Session → Type 0) (t : NamedSession) (n : List ℕ) (s : Session) → P t.session → P s → P (cond {A = NamedSession} b (record { name = n; session = s }) t).session
+pub either : (b : Bool) (P : Session → Type 0) (t : NamedSession) (n : List ℕ) (s : Session) → P t.session → P s → P (cond {A = NamedSession} b (record { name = n; session = s }) t).session
 either true P t n s old new = new
 either false P t n s old new = old
 
-one_r : (a b : ℕ) → Some a ≡ Some b → a ≡ b
+pub one_r : (a b : ℕ) → Some a ≡ Some b → a ≡ b
 one_r a b e = cc e
 
 module _ (r : ℕ) (base : List Shape) (links : Peer → Links Peer) (start : ℕ) (ring : IsMadeRing r base links) (Met Left : List ℕ → Type 0) where

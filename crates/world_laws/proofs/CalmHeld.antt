@@ -1,16 +1,12 @@
 -- What holds of the world of a calm run in which the ring stays, and the rank of a post.
-use Rattle.std.proofs.Common.{◌≡◌, ℕ, suc, Bool, true, false, cond, ◌&&◌, List, [], ◌∷◌, ◌++◌, length, map, Option, Some, None, refl, sym, ap, ◌∙◌, subst, nat_lt, Contains, append_assoc, is_some, option_map}
+use Rattle.std.proofs.Common.{◌≡◌, ℕ, suc, Bool, true, false, cond, ◌&&◌, List, [], ◌∷◌, ◌++◌, length, Option, Some, None, refl, sym, ap, ◌∙◌, subst, nat_lt, Contains, append_assoc, is_some, option_map}
 use Rattle.std.specs.List.{AllByRecursion}
 use Rattle.std.specs.Option.{option_map_or}
 use Rattle.std.proofs.lemmas.Bool.{lt-ltb}
-use Rattle.std.proofs.lemmas.List.Elements.{Contains-append_left, Contains-append_right}
 use Rattle.ivy_base.specs.declared.key.Key.{Key}
 use Rattle.ivy_base.specs.declared.key.PubKey.{PubKey}
 use Rattle.ivy_base.specs.declared.operation.Moment.{Moment}
 use Rattle.ivy_base.specs.Naming.{NamesTellApart, head_key_of}
-use Rattle.ring_model.specs.Blocks.{IsAtLeast}
-use Rattle.ring_model.specs.Circle.{number}
-use Rattle.ring_model.specs.Members.{IsAmong, owners}
 use Rattle.ring_model.proofs.Lists.{all-among}
 use Rattle.log_heads.specs.Signed.{IsSignedHead, hss_judged}
 use Rattle.log_heads.proofs.SignedHeads.{signed_heads}
@@ -20,9 +16,7 @@ use Rattle.log_model.specs.Vector.{Stamp}
 use Rattle.wire_model.specs.Xdr.{opaque, word}
 use Rattle.wire_model.proofs.OneReading.{same_fronts}
 use Rattle.hss_keys.specs.Signer.{Signer, hss_key_of, owner_of}
-use Rattle.dht_ids.specs.Peers.{place}
 use Rattle.dht_ids.specs.declared.judge.Judged.{Judged}
-use Rattle.dht_ids.specs.declared.peer.Peer.{Peer}
 use Rattle.dht_ids.specs.declared.post.Post.{Post}
 use Rattle.agent_model.specs.Agent.{is_head}
 use Rattle.node_store.specs.Stores.{Block}
@@ -34,27 +28,27 @@ use Rattle.world_model.specs.Nodes.{Node}
 use Rattle.world_model.specs.World.{Participant, World, empty_world, named_bytes, participant}
 use Rattle.world_model.specs.Story.{empty_story}
 use Rattle.world_model.specs.Logs.{Played, beside, goes_if}
-use Rattle.world_model.specs.Ring.{RingLine, live_in_order}
+use Rattle.world_model.specs.Ring.{RingLine}
 use Rattle.round_laws.specs.RingOf.{links_in}
 use Rattle.round_laws.specs.Holding.{rank}
-use Rattle.round_laws.proofs.Nodes.{Shape, at_among, order_by, order_shape}
+use Rattle.round_laws.proofs.Nodes.{Shape, at_among}
 use Rattle.round_laws.proofs.Rounding.{shapes_of}
 use Rattle.std.specs.FinMap.Entries.{find as value_at}
 use Rattle.ivy_base.specs.Naming.{key_cmp}
 use Rattle.node_store.specs.Stores.{Blocks}
-use Rattle.world_laws.specs.Calm.{AckedIsHeld, Calmly, HasSameRing, IsCalmAt, Since, Stopped, post_rank, rank_in}
+use Rattle.world_laws.specs.Calm.{Calmly, HasSameRing, IsCalmAt, Since, Stopped, post_rank}
 use Rattle.world_laws.specs.Calm.Calmly.{none as calmly_none, more as calmly_more}
 use Rattle.world_laws.specs.Keeps.{IsKeptSo, Keeps, SignsOnce, sealed_with}
 use Rattle.world_laws.specs.Laws.{LinesKeep}
 use Rattle.world_laws.proofs.Bringing.{found_named}
 use Rattle.world_laws.proofs.FirstWorld.{empty_keeps}
-use Rattle.world_laws.proofs.Frames.{into_map}
+use Rattle.world_laws.proofs.HeadKeys.{block_is_key}
 use Rattle.world_laws.proofs.PublicKeys.{owner_is_key}
 use Rattle.world_laws.proofs.RingLines.{ring_lines_keep}
 use Rattle.world_laws.proofs.Lines.{still_lines_keep}
 use Rattle.world_laws.proofs.SignedHeads.{from_map}
-use Rattle.world_laws.proofs.CalmNodes.{IsHeld, IsMadeRing, IsRing, kept_ring}
-use Rattle.world_laws.proofs.CalmPuts.{IsAckHeld, block_of, kind_of}
+use Rattle.world_laws.proofs.CalmNodes.{IsMadeRing, IsRing, kept_ring}
+use Rattle.world_laws.proofs.CalmPuts.{block_of}
 use Rattle.world_laws.proofs.CalmStates.{AreApart, IsGood, IsLeft}
 use Rattle.world_laws.proofs.CalmRuns.{IsFirst, IsStillRun, run_of}
 
@@ -123,9 +117,7 @@ pub apart_of : (r : ℕ) (w : Played) (base : List Shape) (links : _) (start : �
 apart_of r w base links start ring keeps names no_key key b c content heads =
     let p_in = (found_named w.0.participants heads.0.0 heads.0.1 heads.0.2).0 in
     let is : key ≡ head_key_of (own heads.0.1.agent) = left_under w heads.0.1 c key keeps p_in heads.0.3 heads.1 in
-    let keys : List (List ℕ) = map (λ (p : Participant). (own p.agent).0) w.0.participants in
-    let same : b ≡ (own heads.0.1.agent).0 = names b (own heads.0.1.agent).0 (Contains-append_left w.0.met keys b content.0)
-    (Contains-append_right w.0.met keys (own heads.0.1.agent).0 (into_map (λ (p : Participant). (own p.agent).0) w.0.participants heads.0.1 p_in)) (content.1 ∙ is) in
+    let same : b ≡ (own heads.0.1.agent).0 = block_is_key w keeps names b heads.0.1 content.0 p_in (content.1 ∙ is) in
     no_key heads.0.1 p_in (subst (Contains w.0.met) same content.0)
 
 -- ---- the whole

@@ -28,7 +28,7 @@ use Rattle.world_laws.proofs.CalmScenes.{runs_go}
 
 -- ---- lists
 
-found_before : {A : Type 0} (test : A → Bool) (xs ys : List A) (x : A) → find test xs ≡ Some x → find test (xs ++ ys) ≡ Some x
+pub found_before : {A : Type 0} (test : A → Bool) (xs ys : List A) (x : A) → find test xs ≡ Some x → find test (xs ++ ys) ≡ Some x
 found_before test [] ys x is = cc is
 found_before test (y ∷ xs) ys x is = by (test y) is (found_before test xs ys x)
   where
@@ -36,7 +36,7 @@ found_before test (y ∷ xs) ys x is = by (test y) is (found_before test xs ys x
     by true h later = h
     by false h later = later h
 
-found_last : {A : Type 0} (test : A → Bool) (xs : List A) (x : A) → is_some (find test xs) ≡ false → test x ≡ true → find test (xs ++ x ∷ []) ≡ Some x
+pub found_last : {A : Type 0} (test : A → Bool) (xs : List A) (x : A) → is_some (find test xs) ≡ false → test x ≡ true → find test (xs ++ x ∷ []) ≡ Some x
 found_last test [] x none t = ap (λ b. cond b (Some x) None) t
 found_last test (y ∷ xs) x none t = by (test y) none (λ h. found_last test xs x h t)
   where
@@ -44,7 +44,7 @@ found_last test (y ∷ xs) x none t = by (test y) none (λ h. found_last test xs
     by true h later = absurd cc
     by false h later = later h
 
-old_or_last : {A : Type 0} (test : A → Bool) (xs : List A) (x y : A) → find test (xs ++ x ∷ []) ≡ Some y → (find test xs ≡ Some y) ⊎ (x ≡ y)
+pub old_or_last : {A : Type 0} (test : A → Bool) (xs : List A) (x y : A) → find test (xs ++ x ∷ []) ≡ Some y → (find test xs ≡ Some y) ⊎ (x ≡ y)
 old_or_last test [] x y is = by (test x) is
   where
     by : (b : Bool) → cond b (Some x) None ≡ Some y → (find test [] ≡ Some y) ⊎ (x ≡ y)

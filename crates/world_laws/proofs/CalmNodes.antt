@@ -81,7 +81,7 @@ same_rings w v n l a o r base links start known h =
       replicas = h.replicas;
     }))))
 
-keeps_ring : (question : Ask) → IsForData question → KeepsRing hss_judged question
+pub keeps_ring : (question : Ask) → IsForData question → KeepsRing hss_judged question
 keeps_ring (ask.Route key) h n = (refl, refl)
 keeps_ring ask.Near h n = absurd h
 keeps_ring (ask.Notify peer) h n = absurd h
@@ -170,7 +170,7 @@ IsHeld w key kind least p = IsIn key kind least (held_in w key p)
 abbrev pub HeldStays : World → World → Type 0
 HeldStays w next = (key : Key) (kind : Kind) (least : ℕ) (p : Peer) → IsHeld w key kind least p → IsHeld next key kind least p
 
-raised_to : (f : Block → ℕ) (o : Option Block) (v w : ℕ) → option_map f o ≡ raised v (Some w) → (c : Block) × (o ≡ Some c) × (v ≤ f c) × (w ≤ f c)
+pub raised_to : (f : Block → ℕ) (o : Option Block) (v w : ℕ) → option_map f o ≡ raised v (Some w) → (c : Block) × (o ≡ Some c) × (v ≤ f c) × (w ≤ f c)
 raised_to f o v w e = by o (nat_lt w v) refl e
   where
     by : (o : Option Block) (b : Bool) → nat_lt w v ≡ b → option_map f o ≡ cond b (Some v) (Some w) → (c : Block) × (o ≡ Some c) × (v ≤ f c) × (w ≤ f c)
@@ -179,7 +179,7 @@ raised_to f o v w e = by o (nat_lt w v) refl e
     by (Some c) true t e = let same : f c ≡ v = some_same (f c) v e in let l = ltb-true w v t in (c, refl, omega (arith, same), omega (arith, same, l))
     by (Some c) false t e = let same : f c ≡ w = some_same (f c) w e in let l = ltb-false w v t in (c, refl, omega (arith, same, l), omega (arith, same))
 
-raised_from : (f : Block → ℕ) (o before : Option Block) (v : ℕ) → option_map f o ≡ raised v (option_map f before) → (c : Block) × (o ≡ Some c) × (v ≤ f c)
+pub raised_from : (f : Block → ℕ) (o before : Option Block) (v : ℕ) → option_map f o ≡ raised v (option_map f before) → (c : Block) × (o ≡ Some c) × (v ≤ f c)
 raised_from f None None v e = absurd (none_some v e)
 raised_from f (Some c) None v e = let same : f c ≡ v = some_same (f c) v e in (c, refl, omega (arith, same))
 raised_from f o (Some b) v e = let found = raised_to f o v (f b) e in (found.0, found.1, found.2)

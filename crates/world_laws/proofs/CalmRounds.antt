@@ -73,7 +73,7 @@ few_live (n ∷ nodes) = by n.is_live (few_live nodes)
     by true h = omega (arith, h)
     by false h = omega (arith, h)
 
-few_ordered : (w : World) → length w.nodes ≤ 256 → length (live_in_order w) ≤ 512
+pub few_ordered : (w : World) → length w.nodes ≤ 256 → length (live_in_order w) ≤ 512
 few_ordered w few = let all = ordered_all (live_peers w) [] in let some = few_live w.nodes in omega (arith, all, some, few)
 
 -- ---- what holds at each line
@@ -101,7 +101,7 @@ abbrev pub IsSince : ℕ → World → Since → Type 0
 IsSince r w (Stopped k) = HasStopped r k w
 IsSince r w Joined = (x : Peer) × IsJoin place r 160 (live_in_order w) (lives_in w) x (links_in w)
 
-loses_none : (w next : World) → w.lost ≡ [] → LosesNone w next
+pub loses_none : (w next : World) → w.lost ≡ [] → LosesNone w next
 loses_none w next e k above most h = in_nothing k (subst (λ l. Contains l k) e h)
 
 -- of a settled ring nobody has stopped yet
@@ -182,7 +182,7 @@ still_stopped r k w next same h = record {
 no_node_none : {next : World} {output : List ℕ} → Refuses ≡ Goes next output → ⊥
 no_node_none e = cc e
 
-stopped_rest : (w next : World) (n : Node) (output : List ℕ) → stop_line w (Some n) ≡ Goes next output → (next.lost ≡ w.lost) × (next.replicas ≡ w.replicas)
+pub stopped_rest : (w next : World) (n : Node) (output : List ℕ) → stop_line w (Some n) ≡ Goes next output → (next.lost ≡ w.lost) × (next.replicas ≡ w.replicas)
 stopped_rest w next n output e = by n.is_live e
   where
     by : (b : Bool) → cond b (Goes (with_node w (record n { is_live = false })) []) Refuses ≡ Goes next output → (next.lost ≡ w.lost) × (next.replicas ≡ w.replicas)
@@ -261,7 +261,7 @@ pub record JoinsFew (w next : World) : Type 0 where
 one_world : (a b : World) (x y : List ℕ) → Goes a x ≡ Goes b y → a ≡ b
 one_world a b x y e = cc e
 
-joins_few : (w next : World) (number : ℕ) (o : Option ℕ) (out : Outcome World) (output : List ℕ) → JoinLine hss_judged w number o out → out ≡ Goes next output → JoinsFew w next
+pub joins_few : (w next : World) (number : ℕ) (o : Option ℕ) (out : Outcome World) (output : List ℕ) → JoinLine hss_judged w number o out → out ≡ Goes next output → JoinsFew w next
 joins_few w next number _ _ output join_before_ring e = absurd cc
 joins_few w next number _ _ output (join_known r h) e = absurd cc
 joins_few w next number _ _ output (join_exceeds r h g) e = absurd cc
@@ -286,7 +286,7 @@ join_step r number w next output h settled line =
 
 -- ---- runs
 
-beside_goes : (st : Story) (o : Outcome World) (mid : Played) (output : List ℕ) → Goes mid output ≡ beside st o → o ≡ Goes mid.0 output
+pub beside_goes : (st : Story) (o : Outcome World) (mid : Played) (output : List ℕ) → Goes mid output ≡ beside st o → o ≡ Goes mid.0 output
 beside_goes st (Goes next words) mid output e = by e
   where
     worlds : Goes mid output ≡ Goes (next, st) words → mid ≡ (next, st)
@@ -301,7 +301,7 @@ beside_goes st Ends mid output e = absurd cc
 beside_goes st Refuses mid output e = absurd cc
 beside_goes st Exceeds mid output e = absurd cc
 
-round_line : (r : ℕ) (w next : World) (o : Option ℕ) (out : Outcome World) (output : List ℕ) → RoundLine hss_judged w o out → o ≡ Some r → out ≡ Goes next output → IsRoundOf hss_judged r w next
+pub round_line : (r : ℕ) (w next : World) (o : Option ℕ) (out : Outcome World) (output : List ℕ) → RoundLine hss_judged w o out → o ≡ Some r → out ≡ Goes next output → IsRoundOf hss_judged r w next
 round_line r w next _ _ output round_before_ring e f = absurd cc
 round_line r w next _ _ output (round_goes s mid round) e f = subst (λ v. IsRoundOf hss_judged r w v) (one_world mid next [] output f) (subst (λ k. IsRoundOf hss_judged k w mid) (same_number s r e) round)
   where

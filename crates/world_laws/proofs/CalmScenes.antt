@@ -69,7 +69,7 @@ module _ (r : ℕ) (base : List Shape) (links : Peer → Links Peer) (start : �
 
   -- ---- a turn
 
-  turn_step : {now : Moment} {a : Agent} {view : View} {failing : Bool} {s : Session} {end : TurnEnd} {after : Agent} {saving : Option Kept} {t : Session} (v : World) → TakesTurn hss now a view failing s end after saving t → AllByRecursion (IsOwnPost v) after.pending
+  turn_step : {now : Moment} {a : Agent} {view : View} {failing : Bool} {s : Session} {end : TurnEnd} {after : Agent} {saving : Option Kept} {t : Session} (v : World) → TakesTurn hss (record { agent = a; view = view; now = now; fails = failing }) s end after saving t → AllByRecursion (IsOwnPost v) after.pending
       → InStep r base links start ring v s → InStep r base links start ring v t
   turn_step {s = s} v (turn_answers notes given xid asked reply applied after saving done asks_it turned) own h = record {
     entries = h.entries;

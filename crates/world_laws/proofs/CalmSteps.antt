@@ -35,7 +35,7 @@ use Rattle.world_laws.proofs.CalmNodes.{Fits, HeldStays, HoldKinds, IsMadeRing, 
 use Rattle.world_laws.proofs.CalmPuts.{AreTrue, IsAckHeld, IsHeldFor, IsTrueAt, kind_of, put_ends, question_is}
 use Rattle.world_laws.proofs.CalmStates.{ArePending, AreApart, AskGoes, InStep, IsGood, IsMore, IsOwnPost, IsUpTo, OfContent, OfHeads, SceneGoes, ask_goes, asked_more, found_placed, good_later, more_heard, more_posts, placed, placed_more, placed_pending, post_fits, posts_at, still_acked, still_in_step}
 
-never_less : (n : ℕ) → nat_lt n n ≡ false
+pub never_less : (n : ℕ) → nat_lt n n ≡ false
 never_less n = le-ltb n n (le_refl n)
 
 -- ---- what sessions ask
@@ -53,7 +53,7 @@ hears_data (got want brought wants next whole) = ⊎_elim (λ e. subst IsForData
 hears_data (puts_on said p posts acks at next part) = ⊎_elim (λ e. subst IsForData (sym e) tt) (λ e. subst IsForData (sym e) (put_data p)) next.is_of
 hears_data (puts said p posts acks came at next whole) = ⊎_elim (λ e. subst IsForData (sym e) tt) (λ e. subst IsForData (sym e) (put_data p)) next.is_of
 
-fewer_own : (w : World) (p : Post) (posts : List Post) → AllByRecursion (IsOwnPost w) posts → AllByRecursion (IsOwnPost w) (held_back p posts)
+pub fewer_own : (w : World) (p : Post) (posts : List Post) → AllByRecursion (IsOwnPost w) posts → AllByRecursion (IsOwnPost w) (held_back p posts)
 fewer_own w p posts h = by (is_log p.kind)
   where
     by : (b : Bool) → AllByRecursion (IsOwnPost w) (cond b (filter (λ (q : Post). not (is_head q.kind)) posts) posts)

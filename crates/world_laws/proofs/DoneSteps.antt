@@ -76,11 +76,11 @@ record IsRefusedTo (p : Participant) (now : Moment) (s t : Session) : Type 0 whe
   saving : Option Kept
   entered : p.agent.view ≡ Some view
   refused : IsRefusal end
-  takes : TakesTurn now p.agent view (fails_next p.keeper) s end after saving t
+  takes : TakesTurn (record { agent = p.agent; view = view; now = now; fails = fails_next p.keeper }) s end after saving t
 
 -- what was answered is said of the session that had the turn
 answered_of : (had : HadTurn) (s t : Session) (now : Moment) (a : Agent) (view : View) (fails : Bool) (reply : Reply) (applied : ℕ) (after : Agent) (saving : Option Kept) → had.session ≡ s
-    → TakesTurn now a view fails s (Answered reply applied) after saving t → IsOf had had.began.number t
+    → TakesTurn (record { agent = a; view = view; now = now; fails = fails }) s (Answered reply applied) after saving t → IsOf had had.began.number t
 answered_of had s _ now a view fails _ _ _ _ is (answers notes given xid asked reply applied after saving done asks turns) = record {
   number_is = refl;
   by = ap (λ (x : Session). x.by) is;
@@ -116,12 +116,12 @@ acts_done {c = c} stage done (settles after t (settles_all said acks is)) = absu
 
 -- a refused turn was one of a done refresh; the session begins anew, or gives up
 refused_turn : (p : Participant) (now : Moment) (s t : Session) (r : IsRefusedTo p now s t)
-    → ((notes : List Note) × (given : Refresh) × (asked : Asked) × HasRefreshed s notes given × Turns hss given p.agent r.view (fails_next p.keeper) asked now r.end r.after r.saving)
+    → ((notes : List Note) × (given : Refresh) × (asked : Asked) × HasRefreshed s notes given × Turns hss given (record { agent = p.agent; view = r.view; now = now; fails = fails_next p.keeper }) asked r.end r.after r.saving)
     × ((t.starts ≡ s.starts + 1) ⊎ (2 ≤ s.starts))
 refused_turn p now s t r = by r.takes r.refused
   where
-    by : {end : TurnEnd} {after : Agent} {saving : Option Kept} {t : Session} → TakesTurn now p.agent r.view (fails_next p.keeper) s end after saving t → IsRefusal end
-        → ((notes : List Note) × (given : Refresh) × (asked : Asked) × HasRefreshed s notes given × Turns hss given p.agent r.view (fails_next p.keeper) asked now end after saving)
+    by : {end : TurnEnd} {after : Agent} {saving : Option Kept} {t : Session} → TakesTurn (record { agent = p.agent; view = r.view; now = now; fails = fails_next p.keeper }) s end after saving t → IsRefusal end
+        → ((notes : List Note) × (given : Refresh) × (asked : Asked) × HasRefreshed s notes given × Turns hss given (record { agent = p.agent; view = r.view; now = now; fails = fails_next p.keeper }) asked end after saving)
         × ((t.starts ≡ s.starts + 1) ⊎ (2 ≤ s.starts))
     by (answers notes given xid asked reply applied after saving done asks turns) refusal = absurd refusal
     by (begins_anew notes given xid asked end after saving done asks turns refused few) refusal = ((notes, given, asked, done, turns), inl refl)

@@ -77,7 +77,7 @@ lacks_back (lacks notes shown given end xid asked is refreshed asks_it rest fron
 settles_back : {a after : Agent} {s t : Session} → Settles a s after t → t.stage ≡ Refreshing → ⊥
 settles_back (settles_all said acks is) at = cc at
 
-turn_back : {now : Moment} {a after : Agent} {view : View} {failing : Bool} {s t : Session} {end : TurnEnd} {saving : Option Kept} → TakesTurn hss now a view failing s end after saving t → s.stage ≡ Refreshing
+turn_back : {now : Moment} {a after : Agent} {view : View} {failing : Bool} {s t : Session} {end : TurnEnd} {saving : Option Kept} → TakesTurn hss (record { agent = a; view = view; now = now; fails = failing }) s end after saving t → s.stage ≡ Refreshing
 turn_back (answers notes given xid asked reply applied after saving done asks_it turned) = done.0
 turn_back (begins_anew notes given xid asked end after saving done asks_it turned refused few) = done.0
 turn_back (gives_up notes given xid asked end after saving done asks_it turned refused many) = done.0
@@ -85,13 +85,13 @@ turn_back (gives_up notes given xid asked end after saving done asks_it turned r
 -- ---- room
 
 -- a turn that is refused publishes nothing more
-refused_room : {given : Refresh} {a after : Agent} {view : View} {failing : Bool} {asked : Asked} {now : Moment} {end : TurnEnd} {saving : Option Kept} → Turns hss given a view failing asked now end after saving → IsRefusal end → HasRoom a → HasRoom after
+refused_room : {given : Refresh} {a after : Agent} {view : View} {failing : Bool} {asked : Asked} {now : Moment} {end : TurnEnd} {saving : Option Kept} → Turns hss given (record { agent = a; view = view; now = now; fails = failing }) asked end after saving → IsRefusal end → HasRoom a → HasRoom after
 refused_room (behind far) refused room = room
 refused_room (below near low) refused room = room
 refused_room (turn_answers h written reply after saving near over basis may becomes defined) refused room = absurd refused
 
 -- so one after which the session refreshes
-turn_room : {now : Moment} {a after : Agent} {view : View} {failing : Bool} {s t : Session} {end : TurnEnd} {saving : Option Kept} → TakesTurn hss now a view failing s end after saving t → t.stage ≡ Refreshing → HasRoom a → HasRoom after
+turn_room : {now : Moment} {a after : Agent} {view : View} {failing : Bool} {s t : Session} {end : TurnEnd} {saving : Option Kept} → TakesTurn hss (record { agent = a; view = view; now = now; fails = failing }) s end after saving t → t.stage ≡ Refreshing → HasRoom a → HasRoom after
 turn_room (answers notes given xid asked reply applied after saving done asks_it turned) at room = cc at
 turn_room (begins_anew notes given xid asked end after saving done asks_it turned refused few) at room = refused_room turned refused room
 turn_room (gives_up notes given xid asked end after saving done asks_it turned refused many) at room = cc at

@@ -57,7 +57,7 @@ weight_append start [] ys = omega arith
 weight_append start (x ∷ xs) ys = omega (arith, weight_append start xs ys)
 
 tries_short : {view : View} {owner : PubKey} {start floor : Vector} {edge : Option Edge} {ts : List Stamp} {brought : List Brought} {faults : List ChainFault} {end : LogEnd} {want : Want}
-    → Tries view owner start floor edge ts brought faults end → end ≡ Lacks want → length brought < weight (seq_of start (head_key_of owner)) ts
+    → Tries (record { view = view; owner = owner; start = start; floor = floor; edge = edge }) ts brought faults end → end ≡ Lacks want → length brought < weight (seq_of start (head_key_of owner)) ts
 tries_short none_tried is = absurd (cc is)
 tries_short (trial_wants walk) is = omega (arith, walk_lacks walk refl)
 tries_short (trial_misses walk) is = absurd (cc is)
@@ -108,11 +108,11 @@ tried_weigh start (t ∷ tried) heads order among =
 module _ (s : Standing) (start : Vector) where
   -- However it goes on, the fetch of these logs comes to its end.
   pub data FetchEnds (owners : List PubKey) : List Brought → Type 0 where
-    fetch_comes_to : {brought : List Brought} (notes : List Note) (chains : List Chain) (end : RefreshEnd) → FetchesAll s start owners brought notes chains end
+    fetch_comes_to : {brought : List Brought} (notes : List Note) (chains : List Chain) (end : RefreshEnd) → FetchesAll (record { standing = s; start = start }) owners brought notes chains end
         → ((want : Want) (came : Brought) → end ≡ Needs want → IsOfWant want came → FetchEnds owners (brought ++ came ∷ [])) → FetchEnds owners brought
 
   -- behind a log that is fetched
-  behind : (owner : PubKey) (owners : List PubKey) (brought : List Brought) (notes : List Note) (log : LogEnd) → Fetches s start owner brought notes log → end_of_log log ≡ None → {more : List Brought} → FetchEnds owners more
+  behind : (owner : PubKey) (owners : List PubKey) (brought : List Brought) (notes : List Note) (log : LogEnd) → Fetches (record { standing = s; start = start }) owner brought notes log → end_of_log log ≡ None → {more : List Brought} → FetchEnds owners more
       → FetchEnds (owner ∷ owners) (brought ++ more)
   behind owner owners brought notes log fetch goes {more} (fetch_comes_to others chains end fetches next) = fetch_comes_to (notes ++ others) (chains_of owner log ++ chains) end (goes_on fetch goes fetches)
       (λ want came is of. subst (FetchEnds (owner ∷ owners)) (sym (append_assoc brought more (came ∷ []))) (behind owner owners brought notes log fetch goes (next want came is of)))
@@ -123,20 +123,20 @@ module _ (s : Standing) (start : Vector) where
   lacks_it (Gives records) want e = cc e
   lacks_it GivesNone want e = cc e
 
-  module _ (owner : PubKey) (owners : List PubKey) (later : (brought : List Brought) (notes : List Note) (chains : List Chain) (end : RefreshEnd) → FetchesAll s start owners brought notes chains end → FetchEnds owners brought) where
+  module _ (owner : PubKey) (owners : List PubKey) (later : (brought : List Brought) (notes : List Note) (chains : List Chain) (end : RefreshEnd) → FetchesAll (record { standing = s; start = start }) owners brought notes chains end → FetchEnds owners brought) where
     -- a bound of what may be brought for the log while something lacks
     record IsBounded (Fits : List Brought → Type 0) (most : ℕ) : Type 0 where
-      few : (brought : List Brought) (notes : List Note) (want : Want) → Fits brought → Fetches s start owner brought notes (Lacks want) → length brought < most
+      few : (brought : List Brought) (notes : List Note) (want : Want) → Fits brought → Fetches (record { standing = s; start = start }) owner brought notes (Lacks want) → length brought < most
       on : (brought : List Brought) (came : Brought) → Fits brought → Fits (brought ++ came ∷ [])
 
     module _ {Fits : List Brought → Type 0} {most : ℕ} (bounded : IsBounded Fits most) where
-      bounded_end : (n : ℕ) {brought : List Brought} {notes : List Note} {chains : List Chain} {end : RefreshEnd} → most ≤ n + length brought → Fits brought → FetchesAll s start (owner ∷ owners) brought notes chains end
+      bounded_end : (n : ℕ) {brought : List Brought} {notes : List Note} {chains : List Chain} {end : RefreshEnd} → most ≤ n + length brought → Fits brought → FetchesAll (record { standing = s; start = start }) (owner ∷ owners) brought notes chains end
           → FetchEnds (owner ∷ owners) brought
       bounded_end n enough fits (goes_on {brought = brought} {notes = notes} {log = log} fetch goes rest) = behind owner owners brought notes log fetch goes (later _ _ _ _ rest)
       bounded_end zero {brought} enough fits (stays {notes = notes} {log = log} {end = end} fetch is) = fetch_comes_to notes [] end (stays fetch is)
-          (λ want came e of. absurd (none want (subst (Fetches s start owner brought notes) (lacks_it log want (is ∙ ap Some e)) fetch)))
+          (λ want came e of. absurd (none want (subst (Fetches (record { standing = s; start = start }) owner brought notes) (lacks_it log want (is ∙ ap Some e)) fetch)))
         where
-          none : (want : Want) → Fetches s start owner brought notes (Lacks want) → ⊥
+          none : (want : Want) → Fetches (record { standing = s; start = start }) owner brought notes (Lacks want) → ⊥
           none want lacking = omega (arith, enough, bounded.few brought notes want fits lacking)
       bounded_end (suc n) {brought} enough fits (stays {notes = notes} {log = log} {end = end} fetch is) = fetch_comes_to notes [] end (stays fetch is)
           (λ want came e of. let then_so = all_goes_on s start want came of (stays {owners = owners} fetch is) e in
@@ -153,7 +153,7 @@ module _ (s : Standing) (start : Vector) where
     own_bounded : owner ≡ s.own → IsBounded (λ brought. Unit {0}) (weight base last)
     own_bounded own = record { few = λ brought notes want fits fetch. few fetch refl; on = λ brought came fits. tt }
       where
-        few : {brought : List Brought} {notes : List Note} {end : LogEnd} {want : Want} → Fetches s start owner brought notes end → end ≡ Lacks want → length brought < weight base last
+        few : {brought : List Brought} {notes : List Note} {end : LogEnd} {want : Want} → Fetches (record { standing = s; start = start }) owner brought notes end → end ≡ Lacks want → length brought < weight base last
         few (wants_heads other) is = absurd (other own)
         few (no_heads miss other) is = absurd (other own)
         few (of_heads heads tried brought faults end other are tries) is = absurd (other own)
@@ -175,7 +175,7 @@ module _ (s : Standing) (start : Vector) where
     missed_bounded : (owner ≡ s.own → ⊥) → (miss : Miss) → IsBounded (BeginsWith (Err miss)) 0
     missed_bounded other miss = record { few = λ brought notes want fits fetch. absurd (none fits fetch refl); on = λ brought came fits. begins_on (Err miss) came fits }
       where
-        none : {brought : List Brought} {notes : List Note} {end : LogEnd} {want : Want} → BeginsWith (Err miss) brought → Fetches s start owner brought notes end → end ≡ Lacks want → ⊥
+        none : {brought : List Brought} {notes : List Note} {end : LogEnd} {want : Want} → BeginsWith (Err miss) brought → Fetches (record { standing = s; start = start }) owner brought notes end → end ≡ Lacks want → ⊥
         none fits (wants_heads not) is = nil_cons (HeadsOf owner (Err miss)) fits.0 fits.1
         none fits (no_heads lost not) is = cc is
         none fits (of_heads got tried brought faults end not are tries) is = came_or_not got miss brought fits.0 fits.1
@@ -185,7 +185,7 @@ module _ (s : Standing) (start : Vector) where
     heads_bounded : (owner ≡ s.own → ⊥) → (heads : List Judged) → IsBounded (BeginsWith (Ok heads)) (suc (weight base (map stamp_of heads) + weight base last))
     heads_bounded other heads = record { few = λ brought notes want fits fetch. few fits fetch refl; on = λ brought came fits. begins_on (Ok heads) came fits }
       where
-        few : {brought : List Brought} {notes : List Note} {end : LogEnd} {want : Want} → BeginsWith (Ok heads) brought → Fetches s start owner brought notes end → end ≡ Lacks want
+        few : {brought : List Brought} {notes : List Note} {end : LogEnd} {want : Want} → BeginsWith (Ok heads) brought → Fetches (record { standing = s; start = start }) owner brought notes end → end ≡ Lacks want
             → length brought < suc (weight base (map stamp_of heads) + weight base last)
         few fits (wants_heads not) is = absurd (nil_cons (HeadsOf owner (Ok heads)) fits.0 fits.1)
         few fits (no_heads miss not) is = absurd (cc is)
@@ -209,7 +209,7 @@ module _ (s : Standing) (start : Vector) where
     after_heads other (Heads of) (BlockOf name came) same is then_so = absurd same
     after_heads other (Content key) came same is then_so = absurd (cc is)
 
-    stays_end : {brought : List Brought} {notes : List Note} {log : LogEnd} {end : RefreshEnd} → Fetches s start owner brought notes log → end_of_log log ≡ Some end → FetchEnds (owner ∷ owners) brought
+    stays_end : {brought : List Brought} {notes : List Note} {log : LogEnd} {end : RefreshEnd} → Fetches (record { standing = s; start = start }) owner brought notes log → end_of_log log ≡ Some end → FetchEnds (owner ∷ owners) brought
     stays_end {end = end} (wants_heads other) is = fetch_comes_to [] [] end (stays (wants_heads other) is)
         (λ want came e of. after_heads other want came of (lacks_it (Lacks (Heads owner)) want (is ∙ ap Some e)) (all_goes_on s start want came of (stays {owners = owners} (wants_heads other) is) e))
     stays_end (no_heads miss other) is = bounded_end (missed_bounded other miss) 0 (omega arith) ([], refl) (stays (no_heads miss other) is)
@@ -217,10 +217,10 @@ module _ (s : Standing) (start : Vector) where
         bounded_end (heads_bounded other heads) (suc (weight base (map stamp_of heads) + weight base last)) (omega arith) (brought, refl) (stays (of_heads heads tried brought faults end other are tries) is)
     stays_end (of_own brought faults end own tries) is = bounded_end (own_bounded own) (weight base last) (omega arith) tt (stays (of_own brought faults end own tries) is)
 
-    log_ends : {brought : List Brought} {notes : List Note} {chains : List Chain} {end : RefreshEnd} → FetchesAll s start (owner ∷ owners) brought notes chains end → FetchEnds (owner ∷ owners) brought
+    log_ends : {brought : List Brought} {notes : List Note} {chains : List Chain} {end : RefreshEnd} → FetchesAll (record { standing = s; start = start }) (owner ∷ owners) brought notes chains end → FetchEnds (owner ∷ owners) brought
     log_ends (stays fetch is) = stays_end fetch is
     log_ends (goes_on {brought = brought} {notes = notes} {log = log} fetch goes rest) = behind owner owners brought notes log fetch goes (later _ _ _ _ rest)
 
-  pub fetch_ends : (owners : List PubKey) {brought : List Brought} {notes : List Note} {chains : List Chain} {end : RefreshEnd} → FetchesAll s start owners brought notes chains end → FetchEnds owners brought
+  pub fetch_ends : (owners : List PubKey) {brought : List Brought} {notes : List Note} {chains : List Chain} {end : RefreshEnd} → FetchesAll (record { standing = s; start = start }) owners brought notes chains end → FetchEnds owners brought
   fetch_ends [] all = fetch_comes_to [] [] Done all (λ want came e of. cc e)
   fetch_ends (owner ∷ owners) fetches = log_ends owner owners (λ brought notes chains end rest. fetch_ends owners rest) fetches

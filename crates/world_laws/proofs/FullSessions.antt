@@ -15,8 +15,7 @@ use Rattle.session_model.specs.Refreshing.{Note}
 use Rattle.session_model.specs.Replies.{said_of}
 use Rattle.session_model.specs.Sessions.{Cache, Refreshing, Session, TakesAll, in_publishing_order, publishing}
 use Rattle.world_model.specs.Agents.{Agent, Kept, hss}
-use Rattle.world_model.specs.Keepers.{fails_next}
-use Rattle.world_model.specs.Steps.{Scene, Steps, StepsOn}
+use Rattle.world_model.specs.Steps.{Scene, Steps, StepsOn, turning_of}
 use Rattle.world_model.specs.Steps.RunsOut.{is_over}
 use Rattle.world_model.specs.World.{Participant, named_bytes, participant, peer_of, with_participant}
 use Rattle.world_laws.specs.Keeps.{IsAtStage, IsInHand, IsRefreshing, Keeps}
@@ -82,7 +81,7 @@ module _ (r : ℕ) (name : List ℕ) where
     on = subst (IsAtStage (with_participant c.world (record p { cache = cache })) r taken) done.0 (taking_keeps c r p taken cache well.keeps well.hand is_p (all_some all)).1.goes_on.stage
 
     module _ (apart : NamesTellApart (named_bytes c.world)) where
-      turned : (end : TurnEnd) (after : Agent) (saving : Option Kept) → Turns hss given p.agent taken.standing.view (fails_next p.keeper) on.asked c.world.now end after saving
+      turned : (end : TurnEnd) (after : Agent) (saving : Option Kept) → Turns hss given (turning_of c.world p taken.standing.view) on.asked end after saving
           → (next : Scene) × Steps hss_judged r name c next × HasMemoryAt next.session × GoesFully r name next
       turned (Answered reply applied) after saving turn =
           let n = had c r p taken cache notes given on.xid on.asked well.keeps well.hand well.ringed apart is_p all done on.asks reply applied after saving turn in

@@ -20,9 +20,8 @@ use Rattle.session_model.specs.Refreshing.{Note}
 use Rattle.session_model.specs.Replies.{Asks, said_no_memory, said_of}
 use Rattle.session_model.specs.Sessions.{Cache, Refreshing, Session, TakesAll, publishing}
 use Rattle.world_model.specs.Agents.{Agent, Kept, hss}
-use Rattle.world_model.specs.Keepers.{fails_next}
 use Rattle.world_model.specs.Story.{known_of}
-use Rattle.world_model.specs.Steps.{Scene, Steps, with_cache}
+use Rattle.world_model.specs.Steps.{Scene, Steps, turning_of, with_cache}
 use Rattle.world_model.specs.Steps.Acts.{turns, is_refused}
 use Rattle.world_model.specs.Steps.Steps.{acts}
 use Rattle.world_model.specs.World.{Participant, named_bytes, participant}
@@ -43,9 +42,9 @@ same_reply a b n m e = cc e
 record IsDefined (given : Refresh) (a : Agent) (view : View) (failing : Bool) (asked : Asked) (now : Moment) (reply : Reply) : Type 0 where
   h : Holding
   written : List Record
-  defined : IsByDefinition hss given a view failing asked now h written reply
+  defined : IsByDefinition hss given (record { agent = a; view = view; now = now; fails = failing }) asked h written reply
 
-is_defined : {given : Refresh} {a after : Agent} {view : View} {failing : Bool} {asked : Asked} {now : Moment} {end : TurnEnd} {saving : Option Kept} (reply : Reply) (applied : ℕ) → Turns hss given a view failing asked now end after saving
+is_defined : {given : Refresh} {a after : Agent} {view : View} {failing : Bool} {asked : Asked} {now : Moment} {end : TurnEnd} {saving : Option Kept} (reply : Reply) (applied : ℕ) → Turns hss given (record { agent = a; view = view; now = now; fails = failing }) asked end after saving
     → end ≡ Answered reply applied → IsDefined given a view failing asked now reply
 is_defined reply applied (behind far) is = absurd (cc is)
 is_defined reply applied (below near low) is = absurd (cc is)
@@ -84,7 +83,7 @@ module _ (c : Scene) (r : ℕ) (p : Participant) (taken : Session) (cache : Cach
   abbrev pub Anew : Type 0
   Anew = (next : Scene) × Steps hss_judged r c.session.by c next × HasMemoryAt next.session × (next.session.stage ≡ Refreshing) × (taken.starts ≡ 0) × (next.session.starts ≡ taken.starts + 1)
 
-  pub had : (reply : Reply) (applied : ℕ) (after : Agent) (saving : Option Kept) → Turns hss given p.agent taken.standing.view (fails_next p.keeper) asked c.world.now (Answered reply applied) after saving → Had reply after
+  pub had : (reply : Reply) (applied : ℕ) (after : Agent) (saving : Option Kept) → Turns hss given (turning_of c.world p taken.standing.view) asked (Answered reply applied) after saving → Had reply after
   had reply applied after saving turn =
       let may = refresh_may_turn then_c then_p r notes given then_so.0 then_apart then_so.1 found done in
       let d = is_defined reply applied turn refl in
@@ -97,7 +96,7 @@ module _ (c : Scene) (r : ℕ) (p : Participant) (taken : Session) (cache : Cach
         refl,
       )
 
-  pub refused : (end : TurnEnd) (after : Agent) (saving : Option Kept) → Turns hss given p.agent taken.standing.view (fails_next p.keeper) asked c.world.now end after saving → IsRefusal end → Anew
+  pub refused : (end : TurnEnd) (after : Agent) (saving : Option Kept) → Turns hss given (turning_of c.world p taken.standing.view) asked end after saving → IsRefusal end → Anew
   refused end after saving turn refusal = elim (cases_lt taken.starts 2) [
     | inl few ↦ (
       _,

@@ -2,13 +2,14 @@
 use Rattle.std.proofs.Common.{◌≡◌, ℕ, ◌+◌, Bool, true, false, cond, not, ◌||◌, ◌&&◌, List, [], ◌∷◌, ◌++◌, length, take, Option, Some, None, Result, Ok, Err, refl, ap, subst}
 use Rattle.std.specs.Prelude.{◌==◌, IfSome, flat_map, is_some, nat_le, nat_lt}
 use Rattle.std.specs.List.{AllByRecursion}
-use Rattle.ivy_base.proofs.NameLemmas.{bytes-name}
+use Rattle.ivy_base.proofs.NameLemmas.{bytes-digest}
+use Rattle.ivy_base.specs.declared.format.Format.TheVariants.{One}
 use Rattle.ivy_base.specs.declared.key.Key.{Key}
 use Rattle.ivy_base.specs.declared.key.PubKey.{PubKey}
 use Rattle.ivy_base.specs.declared.operation.Moment.{Moment}
 use Rattle.ivy_base.specs.declared.operation.Op.{Op}
 use Rattle.ivy_base.specs.declared.operation.Op.TheVariants as op
-use Rattle.ivy_base.specs.Naming.{inode_number, name as name_of}
+use Rattle.ivy_base.specs.Naming.{inode_number, digest}
 use Rattle.tree_model.proofs.Sound.{both_false, not_false}
 use Rattle.tree_model.specs.Tree.{Tree, Inode, entry, inode_at, is_directory, is_file, listing, name_count, directory_kind, file_kind}
 use Rattle.wire_model.specs.Rpc.{Identity}
@@ -34,7 +35,7 @@ use Rattle.nfs_model.specs.Checks.{Check, is_dot, is_dot_dot}
 use Rattle.nfs_model.specs.Objects.{Object, is_owner, may_read, may_write, object_of}
 use Rattle.nfs_model.specs.Pages.{cookie_verifier, long_length, page_checks, plain_length}
 use Rattle.nfs_model.specs.Reading.{answer, found, found_inode, link_kind, lookup_checks, target_of}
-use Rattle.turn_model.specs.Turn.{Agent as Inputs, Asked, Turned, appended, bare_tail, by_plan, own_seq, turn_on}
+use Rattle.turn_model.specs.Turn.{Inputs, Asked, Turned, appended, bare_tail, by_plan, own_seq, turn_on}
 use Rattle.session_model.specs.Replies.{handle_given, verifier_given}
 use Rattle.turn_laws.proofs.Octets.{take_each}
 use Rattle.world_laws.specs.FullTurns.{AreBytes}
@@ -112,7 +113,7 @@ file_is_some (Some i) e = refl
 
 module _ (t : Tree) (keys : NumbersAreKeys t) (view : View) (who : Identity) (now : Moment) (own : PubKey) (seq : ℕ) where
   new_number : AreBytes (inode_number own seq).0
-  new_number = bytes-name _
+  new_number = bytes-digest _
 
   -- a file that is there has an inode, and so a key as its number
   there : (number : Key) (guarded : Bool) → (guarded || not (is_file (inode_at t number))) ≡ false → AreBytes number.0
@@ -221,7 +222,7 @@ module _ (t : Tree) (keys : NumbersAreKeys t) (view : View) (who : Identity) (no
   found_gives dir (Some number) = found_inode_gives dir number (inode_at t number) refl
 
   verifier_bytes : (dir : Key) → AreBytes (cookie_verifier t dir)
-  verifier_bytes dir = take_each 8 (name_of (flat_map (λ e. word (length e.0) ++ e.0 ++ e.1.0) (listing t dir))).0 (bytes-name (flat_map (λ e. word (length e.0) ++ e.0 ++ e.1.0) (listing t dir)))
+  verifier_bytes dir = take_each 8 (digest (flat_map (λ e. word (length e.0) ++ e.0 ++ e.1.0) (listing t dir))).0 (bytes-digest (flat_map (λ e. word (length e.0) ++ e.0 ++ e.1.0) (listing t dir)))
 
   answer_gives : (args : Args) → ReplyGives (answer t view who args)
   answer_gives (call.GetAttr handle) = answer_object (object_of t view handle) _ _ (λ o. (tt, tt))
@@ -248,11 +249,11 @@ module _ (i : Inputs) (s : List Record) (asked : Asked) (now : Moment) (keys : N
   by_plan_gives (Nothing r) e = subst PlanGives e (gives_plan (replay s) keys i.view asked.caller now i.own (own_seq i.own s + 1) asked.args)
   by_plan_gives (Operations ops) e = by (i.leaves == 0 || nat_lt most_records (own_seq i.own s + length ops)) i.has_failed
     where
-      full : ReplyGives (finish (replay s) (replay (appended i.own now s ops)) i.view asked.caller asked.args ops)
-      full = finish_gives (replay s) keys i.view asked.caller now i.own (own_seq i.own s + 1) (replay (appended i.own now s ops)) asked.args ops e
+      full : ReplyGives (finish (replay s) (replay (appended i.own One now s ops)) i.view asked.caller asked.args ops)
+      full = finish_gives (replay s) keys i.view asked.caller now i.own (own_seq i.own s + 1) (replay (appended i.own One now s ops)) asked.args ops e
 
       by : (b c : Bool) → ReplyGives (cond {A = Turned} b (record { reply = reply.Refused RoFs (bare_tail asked.args); set = s })
-          (cond c (record { reply = reply.Refused ServerFault (bare_tail asked.args); set = s }) (record { reply = finish (replay s) (replay (appended i.own now s ops)) i.view asked.caller asked.args ops; set = appended i.own now s ops }))).reply
+          (cond c (record { reply = reply.Refused ServerFault (bare_tail asked.args); set = s }) (record { reply = finish (replay s) (replay (appended i.own One now s ops)) i.view asked.caller asked.args ops; set = appended i.own One now s ops }))).reply
       by true c = (tt, tt)
       by false true = (tt, tt)
       by false false = full

@@ -52,7 +52,7 @@ lacks_past s _ (lacks notes shown given end xid asked at refreshed asks_it rest 
 settles_past : (a : Agent) (s : Session) (after : Agent) (t : Session) → Settles a s after t → IsPast t
 settles_past a s _ _ (settles_all said acks at) = λ e. cc e
 
-turn_refreshes : (now : Moment) (a : Agent) (view : View) (failing : Bool) (s : Session) (end : TurnEnd) (after : Agent) (saving : Option Kept) (t : Session) → TakesTurn hss now a view failing s end after saving t → s.stage ≡ Refreshing
+turn_refreshes : (now : Moment) (a : Agent) (view : View) (failing : Bool) (s : Session) (end : TurnEnd) (after : Agent) (saving : Option Kept) (t : Session) → TakesTurn hss (record { agent = a; view = view; now = now; fails = failing }) s end after saving t → s.stage ≡ Refreshing
 turn_refreshes now a view failing s _ _ _ _ (turn_answers notes given xid asked reply applied after saving done asks_it turned) = done.0
 turn_refreshes now a view failing s _ _ _ _ (begins_anew notes given xid asked end after saving done asks_it turned refused few) = done.0
 turn_refreshes now a view failing s _ _ _ _ (gives_up notes given xid asked end after saving done asks_it turned refused many) = done.0

@@ -74,7 +74,7 @@ fate_same (answers n l is live) = refl
 -- the fact stays through what is done with an agent and its keeper
 pub record IsLasting (P : Agent → Keeper → Type 0) : Type 0 where
   pub turns : (now : Moment) (a : Agent) (y : Keeper) (view : View) (fails : Bool) (s : Session) (end : TurnEnd) (after : Agent) (saving : Option Kept) (t : Session) → a.view ≡ Some view → P a y
-      → TakesTurn now a view fails s end after saving t → P after (asked_to_save y saving)
+      → TakesTurn (record { agent = a; view = view; now = now; fails = fails }) s end after saving t → P after (asked_to_save y saving)
   pub settles : (a after : Agent) (y : Keeper) (s t : Session) → P a y → Settles a s after t → P after y
   pub keeper : (a : Agent) (y z : Keeper) → z.kept ≡ y.kept → P a y → P a z
   pub restarts : (a : Agent) (y : Keeper) (k : Kept) → P a y → IsKept k → y.kept ≡ Some (kept_bytes k) → P (restored k) y

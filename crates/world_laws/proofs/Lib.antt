@@ -132,3 +132,4 @@ pub mod FullLines
 pub mod FullScripts
 pub mod MemoryDecided
 pub mod Messages
+pub mod HeadKeys

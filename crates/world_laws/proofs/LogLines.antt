@@ -2,7 +2,7 @@
 use Rattle.std.proofs.Common.{◌≡◌, ◌⊎◌, inl, inr, ⊎_elim, ℕ, zero, suc, nat_lt, ◌*◌, ◌≤◌, Bool, true, false, cond, List, [], ◌∷◌, ◌++◌, length, map, Some, None, refl, sym, ap, ◌∙◌, subst, arith, Contains}
 use Rattle.std.specs.List.{AllByRecursion, list_all}
 use Rattle.std.proofs.lemmas.List.Elements.{Contains-append_cases}
-use Rattle.ivy_base.proofs.NameLemmas.{bytes-name, length-name}
+use Rattle.ivy_base.proofs.NameLemmas.{bytes-digest, length-digest}
 use Rattle.ivy_base.specs.declared.operation.Moment.{Moment}
 use Rattle.ivy_base.specs.Naming.{head_key_of}
 use Rattle.block_cache.proofs.Pairs.{empty_valid}
@@ -14,6 +14,7 @@ use Rattle.hash_signature_model.specs.Parameters.{leaves}
 use Rattle.hss_keys.specs.Saved.{AreLevels, AreOctets, IsSigner}
 use Rattle.hss_keys.specs.Signer.{Signer, capacity, one_more_made}
 use Rattle.log_model.proofs.Later.{name_is_key}
+use Rattle.log_records.proofs.Standing.{stands_where_met}
 use Rattle.log_model.proofs.Lists.{here, in_cons, in_nothing, there}
 use Rattle.log_model.proofs.Opening.{opening_has_spelling}
 use Rattle.log_model.specs.Chain.{IsChain, opening}
@@ -85,7 +86,7 @@ module _ (s : Signer) (whole : IsSigner s) (unused : s.made ≡ 0) (now : Moment
     few = omega arith;
     each = (
       (name_key, inr refl, opening_opaque (own_key hss s) now),
-      ((record { size = length-name (own_key hss s).0; each = bytes-name (own_key hss s).0 }, inl refl, sealed_opaque s whole stamp name_key), tt),
+      ((record { size = length-digest (own_key hss s).0; each = bytes-digest (own_key hss s).0 }, inl refl, sealed_opaque s whole stamp name_key), tt),
     );
   }
 
@@ -101,7 +102,7 @@ module _ (s : Signer) (whole : IsSigner s) (unused : s.made ≡ 0) (now : Moment
   }
     where
       stamped : IsStamped (own_entry r)
-      stamped = (record { size = length-name (own_key hss s).0; each = bytes-name (own_key hss s).0 }, omega arith, omega arith, name_key)
+      stamped = (record { size = length-digest (own_key hss s).0; each = bytes-digest (own_key hss s).0 }, omega arith, omega arith, name_key)
 
   -- ---- the participant
 
@@ -162,8 +163,8 @@ module _ (s : Signer) (whole : IsSigner s) (unused : s.made ≡ 0) (now : Moment
         saved = (k, kept_whole, refl, record { agent = kept_whole; entered = λ h. h });
         outside = refl;
         keeper_outside = (k, kept_whole, refl, refl);
-        agent = (r, refl, refl, record_met, chain);
-        keeper = (k, kept_whole, refl, (r, refl, record_met, chain, names, refl));
+        agent = (r, refl, refl, stands_where_met met_now r record_met, chain);
+        keeper = (k, kept_whole, refl, (r, refl, stands_where_met met_now r record_met, chain, names, refl));
       }
 
 -- ---- keys that can be saved

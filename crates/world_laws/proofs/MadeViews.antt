@@ -13,7 +13,7 @@ use Rattle.ivy_base.specs.Naming.{owner_cmp, head_key_of}
 use Rattle.tree_model.specs.Tree.{same_key}
 use Rattle.tree_model.proofs.Keys.{same_key_is, same_key_itself}
 use Rattle.tree_model.proofs.Sound.{both_true}
-use Rattle.log_model.specs.View.{ascend, have_own_head_keys, IsView}
+use Rattle.log_model.specs.View.{ascend, have_own_head_keys, most_former, most_members, IsView}
 use Rattle.log_model.proofs.Lists.{both, each_append, each_left, each_right}
 use Rattle.log_model.proofs.Owners.{owners_total}
 use Rattle.world_model.specs.Logs.{with_key, in_key_order}
@@ -185,7 +185,7 @@ order_others ks ls o =
     all_weaker (λ k. AllByRecursion (IsOther k) ls) (λ k. AllByRecursion (IsOther k) (in_key_order ls)) (in_key_order ks)
     (λ k h. fold_each (IsOther k) [] ls tt h) (fold_each (λ k. AllByRecursion (IsOther k) ls) [] ks tt o)
 
-pub made_view_is_view : (members former : List PubKey) → 1 ≤ length members → length members ≤ 16 → length former ≤ 16 → have_own_head_keys (members ++ former) ≡ true
+pub made_view_is_view : (members former : List PubKey) → 1 ≤ length members → length members ≤ most_members → length former ≤ most_former → have_own_head_keys (members ++ former) ≡ true
     → IsView (record { members = in_key_order members; former = in_key_order former })
 made_view_is_view members former some few few_former own =
     let distinct = distinct_from (members ++ former) own in

@@ -7,8 +7,8 @@ use Rattle.ring_model.proofs.Lists.{all_weaker}
 use Rattle.ivy_base.specs.declared.key.Key.{Key}
 use Rattle.ivy_base.specs.declared.key.PubKey.{PubKey}
 use Rattle.log_model.specs.Record.{Record}
-use Rattle.log_model.specs.Spelling.{record_block}
 use Rattle.log_model.specs.Standing.{Stand, StandsAmong}
+use Rattle.log_model.proofs.Standing.{stands_among_more}
 use Rattle.log_model.specs.Vector.{Entry, Vector}
 use Rattle.log_model.specs.View.{View}
 use Rattle.snapshot_model.specs.Spelling.{snapshot_blocks}
@@ -34,7 +34,7 @@ grows_before met more grows others b h =
 
 module _ (met more : List (List ℕ)) (grows : (b : List ℕ) → Contains met b → Contains more b) where
   pub more_stand : (records : List Record) → Stand met records → Stand more records
-  more_stand records h = all_weaker (StandsAmong met) (StandsAmong more) records (λ r s. grows (record_block r) s) h
+  more_stand records h = all_weaker (StandsAmong met) (StandsAmong more) records (λ r s. stands_among_more met more r grows s) h
 
   more_under : (heads : List Entry) (r : Record) → IsUnderHead met heads r → IsUnderHead more heads r
   more_under heads r h = record {
@@ -78,7 +78,7 @@ module _ (met more : List (List ℕ)) (grows : (b : List ℕ) → Contains met b
   -- ---- agents and keepers
 
   pub more_sound : (p : Participant) (d : Change) (k : Knowing) (o : Option View) → IsSoundIn met p k o → IsSoundIn more (changed p d) k o
-  more_sound p d k None h = (h.0, h.1, h.2, grows (record_block h.0) h.3, h.4)
+  more_sound p d k None h = (h.0, h.1, h.2, stands_among_more met more h.0 grows h.3, h.4)
   more_sound p d k (Some view) h = record {
     knows = h.knows;
     stand = more_stand k.known h.stand;
@@ -114,5 +114,5 @@ module _ (met more : List (List ℕ)) (grows : (b : List ℕ) → Contains met b
       both = grows_before met more grows posts
 
   pub more_kept_in : (p : Participant) (d : Change) (now : Knowing) (k : Kept) (o : Option View) → IsSoundKeptIn met p now k o → IsSoundKeptIn more (changed p d) now k o
-  more_kept_in p d now k None h = (h.0, h.1, grows (record_block h.0) h.2, h.3, h.4, h.5)
+  more_kept_in p d now k None h = (h.0, h.1, stands_among_more met more h.0 grows h.2, h.3, h.4, h.5)
   more_kept_in p d now k (Some view) h = more_kept p d now k view h

@@ -85,7 +85,7 @@ becomes_bare view a y h fails written after saving in_view bare fresh take becom
     }
 
 turn_bare : (given : Refresh) (a : Agent) (y : Keeper) (view : View) (fails : Bool) (asked : Asked) (now : Moment) (end : TurnEnd) (after : Agent) (saving : Option Kept) → a.view ≡ Some view → IsBare a y
-    → Turns hss given a view fails asked now end after saving → IsBare after (asked_to_save y saving)
+    → Turns hss given (record { agent = a; view = view; now = now; fails = fails }) asked end after saving → IsBare after (asked_to_save y saving)
 turn_bare given a y view fails asked now _ _ _ in_view bare (behind late) = bare
 turn_bare given a y view fails asked now _ _ _ in_view bare (below timely under) = record { whole = bare.whole; kept = bare.kept; snapshot = bare.snapshot; to_load = refl; basis = refl }
 turn_bare given a y view fails asked now _ _ _ in_view bare (answers h written reply after saving timely above same take becomes by_definition) =
@@ -93,7 +93,7 @@ turn_bare given a y view fails asked now _ _ _ in_view bare (answers h written r
 
 -- so it is where a session has its agent take a turn
 pub taking_bare : (now : Moment) (a : Agent) (y : Keeper) (view : View) (fails : Bool) (s : Session) (end : TurnEnd) (after : Agent) (saving : Option Kept) (t : Session) → a.view ≡ Some view → IsBare a y
-    → TakesTurn now a view fails s end after saving t → IsBare after (asked_to_save y saving)
+    → TakesTurn (record { agent = a; view = view; now = now; fails = fails }) s end after saving t → IsBare after (asked_to_save y saving)
 taking_bare now a y view fails s _ _ _ _ in_view bare (turn_answers notes given xid asked reply applied after saving refreshed asks turns) = turn_bare given a y view fails asked now _ after saving in_view bare turns
 taking_bare now a y view fails s _ _ _ _ in_view bare (begins_anew notes given xid asked end after saving refreshed asks turns refusal few) = turn_bare given a y view fails asked now end after saving in_view bare turns
 taking_bare now a y view fails s _ _ _ _ in_view bare (gives_up notes given xid asked end after saving refreshed asks turns refusal many) = turn_bare given a y view fails asked now end after saving in_view bare turns

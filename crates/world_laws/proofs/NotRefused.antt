@@ -26,7 +26,7 @@ use Rattle.agent_model.specs.Standing.{Chain, Refresh, beyond, dominates, go_on_
 use Rattle.agent_model.specs.Turning.{is_above, is_behind, is_below_tide, is_there, lacks}
 use Rattle.session_laws.proofs.NotBehind.{none_passes}
 use Rattle.session_laws.proofs.OwnParts.{from_flat_map}
-use Rattle.session_laws.proofs.SortedEntries.{each_found}
+use Rattle.snapshot_model.proofs.SortedEntries.{each_found}
 use Rattle.session_laws.proofs.Starting.{joined_front}
 
 -- ---- how far all that is known goes

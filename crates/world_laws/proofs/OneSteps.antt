@@ -32,10 +32,9 @@ use Rattle.session_laws.proofs.OneRefresh.{refresh_is_one}
 use Rattle.world_model.specs.Agents.{Agent, IsTurnIn, Kept, TakesTurn, hss, own}
 use Rattle.world_model.specs.Fates.{FateOf}
 use Rattle.world_model.specs.Fates.FateOf.{lost, stopped, answers as node_answers}
-use Rattle.world_model.specs.Keepers.{fails_next}
 use Rattle.world_model.specs.World.{World, Participant, named_bytes, participant, with_participant}
 use Rattle.world_model.specs.Story.{known_of}
-use Rattle.world_model.specs.Steps.{Acts, RunsOut, Scene, Steps, StepsOn, after_turn, ask_told, met_by, with_cache}
+use Rattle.world_model.specs.Steps.{Acts, RunsOut, Scene, Steps, StepsOn, after_turn, ask_told, met_by, turning_of, with_cache}
 use Rattle.world_model.specs.Steps.Acts.{asks, asks_in_vain, turns, is_refused, settles}
 use Rattle.world_model.specs.Steps.Steps.{acts, lacks_memory}
 use Rattle.world_model.specs.Steps.RunsOut.{is_over as runs_over, more as runs_more}
@@ -90,7 +89,7 @@ record HadRefreshed (s : Session) : Type 0 where
   given : Refresh
   done : HasRefreshed s notes given
 
-had_refreshed : {now : Moment} {a : Agent} {view : View} {failing : Bool} {s : Session} {end : TurnEnd} {after : Agent} {saving : Option Kept} {t : Session} → TakesTurn now a view failing s end after saving t → HadRefreshed s
+had_refreshed : {now : Moment} {a : Agent} {view : View} {failing : Bool} {s : Session} {end : TurnEnd} {after : Agent} {saving : Option Kept} {t : Session} → TakesTurn (record { agent = a; view = view; now = now; fails = failing }) s end after saving t → HadRefreshed s
 had_refreshed (answers notes given xid asked reply applied after saving done asks_it turn) = record { notes = notes; given = given; done = done }
 had_refreshed (begins_anew notes given xid asked end after saving done asks_it turn refused few) = record { notes = notes; given = given; done = done }
 had_refreshed (gives_up notes given xid asked end after saving done asks_it turn refused many) = record { notes = notes; given = given; done = done }
@@ -109,10 +108,10 @@ record IsReady (r : ℕ) (p : Participant) (c : Scene) : Type 0 where
 
 module _ (r : ℕ) (p : Participant) (c : Scene) (ready : c.session.stage ≡ Refreshing → IsReady r p c) where
   abbrev Takes : View → TurnEnd → Agent → Option Kept → Session → Type 0
-  Takes view end after saving t = TakesTurn c.world.now p.agent view (fails_next p.keeper) c.session end after saving t
+  Takes view end after saving t = TakesTurn (turning_of c.world p view) c.session end after saving t
 
   abbrev IsIts : View → Turned → Type 0
-  IsIts view turned = IsTurnIn (named_bytes c.world) c.world.now p.agent view (fails_next p.keeper) c.session c.began.knew (known_of c.story p.name) turned
+  IsIts view turned = IsTurnIn (named_bytes c.world) (turning_of c.world p view) c.session c.began.knew (known_of c.story p.name) turned
 
   turned_or_refused : (view look : View) (reply : Reply) (applied : ℕ) (stop : TurnEnd) (after then_so : Agent) (saving keep : Option Kept) (t u : Session) → view ≡ c.session.standing.view → look ≡ c.session.standing.view → IsRefusal stop
       → Takes view (Answered reply applied) after saving t → Takes look stop then_so keep u → ⊥
@@ -285,19 +284,19 @@ fate_names (stopped n l is dead) = (refl, refl)
 fate_names (node_answers n l is live) = (refl, refl)
 
 -- a turn changes no key
-turns_own : {given : Refresh} {a : Agent} {view : View} {failing : Bool} {asked : Asked} {now : Moment} {end : TurnEnd} {after : Agent} {saving : Option Kept} → Turns hss given a view failing asked now end after saving → own after ≡ own a
+turns_own : {given : Refresh} {a : Agent} {view : View} {failing : Bool} {asked : Asked} {now : Moment} {end : TurnEnd} {after : Agent} {saving : Option Kept} → Turns hss given (record { agent = a; view = view; now = now; fails = failing }) asked end after saving → own after ≡ own a
 turns_own (behind far) = refl
 turns_own (below near low) = refl
 turns_own (turn_answers h written reply after saving near over basis may reads defined) = refl
 turns_own (turn_answers h written reply after saving near over basis may (saves before last might fine) defined) = refl
 turns_own (turn_answers h written reply after saving near over basis may (loses before last might gone) defined) = refl
 
-takes_own : {now : Moment} {a : Agent} {view : View} {failing : Bool} {s : Session} {end : TurnEnd} {after : Agent} {saving : Option Kept} {t : Session} → TakesTurn now a view failing s end after saving t → own after ≡ own a
+pub takes_own : {now : Moment} {a : Agent} {view : View} {failing : Bool} {s : Session} {end : TurnEnd} {after : Agent} {saving : Option Kept} {t : Session} → TakesTurn (record { agent = a; view = view; now = now; fails = failing }) s end after saving t → own after ≡ own a
 takes_own (answers notes given xid asked reply applied after saving done asks_it turn) = turns_own turn
 takes_own (begins_anew notes given xid asked end after saving done asks_it turn refused few) = turns_own turn
 takes_own (gives_up notes given xid asked end after saving done asks_it turn refused many) = turns_own turn
 
-settles_own : {a : Agent} {s : Session} {after : Agent} {t : Session} → Settles a s after t → own after ≡ own a
+pub settles_own : {a : Agent} {s : Session} {after : Agent} {t : Session} → Settles a s after t → own after ≡ own a
 settles_own (settles_all said acks at) = refl
 
 module _ (r : ℕ) (c : Scene) (p : Participant) (apart : AreApart (map (λ (o : Participant). o.name) c.world.participants)) (is_p : participant c.world p.name ≡ Some p) where

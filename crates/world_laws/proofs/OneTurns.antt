@@ -33,7 +33,7 @@ use Rattle.world_model.specs.Agents.{Agent, IsTurnIn, Kept, TakesTurn, hss, inpu
 use Rattle.world_model.specs.Keepers.{fails_next}
 use Rattle.world_model.specs.World.{Participant, named_bytes, participant}
 use Rattle.world_model.specs.Story.{known_of}
-use Rattle.world_model.specs.Steps.{Scene, after_turn, turn_told, world_after}
+use Rattle.world_model.specs.Steps.{Scene, after_turn, turn_told, turning_of, world_after}
 use Rattle.world_laws.specs.Keeps.{IsInHand, Keeps}
 use Rattle.world_laws.proofs.Bringing.{in_a_view, its_view}
 use Rattle.world_laws.proofs.OneAsked.{one_asked, one_xid}
@@ -114,7 +114,7 @@ one_becoming view a h fails _ _ _ _ _ _ same (loses before last may lost) (loses
 -- ---- a turn is refused in one way, or answered
 
 refused_one : (given : Refresh) (a : Agent) (view : View) (fails : Bool) (asked other : Asked) (now : Moment) (end stop : TurnEnd) (after then_so : Agent) (saving keep : Option Kept) → IsRefusal end → IsRefusal stop
-    → Turns hss given a view fails asked now end after saving → Turns hss given a view fails other now stop then_so keep → (end ≡ stop) × (after ≡ then_so) × (saving ≡ keep)
+    → Turns hss given (record { agent = a; view = view; now = now; fails = fails }) asked end after saving → Turns hss given (record { agent = a; view = view; now = now; fails = fails }) other stop then_so keep → (end ≡ stop) × (after ≡ then_so) × (saving ≡ keep)
 refused_one given a view fails asked other now _ _ _ _ _ _ refusing denying (behind far) (behind too) = (refl, refl, refl)
 refused_one given a view fails asked other now _ _ _ _ _ _ refusing denying (behind far) (below near low) = absurd (true_or_false _ far near)
 refused_one given a view fails asked other now _ _ _ _ _ _ refusing denying (behind far) (turn_answers h written reply after saving near over basis may becomes by_definition) = absurd denying
@@ -124,7 +124,7 @@ refused_one given a view fails asked other now _ _ _ _ _ _ refusing denying (bel
 refused_one given a view fails asked other now _ _ _ _ _ _ refusing denying (turn_answers h written reply after saving near over basis may becomes by_definition) turn = absurd refusing
 
 not_refused_too : (given : Refresh) (a : Agent) (view : View) (fails : Bool) (asked other : Asked) (now : Moment) (reply : Reply) (applied : ℕ) (stop : TurnEnd) (after then_so : Agent) (saving keep : Option Kept) → IsRefusal stop
-    → Turns hss given a view fails asked now (Answered reply applied) after saving → Turns hss given a view fails other now stop then_so keep → ⊥
+    → Turns hss given (record { agent = a; view = view; now = now; fails = fails }) asked (Answered reply applied) after saving → Turns hss given (record { agent = a; view = view; now = now; fails = fails }) other stop then_so keep → ⊥
 not_refused_too given a view fails asked other now _ _ _ _ _ _ _ refusal (turn_answers h written reply after saving near over basis may becomes by_definition) (behind far) = true_or_false _ far near
 not_refused_too given a view fails asked other now _ _ _ _ _ _ _ refusal (turn_answers h written reply after saving near over basis may becomes by_definition) (below close low) = true_or_false _ low over
 not_refused_too given a view fails asked other now _ _ _ _ _ _ _ refusal (turn_answers h written reply after saving near over basis may becomes by_definition) (turn_answers g wrote also then_so keep close above base might comes definition) = absurd refusal
@@ -155,13 +155,13 @@ module _ (c : Scene) (p : Participant) where
   view = c.session.standing.view
 
   abbrev IsIts : Turned → Type 0
-  IsIts turned = IsTurnIn (named_bytes c.world) c.world.now p.agent c.session.standing.view (fails_next p.keeper) c.session c.began.knew (known_of c.story p.name) turned
+  IsIts turned = IsTurnIn (named_bytes c.world) (turning_of c.world p c.session.standing.view) c.session c.began.knew (known_of c.story p.name) turned
 
   module _ (r : ℕ) (keeps : Keeps (c.world, c.story)) (hand : IsInHand c r) (is_p : participant c.world c.session.by ≡ Some p) (apart : NamesTellApart (named_bytes c.world)) where
     module _ (notes : List Note) (given : Refresh) (xid : ℕ) (asked : Asked) (done : HasRefreshed c.session notes given) (asks : Asks c.session.standing.view c.session.message xid asked)
         (h g : Holding) (written wrote : List Record) (reply also : Reply)
-        (defined : IsByDefinition hss given p.agent c.session.standing.view (fails_next p.keeper) asked c.world.now h written reply)
-        (definition : IsByDefinition hss given p.agent c.session.standing.view (fails_next p.keeper) asked c.world.now g wrote also)
+        (defined : IsByDefinition hss given (turning_of c.world p c.session.standing.view) asked h written reply)
+        (definition : IsByDefinition hss given (turning_of c.world p c.session.standing.view) asked g wrote also)
         (turned then_it : Turned) (its : IsIts turned) (too : IsIts then_it) where
       same_taken : its.taken ≡ too.taken
       same_taken = one_taken view (known_of c.story p.name) too.is_turn.candidates its.taken too.taken
@@ -189,8 +189,8 @@ module _ (c : Scene) (p : Participant) where
 
     one_answer : (notes : List Note) (given : Refresh) (xid : ℕ) (asked : Asked) → HasRefreshed c.session notes given → Asks c.session.standing.view c.session.message xid asked
         → (reply also : Reply) (applied more : ℕ) (after then_so : Agent) (saving keep : Option Kept) (turned then_it : Turned) → IsIts turned → IsIts then_it
-        → Turns hss given p.agent view (fails_next p.keeper) asked c.world.now (Answered reply applied) after saving
-        → Turns hss given p.agent view (fails_next p.keeper) asked c.world.now (Answered also more) then_so keep → SameAnswered after then_so saving keep applied more turned then_it
+        → Turns hss given (turning_of c.world p view) asked (Answered reply applied) after saving
+        → Turns hss given (turning_of c.world p view) asked (Answered also more) then_so keep → SameAnswered after then_so saving keep applied more turned then_it
     one_answer notes given xid asked done asks _ _ _ _ _ _ _ _ turned then_it its too (turn_answers h written reply after saving near over basis_is may becomes defined)
         (turn_answers g wrote also then_so keep close above base might comes definition) =
         let basis : h.basis ≡ g.basis = basis_is ∙ sym base in
@@ -205,16 +205,16 @@ module _ (c : Scene) (p : Participant) where
         }
 
     pub turns_one : (reply also : Reply) (applied more : ℕ) (after then_so : Agent) (saving keep : Option Kept) (t u : Session) (turned then_it : Turned)
-        → TakesTurn c.world.now p.agent view (fails_next p.keeper) c.session (Answered reply applied) after saving t → TakesTurn c.world.now p.agent view (fails_next p.keeper) c.session (Answered also more) then_so keep u
+        → TakesTurn (turning_of c.world p view) c.session (Answered reply applied) after saving t → TakesTurn (turning_of c.world p view) c.session (Answered also more) then_so keep u
         → turned.reply ≡ reply → then_it.reply ≡ also → IsIts turned → IsIts then_it
         → scene_after c p view after saving applied turned t ≡ scene_after c p view then_so keep more then_it u
     turns_one _ _ _ _ _ _ _ _ _ _ turned then_it (answers notes given xid asked reply applied after saving done asks turn) (answers others brought number ask also more then_so keep again asking turning) replies answering its too =
         let one = one_given c.session notes others given brought done again in
         let same_ask : asked ≡ ask = one_asked view c.session.message xid number asked ask asks asking in
         let same_number : xid ≡ number = one_xid view c.session.message xid number asked ask asks asking in
-        let second : Turns hss given p.agent view (fails_next p.keeper) asked c.world.now (Answered also more) then_so keep =
-        subst (λ (g : Refresh). Turns hss g p.agent view (fails_next p.keeper) asked c.world.now (Answered also more) then_so keep) (sym one.1)
-        (subst (λ (a : Asked). Turns hss brought p.agent view (fails_next p.keeper) a c.world.now (Answered also more) then_so keep) (sym same_ask) turning) in
+        let second : Turns hss given (turning_of c.world p view) asked (Answered also more) then_so keep =
+        subst (λ (g : Refresh). Turns hss g (turning_of c.world p view) asked (Answered also more) then_so keep) (sym one.1)
+        (subst (λ (a : Asked). Turns hss brought (turning_of c.world p view) a (Answered also more) then_so keep) (sym same_ask) turning) in
         let same = one_answer notes given xid asked done asks reply also applied more after then_so saving keep turned then_it its too turn second in
         let say : reply ≡ also = sym replies ∙ ap (λ (x : Turned). x.reply) same.turns ∙ answering in
         λ i. scene_after c p view (same.agents i) (same.saved i) (same.work i) (same.turns i) (answered c.session (said_of (same_number i) (say i)) (one.0 i) (same.agents i).pending)
@@ -233,28 +233,28 @@ module _ (c : Scene) (p : Participant) where
     asked : Asked
     done : HasRefreshed c.session notes given
     asks : Asks c.session.standing.view c.session.message xid asked
-    turn : Turns hss given p.agent c.session.standing.view (fails_next p.keeper) asked c.world.now end after saving
+    turn : Turns hss given (turning_of c.world p c.session.standing.view) asked end after saving
 
-  turn_of : {end : TurnEnd} {after : Agent} {saving : Option Kept} {t : Session} → TakesTurn c.world.now p.agent view (fails_next p.keeper) c.session end after saving t → IsTurn end after saving
+  turn_of : {end : TurnEnd} {after : Agent} {saving : Option Kept} {t : Session} → TakesTurn (turning_of c.world p view) c.session end after saving t → IsTurn end after saving
   turn_of (answers notes given xid asked reply applied after saving done asks turn) = record { notes = notes; given = given; xid = xid; asked = asked; done = done; asks = asks; turn = turn }
   turn_of (begins_anew notes given xid asked end after saving done asks turn refused few) = record { notes = notes; given = given; xid = xid; asked = asked; done = done; asks = asks; turn = turn }
   turn_of (gives_up notes given xid asked end after saving done asks turn refused many) = record { notes = notes; given = given; xid = xid; asked = asked; done = done; asks = asks; turn = turn }
 
   pub not_both_ways : (reply : Reply) (applied : ℕ) (stop : TurnEnd) (after then_so : Agent) (saving keep : Option Kept) (t u : Session) → IsRefusal stop
-      → TakesTurn c.world.now p.agent view (fails_next p.keeper) c.session (Answered reply applied) after saving t → TakesTurn c.world.now p.agent view (fails_next p.keeper) c.session stop then_so keep u → ⊥
+      → TakesTurn (turning_of c.world p view) c.session (Answered reply applied) after saving t → TakesTurn (turning_of c.world p view) c.session stop then_so keep u → ⊥
   not_both_ways reply applied stop after then_so saving keep t u refusal takes taking_too =
       let a = turn_of takes in
       let b = turn_of taking_too in
       not_refused_too a.given p.agent view (fails_next p.keeper) a.asked b.asked c.world.now reply applied stop after then_so saving keep refusal a.turn
-      (subst (λ (g : Refresh). Turns hss g p.agent view (fails_next p.keeper) b.asked c.world.now stop then_so keep) (sym (one_given c.session a.notes b.notes a.given b.given a.done b.done).1) b.turn)
+      (subst (λ (g : Refresh). Turns hss g (turning_of c.world p view) b.asked stop then_so keep) (sym (one_given c.session a.notes b.notes a.given b.given a.done b.done).1) b.turn)
 
   same_refusal : {end stop : TurnEnd} {after then_so : Agent} {saving keep : Option Kept} → IsRefusal end → IsRefusal stop → IsTurn end after saving → IsTurn stop then_so keep → (end ≡ stop) × (after ≡ then_so) × (saving ≡ keep)
   same_refusal {end} {stop} {after} {then_so} {saving} {keep} refusing denying a b =
       refused_one a.given p.agent view (fails_next p.keeper) a.asked b.asked c.world.now end stop after then_so saving keep refusing denying a.turn
-      (subst (λ (g : Refresh). Turns hss g p.agent view (fails_next p.keeper) b.asked c.world.now stop then_so keep) (sym (one_given c.session a.notes b.notes a.given b.given a.done b.done).1) b.turn)
+      (subst (λ (g : Refresh). Turns hss g (turning_of c.world p view) b.asked stop then_so keep) (sym (one_given c.session a.notes b.notes a.given b.given a.done b.done).1) b.turn)
 
   refusals_one : (end stop : TurnEnd) (after then_so : Agent) (saving keep : Option Kept) (t u : Session) → IsRefusal end → IsRefusal stop → after ≡ then_so
-      → TakesTurn c.world.now p.agent view (fails_next p.keeper) c.session end after saving t → TakesTurn c.world.now p.agent view (fails_next p.keeper) c.session stop then_so keep u → t ≡ u
+      → TakesTurn (turning_of c.world p view) c.session end after saving t → TakesTurn (turning_of c.world p view) c.session stop then_so keep u → t ≡ u
   refusals_one _ _ _ _ _ _ _ _ refusing denying same (answers notes given xid asked reply applied after saving done asks turn) takes = absurd refusing
   refusals_one _ _ _ _ _ _ _ _ refusing denying same (begins_anew notes given xid asked end after saving done asks turn refused few) (answers others brought number ask also more then_so keep again asking turning) = absurd denying
   refusals_one _ _ _ _ _ _ _ _ refusing denying same (begins_anew notes given xid asked end after saving done asks turn refused few) (begins_anew others brought number ask stop then_so keep again asking turning refusal too) =
@@ -266,7 +266,7 @@ module _ (c : Scene) (p : Participant) where
       λ i. ended c.session (said_no_memory (one_xid view c.session.message xid number asked ask asks asking i)) ((one_given c.session notes others given brought done again).0 i) None
 
   pub one_refusal : (end stop : TurnEnd) (after then_so : Agent) (saving keep : Option Kept) (t u : Session) → IsRefusal end → IsRefusal stop
-      → TakesTurn c.world.now p.agent view (fails_next p.keeper) c.session end after saving t → TakesTurn c.world.now p.agent view (fails_next p.keeper) c.session stop then_so keep u
+      → TakesTurn (turning_of c.world p view) c.session end after saving t → TakesTurn (turning_of c.world p view) c.session stop then_so keep u
       → scene_refused c p after saving t ≡ scene_refused c p then_so keep u
   one_refusal end stop after then_so saving keep t u refusing denying takes taking_too =
       let same = same_refusal refusing denying (turn_of takes) (turn_of taking_too) in

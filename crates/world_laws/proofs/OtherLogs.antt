@@ -8,8 +8,8 @@ use Rattle.log_model.specs.View.{View}
 use Rattle.log_model.specs.Vector.{Stamp, Vector}
 use Rattle.log_model.specs.Record.{Record}
 use Rattle.log_model.specs.Chain.{GoesOn, IsChain}
-use Rattle.log_model.specs.Spelling.{HasSpelling, record_block}
-use Rattle.log_model.specs.Standing.{Stand}
+use Rattle.log_model.specs.Spelling.{HasSpelling}
+use Rattle.log_model.specs.Standing.{Stand, StandsAmong}
 use Rattle.log_model.proofs.Lists.{each, each_from, here, in_cons, in_nothing, there}
 use Rattle.log_records.specs.Batches.{GoesOnFrom}
 use Rattle.log_records.specs.declared.edge.Edge.{Edge}
@@ -27,7 +27,7 @@ AreSpelled owner rs = AllByRecursion (λ r. (r.owner ≡ owner) × HasSpelling r
 
 -- of such a record, blocks that are here are there
 abbrev AreThere : PubKey → List (List ℕ) → List (List ℕ) → Type 0
-AreThere owner met more = (r : Record) → r.owner ≡ owner → HasSpelling r → Contains met (record_block r) → Contains more (record_block r)
+AreThere owner met more = (r : Record) → r.owner ≡ owner → HasSpelling r → StandsAmong met r → StandsAmong more r
 
 goes_spelled : (view : View) (owner : PubKey) (p : Record) (rs : List Record) → GoesOn view owner p rs → AreSpelled owner rs
 goes_spelled view owner p [] h = tt

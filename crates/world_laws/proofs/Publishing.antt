@@ -336,7 +336,7 @@ module _ (w : World) (st : Story) (r : ℕ) (s : Session) (p : Participant) (kee
         cached = each _ w.participants p keeps.met.cached (found_named w.participants s.by p is_p).0;
       }
 
-  turns_never : (now : Moment) (a : Agent) (view : View) (fails_save : Bool) (end : TurnEnd) (after : Agent) (saving : Option Kept) (t : Session) → TakesTurn hss now a view fails_save s end after saving t → ⊥
+  turns_never : (now : Moment) (a : Agent) (view : View) (fails_save : Bool) (end : TurnEnd) (after : Agent) (saving : Option Kept) (t : Session) → TakesTurn hss (record { agent = a; view = view; now = now; fails = fails_save }) s end after saving t → ⊥
   turns_never now a view fails_save _ _ _ _ (turn_answers notes given xid asked reply applied after saving done asks_it turned) = at_puts done.0
   turns_never now a view fails_save _ _ _ _ (begins_anew notes given xid asked end after saving done asks_it turned refused few) = at_puts done.0
   turns_never now a view fails_save _ _ _ _ (gives_up notes given xid asked end after saving done asks_it turned refused many) = at_puts done.0

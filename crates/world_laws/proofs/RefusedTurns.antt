@@ -34,7 +34,7 @@ use Rattle.world_model.specs.Agents.{Agent, Kept, TakesTurn, hss, own}
 use Rattle.world_model.specs.Keepers.{fails_next}
 use Rattle.world_model.specs.World.{World, Participant, named_bytes, participant}
 use Rattle.world_model.specs.Story.{Began, HadTurn, Knowing, knowing_of, known_of}
-use Rattle.world_model.specs.Steps.{Scene, after_turn, met_by, world_after}
+use Rattle.world_model.specs.Steps.{Scene, after_turn, met_by, turning_of, world_after}
 use Rattle.world_laws.specs.Causes.{said_at}
 use Rattle.world_laws.specs.Causes.HasCause.{no_memory}
 use Rattle.world_laws.specs.Keeps.{HasSaid, IsAtStage, IsInHand, IsRefreshing, IsSoundIn, IsSoundSession, Keeps, KeepsUp}
@@ -354,19 +354,19 @@ module _ (c : Scene) (r : ℕ) (p : Participant) (keeps : Keeps (c.world, c.stor
   Leaves after save t = StepLeaves c (record c { world = world_after c.world (after_turn p after save); session = t; began = record c.began { knew = known_of c.story p.name } }) r
 
   module _ (notes : List Note) (given : Refresh) (xid : ℕ) (asked : Asked) (done : HasRefreshed c.session notes given) (asks : Asks c.session.standing.view c.session.message xid asked) where
-    anew_so : (end : TurnEnd) (after : Agent) (save : Option Kept) → Turns hss given p.agent c.session.standing.view (fails_next p.keeper) asked c.world.now end after save → IsRefusal end
+    anew_so : (end : TurnEnd) (after : Agent) (save : Option Kept) → Turns hss given (turning_of c.world p c.session.standing.view) asked end after save → IsRefusal end
         → Leaves after save (anew c.session (anew_in hss after c.session.standing.view))
     anew_so _ _ _ (behind is_late) refusal = leaves_anew c r p keeps hand is_p notes given xid asked done asks p.agent.holding p.agent.to_load (behind_holds c r p keeps hand is_p notes given xid asked done asks is_late)
     anew_so _ _ _ (below near is_low) refusal = leaves_anew c r p keeps hand is_p notes given xid asked done asks nothing_held None (below_holds c r p keeps hand is_p notes given xid asked done asks is_low)
     anew_so _ _ _ (answers_it _ _ _ _ _ _ _ _ _ _ _) refusal = absurd refusal
 
-    over_so : (end : TurnEnd) (after : Agent) (save : Option Kept) → Turns hss given p.agent c.session.standing.view (fails_next p.keeper) asked c.world.now end after save → IsRefusal end → (NamesTellApart (named_bytes c.world) → ⊥)
+    over_so : (end : TurnEnd) (after : Agent) (save : Option Kept) → Turns hss given (turning_of c.world p c.session.standing.view) asked end after save → IsRefusal end → (NamesTellApart (named_bytes c.world) → ⊥)
         → Leaves after save (ended c.session (said_no_memory xid) notes None)
     over_so _ _ _ (behind is_late) refusal clash = leaves_over c r p keeps hand is_p notes given xid asked done asks p.agent.holding p.agent.to_load (behind_holds c r p keeps hand is_p notes given xid asked done asks is_late) clash
     over_so _ _ _ (below near is_low) refusal clash = leaves_over c r p keeps hand is_p notes given xid asked done asks nothing_held None (below_holds c r p keeps hand is_p notes given xid asked done asks is_low) clash
     over_so _ _ _ (answers_it _ _ _ _ _ _ _ _ _ _ _) refusal clash = absurd refusal
 
-  refused_so : (end : TurnEnd) (after : Agent) (save : Option Kept) (t : Session) → IsRefusal end → TakesTurn c.world.now p.agent c.session.standing.view (fails_next p.keeper) c.session end after save t → Leaves after save t
+  refused_so : (end : TurnEnd) (after : Agent) (save : Option Kept) (t : Session) → IsRefusal end → TakesTurn (turning_of c.world p c.session.standing.view) c.session end after save t → Leaves after save t
   refused_so _ _ _ _ refusal (answers notes given xid asked reply applied after save done asks turns) = absurd refusal
   refused_so _ _ _ _ refusal (begins_anew notes given xid asked end after save done asks turns is few) = anew_so notes given xid asked done asks end after save turns is
   refused_so _ _ _ _ refusal (gives_up notes given xid asked end after save done asks turns is many) = over_so notes given xid asked done asks end after save turns is (λ apart.
@@ -376,4 +376,4 @@ module _ (c : Scene) (r : ℕ) (p : Participant) (keeps : Keeps (c.world, c.stor
 pub refused_turns_keep : RefusedTurnsKeep
 refused_turns_keep c r p view end after save t keeps hand ringed is_p in_view refusal takes =
     refused_so c r p keeps hand is_p end after save t refusal
-    (subst (λ (u : View). TakesTurn c.world.now p.agent u (fails_next p.keeper) c.session end after save t) (sym (one_view c.session.standing.view view (sym (its_view c r hand p is_p) ∙ in_view))) takes)
+    (subst (λ (u : View). TakesTurn (turning_of c.world p u) c.session end after save t) (sym (one_view c.session.standing.view view (sym (its_view c r hand p is_p) ∙ in_view))) takes)

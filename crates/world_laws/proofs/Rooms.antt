@@ -170,7 +170,7 @@ saved_few y (Some k) h whole few = by (memory.planned_next y)
     by (Some false) = h
 
 turn_few : (given : Refresh) (a : Agent) (y : Keeper) (view : View) (fails : Bool) (asked : Asked) (now : Moment) (end : TurnEnd) (after : Agent) (saving : Option Kept) → a.view ≡ Some view → HasSpace a y
-    → Turns hss given a view fails asked now end after saving → HasSpace after (asked_to_save y saving)
+    → Turns hss given (record { agent = a; view = view; now = now; fails = fails }) asked end after saving → HasSpace after (asked_to_save y saving)
 turn_few given a y view fails asked now _ _ _ in_view space (behind late) = space
 turn_few given a y view fails asked now _ _ _ in_view space (below timely under) = record { whole = space.whole; few = space.few; kept = space.kept }
 turn_few given a y view fails asked now _ _ _ in_view space (answers h written reply after saving timely above same take becomes by_definition) =
@@ -179,7 +179,7 @@ turn_few given a y view fails asked now _ _ _ in_view space (answers h written r
     record { whole = whole.0; few = few.0; kept = saved_few y saving space.kept whole.1 few.1 }
 
 taking_few : (now : Moment) (a : Agent) (y : Keeper) (view : View) (fails : Bool) (s : Session) (end : TurnEnd) (after : Agent) (saving : Option Kept) (t : Session) → a.view ≡ Some view → HasSpace a y
-    → TakesTurn now a view fails s end after saving t → HasSpace after (asked_to_save y saving)
+    → TakesTurn (record { agent = a; view = view; now = now; fails = fails }) s end after saving t → HasSpace after (asked_to_save y saving)
 taking_few now a y view fails s _ _ _ _ in_view space (turn_answers notes given xid asked reply applied after saving refreshed asks turns) = turn_few given a y view fails asked now _ after saving in_view space turns
 taking_few now a y view fails s _ _ _ _ in_view space (begins_anew notes given xid asked end after saving refreshed asks turns refusal few) = turn_few given a y view fails asked now end after saving in_view space turns
 taking_few now a y view fails s _ _ _ _ in_view space (gives_up notes given xid asked end after saving refreshed asks turns refusal many) = turn_few given a y view fails asked now end after saving in_view space turns

@@ -77,7 +77,7 @@ goes_on_held a (Some b) none = by (is_some a.to_load) (ap is_some none)
 -- a turn that is neither behind nor below the tide isn't refused
 not_refused : (given : Refresh) (a : Agent) (view : View) (fails : Bool) (asked : Asked) (now : Moment) (end : TurnEnd) (after : Agent) (saving : Option Kept)
     → is_behind view (own a) a.floor (going_on a given.basis) given ≡ false → is_below_tide (own a) a.floor (going_on a given.basis) given ≡ false
-    → Turns hss given a view fails asked now end after saving → IsRefusal end → ⊥
+    → Turns hss given (record { agent = a; view = view; now = now; fails = fails }) asked end after saving → IsRefusal end → ⊥
 not_refused given a view fails asked now _ _ _ ahead above (behind is) refusal = cc (sym is ∙ ahead)
 not_refused given a view fails asked now _ _ _ ahead above (below near is) refusal = cc (sym is ∙ above)
 not_refused given a view fails asked now _ _ _ ahead above (answers_it h written reply after saving near over basis takes becomes by) refusal = absurd refusal
@@ -135,7 +135,7 @@ module _ (c : Scene) (keeps : Keeps (c.world, c.story)) (apart : NamesTellApart 
   -- so its turn isn't refused
   pub turn_not_refused : c.session.standing.own ≡ own p.agent → p.agent.to_load ≡ None → p.agent.holding.basis ≡ fresh_basis → ((BeganFresh c.session sound.of → ⊥) → c.session.starts ≡ 0 → ⊥)
       → (notes : List Note) (given : Refresh) → HasRefreshed c.session notes given
-      → (view : View) (fails : Bool) (asked : Asked) (now : Moment) (end : TurnEnd) (after : Agent) (saving : Option Kept) → p.agent.view ≡ Some view → Turns hss given p.agent view fails asked now end after saving → IsRefusal end → ⊥
+      → (view : View) (fails : Bool) (asked : Asked) (now : Moment) (end : TurnEnd) (after : Agent) (saving : Option Kept) → p.agent.view ≡ Some view → Turns hss given (record { agent = p.agent; view = view; now = now; fails = fails }) asked end after saving → IsRefusal end → ⊥
   turn_not_refused own_key none fresh not_dropped notes given done view fails asked now end after saving entered turns refusal =
       not_refused given p.agent view fails asked now end after saving ahead above turns refusal
     where
@@ -162,13 +162,13 @@ IsFreshNow a = (a.to_load ≡ None) × (a.holding.basis ≡ fresh_basis)
 module _ (c : Scene) (r : ℕ) (keeps : Keeps (c.world, c.story)) (apart : NamesTellApart (named_bytes c.world)) (hand : IsInHand c r)
     (p : Participant) (is_p : participant c.world c.session.by ≡ Some p) where
   later_not_refused : (sound : IsSoundSession c.world c.story c.session c.began) → 1 ≤ c.session.starts → (notes : List Note) (given : Refresh) → HasRefreshed c.session notes given
-      → (view : View) (fails : Bool) (asked : Asked) (now : Moment) (end : TurnEnd) (after : Agent) (saving : Option Kept) → p.agent.view ≡ Some view → Turns hss given p.agent view fails asked now end after saving → IsRefusal end → ⊥
+      → (view : View) (fails : Bool) (asked : Asked) (now : Moment) (end : TurnEnd) (after : Agent) (saving : Option Kept) → p.agent.view ≡ Some view → Turns hss given (record { agent = p.agent; view = view; now = now; fails = fails }) asked end after saving → IsRefusal end → ⊥
   later_not_refused sound some =
       let usual : IsFreshNow p.agent = subst (λ (q : Participant). IsFreshNow q.agent) (some_same sound.by p (sym sound.is_by ∙ is_p)) (sound.anew some) in
       turn_not_refused c keeps apart sound p is_p (its_view c r hand p is_p) (its_key c r hand p is_p) usual.0 usual.1 (λ other first. omega (arith, some, first))
 
   pub none_refused_later : (notes : List Note) (given : Refresh) → HasRefreshed c.session notes given
-      → (view : View) (fails : Bool) (asked : Asked) (now : Moment) (end : TurnEnd) (after : Agent) (saving : Option Kept) → p.agent.view ≡ Some view → Turns hss given p.agent view fails asked now end after saving → IsRefusal end → c.session.starts ≡ 0
+      → (view : View) (fails : Bool) (asked : Asked) (now : Moment) (end : TurnEnd) (after : Agent) (saving : Option Kept) → p.agent.view ≡ Some view → Turns hss given (record { agent = p.agent; view = view; now = now; fails = fails }) asked end after saving → IsRefusal end → c.session.starts ≡ 0
   none_refused_later notes given done view fails asked now end after saving entered turns refusal = by c.session.starts refl
     where
       by : (n : ℕ) → c.session.starts ≡ n → c.session.starts ≡ 0

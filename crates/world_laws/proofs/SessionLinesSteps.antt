@@ -84,7 +84,7 @@ lacks_same s _ (lacks notes shown given end xid asked at refreshed asks_it rest 
 settles_same : (a : Agent) (s : Session) (after : Agent) (t : Session) → Settles a s after t → IsSameCall s t
 settles_same a s _ _ (settles_all said acks at) = (refl, refl, refl)
 
-turn_same : (now : Moment) (a : Agent) (view : View) (failing : Bool) (s : Session) (end : TurnEnd) (after : Agent) (saving : Option Kept) (t : Session) → view ≡ s.standing.view → TakesTurn hss now a view failing s end after saving t → IsSameCall s t
+turn_same : (now : Moment) (a : Agent) (view : View) (failing : Bool) (s : Session) (end : TurnEnd) (after : Agent) (saving : Option Kept) (t : Session) → view ≡ s.standing.view → TakesTurn hss (record { agent = a; view = view; now = now; fails = failing }) s end after saving t → IsSameCall s t
 turn_same now a view failing s _ _ _ _ is (turn_answers notes given xid asked reply applied after saving done asks_it turned) = (refl, refl, refl)
 turn_same now a view failing s _ _ _ _ is (begins_anew notes given xid asked end after saving done asks_it turned refused few) = (refl, refl, is)
 turn_same now a view failing s _ _ _ _ is (gives_up notes given xid asked end after saving done asks_it turned refused many) = (refl, refl, refl)

@@ -3,7 +3,8 @@ use Rattle.std.proofs.Common.{◌≡◌, ℕ, zero, suc, ◌+◌, ◌*◌, ◌<�
 use Rattle.std.specs.Prelude.{◌-◌, ◌%◌, replicate, take}
 use Rattle.std.specs.List.{list_all}
 use Rattle.std.proofs.lemmas.List.Folds.{list_all-append}
-use Rattle.ivy_base.proofs.NameLemmas.{bytes-name, length-name}
+use Rattle.ivy_base.proofs.NameLemmas.{bytes-digest, length-digest}
+use Rattle.ivy_base.specs.declared.format.Format.TheVariants.{One}
 use Rattle.ivy_base.specs.declared.key.Key.{Key}
 use Rattle.ivy_base.specs.declared.key.PubKey.{PubKey}
 use Rattle.ivy_base.specs.declared.operation.Moment.{Moment}
@@ -12,7 +13,7 @@ use Rattle.ivy_base.specs.Naming.{head_key_of}
 use Rattle.wire_model.specs.Xdr.{moment, opaque, padding}
 use Rattle.log_model.proofs.Lists.{both}
 use Rattle.log_model.specs.Chain.{opening}
-use Rattle.log_model.specs.Spelling.{IsBlock, IsKey, head_message, no_name, record_block}
+use Rattle.log_model.specs.Spelling.{IsBlock, IsKey, head_message, no_name, record_block, record_tag}
 use Rattle.log_model.specs.Vector.{Stamp}
 use Rattle.hash_signature_model.specs.declared.keys.PrivateKey.{PrivateKey}
 use Rattle.hash_signature_model.specs.declared.set.Height.{Height}
@@ -177,17 +178,17 @@ sealed_opaque s whole t named =
 pub opening_opaque : (own : PubKey) (now : Moment) → AreOpaque (record_block (opening own now))
 opening_opaque own now =
     to_opaque 64 (record_block (opening own now)) (omega arith)
-    (after 64 0 (kept ++ word 0) [] (after 60 4 kept (word 0) (after 52 8 numbered (moment now) (after 48 4 named (word 1) (after 28 20 tagged no_name.0 (after 8 20 (73 ∷ 86 ∷ 82 ∷ 49 ∷ word 9) head_key (record { few = omega arith; each = refl }) key)
+    (after 64 0 (kept ++ word 0) [] (after 60 4 kept (word 0) (after 52 8 numbered (moment now) (after 48 4 named (word 1) (after 28 20 tagged no_name.0 (after 8 20 (record_tag One ++ word 9) head_key (record { few = omega arith; each = refl }) key)
     (record { few = omega arith; each = refl })) (a_word 1)) (after 4 4 (word now.sec) (word now.nsec) (a_word now.sec) (a_word now.nsec))) (a_word 0)) no_bytes)
   where
     head_key : List ℕ
     head_key = (head_key_of own).0
 
     key : IsShort 20 head_key
-    key = record { few = omega (arith, length-name own.0); each = bytes-name own.0 }
+    key = record { few = omega (arith, length-digest own.0); each = bytes-digest own.0 }
 
     tagged : List ℕ
-    tagged = (73 ∷ 86 ∷ 82 ∷ 49 ∷ word 9) ++ head_key
+    tagged = (record_tag One ++ word 9) ++ head_key
 
     named : List ℕ
     named = tagged ++ no_name.0

@@ -31,7 +31,7 @@ use Rattle.nfs_laws.proofs.Counts.{few_in_closed}
 use Rattle.nfs_laws.proofs.Replays.{as_many, count_apply_all, few_overwritten, length-resized, sets_make_trees}
 use Rattle.nfs_laws.proofs.Trees.{inodes_at, inodes_if, inodes_root, inodes_with}
 use Rattle.ring_model.proofs.Lists.{all_weaker}
-use Rattle.session_laws.proofs.SortedEntries.{each_found}
+use Rattle.snapshot_model.proofs.SortedEntries.{each_found}
 use Rattle.snapshot_model.specs.Reading.{HasBounds, IsBodyOf}
 
 -- ---- what inodes contain

@@ -1,8 +1,7 @@
 -- A record's block is no public key: what stands among the blocks and the keys stands among the blocks.
 use Rattle.std.proofs.Common.{◌≡◌, ⊎_elim, ℕ, ◌≤◌, List, ◌++◌, length, map, ap, ◌∙◌, arith, length-append, Contains}
 use Rattle.std.specs.Prelude.{flat_map}
-use Rattle.std.proofs.lemmas.List.Elements.{Contains-append_cases}
-use Rattle.ivy_base.proofs.NameLemmas.{length-name}
+use Rattle.ivy_base.proofs.NameLemmas.{length-digest}
 use Rattle.ivy_base.specs.declared.key.PubKey.{PubKey}
 use Rattle.ivy_base.specs.Naming.{head_key_of}
 use Rattle.wire_model.specs.Xdr.{array, moment, word}
@@ -10,6 +9,7 @@ use Rattle.log_model.specs.Chain.{IsChain, IsGood}
 use Rattle.log_model.specs.Record.{Record}
 use Rattle.log_model.specs.Spelling.{IsKey, body, record_block, record_kind, record_tag, vector_entry}
 use Rattle.log_model.specs.Standing.{Stand, StandsAmong}
+use Rattle.log_records.proofs.Standing.{block_is_met, stands_in_either}
 use Rattle.log_model.specs.View.{View}
 use Rattle.log_model.proofs.Lists.{each, each_from}
 use Rattle.log_model.proofs.Part.{chain_good}
@@ -25,7 +25,7 @@ word_size n = (word_octets n).size
 
 record_long : (r : Record) → IsKey r.prev → 64 ≤ length (record_block r)
 record_long r key =
-    let tagged : List ℕ = record_tag ++ word (record_kind r.op) in
+    let tagged : List ℕ = record_tag r.format ++ word (record_kind r.op) in
     let headed : List ℕ = tagged ++ (head_key_of r.owner).0 in
     let named : List ℕ = headed ++ r.prev.0 in
     let numbered : List ℕ = named ++ word r.seq in
@@ -41,13 +41,13 @@ record_long r key =
       length-append named (word r.seq),
       length-append headed r.prev.0,
       length-append tagged (head_key_of r.owner).0,
-      length-append record_tag (word (record_kind r.op)),
+      length-append (record_tag r.format) (word (record_kind r.op)),
       word_size (length r.vector),
       word_size r.moment.sec,
       word_size r.moment.nsec,
       word_size r.seq,
       word_size (record_kind r.op),
-      length-name r.owner.0,
+      length-digest r.owner.0,
       key.size,
     )
 
@@ -56,9 +56,9 @@ stand_apart met keys size view owner chain is_chain stand = each_from (StandsAmo
     (λ among. among)
     (λ key.
     let long = record_long r (each (IsGood view owner) chain r (chain_good view owner chain is_chain) c).spelled.prev in
-    let short = size (record_block r) key in
+    let short = size (record_block r) (block_is_met keys r key) in
     absurd (omega (arith, long, short)))
-    (Contains-append_cases met keys (record_block r) (each (StandsAmong (met ++ keys)) chain r stand c)))
+    (stands_in_either met keys r (each (StandsAmong (met ++ keys)) chain r stand c)))
 
 -- the participants' public keys have 60 bytes
 pub keys_short : (w : Played) → Keeps w → (k : List ℕ) → Contains (map (λ (p : Participant). (own p.agent).0) w.0.participants) k → length k ≡ 60

@@ -8,7 +8,7 @@ use Rattle.std.specs.Ordering.{eq_by_cmp, is_eq, is_lt, nat_cmp}
 use Rattle.std.specs.declared.cmp.Ordering.{Ordering}
 use Rattle.std.specs.declared.cmp.Ordering.TheVariants.{Less, Equal, Greater}
 use Rattle.std.proofs.lemmas.List.Elements.{Contains-append_right}
-use Rattle.ivy_base.proofs.NameLemmas.{bytes-name, length-name}
+use Rattle.ivy_base.proofs.NameLemmas.{bytes-digest, length-digest}
 use Rattle.ivy_base.specs.declared.key.Key.{Key}
 use Rattle.ivy_base.specs.declared.key.PubKey.{PubKey}
 use Rattle.ivy_base.specs.Naming.{head_key_of, key_cmp, owner_cmp}
@@ -33,7 +33,7 @@ use Rattle.turn_laws.proofs.Entries.{each_join, each_with_entry}
 use Rattle.turn_laws.proofs.Heads.{member_is, member_named, one_member, short_named}
 use Rattle.turn_laws.proofs.Starts.{Stands, ends_with, front_stands, is_last_or_before, own_stamp}
 use Rattle.turn_model.specs.Known.{EndsAt, IsKnown}
-use Rattle.session_laws.proofs.SortedEntries.{all_behind}
+use Rattle.snapshot_model.proofs.SortedEntries.{all_behind}
 use Rattle.snapshot_model.specs.Blocks.{IsStamped, IsVectorSpelled}
 use Rattle.world_laws.proofs.Frames.{into_map}
 
@@ -163,7 +163,7 @@ module _ (view : View) (well : IsView view) where
         stamped = each_from IsStamped r.vector (λ e c. let h = each (λ (x : Entry). IsKey x.0 × (1 ≤ x.1.seq) × (x.1.seq < 2 ^ 32) × IsKey x.1.name) r.vector e good.spelled.entries c in (h.0, h.1, omega (arith, h.2), h.3))
 
         its_stamp : IsStamped (own_entry r)
-        its_stamp = (record { size = length-name r.owner.0; each = bytes-name r.owner.0 }, good.spelled.some, omega (arith, good.spelled.few), name_is_key r good.spelled)
+        its_stamp = (record { size = length-digest r.owner.0; each = bytes-digest r.owner.0 }, good.spelled.some, omega (arith, good.spelled.few), name_is_key r good.spelled)
 
         its_name : IsOfView view (own_entry r)
         its_name = subst (λ (o : PubKey). IsTrue (is_named view (head_key_of o))) (sym good.owned) (member_named view own member)

@@ -13,8 +13,8 @@ use Rattle.log_model.specs.Chain.{IsGood}
 use Rattle.log_model.specs.Closed.{IsClosed, IsClosedPart, log_of}
 use Rattle.log_model.specs.Rank.{front}
 use Rattle.log_model.specs.Record.{Record}
-use Rattle.log_model.specs.Spelling.{record_block}
 use Rattle.log_model.specs.Standing.{Stand, StandsAmong}
+use Rattle.log_model.proofs.Standing.{stands_among_more}
 use Rattle.log_model.specs.Vector.{Dominates, Entry, Stamp, Vector, join, reach, seq_of, stamp_at}
 use Rattle.log_model.specs.View.{View, IsView, is_named}
 use Rattle.log_model.proofs.Later.{good_of}
@@ -40,7 +40,7 @@ use Rattle.world_model.specs.Agents.{Agent, IsKept, IsTurnIn, hss, inputs, own}
 use Rattle.world_model.specs.Keepers.{fails_next}
 use Rattle.world_model.specs.World.{Participant, named_bytes, participant}
 use Rattle.world_model.specs.Story.{Knowing, knowing_of, known_of}
-use Rattle.world_model.specs.Steps.{Scene}
+use Rattle.world_model.specs.Steps.{Scene, turning_of}
 use Rattle.world_laws.specs.Keeps.{IsInHand, IsKeptSo, IsSavedWell, IsSound, IsSoundSession, Keeps}
 use Rattle.world_laws.proofs.Bringing.{agent_sound, found_named, in_a_view, its_key, its_view, knew_before, refresh_may_turn}
 use Rattle.world_laws.proofs.MoreMet.{more_stand, more_verified}
@@ -124,7 +124,7 @@ ended_begun (Some t) log ends some none = nothing_there ends.0 ends.1 (sym ends.
 
 module _ (c : Scene) (r : ℕ) (p : Participant) (keeps : Keeps (c.world, c.story)) (hand : IsInHand c r) (is_p : participant c.world c.session.by ≡ Some p)
     (notes : List Note) (given : Refresh) (xid : ℕ) (asked : Asked) (reply : Reply) (done : HasRefreshed c.session notes given) (asks : Asks c.session.standing.view c.session.message xid asked)
-    (h : Holding) (written : List Record) (by_definition : IsByDefinition hss given p.agent c.session.standing.view (fails_next p.keeper) asked c.world.now h written reply) (turned : Turned) where
+    (h : Holding) (written : List Record) (by_definition : IsByDefinition hss given (turning_of c.world p c.session.standing.view) asked h written reply) (turned : Turned) where
   abbrev view : View
   view = c.session.standing.view
 
@@ -138,7 +138,7 @@ module _ (c : Scene) (r : ℕ) (p : Participant) (keeps : Keeps (c.world, c.stor
   heads = heads_at (brought_in c.session.parts)
 
   module _ (apart : NamesTellApart (named_bytes c.world))
-      (is_turn : IsTurnIn (named_bytes c.world) c.world.now p.agent c.session.standing.view (fails_next p.keeper) c.session c.began.knew (known_of c.story p.name) turned) where
+      (is_turn : IsTurnIn (named_bytes c.world) (turning_of c.world p c.session.standing.view) c.session c.began.knew (known_of c.story p.name) turned) where
     its : IsSoundSession c.world c.story c.session c.began
     its = hand.sound apart
 
@@ -148,7 +148,7 @@ module _ (c : Scene) (r : ℕ) (p : Participant) (keeps : Keeps (c.world, c.stor
     pub agent : IsSound c.world.met p knowing view
     agent = agent_sound c keeps apart its p is_p in_view
 
-    of : IsTurnOf hss heads (named_bytes c.world) c.session.standing c.began.knew knowing.known given.started a view (fails_next p.keeper) asked c.world.now h written reply
+    of : IsTurnOf hss (record { heads = heads; met = named_bytes c.world; standing = c.session.standing; knew = c.began.knew; started = given.started }) (record { agent = a; view = view; now = c.world.now; fails = fails_next p.keeper }) knowing.known asked h written reply
     of = let may = refresh_may_turn c p r notes given keeps apart hand is_p done in by_definition heads (named_bytes c.world) c.session.standing c.began.knew knowing.known apart may.0 may.1
 
     given_is : is_turn.given ≡ given
@@ -267,7 +267,7 @@ module _ (c : Scene) (r : ℕ) (p : Participant) (keeps : Keeps (c.world, c.stor
             inr (other, record { head = u.head; received = u.received; log = u.log; linked = u.linked; stand = more_stand c.world.met more grows u.log u.stand; of_log = u.of_log; ends = u.ends; below = u.below })
 
         stands : (q : Record) → Contains (taken ++ written) q → StandsAmong more q
-        stands q among = ⊎_elim (λ old. grows (record_block q) (at_hand q old).1) (λ new. each (StandsAmong more) written q stand new) (Contains-append_cases taken written q among)
+        stands q among = ⊎_elim (λ old. stands_among_more c.world.met more q grows (at_hand q old).1) (λ new. each (StandsAmong more) written q stand new) (Contains-append_cases taken written q among)
 
         pub written_known : KnowsThen view (own a) a.floor knowing.received knowing.known more (with_held h written) (taken ++ written)
         written_known = knows_then view well (own a) member a.floor knowing.received knowing.known agent.knows.by_floor more (with_held h written) (taken ++ written) has_more written_closed written_holds

@@ -5,6 +5,7 @@ use Rattle.std.specs.List.{AllByRecursion}
 use Rattle.std.specs.Cmp.{eq_by_cmp_equiv}
 use Rattle.std.specs.Ordering.{eq_by_cmp}
 use Rattle.std.proofs.lemmas.List.{append-nil}
+use Rattle.ivy_base.specs.declared.format.Format.TheVariants.{One}
 use Rattle.ivy_base.specs.declared.key.Key.{Key}
 use Rattle.ivy_base.specs.declared.key.PubKey.{PubKey}
 use Rattle.ivy_base.specs.declared.operation.Moment.{Moment}
@@ -12,7 +13,7 @@ use Rattle.ivy_base.specs.declared.operation.Op.{Op}
 use Rattle.ivy_base.specs.Naming.{head_key_of, key_cmp}
 use Rattle.tree_model.proofs.Keys.{keys_total, same_key_is, same_key_itself}
 use Rattle.log_model.specs.Rank.{front, full_vector}
-use Rattle.log_model.specs.Record.{Record}
+use Rattle.log_model.specs.Record.{Heading, Record}
 use Rattle.log_model.specs.Replay.{replay}
 use Rattle.log_model.specs.Spelling.{most_records, new_record}
 use Rattle.log_model.specs.Vector.{Dominates, Vector, reach, seq_of, stamp_at, without_log}
@@ -23,7 +24,7 @@ use Rattle.log_model.proofs.Weights.{joins_keep}
 use Rattle.nfs_model.specs.Changing.{Nothing, Operations, Plan, Refuse, is_changing, plan}
 use Rattle.turn_laws.proofs.Starts.{stamp_at-without_log}
 use Rattle.turn_model.specs.Basis.{Holding, HoldsAll, IsAboveTide}
-use Rattle.turn_model.specs.Turn.{Agent as Inputs, Asked, Turned, appended, by_plan, linked, own_name, own_seq, turn_on}
+use Rattle.turn_model.specs.Turn.{Inputs, Asked, Turned, appended, by_plan, heading_over, linked, own_name, own_seq, turn_on}
 use Rattle.agent_model.specs.Turning.{inputs_before, with_held}
 use Rattle.session_laws.proofs.Starting.{joined_front}
 use Rattle.world_model.specs.Agents.{Agent, hss, inputs}
@@ -33,7 +34,7 @@ use Rattle.world_model.specs.Agents.{Agent, hss, inputs}
 module _ (x : Inputs) (s : List Record) (asked : Asked) (now : Moment) where
   -- it stays, or records are appended to it
   abbrev IsStillOrMore : Turned → Type 0
-  IsStillOrMore t = (t.set ≡ s) ⊎ ((ops : List Op) × (t.set ≡ appended x.own now s ops))
+  IsStillOrMore t = (t.set ≡ s) ⊎ ((ops : List Op) × (t.set ≡ appended x.own One now s ops))
 
   chosen : (b c : Bool) (t u v : Turned) → IsStillOrMore t → IsStillOrMore u → IsStillOrMore v → IsStillOrMore (cond b t (cond c u v))
   chosen true c t u v f g h = f
@@ -109,12 +110,13 @@ record IsCiting (own : PubKey) (v : Vector) (seq : ℕ) (r : Record) : Type 0 wh
 citing_later : (own : PubKey) (v : Vector) (m n : ℕ) (r : Record) → m ≤ n → IsCiting own v n r → IsCiting own v m r
 citing_later own v m n r le h = record { owned = h.owned; cites = h.cites; later = let later = h.later in omega (arith, le, later) }
 
-linked_citing : (own : PubKey) (v : Vector) (now : Moment) (seq : ℕ) (prev : Key) (ops : List Op) → AllByRecursion (IsCiting own v seq) (linked own v now seq prev ops)
-linked_citing own v now seq prev [] = tt
-linked_citing own v now seq prev (op ∷ ops) = (
+linked_citing : (h : Heading) (seq : ℕ) (prev : Key) (ops : List Op) → AllByRecursion (IsCiting h.owner h.vector seq) (linked h seq prev ops)
+linked_citing h seq prev [] = tt
+linked_citing h seq prev (op ∷ ops) = (
   record { owned = refl; cites = refl; later = omega arith },
-  each_from (IsCiting own v seq) (linked own v now (seq + 1) (new_record own seq prev v now op).name ops)
-      (λ r c. citing_later own v seq (seq + 1) r (omega arith) (each (IsCiting own v (seq + 1)) (linked own v now (seq + 1) (new_record own seq prev v now op).name ops) r (linked_citing own v now (seq + 1) (new_record own seq prev v now op).name ops) c)),
+  each_from (IsCiting h.owner h.vector seq) (linked h (seq + 1) (new_record h seq prev op).name ops) (λ r c.
+      citing_later h.owner h.vector seq (seq + 1) r (omega arith)
+      (each (IsCiting h.owner h.vector (seq + 1)) (linked h (seq + 1) (new_record h seq prev op).name ops) r (linked_citing h (seq + 1) (new_record h seq prev op).name ops) c)),
 )
 
 module _ (view : View) (own : PubKey) (s : List Record) (h : Holding) (holds : HoldsAll view s h) where
@@ -173,11 +175,11 @@ module _ (view : View) (own : PubKey) (s : List Record) (h : Holding) (holds : H
   pub holds_written : (x : Inputs) → x.own ≡ own → (asked : Asked) (now : Moment) (written : List Record) → s ++ written ≡ (turn_on x s asked now).set → HoldsAll view (s ++ written) (with_held h written)
   holds_written x mine asked now written is = holds_more written (by (still_or_more x s asked now))
     where
-      by : ((turn_on x s asked now).set ≡ s) ⊎ ((ops : List Op) × ((turn_on x s asked now).set ≡ appended x.own now s ops)) → AllByRecursion (IsAboveTide h.basis) written
+      by : ((turn_on x s asked now).set ≡ s) ⊎ ((ops : List Op) × ((turn_on x s asked now).set ≡ appended x.own One now s ops)) → AllByRecursion (IsAboveTide h.basis) written
       by (inl same) = subst (AllByRecursion (IsAboveTide h.basis)) (sym (same_behind s written [] (is ∙ same ∙ sym (append-nil s)))) tt
       by (inr (ops, more)) =
-          let linked_ops : List Record = linked own (without_log (head_key_of own) (front s)) now (own_seq own s + 1) (own_name own s) ops in
-          let one : written ≡ linked_ops = same_behind s written linked_ops (is ∙ more ∙ ap (λ (o : PubKey). appended o now s ops) mine) in
+          let linked_ops : List Record = linked (heading_over own One now (front s)) (own_seq own s + 1) (own_name own s) ops in
+          let one : written ≡ linked_ops = same_behind s written linked_ops (is ∙ more ∙ ap (λ (o : PubKey). appended o One now s ops) mine) in
           subst (AllByRecursion (IsAboveTide h.basis)) (sym one)
           (each_from (IsAboveTide h.basis) linked_ops (λ r c. is_above r (each (IsCiting own (without_log (head_key_of own) (front s)) (own_seq own s + 1)) linked_ops r
-          (linked_citing own (without_log (head_key_of own) (front s)) now (own_seq own s + 1) (own_name own s) ops) c)))
+          (linked_citing (heading_over own One now (front s)) (own_seq own s + 1) (own_name own s) ops) c)))

@@ -29,7 +29,7 @@ use Rattle.turn_model.specs.Turn.{Candidate, IsAtHand}
 use Rattle.agent_model.specs.Candidates.{AreCandidatesOf, IsCandidateOf}
 use Rattle.agent_model.specs.Candidates.IsCandidateOf.{misled as is_misled, by_heads}
 use Rattle.agent_model.specs.Standing.{Standing}
-use Rattle.world_laws.proofs.OneTruth.{chain_linked}
+use Rattle.turn_laws.proofs.LinkedLogs.{chain_linked}
 
 -- ---- of two heads one is tried before the other
 

@@ -5,7 +5,7 @@ use Rattle.std.specs.List.{AllByRecursion, find}
 use Rattle.std.specs.Ordering.{eq_by_cmp}
 use Rattle.std.specs.Str.{bytes_eq}
 use Rattle.std.proofs.lemmas.List.{append-nil}
-use Rattle.std.proofs.lemmas.List.Elements.{Contains-append_left, Contains-append_right, Contains-append_cases}
+use Rattle.std.proofs.lemmas.List.Elements.{Contains-append_left, Contains-append_cases}
 use Rattle.ivy_base.specs.declared.key.Key.{Key}
 use Rattle.ivy_base.specs.declared.key.PubKey.{PubKey}
 use Rattle.ivy_base.specs.Naming.{NamesTellApart, head_key_of, owner_cmp}
@@ -43,7 +43,8 @@ use Rattle.world_laws.specs.Frames.{UseLinesKeep, unchanged}
 use Rattle.world_laws.proofs.Afresh.{IsFit, afresh_world, apart_before, keeps_afresh, knowing_afresh}
 use Rattle.world_laws.proofs.Bringing.{found_named}
 use Rattle.world_laws.proofs.EnteredViews.{TakesIn, covered_in, knows_in, own_log, stands_in, verified_in}
-use Rattle.world_laws.proofs.Frames.{into_map, participant_keeps, placed_itself}
+use Rattle.world_laws.proofs.Frames.{participant_keeps, placed_itself}
+use Rattle.world_laws.proofs.HeadKeys.{one_own_key}
 use Rattle.world_laws.proofs.KnownHeads.{heads_low}
 use Rattle.world_laws.proofs.Lines.{ToSuch}
 use Rattle.world_laws.proofs.MoreMet.{more_verified, more_stand}
@@ -131,19 +132,15 @@ one_of : (a b : Bool) → (a || b) ≡ true → b ≡ false → a ≡ true
 one_of true b e none = refl
 one_of false b e none = cc (sym e ∙ none)
 
--- the key of a participant by its bytes
-same_pub_key : (a b : PubKey) → a.0 ≡ b.0 → a ≡ b
-same_pub_key a b e = λ i. record { 0 = e i }
-
-module _ (w : World) (apart : NamesTellApart (named_bytes w)) (old view : View) (theirs : AreParticipants w old) (ours : AreParticipants w view) where
-  key_in : (v : View) → AreParticipants w v → (a : PubKey) → Contains v.members a → Contains (named_bytes w) a.0
-  key_in v h a c =
-      let found = from_map (λ (p : Participant). own p.agent) w.participants a (each (Contains (map (λ (p : Participant). own p.agent) w.participants)) v.members a h c) in
-      Contains-append_right w.met (map (λ (p : Participant). (own p.agent).0) w.participants) a.0
-      (subst (Contains (map (λ (p : Participant). (own p.agent).0) w.participants)) (sym (ap (λ (k : PubKey). k.0) found.2)) (into_map (λ (p : Participant). (own p.agent).0) w.participants found.0 found.1))
+module _ (w : Played) (keeps : Keeps w) (apart : NamesTellApart (named_bytes w.0)) (old view : View) (theirs : AreParticipants w.0 old) (ours : AreParticipants w.0 view) where
+  whose : (v : View) → AreParticipants w.0 v → (a : PubKey) → Contains v.members a → (p : Participant) × Contains w.0.participants p × (a ≡ own p.agent)
+  whose v h a c = from_map (λ (p : Participant). own p.agent) w.0.participants a (each (Contains (map (λ (p : Participant). own p.agent) w.0.participants)) v.members a h c)
 
   one_key : (a b : PubKey) → Contains old.members a → Contains view.members b → head_key_of a ≡ head_key_of b → a ≡ b
-  one_key a b a_in b_in same = same_pub_key a b (apart a.0 b.0 (key_in old theirs a a_in) (key_in view ours b b_in) same)
+  one_key a b a_in b_in same =
+      let p = whose old theirs a a_in in
+      let q = whose view ours b b_in in
+      p.2 ∙ one_own_key w keeps apart p.0 q.0 p.1 q.1 (ap head_key_of (sym p.2) ∙ same ∙ ap head_key_of q.2) ∙ sym q.2
 
 -- ---- a participant with another agent
 
@@ -277,7 +274,7 @@ module _ (w : Played) (keeps : Keeps w) (p : Participant) (is_p : participant w.
         named = all_named;
         members = λ e c now. one_of (is_member v e.0) (is_former v e.0) (each _ a.floor e floor_named c)
             (subst (λ o. was_former o e.0 ≡ false) is (not_both (is_named view e.0) (is_member view e.0) (was_former a.view e.0) (not_refused e c) now));
-        one_key = one_key w.0 apart v view (subst (λ o. IfSome o (AreParticipants w.0)) is agent_owned) ours;
+        one_key = one_key w keeps apart v view (subst (λ o. IfSome o (AreParticipants w.0)) is agent_owned) ours;
       };
       by_floor = h.knows.by_floor;
       closed = h.knows.closed;

@@ -93,8 +93,8 @@ own_keys w keeps (name ∷ names) keys is = by (participant w.0 name) refl is (o
 
 -- ---- the line
 
-few_enough : (members former : List PubKey) → is_too_large members former ≡ false → (length members ≤ 16) × (length former ≤ 16)
-few_enough members former h = let p = neither (nat_lt most_members (length members)) (nat_lt most_former (length former)) h in (ltb-false 16 (length members) p.0, ltb-false 16 (length former) p.1)
+few_enough : (members former : List PubKey) → is_too_large members former ≡ false → (length members ≤ most_members) × (length former ≤ most_former)
+few_enough members former h = let p = neither (nat_lt most_members (length members)) (nat_lt most_former (length former)) h in (ltb-false most_members (length members) p.0, ltb-false most_former (length former) p.1)
   where
     neither : (a b : Bool) → (a || b) ≡ false → (a ≡ false) × (b ≡ false)
     neither true b e = cc e

@@ -77,7 +77,7 @@ lacks_by s _ (lacks notes shown given end xid asked at refreshed asks_it rest fr
 settles_by : (a : Agent) (s : Session) (after : Agent) (t : Session) → Settles a s after t → t.by ≡ s.by
 settles_by a s _ _ (settles_all said acks at) = refl
 
-turn_by : (now : Moment) (a : Agent) (view : View) (failing : Bool) (s : Session) (end : TurnEnd) (after : Agent) (saving : Option Kept) (t : Session) → TakesTurn hss now a view failing s end after saving t → t.by ≡ s.by
+turn_by : (now : Moment) (a : Agent) (view : View) (failing : Bool) (s : Session) (end : TurnEnd) (after : Agent) (saving : Option Kept) (t : Session) → TakesTurn hss (record { agent = a; view = view; now = now; fails = failing }) s end after saving t → t.by ≡ s.by
 turn_by now a view failing s _ _ _ _ (turn_answers notes given xid asked reply applied after saving done asks_it turned) = refl
 turn_by now a view failing s _ _ _ _ (begins_anew notes given xid asked end after saving done asks_it turned refused few) = refl
 turn_by now a view failing s _ _ _ _ (gives_up notes given xid asked end after saving done asks_it turned refused many) = refl

@@ -1,5 +1,5 @@
--- Scripts whose ring changes little, and what they may rely on: what was put stays (CFS, SOSP 2001, section 5.1). Of calm scripts it is proved that the ring stays, and of those
--- with the same ring, that what was acknowledged is held and given. That this is so with any lines is proved in `durability_laws`.
+-- Calm scripts, whose ring changes little, and what they may rely on: what was put stays (CFS, SOSP 2001, section 5.1). Here it is proved
+-- that their ring stays. That what was acknowledged is stored and returned is proved in `durability_laws`.
 use Rattle.std.specs.Prelude.{◌≡◌, if◌then◌else◌, ℕ, ◌+◌, ◌<◌, ◌≤◌, true, false, List, [], ◌∷◌, ◌++◌, length, IfSome, Contains, Option, Some, Result, Ok}
 use Rattle.std.specs.List.{AllByRecursion}
 use Rattle.std.specs.Option.{option_map_or}
@@ -54,7 +54,7 @@ IsQuiet (command.Damage node key offset byte) = ⊥
 IsQuiet (command.Keep log count new) = ⊥
 IsQuiet _ = Unit {0}
 
--- what a command makes of it: asks are lost and blocks spoilt nowhere, and no save fails; a join comes where no node stopped, and
+-- What a command makes of it. No ask is lost, no block is damaged, and no save fails. A join comes where no node stopped, and
 -- fewer than r stop. Between a join and its round there is no other line, not even an empty one.
 pub data IsCalm (w : World) (r : ℕ) : Since → Command → Since → Type 0 where
   rounds : (since : Since) → w.sessions ≡ [] → IsCalm w r since command.Round (Stopped 0)
@@ -74,7 +74,8 @@ pub data Calmly (r : ℕ) : Played → Since → List (List ℕ) → Played → 
 abbrev pub rank_in : World → Key → Peer → Option ℕ
 rank_in w key p = rank_by hss_judged w key p
 
--- The world was reached calmly from the line that made its ring, before which nothing was but a moment; and no block that was met is a public key.
+-- The world was reached calmly from the line that made its ring, before which nothing was but a moment. No two different blocks that were
+-- met have one name, and no block that was met is a public key.
 pub record IsCalmAt (r : ℕ) (w : Played) (since : Since) (lines : List (List ℕ)) : Type 0 where
   pub before : Played
   pub count : ℕ

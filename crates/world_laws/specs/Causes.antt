@@ -1,4 +1,4 @@
--- Why a session says what it says: by its message alone, because its refresh failed, by its turn, or because memory was wanting.
+-- Why a session gives its reply: by its message alone, because its refresh failed, by its turn, or because memory ran out.
 use Rattle.std.specs.Prelude.{◌≡◌, ℕ, List, Contains, Option, Some, None}
 use Rattle.dhash_client.specs.declared.miss.Miss.{Miss}
 use Rattle.turn_model.specs.Turn.{Asked}
@@ -9,13 +9,13 @@ use Rattle.session_model.specs.Replies.{Asks, IsByMessage, missed_reply, said_ba
 use Rattle.session_model.specs.Sessions.{Said, Session, Stage, Refreshing, Publishing, Over}
 use Rattle.world_model.specs.Story.{Story, HadTurn}
 
--- what a session says, once that is settled
+-- The reply of a session, once that is decided.
 abbrev pub said_at : Stage → Option Said
 said_at Refreshing = None
 said_at (Publishing said posts acks) = said
 said_at (Over said) = said
 
--- it is the session that had the turn: the number of its call, whose it is, its message, and all that it was brought
+-- It is the session that had the turn: the number of its call, whose it is, its message, and all that it was brought.
 pub record IsOf (h : HadTurn) (number : ℕ) (s : Session) : Type 0 where
   pub number_is : h.began.number ≡ number
   pub by : h.session.by ≡ s.by
@@ -24,7 +24,7 @@ pub record IsOf (h : HadTurn) (number : ℕ) (s : Session) : Type 0 where
   pub standing : h.session.standing ≡ s.standing
   pub parts : h.session.parts ≡ s.parts
 
--- 10008 and 5 come where something needed couldn't be had; SYSTEM_ERR is free
+-- JUKEBOX (10008) and IO (5) of a failed refresh come only with what it needed and couldn't have. SYSTEM_ERR has no cause but memory.
 pub data HasCause (st : Story) (number : ℕ) (s : Session) : Said → Type 0 where
   alone : (given : Option (List ℕ)) → IsByMessage s.standing.view s.message given → HasCause st number s (said_bare given)
   missed : (xid : ℕ) (asked : Asked) (given : Refresh) (miss : Miss) → Asks s.standing.view s.message xid asked → Refreshes s.standing (brought_in s.parts) s.notes given (FailsBy miss)

@@ -3,7 +3,7 @@ use Rattle.std.specs.Prelude.{◌≡◌, ◌≢◌, ◌⊎◌, is_some, ℕ, ◌
 use Rattle.std.specs.List.{AllByRecursion}
 use Rattle.ivy_base.specs.declared.key.Key.{Key}
 use Rattle.ivy_base.specs.Naming.{NamesTellApart, name, head_key_of}
-use Rattle.log_model.specs.Spelling.{IsMoment, record_block}
+use Rattle.log_model.specs.Spelling.{IsMoment}
 use Rattle.log_model.specs.View.{View, IsView}
 use Rattle.view_blocks.specs.Faults.{HasKeys}
 use Rattle.log_model.specs.Vector.{Stamp, Entry, Dominates, seq_of}
@@ -11,7 +11,7 @@ use Rattle.log_model.specs.Record.{Record}
 use Rattle.log_model.specs.Rank.{front, own_entry}
 use Rattle.log_model.specs.Chain.{IsChain}
 use Rattle.log_model.specs.Closed.{IsClosed, log_of}
-use Rattle.log_model.specs.Standing.{Stand}
+use Rattle.log_model.specs.Standing.{Stand, StandsAmong}
 use Rattle.turn_model.specs.Known.{IsKnown, IsVerified}
 use Rattle.turn_model.specs.Basis.{Holding, HoldsAll, Knows, fresh_basis, nothing_held}
 use Rattle.dht_ids.specs.declared.judge.Judged.{Judged}
@@ -115,7 +115,7 @@ pub record IsSound (met : List (List ℕ)) (p : Participant) (k : Knowing) (view
 
 -- before it enters a view it knows its log's opening
 abbrev pub IsSoundIn : List (List ℕ) → Participant → Knowing → Option View → Type 0
-IsSoundIn met p k None = (r : Record) × (k.known ≡ r ∷ []) × (p.agent.floor ≡ own_entry r ∷ []) × Contains met (record_block r) × IsChain (record { members = own p.agent ∷ []; former = [] }) (own p.agent) (r ∷ [])
+IsSoundIn met p k None = (r : Record) × (k.known ≡ r ∷ []) × (p.agent.floor ≡ own_entry r ∷ []) × StandsAmong met r × IsChain (record { members = own p.agent ∷ []; former = [] }) (own p.agent) (r ∷ [])
 IsSoundIn met p k (Some view) = IsSound met p k view
 
 -- the head is over one of these records
@@ -136,7 +136,7 @@ pub record IsSoundKept (met : List (List ℕ)) (p : Participant) (now : Knowing)
 
 -- before its first view a keeper names its log's opening, which is what is known
 abbrev pub IsSoundKeptIn : List (List ℕ) → Participant → Knowing → Kept → Option View → Type 0
-IsSoundKeptIn met p now k None = (r : Record) × (k.floor ≡ own_entry r ∷ []) × Contains met (record_block r) × IsChain (record { members = own p.agent ∷ []; former = [] }) (own p.agent) (r ∷ [])
+IsSoundKeptIn met p now k None = (r : Record) × (k.floor ≡ own_entry r ∷ []) × StandsAmong met r × IsChain (record { members = own p.agent ∷ []; former = [] }) (own p.agent) (r ∷ [])
     × AllByRecursion (NamesOneOf k.signer (r ∷ [])) (p.left ++ heads_by k.pending) × (now.known ≡ r ∷ [])
 IsSoundKeptIn met p now k (Some view) = IsSoundKept met p now k view
 

@@ -8,8 +8,8 @@ use Rattle.wire_model.specs.Rpc.{SystemError, reply}
 use Rattle.log_model.specs.Record.{Record}
 use Rattle.log_model.specs.Chain.{LinkedFrom}
 use Rattle.log_model.specs.Closed.{log_of}
-use Rattle.log_model.specs.Spelling.{HasSpelling, no_name, record_block}
-use Rattle.log_model.specs.Standing.{Stand}
+use Rattle.log_model.specs.Spelling.{HasSpelling, no_name}
+use Rattle.log_model.specs.Standing.{Stand, StandsAmong}
 use Rattle.log_model.specs.Vector.{Entry, Stamp, Vector, stamp_at}
 use Rattle.log_model.specs.View.{View, IsView}
 use Rattle.view_blocks.specs.Faults.{HasKeys}
@@ -53,7 +53,7 @@ use Rattle.world_model.specs.Story.{Began, HadTurn, Story, beginning, empty_stor
 use Rattle.world_model.specs.Logs.{Played, Publishes, snapping_in}
 use Rattle.world_model.specs.Calls.{BeginsWith, Sending, reply_line}
 use Rattle.world_model.specs.Step.{Does, IvyStep}
-use Rattle.world_model.specs.Steps.{after_turn, ask_told, heads_by, RunsOut, Scene, Steps, StepsOn, turn_told, with_cache, world_after}
+use Rattle.world_model.specs.Steps.{after_turn, ask_told, heads_by, RunsOut, Scene, Steps, StepsOn, turn_told, turning_of, with_cache, world_after}
 use Rattle.world_laws.specs.Causes.{IsOf}
 use Rattle.world_laws.specs.Keeps.{BeganFresh, GoesOn, HasNoSnapshot, IsInHand, IsMetHead, IsSoundSession, Keeps, OnlyPublishes, sealed_with}
 use Rattle.world_laws.specs.Headline.{Headline, HoldsOf, IsOnReplay, NewTurns, TurnHolds}
@@ -179,15 +179,16 @@ OpenLineKeeps = (session log : List ℕ) (pieces : List Piece) (w next : Played)
 abbrev pub AnsweredTurnsKeep : Type 0
 AnsweredTurnsKeep = (c : Scene) (r : ℕ) (p : Participant) (view : View) (reply : Reply) (applied : ℕ) (after : Agent) (saving : Option Kept) (t : Session) (turned : Turned) → Keeps (c.world, c.story) → IsInHand c r
     → c.world.replicas ≡ Some r → participant c.world c.session.by ≡ Some p → p.agent.view ≡ Some view
-    → TakesTurn c.world.now p.agent view (fails_next p.keeper) c.session (Answered reply applied) after saving t → turned.reply ≡ reply
-    → (NamesTellApart (named_bytes c.world) → IsTurnIn (named_bytes c.world) c.world.now p.agent view (fails_next p.keeper) c.session c.began.knew (known_of c.story p.name) turned)
+    → TakesTurn (turning_of c.world p view) c.session (Answered reply applied) after saving t → turned.reply ≡ reply
+    → (NamesTellApart (named_bytes c.world)
+    → IsTurnIn (named_bytes c.world) (turning_of c.world p view) c.session c.began.knew (known_of c.story p.name) turned)
     → StepLeaves c (record { world = world_after c.world (record (after_turn p after saving) { work = applied }); story = turn_told c p view after turned; session = t; began = c.began }) r
 
 -- a turn that is refused
 abbrev pub RefusedTurnsKeep : Type 0
 RefusedTurnsKeep = (c : Scene) (r : ℕ) (p : Participant) (view : View) (end : TurnEnd) (after : Agent) (saving : Option Kept) (t : Session) → Keeps (c.world, c.story) → IsInHand c r
     → c.world.replicas ≡ Some r → participant c.world c.session.by ≡ Some p → p.agent.view ≡ Some view → IsRefusal end
-    → TakesTurn c.world.now p.agent view (fails_next p.keeper) c.session end after saving t
+    → TakesTurn (turning_of c.world p view) c.session end after saving t
     → StepLeaves c (record c { world = world_after c.world (after_turn p after saving); session = t; began = record c.began { knew = known_of c.story p.name } }) r
 
 -- ---- replies
@@ -263,7 +264,7 @@ PublishingIsOne = (r : ℕ) (w : Played) (p : Participant) (one other : Played) 
 -- of the view's members both have the same heads, and the same records' blocks
 pub record AgreeOnMembers (view : View) (heads others : Key → List Stamp) (met more : List (List ℕ)) : Type 0 where
   pub same_heads : (owner : PubKey) → Contains view.members owner → heads (head_key_of owner) ≡ others (head_key_of owner)
-  pub records : (r : Record) → Contains view.members r.owner → HasSpelling r → Contains met (record_block r) ↔ Contains more (record_block r)
+  pub records : (r : Record) → Contains view.members r.owner → HasSpelling r → StandsAmong met r ↔ StandsAmong more r
 
 -- then they have the same candidates, whatever other logs there are
 abbrev pub OtherLogsDontCount : Type 0
@@ -375,7 +376,8 @@ RefreshEndsInTurn = (c next : Scene) (r : ℕ) (notes : List Note) (given : Refr
 -- A session begins anew once at most: its second turn isn't refused.
 abbrev pub SecondTurnIsAnswered : Type 0
 SecondTurnIsAnswered = (c : Scene) (p : Participant) (r : ℕ) (view : View) (end : TurnEnd) (after : Agent) (saving : Option Kept) (t : Session) → Keeps (c.world, c.story) → NamesTellApart (named_bytes c.world)
-    → c.world.replicas ≡ Some r → IsInHand c r → participant c.world c.session.by ≡ Some p → p.agent.view ≡ Some view → TakesTurn c.world.now p.agent view (fails_next p.keeper) c.session end after saving t → IsRefusal end → c.session.starts ≡ 0
+    → c.world.replicas ≡ Some r → IsInHand c r → participant c.world c.session.by ≡ Some p → p.agent.view ≡ Some view
+    → TakesTurn (turning_of c.world p view) c.session end after saving t → IsRefusal end → c.session.starts ≡ 0
 
 -- where the session began with no snapshot to load and no basis the turn is answered at once
 abbrev pub FreshTurnsAreAnswered : Type 0
@@ -470,12 +472,13 @@ RefreshesRunOut = (c : Scene) (r : ℕ) → Keeps (c.world, c.story) → IsInHan
 abbrev pub DoneRefreshesStep : Type 0
 DoneRefreshesStep = (c : Scene) (r : ℕ) (p : Participant) (taken : Session) (cache : Cache) (notes : List Note) (given : Refresh) (xid : ℕ) (asked : Asked) (end : TurnEnd) (after : Agent) (saving : Option Kept)
     → Keeps (c.world, c.story) → IsInHand c r → c.world.replicas ≡ Some r → NamesTellApart (named_bytes c.world) → participant c.world c.session.by ≡ Some p → TakesAll hss_judged r c.session p.cache taken cache
-    → HasRefreshed taken notes given → Asks taken.standing.view taken.message xid asked → Turns hss given p.agent taken.standing.view (fails_next p.keeper) asked c.world.now end after saving
+    → HasRefreshed taken notes given → Asks taken.standing.view taken.message xid asked
+    → Turns hss given (turning_of c.world p taken.standing.view) asked end after saving
     → (next : Scene) × Steps hss_judged r c.session.by c next × HasMemoryAt next.session
 
 -- a turn of the refresh by what was given
 abbrev pub TurnAt : Scene → Participant → Session → Refresh → Asked → TurnEnd → Agent → Option Kept → Type 0
-TurnAt c p taken given asked end after saving = Turns hss given p.agent taken.standing.view (fails_next p.keeper) asked c.world.now end after saving
+TurnAt c p taken given asked end after saving = Turns hss given (turning_of c.world p taken.standing.view) asked end after saving
 
 -- A session goes to its end with memory there; or names clash on the way; or its refresh is done, and it goes on so by whatever turn there is of it.
 pub data GoesFully (r : ℕ) (name : List ℕ) : Scene → Type 0 where

@@ -1,56 +1,97 @@
 //! What holds of each world that a script reaches, of each reply, and of runs.
 //!
-//! Layer: laws, above `world_model` and `session_laws`; below the crates that play scripts.
-//! Statements, in reading order: `specs/Headline.antt` (each reply), `specs/Causes.antt` (why a session says what it
-//! says), `specs/Keeps.antt` (each world), `specs/Kinds.antt` (which lines are refused), `specs/Laws.antt` (steps and
-//! runs), `specs/Messages.antt` (each message is one thing, and one thing becomes of it), `specs/FullTurns.antt` (turns that exist), `specs/FullRuns.antt` (the run in which memory is never wanting),
-//! `specs/Frames.antt` (what may change of a world that keeps what it should), `specs/Calm.antt` (rings that change
-//! little).
-//! For the layers above, of a session in a world that keeps what it should (`Keeps`), where names tell the blocks apart: a
-//! refresh that is done brings what its heads name, and its turn may be held to the definition; its next step is that turn, and
-//! no other; a turn is refused once at most, and never where the session began with no snapshot to load and no basis.
-//! Lemmas to cite: `proofs/Bringing.antt` (what `Keeps` says of a session and its agent), `proofs/NotRefused.antt` (an agent
-//! that holds all that it knows isn't behind, and one without a basis isn't below the tide), `proofs/SecondTurns.antt`,
-//! `proofs/DoneSteps.antt`, `proofs/SignedHeads.antt` (what holds of the one whose bytes a keeper holds), `proofs/Frames.antt`
-//! (changes of a world's nodes and of one participant), `proofs/Publishing.antt` (an ask by which only what was met is put),
-//! `proofs/OneTruth.antt` (linked records that end at one record), `proofs/Receiving.antt` (what more heads leave as it was),
-//! `proofs/TakingOn.antt` and `proofs/GetsBring.antt` (a session that is brought something goes on), `proofs/Beginning.antt` (a
-//! session that begins), `proofs/Afresh.antt` (a participant that changes, whose open sessions are gone), `proofs/OtherBytes.antt`
-//! (one whose keeper holds other bytes), `proofs/Newcomer.antt` (one more), `proofs/EnteredViews.antt` (what is known of another
-//! view's members is closed), `proofs/KnownHeads.antt` (the heads that left are over what is known), `proofs/SignatureBytes.antt`
-//! (signatures are bytes, and few), `proofs/OpenSessions.antt` (an open session is in hand; other open sessions that are
-//! stand in their place), `proofs/SessionLinesSteps.antt` (what many steps of a session leave, and what they leave as it
-//! was), `proofs/HeadlineOfPublishing.antt` (publishing alone has no turn), `proofs/LineKeys.antt` (the key of a log that a
-//! line begins can be saved), `proofs/TurnsWorld.antt` (a participant that changes by a turn, whose open sessions stay),
-//! `proofs/TurnsKnown.antt` (what an agent knows after a turn), `proofs/TurnsSets.antt` (the set that a turn leaves),
-//! `proofs/TurnsFloors.antt` (a floor with a front joined into it), `proofs/TurnsTaken.antt` (a turn's candidates are one
-//! list), `proofs/OneAsked.antt` (a message asks one thing), `proofs/AnsweredTurns.antt` and
-//! `proofs/RefusedTurns.antt` (turns keep the world), `proofs/SnapBounds.antt` and `proofs/SnapSpelled.antt` (what a closed set
-//! stands for, and what an agent holds, has a spelling as a snapshot).
-//! That something can be done: `proofs/ExistingPlans.antt` (whom a course asks, as that of a put), `proofs/ExistingFates.antt`
-//! (an ask has a fate), `proofs/ExistingPuts.antt` and `proofs/ExistingSessions.antt` (sessions to their end),
-//! `proofs/ExistingAsks.antt` (look-ups and whole puts), `proofs/ExistingRounds.antt` and `proofs/ExistingRepairs.antt`
-//! (rounds), `proofs/ExistingMessages.antt` (what becomes of a message).
-//! That a ring stays: `proofs/CalmNodes.antt` and `CalmPuts.antt` (what its nodes hold, and what puts come to in it),
-//! `proofs/CalmStates.antt` and those up to `CalmCommands.antt` (each step and each line keeps that), `proofs/CalmRuns.antt` and
-//! `CalmHeld.antt` (calm runs in which it stays),
-//! `proofs/CalmRounds.antt` (stops, joins and rounds).
-//! That memory may be there: `proofs/FullLoads.antt`, `proofs/FullFetches.antt` and `proofs/FullRefreshes.antt` (a refresh wants
-//! something finitely often), `proofs/FullPlans.antt` (whom a get asks), `proofs/FullGets.antt` and `proofs/FullRuns.antt` (a
-//! refresh runs out), `proofs/FullTurns.antt` (its turn, where that exists, is the next step), `proofs/FullSessions.antt`,
-//! `proofs/TurnsExisting.antt` (the turn exists) and `proofs/FullEnds.antt` (a session goes to its end). For lines and scripts:
-//! `proofs/LastingLines.antt` (what holds of each agent and its keeper, and stays through turns, saves and the like, stays
-//! through each line that makes no snapshot) and `proofs/Rooms.antt` (such is that an agent publishes few posts),
-//! `proofs/PieceBytes.antt` (what a line sends is bytes), `proofs/GivenBytes.antt` (so is what a turn's reply gives),
-//! `proofs/BytesSteps.antt` and `proofs/BytesLines.antt` (steps and lines leave that so), `proofs/ShownReplies.antt` (which
-//! replies show that memory was wanting), `proofs/MemoryDecided.antt` (whether it was is decided), `proofs/QuietLines.antt` (lines without sessions), `proofs/CallScenes.antt` and
-//! `proofs/FullScenes.antt` (a session at whatever stage goes on with memory there), `proofs/FullLines.antt` and
-//! `proofs/FullScripts.antt`.
-//! That there is one: `proofs/OneCourse.antt` (a trail tells what comes of a get or a put), `proofs/OneHeard.antt` (an ask
-//! has one fate, and one thing is heard of it), `proofs/OneTurns.antt` (turns), `proofs/OneSteps.antt` (steps of sessions),
-//! `proofs/OneMessages.antt` (what becomes of a message), `proofs/OneCalls.antt` (lines of calls), `proofs/OneAsks.antt` (look-ups
-//! and whole puts), `proofs/OneRing.antt` (rings, joins and rounds) and `proofs/OneLines.antt` (lines and runs). Nothing here
-//! runs, so there are no costs.
+//! Layer: laws, over `world_model` and `session_laws`; below the crates that play scripts. Nothing here runs,
+//! so there are no costs.
+//!
+//! Statements, in reading order:
+//! - `specs/Headline.antt`: each reply;
+//! - `specs/Causes.antt`: why a session gives its reply;
+//! - `specs/Keeps.antt`: the invariant of each world (`Keeps`);
+//! - `specs/Kinds.antt`: which lines are refused;
+//! - `specs/Laws.antt`: steps and runs;
+//! - `specs/Messages.antt`: each message is one thing, and one thing becomes of it;
+//! - `specs/FullTurns.antt`: turns that exist;
+//! - `specs/FullRuns.antt`: the run in which memory never runs out;
+//! - `specs/Frames.antt`: what may change in a world while the invariant stays;
+//! - `specs/Calm.antt`: rings that change little.
+//!
+//! For the layers above: say that a world satisfies the invariant, and that no two different blocks have one
+//! name. Then a finished refresh has brought what its heads name, and its turn may be held to the definition.
+//! The session's next step is that turn, and no other. A turn is refused once at most, and never where the
+//! session began with no snapshot to load and no basis.
+//!
+//! Lemmas to cite:
+//! - `proofs/Bringing.antt`: what `Keeps` says of a session and its agent;
+//! - `proofs/NotRefused.antt`: an agent that holds all that it knows isn't behind, and one without a basis
+//!   isn't below the tide; also `proofs/SecondTurns.antt`, `proofs/DoneSteps.antt`;
+//! - `proofs/SignedHeads.antt`: what holds of the agent whose bytes a keeper holds;
+//! - `proofs/Frames.antt`: changes of a world's nodes and of one participant;
+//! - `proofs/Publishing.antt`: an ask by which only what was met is put;
+//! - `proofs/OneTruth.antt`: linked records that end at one record;
+//! - `proofs/Receiving.antt`: what more heads leave as it was;
+//! - `proofs/TakingOn.antt` and `proofs/GetsBring.antt`: a session that is brought something goes on;
+//! - `proofs/Beginning.antt`: a session that begins;
+//! - `proofs/Afresh.antt`: a participant that changes, whose open sessions are gone;
+//!   `proofs/OtherBytes.antt`: one whose keeper holds other bytes; `proofs/Newcomer.antt`: one more;
+//! - `proofs/EnteredViews.antt`: what is known of another view's members is closed;
+//! - `proofs/KnownHeads.antt`: the heads that left are over what is known;
+//! - `proofs/SignatureBytes.antt`: signatures are bytes, and few;
+//! - `proofs/OpenSessions.antt`: an open session is in progress, and others stay in their place;
+//! - `proofs/SessionLinesSteps.antt`: what many steps of a session leave, and what they leave as it was;
+//! - `proofs/HeadlineOfPublishing.antt`: publishing alone has no turn;
+//! - `proofs/LineKeys.antt`: the key of a log that a line begins can be saved;
+//! - `proofs/TurnsWorld.antt`: a participant that changes by a turn, whose open sessions stay;
+//! - `proofs/TurnsKnown.antt`: what an agent knows after a turn; `proofs/TurnsSets.antt`: the set that a turn
+//!   leaves;
+//! - `proofs/TurnsFloors.antt`: a floor with a front joined into it; `proofs/TurnsTaken.antt`: a turn's
+//!   candidates are one list;
+//! - `proofs/OneAsked.antt`: a message asks one thing;
+//! - `proofs/AnsweredTurns.antt` and `proofs/RefusedTurns.antt`: turns keep the invariant;
+//! - `proofs/SnapBounds.antt` and `proofs/SnapSpelled.antt`: what a closed set stands for, and what an agent
+//!   holds, has a spelling as a snapshot.
+//!
+//! That something can be done (progress):
+//! - `proofs/ExistingPlans.antt`: whom a get or a put asks;
+//! - `proofs/ExistingFates.antt`: an ask has a fate;
+//! - `proofs/ExistingPuts.antt` and `proofs/ExistingSessions.antt`: sessions to their end;
+//! - `proofs/ExistingAsks.antt`: look-ups and whole puts;
+//! - `proofs/ExistingRounds.antt` and `proofs/ExistingRepairs.antt`: rounds;
+//! - `proofs/ExistingMessages.antt`: what becomes of a message.
+//!
+//! That a ring stays:
+//! - `proofs/CalmNodes.antt` and `CalmPuts.antt`: what its nodes hold, and what puts come to in it;
+//! - `proofs/CalmStates.antt` and those up to `CalmCommands.antt`: each step and each line keeps that;
+//! - `proofs/CalmRuns.antt` and `CalmHeld.antt`: calm runs in which it stays;
+//! - `proofs/CalmRounds.antt`: stops, joins and rounds.
+//!
+//! That memory may be there, for sessions:
+//! - `proofs/FullLoads.antt`, `proofs/FullFetches.antt` and `proofs/FullRefreshes.antt`: a refresh wants
+//!   something finitely often;
+//! - `proofs/FullPlans.antt`: whom a get asks;
+//! - `proofs/FullGets.antt` and `proofs/FullRuns.antt`: a refresh comes to its end;
+//! - `proofs/FullTurns.antt`: its turn, where that exists, is the next step;
+//! - `proofs/FullSessions.antt`, `proofs/TurnsExisting.antt` (the turn exists) and `proofs/FullEnds.antt` (a
+//!   session goes to its end).
+//!
+//! That memory may be there, for lines and scripts:
+//! - `proofs/LastingLines.antt`: what each agent and its keeper keep through turns, saves and the like, they
+//!   keep through each line that makes no snapshot;
+//! - `proofs/Rooms.antt`: so it is that an agent publishes few posts;
+//! - `proofs/PieceBytes.antt`: what a line sends is bytes; `proofs/GivenBytes.antt`: so is what a turn's
+//!   reply gives; `proofs/BytesSteps.antt` and `proofs/BytesLines.antt`: steps and lines leave that so;
+//! - `proofs/ShownReplies.antt`: which replies show that memory ran out; `proofs/MemoryDecided.antt`: whether
+//!   it did is decided;
+//! - `proofs/QuietLines.antt`: lines without sessions;
+//! - `proofs/CallScenes.antt` and `proofs/FullScenes.antt`: a session at any stage goes on with memory there;
+//! - `proofs/FullLines.antt` and `proofs/FullScripts.antt`.
+//!
+//! That the result is unique (determinism):
+//! - `proofs/OneCourse.antt`: a trail determines what comes of a get or a put;
+//! - `proofs/OneHeard.antt`: an ask has one fate, and one thing is heard of it;
+//! - `proofs/OneTurns.antt`: turns; `proofs/OneSteps.antt`: steps of sessions; `proofs/OneMessages.antt`:
+//!   what becomes of a message;
+//! - `proofs/OneCalls.antt`: lines of calls; `proofs/OneAsks.antt`: look-ups and whole puts;
+//!   `proofs/OneRing.antt`: rings, joins and rounds; `proofs/OneLines.antt`: lines and runs.
 #![tactic(auto)]
 
 ghost use Rattle.world_laws.specs.Messages.{EachMessageBecomesOne, EachMessageIsOne};
@@ -61,108 +102,113 @@ ghost use Rattle.world_laws.specs.FullTurns.{SessionsEndOrClash, SessionsGoToThe
 ghost use Rattle.world_laws.specs.Kinds.{LineHasOneKind};
 ghost use Rattle.world_laws.specs.Laws.{AlikeTurnsAnswerAlike, AllStepsKeep, AnsweredTurnsKeep, CallLinesKeep, CallsBegin, ClashIsDecided, DoneRefreshesStep, EachLineDoesSomething, EachReplyIsOnReplay, EachScriptHasARun, EachSessionEnds, EmptyKeeps, FewerStayApart, FreshTurnsAreAnswered, FullRunsAreOne, GetsBringKeep, GetsGoOnKeep, HeadlineHolds, HeadsAreSavedFirst, HeldIsSpelled, KeptOnce, KnownIsOne, LackingKeeps, LackingStepsKeep, LeafSignsOnce, LinesKeep, ManyStepsAreOne, ManyStepsKeep, MetGrows, NoSnapshotComes, OneTruth, OpenLineKeeps, OtherLogsDontCount, OthersHaveNoTurn, PublishingIsOne, PublishingKeeps, PutsKeep, ReceivingKeeps, RefreshBrings, RefreshEndsInTurn, RefreshMayTurn, RefreshesEnd, RefreshesRunOut, RefusedTurnsKeep, SecondTurnIsAnswered, SessionsEndOnce, SessionsGoFully, SessionsStepOnce, SettlingKeeps, SnapLinesKeep, StepsAreOne, StepsKeep, StillLinesChangeNothing, TakingKeeps, TurnsAreSaved, UpperLeavesSignOnce, VainAsksKeep, WholePublishingKeeps};
 
-/// A law and no code: of any blocks, names tell them apart, or two of them clash.
+/// Law: of any blocks, either no two different ones have one name, or two of them clash.
 pub fn clashes_are_decided()
     ensures { ClashIsDecided }
 {}
 
-/// A law and no code: where names tell blocks apart, they tell fewer of them apart.
+/// Law: if no two different blocks of a list have one name, so it is of any part of it.
 pub fn fewer_blocks_stay_apart()
     ensures { FewerStayApart }
 {}
 
-/// A law and no code: signatures that use the same leaves down to a level have the same keys signed down to there.
+/// Law: signatures that use the same leaves down to a level have the same keys signed down to there.
 pub fn upper_leaves_sign_once()
     ensures { UpperLeavesSignOnce }
 {}
 
-/// A law and no code: whether a line goes on, ends the run, is refused or meets a limit is told by the world and the line.
+/// Law: the world and the line determine whether the line goes on, ends the run, is refused or meets a limit.
 pub fn lines_have_one_kind()
     ensures { LineHasOneKind }
 {}
 
-/// A law and no code: no line forgets a block that was met.
+/// Law: no line forgets a block that was met.
 pub fn met_blocks_stay()
     ensures { MetGrows }
 {}
 
-/// A law and no code: a line that shows something, or sets the moment or a loss to come, changes nothing else.
+/// Law: a line that shows something, or sets the moment or a loss to come, changes nothing else.
 pub fn still_lines_change_nothing()
     ensures { StillLinesChangeNothing }
 {}
 
-/// A law and no code: where names tell the blocks apart, a refresh that is done has brought what its heads name, and its turn may
-/// be held to the definition.
+/// Laws, without a hash collision: a finished refresh has brought what its heads name, and its turn may be
+/// held to the definition.
 pub fn done_refreshes_bring()
     ensures brings { RefreshBrings }
     ensures may_turn { RefreshMayTurn }
 {}
 
-/// A law and no code: a session begins anew once at most, since its second turn isn't refused.
+/// Law: a session begins again at most once, since its second turn isn't refused.
 pub fn second_turns_are_answered()
     ensures { SecondTurnIsAnswered }
 {}
 
-/// A law and no code: once a refresh is done, the next step of its session is its turn, or memory is wanting. The turn is
-/// answered, or the session begins anew; where it began with no snapshot to load and no basis, it is answered.
+/// Laws: once a refresh is finished, the next step of its session is its turn, or memory runs out. The turn
+/// is answered, or the session begins again. Where the session began with no snapshot to load and no basis,
+/// the turn is answered.
 pub fn done_refreshes_have_turns()
     ensures turns { RefreshEndsInTurn }
     ensures fresh { FreshTurnsAreAnswered }
 {}
 
-/// A law and no code: a script begins in a world that keeps what it should.
+/// Law: a script begins in a world that satisfies the invariant.
 pub fn scripts_begin_well()
     ensures { EmptyKeeps }
 {}
 
-/// A law and no code: where two worlds have the same heads and the same records' blocks of a view's members, a turn in that view
-/// has the same candidates, whatever other logs there are.
+/// Law (noninterference): say that two worlds have the same heads and the same records' blocks of a view's
+/// members. Then a turn in that view has the same candidates in both, whatever other logs there are.
 pub fn other_logs_dont_count()
     ensures { OtherLogsDontCount }
 {}
 
-/// A law and no code: two turns of equal views, agents, sets, calls and moments give equal replies.
+/// Law: two turns of equal views, agents, sets, calls and moments give equal replies.
 pub fn alike_turns_answer_alike()
     ensures { AlikeTurnsAnswerAlike }
 {}
 
-/// A law and no code: what may be saved of an agent is told by its bytes.
+/// Law: the bytes that are saved of an agent determine what was saved.
 pub fn kept_bytes_are_of_one()
     ensures { KeptOnce }
 {}
 
-/// A law and no code: a head that is to leave was signed under a number below that which its agent's keeper holds, so no number
-/// signs twice, whatever is lost of the agent.
+/// Law: a head that is to leave was signed under a number below the one that its agent's keeper holds. So no
+/// number signs twice, whatever is lost of the agent.
 pub fn heads_are_saved_first()
     ensures { HeadsAreSavedFirst }
 {}
 
-/// A law and no code: of the heads that left an agent two over records of one number, or by the same leaves, are one.
+/// Law: two heads that left an agent are equal if they are over records of one number, or signed by the same
+/// leaves.
 pub fn leaves_sign_once()
     ensures { LeafSignsOnce }
 {}
 
-/// A law and no code: mild changes leave a world that keeps what it should: nodes of the same peers that hold what was met,
-/// participants whose agents sign, know and hold the same, more blocks that are met, views, replies, moments and losses.
+/// Law: mild changes preserve the invariant. They leave nodes of the same peers that hold only what was met,
+/// and participants whose agents sign, know and hold the same. Blocks may be met; views, replies, moments and
+/// losses may change.
 pub fn mild_changes_keep()
     ensures { MildChangesKeep }
 {}
 
-/// A law and no code: more blocks that are met leave a world that keeps what it should.
+/// Law: meeting more blocks preserves the invariant.
 pub fn more_blocks_keep()
     ensures { MoreBlocksKeep }
 {}
 
-/// Laws and no code: a step of a session that only publishes leaves a world that keeps what it should, such a session, and no
-/// turn; so does a participant that publishes all that its agent has to.
+/// Laws: a step of a session that only publishes preserves the invariant, leaves such a session, and has no
+/// turn. A participant that publishes all that its agent has to preserves the invariant too.
 pub fn publishing_keeps()
     ensures step { PublishingKeeps }
     ensures whole { WholePublishingKeeps }
 {}
 
-/// Laws and no code: lines without sessions leave a world that keeps what it should: those that show something, or set the
-/// moment or a loss; a node that stops, a block that is spoilt, a save that is to fail; a ring that is made, a node that joins,
-/// and a round of maintenance, whatever is lost; and a view that is made.
+/// Laws: lines without sessions preserve the invariant. They are
+/// - lines that show something, or set the moment or a loss;
+/// - a node that stops, a block that is damaged, a save that is to fail;
+/// - a ring that is made, a node that joins, and a round of maintenance, whatever is lost;
+/// - a view that is made.
 pub fn lines_without_sessions_keep()
     ensures still { StillLinesKeep }
     ensures stop { StopLinesKeep }
@@ -174,16 +220,19 @@ pub fn lines_without_sessions_keep()
     ensures view { ViewLinesKeep }
 {}
 
-/// Laws and no code: lines of participants leave a world that keeps what it should: one whose log begins; one that enters a
-/// view, or whose save for it fails; and one that starts again from what was saved.
+/// Laws: lines of participants preserve the invariant. A log begins; a participant enters a view, or its save
+/// for it fails; a participant starts again from what was saved.
 pub fn lines_of_participants_keep()
     ensures begins { LogLinesKeep }
     ensures enters { UseLinesKeep }
     ensures restarts { RestartLinesKeep }
 {}
 
-/// Laws and no code: an ask of a put or of a get, whatever it brings, one that isn't heard, settling, what is at hand taken, and the
-/// end for want of memory of a session in hand leave such a world and such a session; and so do more heads received.
+/// Laws: each of these preserves the invariant of a world and of a session in progress.
+/// - an ask of a put or of a get, whatever it brings, and one that isn't heard;
+/// - settling, and taking a block that is available;
+/// - the end when memory runs out;
+/// - more heads received.
 pub fn some_steps_keep()
     ensures puts { PutsKeep }
     ensures gets_go_on { GetsGoOnKeep }
@@ -196,73 +245,76 @@ pub fn some_steps_keep()
     ensures receiving { ReceivingKeeps }
 {}
 
-/// A law and no code: where names tell the blocks apart, a floor names one set of records among them.
+/// Law: without a hash collision among the blocks, a floor names one set of records among them.
 pub fn floors_name_one_set()
     ensures { KnownIsOne }
 {}
 
-/// A law and no code: where each log has a key of its own and each judged head that was met was made by its log's agent, what an
-/// agent knows of a log is the beginning of the one chain that the log's keeper names.
+/// Law: say that each log has a key of its own, each judged head that was met was made by its log's agent,
+/// and there is no hash collision. Then what an agent knows of a log is the beginning of the one chain that
+/// the log's keeper names.
 pub fn there_is_one_truth()
     ensures { OneTruth }
 {}
 
-/// Laws and no code: a session that begins in such a world is one that keeps what it should, so the line that opens a session
-/// leaves such a world.
+/// Laws: a session that begins in a world that satisfies the invariant satisfies its own. So the line that
+/// opens a session preserves the invariant.
 pub fn calls_begin()
     ensures begin { CallsBegin }
     ensures open { OpenLineKeeps }
 {}
 
-/// Laws and no code: a turn that was answered leaves such a world and such a session, and is on the replay of a closed set of
-/// verified records; one that was refused leaves such a world and such a session, which begins anew.
+/// Laws: a turn that was answered preserves the invariant of its world and its session, and is on the replay
+/// of a closed set of verified records. One that was refused preserves them too, and its session begins
+/// again.
 pub fn turns_keep()
     ensures answered { AnsweredTurnsKeep }
     ensures refused { RefusedTurnsKeep }
 {}
 
-/// Laws and no code: many steps of a session in hand, and all up to the end, leave a world that keeps what it should and such a
-/// session, and each turn in them is on the replay; and the lines by which sessions go on leave such a world, and the headline
-/// holds of them.
+/// Laws: many steps of a session in progress, and all up to its end, preserve the invariant, and each turn in
+/// them is on the replay. The lines by which sessions go on preserve it too, and the headline holds of them.
 pub fn lines_of_calls_keep()
     ensures many { ManyStepsKeep }
     ensures all { AllStepsKeep }
     ensures lines { CallLinesKeep }
 {}
 
-/// A law and no code: in a command by which no session goes on no turn is had, whatever the world.
+/// Law: in a command by which no session goes on no turn is had, whatever the world.
 pub fn other_lines_have_no_turn()
     ensures { OthersHaveNoTurn }
 {}
 
-/// Laws and no code: from a world that some story fits each open session can be brought to its end, and each line has an outcome,
-/// one and the same whichever story fits; of a line that makes a snapshot that asks that what is to be published can be saved. So each
-/// script that makes no snapshot has a run.
+/// Laws (the step is total): in a world that some ghost state fits, each open session can be brought to its
+/// end, and each line has an outcome. The outcome is one and the same whichever ghost state fits. For a line
+/// that makes a snapshot the premise is that what is to be published can be saved. So each script that makes
+/// no snapshot has a run.
 pub fn each_line_does_something()
     ensures sessions { EachSessionEnds }
     ensures lines { EachLineDoesSomething }
     ensures scripts { EachScriptHasARun }
 {}
 
-/// Laws and no code: what a turn makes of an agent that may be saved may be saved, and what it saves; and a line that makes no
-/// snapshot leaves a world without one so.
+/// Laws: a turn leaves an agent that may be saved, if it was one that may be, and what it saves may be saved.
+/// A line that makes no snapshot leaves a world without one, if there was none.
 pub fn no_snapshot_comes()
     ensures saved { TurnsAreSaved }
     ensures lines { NoSnapshotComes }
 {}
 
-/// A law and no code: what an agent holds has a spelling as a snapshot, where what it knows is closed.
+/// Law: what an agent holds has a spelling as a snapshot, if what it knows is closed.
 pub fn held_is_spelled()
     ensures { HeldIsSpelled }
 {}
 
-/// A law and no code: the line that makes a snapshot leaves a world that keeps what it should.
+/// Law: the line that makes a snapshot preserves the invariant.
 pub fn snap_lines_keep()
     ensures { SnapLinesKeep }
 {}
 
-/// Laws and no code: each step leaves a world that keeps what it should and such a session, and a turn in it is on the replay;
-/// each line leaves such a world; and the headline holds of each line in such a world, and of each line of a run from it.
+/// Laws: each step preserves the invariant of its world and session, and a turn in it is on the replay. Each
+/// line preserves the invariant. The headline holds of each line in a world that satisfies it, and of each
+/// line of a run from there.
 pub fn headline_holds()
     ensures steps { StepsKeep }
     ensures headline { HeadlineHolds }
@@ -270,14 +322,15 @@ pub fn headline_holds()
     ensures runs { EachReplyIsOnReplay }
 {}
 
-/// A law and no code: in a calm script the ring is settled after the line that makes it and after each round, and it is covered at
-/// each later line but between a join and its round.
+/// Law: in a calm script the ring is settled after the line that makes it and after each round. It is covered
+/// at each later line, except between a join and its round.
 pub fn rings_stay()
     ensures { RingStays AreAny }
 {}
 
-/// Laws and no code: where memory is there and names tell the blocks apart, a step of a session in hand leads to one world, story
-/// and session; so do many steps, and all up to the end. What a participant publishes alone leads to one world in any case.
+/// Laws (determinism): if memory doesn't run out and there is no hash collision, a step of a session in
+/// progress leads to one world, ghost state and session. So do many steps, and all up to the end. What a
+/// participant publishes alone leads to one world in any case.
 pub fn sessions_step_once()
     ensures step { SessionsStepOnce }
     ensures many { ManyStepsAreOne }
@@ -285,18 +338,23 @@ pub fn sessions_step_once()
     ensures publishing { PublishingIsOne }
 {}
 
-/// Laws and no code: where memory was there and names tell apart what was met, a line leads to one world with one story and shows
-/// one thing; so each script has one run at most in which that is so.
+/// Laws (determinism): if memory didn't run out and nothing met collides, a line leads to one world with one
+/// ghost state and shows one thing. So each script has at most one run in which that is so.
 pub fn lines_are_one()
     ensures lines { StepsAreOne }
     ensures runs { FullRunsAreOne }
 {}
 
-/// Laws and no code: a refresh wants something finitely often, whatever comes of it and whether or not names tell the blocks apart:
-/// a snapshot's lists are over lists of lower levels, each record that comes is below the one before, and heads come once of a log.
-/// So a session in hand that refreshes has steps, in none of which memory is wanting, to where its refresh is done or has failed.
-/// Of one that is done, where names tell the blocks apart and its turn exists, the next step is there, and memory isn't wanting in it;
-/// so the session goes to its end with memory there, but for a clash of names or a turn that doesn't exist.
+/// Laws: a refresh wants something finitely often, whatever comes of it, also with hash collisions. A
+/// snapshot's lists are over lists of lower levels, each record that comes is below the one before, and heads
+/// come once for each log.
+///
+/// So a session in progress that refreshes has steps, in none of which memory runs out, to where its refresh
+/// is finished or has failed.
+///
+/// Say that a refresh is finished, that there is no hash collision, and that its turn exists. Then the next
+/// step exists, and memory doesn't run out in it. So the session reaches its end with memory there, unless
+/// names clash or a turn doesn't exist.
 pub fn refreshes_end()
     ensures wants { RefreshesEnd }
     ensures runs { RefreshesRunOut }
@@ -304,49 +362,53 @@ pub fn refreshes_end()
     ensures sessions { SessionsGoFully }
 {}
 
-/// Laws and no code: of a message that is bytes, where names tell the blocks apart, a refresh that is done has a turn: it is behind
-/// or below the tide, or there is what it takes, and it replies or writes. That the agent has room for more posts is premised.
-/// So a session in hand that refreshes goes to its end with memory there, or names clash on the way.
+/// Laws: say that a message is bytes, and that there is no hash collision. Then a finished refresh has a
+/// turn: it is behind or below the tide, or there is what it takes, and it replies or writes. The premise is
+/// that the agent has room for more posts.
+///
+/// So a session in progress that refreshes reaches its end with memory there, or names clash on the way.
 pub fn turns_exist()
     ensures turns { TurnsExist }
     ensures sessions { SessionsGoToTheirEnds }
     ensures ends { SessionsEndOrClash }
 {}
 
-/// Laws and no code: while no snapshot is made an agent has no more to publish than a record of each number and a head, so it has
-/// room for more.
+/// Laws: while no snapshot is made an agent has no more to publish than one record of each number and a head.
+/// So it has room for more.
 pub fn there_is_room()
     ensures empty { EmptyPublishesFew }
     ensures lines { FewPostsCome }
     ensures room { ThereIsRoom }
 {}
 
-/// Laws and no code: what replies gave to later lines, and what open sessions were sent and will say, is bytes, where names tell
-/// apart the blocks met; and so is what a line sends, whose pieces are bytes by how they are spelled.
+/// Laws, without a hash collision among the blocks met: what replies gave to later lines, and what open
+/// sessions were sent and will reply, is bytes. So is what a line sends, by the spelling of its pieces.
 pub fn replies_are_bytes()
     ensures empty { EmptyHasBytes }
     ensures messages { MessagesAreBytes }
     ensures lines { BytesCome }
 {}
 
-/// Laws and no code: in a world that keeps what it should, whose agents have room and whose replies are bytes, a line has an
-/// outcome in which memory was there, or one that meets blocks among which names clash; of a line that makes a snapshot that asks
-/// that what is to be published can be saved. So each script that makes no snapshot has exactly one run in which memory is never
-/// wanting and names tell apart, or that is so up to a line that meets blocks among which names clash.
+/// Laws: say that a world satisfies the invariant, its agents have room and its replies are bytes. Then a
+/// line has an outcome in which memory didn't run out, or one that meets blocks among which names clash. For
+/// a line that makes a snapshot the premise is that what is to be published can be saved.
+///
+/// So each script that makes no snapshot has exactly one run of this kind. Memory never runs out in it and no
+/// names clash; or that is so up to a line that meets blocks among which names clash.
 pub fn scripts_run_fully()
     ensures lines { FullLines }
     ensures scripts { FullScripts }
     ensures starts { FullStarts }
 {}
 
-/// A law and no code: of each outcome of a line in a world that keeps what it should memory was there and names tell apart what was
-/// met, or memory was wanting for a call, or names clash.
+/// Law: of each outcome of a line in a world that satisfies the invariant one of three holds. Memory didn't
+/// run out and nothing met clashes; or memory ran out for a call; or names clash.
 pub fn memory_is_decided()
     ensures { MemoryIsDecided }
 {}
 
-/// A law and no code: each message is a call of one meaning, a call of another version of RPC, or no call; and in each view either
-/// it has one reply by itself, which may be none, or it asks one thing of a turn.
+/// Laws: each message is a call of one meaning, a call of another version of RPC, or no call. In each view it
+/// has one reply by itself, which may be none, or it asks one thing of a turn.
 pub fn messages_are_one()
     ensures is { EachMessageIsOne }
     ensures becomes { EachMessageBecomesOne }

@@ -2,12 +2,13 @@
 use Rattle.std.specs.Prelude.{ℕ, Bool, List, Option}
 use Rattle.ivy_base.specs.declared.key.PubKey.{PubKey}
 use Rattle.ivy_base.specs.declared.operation.Moment.{Moment}
-use Rattle.hss_keys.specs.Saved.{IsSigner, saved_bytes}
-use Rattle.hss_keys.specs.Signer.{Signer, left_of, next_signature, one_more_made, owner_of}
+use Rattle.hss_keys.specs.Saved.{IsSigner, hss as signing}
+use Rattle.hss_keys.specs.Signer.{Signer}
 use Rattle.log_model.specs.Record.{Record}
+use Rattle.log_model.specs.Signing.{Signing}
 use Rattle.log_model.specs.Vector.{Stamp}
 use Rattle.log_model.specs.View.{View}
-use Rattle.turn_model.specs.Turn.{Agent as Inputs, Turned}
+use Rattle.turn_model.specs.Turn.{Inputs, Turned}
 use Rattle.agent_model.specs.Agent as any
 use Rattle.agent_model.specs.SavedBytes as bytes
 use Rattle.agent_model.specs.Standing as stand
@@ -16,8 +17,8 @@ use Rattle.agent_model.specs.Views as view
 use Rattle.session_model.specs.Courses as course
 use Rattle.session_model.specs.Sessions.{Session}
 
-abbrev pub hss : any.Signing Signer
-hss = record { key = owner_of; remaining = left_of; signature = next_signature; next = one_more_made; saved = saved_bytes }
+abbrev pub hss : Signing Signer
+hss = signing
 
 abbrev pub Agent : Type 0
 Agent = any.Agent Signer
@@ -59,8 +60,11 @@ standing_in a v = stand.standing_in hss a v
 abbrev pub inputs : Agent → View → Bool → Inputs
 inputs a v fails = turn.inputs hss a v fails
 
-abbrev pub TakesTurn : Moment → Agent → View → Bool → Session → turn.TurnEnd → Agent → Option Kept → Session → Type 0
-TakesTurn now a v fails s end after saving t = course.TakesTurn hss now a v fails s end after saving t
+abbrev pub Turning : Type 0
+Turning = turn.Turning Signer
 
-abbrev pub IsTurnIn : List (List ℕ) → Moment → Agent → View → Bool → Session → List Record → List Record → Turned → Type 0
-IsTurnIn met now a v fails s knew known turned = course.IsTurnIn hss met now a v fails s knew known turned
+abbrev pub TakesTurn : Turning → Session → turn.TurnEnd → Agent → Option Kept → Session → Type 0
+TakesTurn turning s end after saving t = course.TakesTurn hss turning s end after saving t
+
+abbrev pub IsTurnIn : List (List ℕ) → Turning → Session → List Record → List Record → Turned → Type 0
+IsTurnIn met turning s knew known turned = course.IsTurnIn hss met turning s knew known turned

@@ -18,7 +18,7 @@ use Rattle.agent_model.specs.Turning.{TurnEnd, Answered}
 use Rattle.session_model.specs.Brought.{brought_in, all_heads}
 use Rattle.session_model.specs.Sessions.{Session, Cache, Stage, Publishing, Over, Said, TakesAll, TakesSome, Hears, is_log}
 use Rattle.session_model.specs.Courses.{Fails, Settles, LacksMemory, IsRefusal}
-use Rattle.world_model.specs.Agents.{Agent, Kept, IsTurnIn, TakesTurn}
+use Rattle.world_model.specs.Agents.{Agent, Kept, IsTurnIn, TakesTurn, Turning}
 use Rattle.world_model.specs.Keepers.{asked_to_save, fails_next}
 use Rattle.world_model.specs.World.{World, Participant, participant, with_participant, named_bytes, meets}
 use Rattle.world_model.specs.Story.{Story, Began, HadTurn, knowing_of, known_of, knowing_now, receiving}
@@ -58,7 +58,11 @@ pub record Scene : Type 0 where
   pub session : Session
   pub began : Began
 
--- ---- after a turn
+-- ---- a turn
+
+-- a participant's turn in that world, over that view
+abbrev pub turning_of : World → Participant → View → Turning
+turning_of w p view = record { agent = p.agent; view = view; now = w.now; fails = fails_next p.keeper }
 
 -- The participant after a turn: its keeper was asked to save, where it was, and what its agent has to publish then counts as made.
 abbrev pub after_turn : Participant → Agent → Option Kept → Participant
@@ -104,11 +108,11 @@ module _ (judged : Key → List ℕ → Option Judged) (replicas : ℕ) where
         → Hears judged replicas c.session p.cache node question answer heard cache → LacksMemory c.session t
         → Acts p c (record c { world = next; session = t })
     turns : (view : View) (reply : Reply) (applied : ℕ) (after : Agent) (saving : Option Kept) (t : Session) (turned : Turned) → p.agent.view ≡ Some view
-        → TakesTurn c.world.now p.agent view (fails_next p.keeper) c.session (Answered reply applied) after saving t → turned.reply ≡ reply
-        → (NamesTellApart (named_bytes c.world) → IsTurnIn (named_bytes c.world) c.world.now p.agent view (fails_next p.keeper) c.session c.began.knew (known_of c.story p.name) turned)
+        → TakesTurn (turning_of c.world p view) c.session (Answered reply applied) after saving t → turned.reply ≡ reply
+        → (NamesTellApart (named_bytes c.world) → IsTurnIn (named_bytes c.world) (turning_of c.world p view) c.session c.began.knew (known_of c.story p.name) turned)
         → Acts p c (record { world = world_after c.world (record (after_turn p after saving) { work = applied }); story = turn_told c p view after turned; session = t; began = c.began })
     is_refused : (view : View) (end : TurnEnd) (after : Agent) (saving : Option Kept) (t : Session) → p.agent.view ≡ Some view → IsRefusal end
-        → TakesTurn c.world.now p.agent view (fails_next p.keeper) c.session end after saving t
+        → TakesTurn (turning_of c.world p view) c.session end after saving t
         → Acts p c (record c { world = world_after c.world (after_turn p after saving); session = t; began = record c.began { knew = known_of c.story p.name } })
     settles : (after : Agent) (t : Session) → Settles p.agent c.session after t → Acts p c (record c { world = with_participant c.world (record p { agent = after }); session = t })
 

@@ -7,10 +7,7 @@ use dht_ids::{Judge, SignFault};
 use hss_keys::Signs;
 use ivy_base::Key;
 use log_heads::HssJudge;
-use log_records::Head;
-
-/// The highest number of a record.
-const MOST_RECORDS: u32 = 1_048_576;
+use log_records::{Head, MOST_RECORDS};
 
 /// Adds how many signatures are left once the head of that number and name is sealed, and its block.
 pub fn put_sealed<S: Signs>(out: &mut Text, key: &mut S, seq: u32, name: Key) {

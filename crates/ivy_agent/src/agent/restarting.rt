@@ -7,8 +7,8 @@ ghost use Rattle.replay_engine.specs.Engines.{holding};
 ghost use Rattle.agent_model.specs.Agent.{own_key, restored};
 ghost use Rattle.agent_model.specs.SavedBytes.{IsKept};
 ghost use Rattle.agent_saves.specs.Saves.{IsCounted, said};
-ghost use Rattle.ivy_agent.specs.Holders.{signing};
 ghost use Rattle.ivy_agent.specs.Saves.{saved_of};
+ghost use Rattle.ivy_agent.specs.Causes.{RestartHasCause};
 ghost use Rattle.ivy_agent.specs.Restarting.{Restarts, Restores, StartsAgain};
 
 use super::Agent;
@@ -32,7 +32,8 @@ impl<K: Keeper, S: Signs + Drop> Agent<K, S> {
     /// `Nothing` where the keeper holds nothing, `Malformed` where what it holds are no agent's bytes, and `Keeper` where the
     /// keeper fails. Either way, and where memory runs out (`Memory`), the keeper is given back.
     pub fn restart(alloc: Global, mut keeper: K) -> Result<Self, (K, RestartFault)>
-        ensures { Restarts (signing S.key S.remaining S.signature S.next S.saved) S.is_whole K.kept K.faults keeper result }
+        ensures restarts { Restarts S.signing S.is_whole K.kept K.faults keeper result }
+        ensures cause { RestartHasCause K.faults keeper result }
     {
         match keeper.load(alloc) {
             Ok(bytes) => Agent::restore(alloc, keeper, bytes.as_slice()),
@@ -49,7 +50,7 @@ impl<K: Keeper, S: Signs + Drop> Agent<K, S> {
     /// `Malformed` where these are no agent's bytes, those aside of a key whose own bytes no word counts, and `Memory` where
     /// memory runs out. The keeper is given back.
     pub fn restore(alloc: Global, keeper: K, bytes: &[u8]) -> Result<Self, (K, RestartFault)>
-        ensures { Restores (signing S.key S.remaining S.signature S.next S.saved) S.is_whole keeper bytes.now result }
+        ensures { Restores S.signing S.is_whole keeper bytes.now result }
     {
         let Ok(nothing) = hold_nothing(alloc) else {
             return Err((keeper, RestartFault::Memory));
@@ -63,7 +64,7 @@ impl<K: Keeper, S: Signs + Drop> Agent<K, S> {
 
     /// The agent of what was saved, which holds nothing.
     fn again(alloc: Global, keeper: K, saved: Saved<S>, nothing: Engine) -> Self
-        requires kept { IsKept (signing S.key S.remaining S.signature S.next S.saved) (IsCounted S.is_whole S.saved) (said saved) }
+        requires kept { IsKept S.signing (IsCounted S.is_whole S.signing.saved) (said saved) }
         requires nothing { holding nothing ≡ nothing_held }
         ensures { result ≡ record { agent = restored (said saved); keeper = keeper } }
     {
@@ -82,7 +83,7 @@ impl<K: Keeper, S: Signs + Drop> Agent<K, S> {
 
     /// Becomes the agent of what was saved, which holds nothing.
     fn become_saved(&mut self, alloc: Global, saved: Saved<S>, nothing: Engine)
-        requires kept { IsKept (signing S.key S.remaining S.signature S.next S.saved) (IsCounted S.is_whole S.saved) (said saved) }
+        requires kept { IsKept S.signing (IsCounted S.is_whole S.signing.saved) (said saved) }
         requires nothing { holding nothing ≡ nothing_held }
         ensures { self.new ≡ record self.old { agent = restored (said saved) } }
     {
@@ -103,7 +104,7 @@ impl<S: Signs + Drop> Agent<MemKeeper, S> {
     /// `Nothing` exactly where the keeper holds nothing, `Malformed` where what it holds are no agent's bytes, and `Memory`
     /// where memory runs out. Nothing has changed then.
     pub fn start_again(&mut self, alloc: Global) -> Result<(), RestartFault>
-        ensures { StartsAgain (signing S.key S.remaining S.signature S.next S.saved) S.is_whole self.old result self.new }
+        ensures { StartsAgain S.signing S.is_whole self.old result self.new }
     {
         let Some(bytes) = self.keeper.kept() else {
             return Err(RestartFault::Nothing);
@@ -125,7 +126,7 @@ impl<S: Signs + Drop> Agent<MemKeeper, S> {
 /// What was saved, with the head key of its log.
 fn kept_of<S: Signs>(saved: Saved<S>) -> Kept<S>
     ensures kept { saved_of result ≡ said saved }
-    ensures log { result.log ≡ head_key_of (own_key (signing S.key S.remaining S.signature S.next S.saved) saved.signer) }
+    ensures log { result.log ≡ head_key_of (own_key S.signing saved.signer) }
 {
     let log = head_key(&saved.signer.owner());
     Kept {

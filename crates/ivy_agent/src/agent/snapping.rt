@@ -3,7 +3,7 @@
 ghost use Rattle.std.specs.Prelude.{IfSome, IsSomeAnd};
 ghost use Rattle.snapshot_model.specs.Reading.{IsBasisSpelled};
 ghost use Rattle.agent_model.specs.Others.{basis_of};
-ghost use Rattle.ivy_agent.specs.Holders.{signing};
+ghost use Rattle.ivy_agent.specs.Causes.{SnapHasCause};
 ghost use Rattle.ivy_agent.specs.Snapping.{Snaps};
 
 use super::Agent;
@@ -27,7 +27,8 @@ impl<K: Keeper, S: Signs> Agent<K, S> {
     pub fn snap(&mut self, alloc: Global) -> Result<Key, SnapFault>
         requires view { IsSomeAnd self.old.agent.view (λ view. Unit {0}) }
         requires spelled { IsBasisSpelled (basis_of self.old.agent.holding) }
-        ensures { IfSome self.old.agent.view (λ view. Snaps (signing S.key S.remaining S.signature S.next S.saved) S.is_whole K.saves view self.old result self.new) }
+        ensures snaps { IfSome self.old.agent.view (λ view. Snaps S.signing S.is_whole K.saves view self.old result self.new) }
+        ensures cause { SnapHasCause K.faults self.old result self.new }
     {
         if self.has_failed {
             return Err(SnapFault::Keeper);

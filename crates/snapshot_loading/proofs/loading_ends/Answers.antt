@@ -1,4 +1,4 @@
-use Rattle.snapshot_loading.proofs.Ends as law
+use Rattle.snapshot_loading.proofs.LoadedEnds as law
 use Rattle.snapshot_loading.proofs.loading_ends.Goals as goal
 
 pub returns : goal.returns

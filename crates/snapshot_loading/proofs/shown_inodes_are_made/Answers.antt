@@ -1,4 +1,4 @@
-use Rattle.snapshot_loading.proofs.Inodes as law
+use Rattle.snapshot_loading.proofs.ShownInodes as law
 use Rattle.snapshot_loading.proofs.shown_inodes_are_made.Goals as goal
 
 pub returns : goal.returns

@@ -1,4 +1,4 @@
-use Rattle.snapshot_loading.proofs.Whole as law
+use Rattle.snapshot_loading.proofs.SoundTrees as law
 use Rattle.snapshot_loading.proofs.whole_trees_are_sound.Goals as goal
 
 pub returns : goal.returns

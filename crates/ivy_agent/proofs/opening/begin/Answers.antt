@@ -2,14 +2,13 @@ use Rattle.std.proofs.Common.{refl}
 use Rattle.log_model.specs.Chain.{opening}
 use Rattle.log_model.specs.Spelling.{record_block}
 use Rattle.agent_model.specs.Agent.{sealed}
-use Rattle.ivy_agent.specs.Holders.{signing}
 use Rattle.ivy_agent.proofs.Opened.{first_stamp, opened_with}
 use Rattle.ivy_agent.proofs.opening.begin.Goals as goal
 
 pub returns : goal.returns
 returns g c = opened_with
-    (signing g.S.Signs.key g.S.Signs.remaining g.S.Signs.signature g.S.Signs.next g.S.Signs.saved) c.args.signer.now c.args.now _ (record_block (opening c.owner-own.result c.args.now))
-    (sealed (signing g.S.Signs.key g.S.Signs.remaining g.S.Signs.signature g.S.Signs.next g.S.Signs.saved) c.args.signer.now (first_stamp c.in_ok-name.name))
+    g.S.Signs.signing c.args.signer.now c.args.now _ (record_block (opening c.owner-own.result c.args.now))
+    (sealed g.S.Signs.signing c.args.signer.now (first_stamp c.in_ok-name.name))
     c.owner-own.result c.head_key-log.result c.in_ok-name.name
     c.owner-own.ensures c.head_key-log.ensures refl c.in_ok-name.ensures.name
     refl c.in_ok-name.ensures.block c.in_ok-name.ensures.head c.in_ok-name.ensures.next c.first_posts.ensures.key

@@ -1,5 +1,4 @@
 use Rattle.log_fetch.specs.Standings.{asked_of}
-use Rattle.ivy_agent.specs.Holders.{signing}
 use Rattle.ivy_agent.proofs.Absorbed.{answered_with, row_with}
 use Rattle.ivy_agent.proofs.taking.answer_with.Goals as goal
 
@@ -8,4 +7,4 @@ answer-requires-clause-held g c = row_with c.args.engine.now _ c.args.new.items 
 
 pub returns-in-Ok-clause-done : goal.returns-in-Ok-clause-done
 returns-in-Ok-clause-done g c = answered_with c.args.engine.now _ c.args.new.items c.requires.held c.requires.row c.in_ok-applied.ensures.ok c.requires.new c.in_ok-applied.applied c.in_ok-applied.ensures.count
-    (signing g.S.Signs.key g.S.Signs.remaining g.S.Signs.signature g.S.Signs.next g.S.Signs.saved) g.S.Signs.is_whole g.K.Keeper.saves (asked_of c.args.asked.now) c.args.now c.args.kept.now c.args.has_failed c.args.front c.args.keeper.now _ _ _ c.in-Ok.done _ c.in-Ok.ensures.done
+    g.S.Signs.signing g.S.Signs.is_whole g.K.Keeper.saves (asked_of c.args.asked.now) c.args.now c.args.kept.now c.args.has_failed c.args.front c.args.keeper.now _ _ _ c.in-Ok.done _ c.in-Ok.ensures.done

@@ -1,7 +1,7 @@
 use Rattle.snapshot_model.specs.Reading.{part_below}
 use Rattle.snapshot_blocks.specs.Parsed.{keys_of}
 use Rattle.snapshot_loading.specs.Roles.{item_part}
-use Rattle.snapshot_loading.proofs.Parts.{parts_are}
+use Rattle.snapshot_loading.proofs.NamesInLists.{parts_are}
 use Rattle.snapshot_loading.proofs.names.in_list.Goals as goal
 
 pub returns-in-Some-clause-ok : goal.returns-in-Some-clause-ok

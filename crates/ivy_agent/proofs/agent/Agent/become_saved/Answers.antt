@@ -1,9 +1,8 @@
 use Rattle.agent_saves.specs.Saves.{said}
-use Rattle.ivy_agent.specs.Holders.{signing}
 use Rattle.ivy_agent.proofs.Restarted.{restored_sound}
 use Rattle.ivy_agent.proofs.agent.Agent.become_saved.Goals as goal
 
 pub invariant_of-self : goal.invariant_of-self
 invariant_of-self g c = restored_sound
-    (signing g.S.Signs.key g.S.Signs.remaining g.S.Signs.signature g.S.Signs.next g.S.Signs.saved) g.S.Signs.is_whole c.kept_of.result (said c.args.saved) c.kept_of.ensures.kept c.args.nothing c.requires.nothing
+    g.S.Signs.signing g.S.Signs.is_whole c.kept_of.result (said c.args.saved) c.kept_of.ensures.kept c.args.nothing c.requires.nothing
     c.empty.result c.kept_of.ensures.log c.empty.ensures c.requires.kept

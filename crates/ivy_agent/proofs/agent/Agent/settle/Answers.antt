@@ -2,13 +2,12 @@ use Rattle.std.proofs.Common.{not, filter, sym, ap, ◌∙◌, subst}
 use Rattle.std.specs.List.{list_any}
 use Rattle.agent_model.specs.Others.{is_of}
 use Rattle.agent_model.specs.SavedBytes.{ArePostsSpelled}
-use Rattle.ivy_agent.specs.Holders.{signing}
 use Rattle.ivy_agent.proofs.Settled.{some_spelled, with_posts_sound}
 use Rattle.ivy_agent.proofs.agent.Agent.settle.Goals as goal
 
 pub invariant_of-self : goal.invariant_of-self
 invariant_of-self g c = with_posts_sound
-    (signing g.S.Signs.key g.S.Signs.remaining g.S.Signs.signature g.S.Signs.next g.S.Signs.saved) c.self.inside.kept c.of-2.result c.self.inside.engine c.self.inside.to_load c.self.inside.has_failed
+    g.S.Signs.signing c.self.inside.kept c.of-2.result c.self.inside.engine c.self.inside.to_load c.self.inside.has_failed
     c.self.inside.kept.log c.self.inside.front c.self.invariant
     (subst ArePostsSpelled
     (sym (c.of-2.ensures ∙ c.keep_unsettled.ensures ∙ ap (filter (λ p. not (list_any (λ ack. is_of ack p) c.as_slice.result.now))) (c.into_vec-posts.ensures ∙ c.replace-posts.ensures.value)))

@@ -3,26 +3,25 @@ use Rattle.std.proofs.lemmas.Result.{err_from_is_err_and}
 use Rattle.log_fetch.specs.Standings.{asked_of}
 use Rattle.replay_engine.specs.Engines.{holding}
 use Rattle.agent_model.specs.Agent.{own}
-use Rattle.ivy_agent.specs.Holders.{signing}
 use Rattle.ivy_agent.specs.Taking.{MayTakeFrom}
 use Rattle.ivy_agent.proofs.Ended.{may_over, refused_over, sound_over, turned_over}
 use Rattle.ivy_agent.proofs.Going.{well_here}
 use Rattle.ivy_agent.proofs.agent.Agent.turn_over.Goals as goal
 
 pub turn_on-requires-clause-from : goal.turn_on-requires-clause-from
-turn_on-requires-clause-from g c = may_over (signing g.S.Signs.key g.S.Signs.remaining g.S.Signs.signature g.S.Signs.next g.S.Signs.saved) g.S.Signs.is_whole g.K.Keeper.saves (asked_of c.args.asked.now) c.args.now c.self.inside.kept c.self.inside.engine c.self.inside.to_load c.self.inside.has_failed c.self.inside.keeper c.args.self.now c.self.view_is c.self.inside.front c.self.invariant c.args.batch (holding c.args.ground.engine) c.requires.from
+turn_on-requires-clause-from g c = may_over g.S.Signs.signing g.S.Signs.is_whole g.K.Keeper.saves (asked_of c.args.asked.now) c.args.now c.self.inside.kept c.self.inside.engine c.self.inside.to_load c.self.inside.has_failed c.self.inside.keeper c.args.self.now c.self.view_is c.self.inside.front c.self.invariant c.args.batch (holding c.args.ground.engine) c.requires.from
 
 pub turn_on-requires-clause-well : goal.turn_on-requires-clause-well
-turn_on-requires-clause-well g c = well_here (signing g.S.Signs.key g.S.Signs.remaining g.S.Signs.signature g.S.Signs.next g.S.Signs.saved) c.self.inside.kept c.self.inside.engine c.self.inside.to_load c.self.inside.has_failed c.self.inside.keeper c.args.self.now c.self.view_is c.self.inside.front c.self.invariant c.args.batch (λ a view. MayTakeFrom view (own (signing g.S.Signs.key g.S.Signs.remaining g.S.Signs.signature g.S.Signs.next g.S.Signs.saved) a) a.floor (holding c.args.ground.engine) c.args.batch) c.requires.from
+turn_on-requires-clause-well g c = well_here g.S.Signs.signing c.self.inside.kept c.self.inside.engine c.self.inside.to_load c.self.inside.has_failed c.self.inside.keeper c.args.self.now c.self.view_is c.self.inside.front c.self.invariant c.args.batch (λ a view. MayTakeFrom view (own g.S.Signs.signing a) a.floor (holding c.args.ground.engine) c.args.batch) c.requires.from
 
 pub returns-clause-turn : goal.returns-clause-turn
-returns-clause-turn g c = turned_over (signing g.S.Signs.key g.S.Signs.remaining g.S.Signs.signature g.S.Signs.next g.S.Signs.saved) g.S.Signs.is_whole g.K.Keeper.saves (asked_of c.args.asked.now) c.args.now c.self.inside.kept c.self.inside.engine c.self.inside.to_load c.self.inside.has_failed c.self.inside.keeper c.args.self.now c.self.view_is c.self.inside.front c.self.invariant c.args.batch c.requires.call c.turn_on.new.kept c.turn_on.new.engine c.turn_on.new.keeper c.in_ok-done.done (holding c.args.ground.engine)
-    (may_over (signing g.S.Signs.key g.S.Signs.remaining g.S.Signs.signature g.S.Signs.next g.S.Signs.saved) g.S.Signs.is_whole g.K.Keeper.saves (asked_of c.args.asked.now) c.args.now c.self.inside.kept c.self.inside.engine c.self.inside.to_load c.self.inside.has_failed c.self.inside.keeper c.args.self.now c.self.view_is c.self.inside.front c.self.invariant c.args.batch (holding c.args.ground.engine) c.requires.from) c.in_ok-done.ensures.turned
+returns-clause-turn g c = turned_over g.S.Signs.signing g.S.Signs.is_whole g.K.Keeper.saves (asked_of c.args.asked.now) c.args.now c.self.inside.kept c.self.inside.engine c.self.inside.to_load c.self.inside.has_failed c.self.inside.keeper c.args.self.now c.self.view_is c.self.inside.front c.self.invariant c.args.batch c.requires.call c.turn_on.new.kept c.turn_on.new.engine c.turn_on.new.keeper c.in_ok-done.done (holding c.args.ground.engine)
+    (may_over g.S.Signs.signing g.S.Signs.is_whole g.K.Keeper.saves (asked_of c.args.asked.now) c.args.now c.self.inside.kept c.self.inside.engine c.self.inside.to_load c.self.inside.has_failed c.self.inside.keeper c.args.self.now c.self.view_is c.self.inside.front c.self.invariant c.args.batch (holding c.args.ground.engine) c.requires.from) c.in_ok-done.ensures.turned
 
 pub invariant_of-self-2 : goal.invariant_of-self-2
-invariant_of-self-2 g c = sound_over (signing g.S.Signs.key g.S.Signs.remaining g.S.Signs.signature g.S.Signs.next g.S.Signs.saved) g.S.Signs.is_whole g.K.Keeper.saves (asked_of c.args.asked.now) c.args.now c.self.inside.kept c.self.inside.engine c.self.inside.to_load c.self.inside.has_failed c.self.inside.keeper c.args.self.now c.self.view_is c.self.inside.front c.self.invariant c.args.batch c.requires.call c.turn_on.new.kept c.turn_on.new.engine c.turn_on.new.keeper c.in_ok-done.done (holding c.args.ground.engine) c.requires.going (may_over (signing g.S.Signs.key g.S.Signs.remaining g.S.Signs.signature g.S.Signs.next g.S.Signs.saved) g.S.Signs.is_whole g.K.Keeper.saves (asked_of c.args.asked.now) c.args.now c.self.inside.kept c.self.inside.engine c.self.inside.to_load c.self.inside.has_failed c.self.inside.keeper c.args.self.now c.self.view_is c.self.inside.front c.self.invariant c.args.batch (holding c.args.ground.engine) c.requires.from) c.in_ok-done.ensures.turned
+invariant_of-self-2 g c = sound_over g.S.Signs.signing g.S.Signs.is_whole g.K.Keeper.saves (asked_of c.args.asked.now) c.args.now c.self.inside.kept c.self.inside.engine c.self.inside.to_load c.self.inside.has_failed c.self.inside.keeper c.args.self.now c.self.view_is c.self.inside.front c.self.invariant c.args.batch c.requires.call c.turn_on.new.kept c.turn_on.new.engine c.turn_on.new.keeper c.in_ok-done.done (holding c.args.ground.engine) c.requires.going (may_over g.S.Signs.signing g.S.Signs.is_whole g.K.Keeper.saves (asked_of c.args.asked.now) c.args.now c.self.inside.kept c.self.inside.engine c.self.inside.to_load c.self.inside.has_failed c.self.inside.keeper c.args.self.now c.self.view_is c.self.inside.front c.self.invariant c.args.batch (holding c.args.ground.engine) c.requires.from) c.in_ok-done.ensures.turned
 
 pub returns-in_err-done-clause-turn : goal.returns-in_err-done-clause-turn
 returns-in_err-done-clause-turn g c =
     let p = err_from_is_err_and c.from_residual.result c.from_residual.ensures.1 in
-    rw (p.1, p.2) (refused_over (signing g.S.Signs.key g.S.Signs.remaining g.S.Signs.signature g.S.Signs.next g.S.Signs.saved) g.S.Signs.is_whole g.K.Keeper.saves (asked_of c.args.asked.now) c.args.now c.self.inside.kept c.self.inside.engine c.self.inside.to_load c.self.inside.has_failed c.self.inside.keeper c.args.self.now c.self.view_is c.self.inside.front c.self.invariant c.args.batch c.turn_on.new.kept c.self.inside.engine c.turn_on.new.keeper c.in_err-done.ensures.kept refl c.in_err-done.ensures.keeper (holding c.args.ground.engine) _ c.in_err-done.field-0.0 c.in_err-done.ensures.turned)
+    rw (p.1, p.2) (refused_over g.S.Signs.signing g.S.Signs.is_whole g.K.Keeper.saves (asked_of c.args.asked.now) c.args.now c.self.inside.kept c.self.inside.engine c.self.inside.to_load c.self.inside.has_failed c.self.inside.keeper c.args.self.now c.self.view_is c.self.inside.front c.self.invariant c.args.batch c.turn_on.new.kept c.self.inside.engine c.turn_on.new.keeper c.in_err-done.ensures.kept refl c.in_err-done.ensures.keeper (holding c.args.ground.engine) _ c.in_err-done.field-0.0 c.in_err-done.ensures.turned)

@@ -1,12 +1,11 @@
 use Rattle.std.proofs.Common.{Some, refl, ap, ◌∙◌}
 use Rattle.agent_saves.specs.Saves.{said}
-use Rattle.ivy_agent.specs.Holders.{signing}
 use Rattle.ivy_agent.proofs.Restarted.{kept_there, whole_saved}
 use Rattle.ivy_agent.proofs.agent.restarting.Agent+MemKeeper+S.start_again.Goals as goal
 
 pub returns-in-Ok-Some : goal.returns-in-Ok-Some
 returns-in-Ok-Some g c =
-    let k = whole_saved (signing g.S.Signs.key g.S.Signs.remaining g.S.Signs.signature g.S.Signs.next g.S.Signs.saved) g.S.Signs.is_whole c.in-Some.bytes.now (said c.in-Ok-Some.saved) (rw c.in-Ok-Some.field-0-is at c.in-Ok-Some.ensures) in
+    let k = whole_saved g.S.Signs.signing g.S.Signs.is_whole c.in-Some.bytes.now (said c.in-Ok-Some.saved) (rw c.in-Ok-Some.field-0-is at c.in-Ok-Some.ensures) in
     (said c.in-Ok-Some.saved, k.kept, kept_there _ _ _ c.in-Some.bytes.now c.self.view_is c.in-Some.ensures ∙ ap Some k.spelled, c.become_saved.ensures)
 
 pub returns-in-Ok-None : goal.returns-in-Ok-None
